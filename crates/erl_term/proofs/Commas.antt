@@ -1,0 +1,34 @@
+-- Texts with commas between them.
+use Rattle.std.proofs.Common.{◌≡◌, ℕ, ◌+◌, ◌<◌, zero, suc, List, [], ◌∷◌, ◌++◌, length, map, get_or, take, refl, ap, sym, ◌∙◌, append_assoc, arith}
+use Rattle.std.proofs.lemmas.List.{take_more, map-append, length-map, length-take}
+use Rattle.erl_term.specs.declared.term.Term.{Term}
+use Rattle.erl_term.specs.Value.{value_of, members_of}
+use Rattle.erl_term.specs.Printing.{with_commas, text_of, texts_of}
+
+-- one more text, behind others
+pub with_commas-more : (t : List ℕ) (ts : List (List ℕ)) (s : List ℕ) → with_commas ((t ∷ ts) ++ s ∷ []) ≡ with_commas (t ∷ ts) ++ 44 ∷ s
+with_commas-more t [] s = refl
+with_commas-more t (u ∷ us) s = ap (λ x. t ++ (44 ∷ x)) (with_commas-more u us s) ∙ sym (append_assoc t (44 ∷ with_commas (u ∷ us)) (44 ∷ s))
+
+more : (ts : List (List ℕ)) (s : List ℕ) → 0 < length ts → with_commas (ts ++ s ∷ []) ≡ with_commas ts ++ 44 ∷ s
+more [] s h = absurd (omega arith)
+more (t ∷ ts) s h = with_commas-more t ts s
+
+-- the text of the first member
+pub with_commas-first : {X : Type 0} (f : X → List ℕ) (xs : List X) (i : ℕ) (d : X) → i < length xs → i ≡ 0 →
+    with_commas (map f (take (i + 1) xs)) ≡ f (get_or xs i d)
+with_commas-first f [] i d h e = absurd (omega arith)
+with_commas-first f (x ∷ xs) zero d h e = refl
+with_commas-first f (x ∷ xs) (suc i) d h e = absurd (omega arith)
+
+-- that of the next member
+pub with_commas-next : {X : Type 0} (f : X → List ℕ) (xs : List X) (i : ℕ) (d : X) → i < length xs → 0 < i →
+    with_commas (map f (take (i + 1) xs)) ≡ with_commas (map f (take i xs)) ++ 44 ∷ f (get_or xs i d)
+with_commas-next f xs i d h e =
+    let some : 0 < length (map f (take i xs)) = simp (length-map, length-take) (omega arith) in
+    ap with_commas (ap (map f) (take_more xs i d h) ∙ map-append f (take i xs) (get_or xs i d ∷ [])) ∙ more (map f (take i xs)) (f (get_or xs i d)) some
+
+-- the texts of terms one after another
+pub texts_of-members_of : (ts : List Term) → texts_of (members_of ts) ≡ map (λ t. text_of (value_of t)) ts
+texts_of-members_of [] = refl
+texts_of-members_of (t ∷ ts) = ap (λ x. text_of (value_of t) ∷ x) (texts_of-members_of ts)

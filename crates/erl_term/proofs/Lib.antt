@@ -1,0 +1,13 @@
+pub mod Passes
+pub mod Standing
+pub mod Viability
+pub mod Exact
+pub mod Runs
+pub mod Parts
+pub mod Lexemes
+pub mod Parsing
+pub mod Characters
+pub mod Commas
+pub mod TokenTexts
+pub mod ReadBack
+pub mod Members

@@ -1,0 +1,10 @@
+pub mod Value
+pub mod Lexing
+pub mod Grammar
+pub mod Faults
+pub mod Laws
+pub mod Answers
+pub mod Machine
+pub mod Views
+pub mod Printing
+pub mod Within

@@ -1,0 +1,48 @@
+//! Why a text is no row of terms.
+ghost use Rattle.std.specs.Prelude.{◌≡◌};
+ghost use Rattle.erl_term.specs.declared.fault.TermFault.TheVariants.{NoMemory};
+
+use std::alloc::{AllocError, AllocFailed};
+use thiserror::Error;
+
+/// The first fault of a text. A place counts bytes from 0.
+#[derive(Clone, Copy, Debug, PartialEq, Eq, Error)]
+pub enum TermFault {
+    /// A byte or a token that can't stand there.
+    #[error("BadToken {0}")]
+    BadToken(usize),
+    /// A number outside 64 bits signed, told where it begins.
+    #[error("BadNumber {0}")]
+    BadNumber(usize),
+    /// The innermost bracket or quote that is open at the end.
+    #[error("Unclosed {0}")]
+    Unclosed(usize),
+    /// What stands in the place of a whole term's dot, or the length of the text.
+    #[error("MissingDot {0}")]
+    MissingDot(usize),
+    /// A form of Erlang that isn't read.
+    #[error("Unsupported {0}")]
+    Unsupported(usize),
+    /// The first bracket that is one too many open at once.
+    #[error("Deep {0}")]
+    Deep(usize),
+    /// No memory was left. It says nothing of the text.
+    #[error("NoMemory")]
+    NoMemory,
+}
+
+impl From<AllocError> for TermFault {
+    ghost from_gives = { λ _ f. f ≡ NoMemory };
+
+    fn from(_: AllocError) -> TermFault {
+        TermFault::NoMemory
+    }
+}
+
+impl<T: Drop> From<AllocFailed<T>> for TermFault {
+    ghost from_gives = { λ _ f. f ≡ NoMemory };
+
+    fn from(_: AllocFailed<T>) -> TermFault {
+        TermFault::NoMemory
+    }
+}
