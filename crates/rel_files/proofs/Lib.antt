@@ -1,0 +1,10 @@
+mod Members
+mod Distinct
+mod Options
+mod Texts
+mod Terms
+mod Endings
+mod Shape
+mod Versions
+mod Outcomes
+mod Files

@@ -1,0 +1,22 @@
+//! The files that describe a release, from their bytes to their values.
+//!
+//! [`read_rel`] reads a `.rel` file. It gives a release exactly where the file says one, and then that
+//! one; a refusal is the file's fault, the first in the order of [`FileFault`]'s cases. Want of memory may
+//! come in place of any answer and says nothing of the file.
+#![tactic(auto)]
+
+mod draft;
+mod duplicates;
+mod ending;
+mod fault;
+mod parts;
+mod reader;
+mod release;
+mod text;
+
+pub use fault::FileFault;
+pub use reader::{RelFile, read_rel, read_rel_file, rel_of_term};
+pub use release::{Rel, RelApp, StartType};
+
+#[cfg(test)]
+mod tests;

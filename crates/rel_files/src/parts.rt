@@ -1,0 +1,136 @@
+//! What stands where in the terms of a release file.
+ghost use Rattle.std.specs.Prelude.{◌≡◌, codes};
+ghost use Rattle.std.specs.Option.{option_map};
+ghost use Rattle.erl_term.specs.Value.{members_of, value_of};
+ghost use Rattle.rel_files.specs.Parts.{list_in, pair_in, four_in, is_word, app_parts, title_in, erts_in, rel_parts};
+
+use erl_term::Term;
+
+// `{App, Vsn}` and what follows.
+#[derive(Clone, Copy)]
+pub(crate) struct AppParts<'a> {
+    pub(crate) name: &'a str,
+    pub(crate) vsn: &'a [Term],
+    pub(crate) ending: &'a [Term],
+}
+
+// `{Name, Vsn}`.
+#[derive(Clone, Copy)]
+pub(crate) struct Title<'a> {
+    pub(crate) name: &'a [Term],
+    pub(crate) vsn: &'a [Term],
+}
+
+// `{release, {Name, Vsn}, {erts, EVsn}, [AppSpec]}`.
+#[derive(Clone, Copy)]
+pub(crate) struct RelParts<'a> {
+    pub(crate) title: Title<'a>,
+    pub(crate) erts: &'a [Term],
+    pub(crate) apps: &'a [Term],
+}
+
+fn list_in(term: &Term) -> Option<&[Term]>
+    ensures { option_map (λ items. members_of items.now) result ≡ list_in (value_of term.now) }
+{
+    match term {
+        Term::List(items) => Some(items.as_slice()),
+        _ => None,
+    }
+}
+
+fn pair_in(term: &Term) -> Option<(&Term, &Term)>
+    ensures { option_map (λ p. (value_of p.0.now, value_of p.1.now)) result ≡ pair_in (value_of term.now) }
+{
+    let Term::Tuple(members) = term else {
+        return None;
+    };
+    let (first, rest) = members.split_first()?;
+    let (second, rest) = rest.split_first()?;
+    match rest.split_first() {
+        None => Some((first, second)),
+        Some(_) => None,
+    }
+}
+
+fn four_in(term: &Term) -> Option<(&Term, &Term, &Term, &Term)>
+    ensures { option_map (λ p. (value_of p.0.now, value_of p.1.now, value_of p.2.now, value_of p.3.now)) result ≡ four_in (value_of term.now) }
+{
+    let Term::Tuple(members) = term else {
+        return None;
+    };
+    let (first, rest) = members.split_first()?;
+    let (second, rest) = rest.split_first()?;
+    let (third, rest) = rest.split_first()?;
+    let (fourth, rest) = rest.split_first()?;
+    match rest.split_first() {
+        None => Some((first, second, third, fourth)),
+        Some(_) => None,
+    }
+}
+
+fn is_word(term: &Term, word: &str) -> bool
+    ensures { result ≡ is_word word.now (value_of term.now) }
+{
+    match term {
+        Term::Atom(name) => name.as_str() == word,
+        _ => false,
+    }
+}
+
+pub(crate) fn app_parts(term: &Term) -> Option<AppParts<'_>>
+    ensures { option_map (λ p. record { name = p.name.now; vsn = members_of p.vsn.now; ending = members_of p.ending.now }) result
+        ≡ app_parts (value_of term.now) }
+{
+    let Term::Tuple(members) = term else {
+        return None;
+    };
+    let (first, rest) = members.split_first()?;
+    let (second, ending) = rest.split_first()?;
+    match (first, second) {
+        (Term::Atom(name), Term::List(vsn)) => Some(AppParts {
+            name: name.as_str(),
+            vsn: vsn.as_slice(),
+            ending,
+        }),
+        _ => None,
+    }
+}
+
+fn title_in(term: &Term) -> Option<Title<'_>>
+    ensures { option_map (λ t. record { name = members_of t.name.now; vsn = members_of t.vsn.now }) result ≡ title_in (value_of term.now) }
+{
+    let (name, vsn) = pair_in(term)?;
+    Some(Title {
+        name: list_in(name)?,
+        vsn: list_in(vsn)?,
+    })
+}
+
+fn erts_in(term: &Term) -> Option<&[Term]>
+    ensures { option_map (λ items. members_of items.now) result ≡ erts_in (value_of term.now) }
+{
+    let (word, vsn) = pair_in(term)?;
+    if is_word(word, "erts") {
+        list_in(vsn)
+    } else {
+        None
+    }
+}
+
+pub(crate) fn rel_parts(term: &Term) -> Option<RelParts<'_>>
+    ensures { option_map (λ p. record {
+      title = record { name = members_of p.title.name.now; vsn = members_of p.title.vsn.now };
+      erts = members_of p.erts.now;
+      apps = members_of p.apps.now;
+    }) result ≡ rel_parts (value_of term.now) }
+{
+    let (word, title, erts, apps) = four_in(term)?;
+    if !is_word(word, "release") {
+        return None;
+    }
+    Some(RelParts {
+        title: title_in(title)?,
+        erts: erts_in(erts)?,
+        apps: list_in(apps)?,
+    })
+}
