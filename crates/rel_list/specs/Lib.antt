@@ -1,0 +1,4 @@
+pub mod Status
+pub mod Releases
+pub mod Event
+pub mod Keyed

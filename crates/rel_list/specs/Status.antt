@@ -1,0 +1,19 @@
+-- The words for the statuses of releases (OTP: release_handler(3), which_releases).
+use Rattle.std.specs.Prelude.{ℕ, List, Bool, true, false, codes}
+use Rattle.rel_list.specs.declared.status.Status.{Status}
+use Rattle.rel_list.specs.declared.status.Status.TheVariants.{Unpacked, Current, Old, Permanent}
+
+-- the atom for a status
+abbrev pub status_word : Status → List ℕ
+status_word Unpacked = codes "unpacked"
+status_word Current = codes "current"
+status_word Old = codes "old"
+status_word Permanent = codes "permanent"
+
+abbrev pub is_current : Status → Bool
+is_current Current = true
+is_current s = false
+
+abbrev pub is_permanent : Status → Bool
+is_permanent Permanent = true
+is_permanent s = false
