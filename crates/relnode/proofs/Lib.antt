@@ -1,0 +1,11 @@
+pub mod Writing
+pub mod Bytes
+pub mod Lining
+pub mod Splitting
+pub mod Said
+pub mod Commanding
+pub mod Going
+pub mod Telling
+pub mod Mapped
+pub mod Handling
+pub mod Giving

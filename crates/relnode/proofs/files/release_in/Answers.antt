@@ -1,0 +1,24 @@
+use Rattle.std.proofs.Common.{ap, length}
+use Rattle.std.specs.Prelude.{Ok, Err}
+use Rattle.rel_files.specs.Release.{release_of}
+use Rattle.relnode.proofs.Handling.{usable_release, unusable_release}
+use Rattle.relnode.proofs.files.release_in.Goals as goal
+
+pub returns-in-Ok-clause-found : goal.returns-in-Ok-clause-found
+returns-in-Ok-clause-found c = (
+  Ok (release_of c.in-Ok.release),
+  c.in-Ok.ensures.says,
+  usable_release c.args.path.now c.in-Ok.release _ (ap length c.as_slice.ensures.value) c.if-as_slice-le-MOST_APPLICATIONS.true,
+)
+
+pub returns-in-Ok-2-clause-refused : goal.returns-in-Ok-2-clause-refused
+returns-in-Ok-2-clause-refused c = λ _. (
+  Ok (release_of c.in-Ok.release),
+  c.in-Ok.ensures.says,
+  unusable_release c.args.path.now c.in-Ok.release _ (ap length c.as_slice.ensures.value) c.if-as_slice-le-MOST_APPLICATIONS.false,
+)
+
+pub returns-in-Err-clause-refused : goal.returns-in-Err-clause-refused
+returns-in-Err-clause-refused c = λ n.
+    let told = c.refusal_for.ensures n in
+    (Err c.in-Err.fault, c.in-Err.ensures.fault told.0, ap Err told.1)

@@ -1,0 +1,16 @@
+pub mod Feed
+pub mod Lines
+pub mod Input
+pub mod Output
+pub mod Ahead
+pub mod AheadView
+pub mod Commands
+pub mod Saying
+pub mod Refusals
+pub mod ListRefusals
+pub mod Listing
+pub mod Node
+pub mod Answers
+pub mod Given
+pub mod Told
+pub mod Nodes

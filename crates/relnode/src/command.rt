@@ -1,0 +1,19 @@
+//! A command of a session.
+use crate::given::GivenFile;
+
+/// A command of a session. Paths are texts, which are compared byte by byte.
+#[derive(Debug, Drop)]
+pub enum Command {
+    /// Gives the file of a path, in place of one that was given before.
+    File(String, GivenFile),
+    /// Makes a node that has the release of the file as its permanent one.
+    Create(String),
+    /// Has the node take in the release of the file, to be installed later.
+    SetUnpacked(String),
+    /// Lists the node's releases.
+    Releases,
+    /// Ends the session.
+    Quit,
+    /// A line that says no command, or a file without its end.
+    Bad,
+}
