@@ -1,0 +1,11 @@
+pub mod Calls
+pub mod Damage
+pub mod FailDisk
+pub mod ImageLaws
+pub mod Images
+pub mod Kind
+pub mod LogBytes
+pub mod LogState
+pub mod MemState
+pub mod Moments
+pub mod Places

@@ -1,0 +1,46 @@
+// Laws of the words that the contracts are written in, each on a function that does nothing.
+ghost use Rattle.std.specs.Prelude.{◌≡◌, ◌↔◌, ◌≤◌, ◌∷◌, List, ℕ, length};
+ghost use Rattle.rel_disk.specs.Calls.{Call, wrote, cut_to, synced, content};
+ghost use Rattle.rel_disk.specs.Damage.{Torn, Cut, Follows, Within, Only};
+ghost use Rattle.rel_disk.specs.Images.{Image};
+ghost use Rattle.rel_disk.specs.Places.{KeepsOutside, KeepsFront, Survives};
+
+use crate::Disk;
+
+/// The damage of a write and of a cut, told by places: nothing but the stated bytes can change.
+pub fn damage_by_places()
+    ensures write { (at n : ℕ) (old new : List ℕ) → Torn at n old new ↔ KeepsOutside at n old new }
+    ensures cut { (n : ℕ) (old new : List ℕ) → Cut n old new ↔ KeepsFront n old new }
+{}
+
+/// The images that single calls compose are exactly those that the ranges written since the last sync, and the smallest
+/// length since then, allow.
+pub fn images_by_places()
+    ensures { (calls : List Call) (image : List ℕ) → Image calls image ↔ Survives calls image }
+{}
+
+/// On any disk the damage of calls adds up to these images.
+pub fn damage_adds_up<D: Disk>()
+    ensures write { (calls : List Call) (at : ℕ) (bytes : List ℕ) (old new : D)
+        → Within (Image calls) (D.may_leave old)
+        → Follows (Torn at (length bytes)) (D.may_leave old) (D.may_leave new)
+        → Within (Image (wrote at bytes ∷ calls)) (D.may_leave new) }
+    ensures cut { (calls : List Call) (len : ℕ) (old new : D)
+        → Within (Image calls) (D.may_leave old)
+        → Follows (Cut len) (D.may_leave old) (D.may_leave new)
+        → Within (Image (cut_to len ∷ calls)) (D.may_leave new) }
+    ensures sync { (calls : List Call) (old new : D)
+        → D.seen old ≡ content calls
+        → Only (D.seen old) (D.may_leave new)
+        → Within (Image (synced ∷ calls)) (D.may_leave new) }
+{}
+
+/// What a read gives is an image, the images of this moment are among those since an earlier one, and since this moment
+/// there are no others.
+pub fn moments_agree<D: Disk>()
+    ensures reads { (disk : D) → D.may_leave disk (D.seen disk) }
+    ensures among { (disk : D) (t : ℕ) (image : List ℕ) → t ≤ D.moment disk → D.may_leave disk image
+        → D.left_since disk t image }
+    ensures only { (disk : D) (image : List ℕ) → D.left_since disk (D.moment disk) image
+        → D.may_leave disk image }
+{}

@@ -1,0 +1,28 @@
+//! A disk that crashes, and two disks in memory that show it.
+//!
+//! [`Disk`] says what a caller may rest on. Until the next sync that succeeds, a crash may leave any bytes in each range
+//! that was written since the last one, and from the smallest length on that the disk had since then; its length may be
+//! any from that length on. All other bytes stay. After a sync that succeeded a crash leaves what a read gives. A call
+//! that failed may have had any part of its effect, and the disk has counted a failure. The clauses speak of every
+//! moment, also of those within a call.
+//!
+//! [`MemDisk`] is exactly such a disk, with a bound on its bytes and on a log of its calls. [`FailDisk`] fails one call
+//! of another disk. That the damage of single calls adds up to the disk of the first sentence is a law:
+//! [`images_by_places`] and [`damage_adds_up`].
+//!
+//! Not claimed: that a real file is such a disk, and when a real device fails.
+#![tactic(auto)]
+
+mod disk;
+mod fail_disk;
+mod laws;
+mod log;
+mod mem_disk;
+
+pub use disk::{DeviceFault, Disk};
+pub use fail_disk::FailDisk;
+pub use laws::{damage_adds_up, damage_by_places, images_by_places, moments_agree};
+pub use mem_disk::MemDisk;
+
+#[cfg(test)]
+mod tests;
