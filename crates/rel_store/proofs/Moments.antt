@@ -1,0 +1,108 @@
+-- What a settled store leaves at each moment of a call.
+use Rattle.std.proofs.Common.{◌≡◌, inl, inr, ℕ, ◌+◌, ◌≤◌, Bool, true, false, not, ◌-◌, List, [], ◌∷◌, ◌++◌, length, length-append, replicate, refl, sym, ◌∙◌, ap, subst, arith}
+use Rattle.std.proofs.lemmas.List.{length-replicate}
+use Rattle.rel_disk.specs.Damage.{overwritten, Only, Within}
+use Rattle.rel_disk.specs.Moments.{Elapses, LeavesOnly}
+use Rattle.rel_disk.proofs.Moments.{started, goes_on, joined, weakened}
+use Rattle.rel_store.specs.Layout.{slot_with}
+use Rattle.rel_store.specs.Moments.{IsTornFrom}
+use Rattle.rel_store.specs.Records.{record_bytes, Stands, StandsEither, StandsWithEither}
+use Rattle.rel_store.specs.State.{records_in, text_in, IsSettled}
+use Rattle.rel_store.specs.declared.store.Store.{Store}
+use Rattle.rel_store.proofs.Append.{first_leaves, second_leaves, Staged, staged, Appended, appended}
+use Rattle.rel_store.proofs.Slots.{slot_place, slot_leaves, Slotted, slotted, selector_leaves, Selected, selected_now}
+use Rattle.std.specs.Prelude.{◌==◌, if◌then◌else◌, slice_index}
+
+module _ {D : Type 0} (moment : D → ℕ) (left_since : D → ℕ → List ℕ → Type 0) (seen : D → List ℕ) (may_leave : D → List ℕ → Type 0) (store : Store D) (s : IsSettled seen may_leave store) where
+  pub stands_now : Stands (records_in store) (text_in seen store) (seen store.disk)
+  stands_now = record { records = s.records; start = refl }
+
+  -- each image of its disk now is a store that stands
+  pub each_now : (c : List ℕ) → may_leave store.disk c → Stands (records_in store) (text_in seen store) c
+  each_now c now = subst (Stands (records_in store) (text_in seen store)) (sym (s.durable c now)) stands_now
+
+  -- before the first call on its disk
+  pub resting : (P : List ℕ → Type 0) → ((c : List ℕ) → Stands (records_in store) (text_in seen store) c → P c) → ((c : List ℕ) → left_since store.disk (moment store.disk) c → may_leave store.disk c)
+      → LeavesOnly moment left_since store.disk store.disk P
+  resting P implies only_now = started moment left_since store.disk P (λ c left. implies c (each_now c (only_now c left)))
+
+  module _ (body bytes : List ℕ) (short : length body ≤ 16777216) (spelled : bytes ≡ record_bytes body ++ 0 ∷ []) (mid : D) where
+    abbrev Either : List ℕ → Type 0
+    Either = StandsEither (records_in store) body (text_in seen store)
+
+    -- the record's bytes are written behind the closed gate
+    pub after_first : LeavesOnly moment left_since store.disk mid (IsTornFrom (may_leave store.disk) (store.gate + 1) (length bytes)) → LeavesOnly moment left_since store.disk mid Either
+    after_first leaves = weakened moment left_since store.disk mid _ Either (first_leaves (records_in store) (text_in seen store) body (seen store.disk) store.gate (length bytes) (may_leave store.disk) stands_now s.end s.durable) leaves
+
+    pub staged_now : seen mid ≡ overwritten (store.gate + 1) bytes (seen store.disk) → Staged (records_in store) (text_in seen store) body store.gate (seen store.disk) (seen mid)
+    staged_now written = staged (records_in store) (text_in seen store) body (seen store.disk) (seen mid) bytes store.gate stands_now s.end spelled written
+
+    -- the gate is opened
+    pub after_second : (new : D) → LeavesOnly moment left_since store.disk mid (IsTornFrom (may_leave store.disk) (store.gate + 1) (length bytes)) → seen mid ≡ overwritten (store.gate + 1) bytes (seen store.disk) → Only (seen mid) (may_leave mid)
+        → LeavesOnly moment left_since mid new (IsTornFrom (may_leave mid) store.gate 1) → LeavesOnly moment left_since store.disk new Either
+    after_second new first written durable second =
+        joined moment left_since store.disk mid new Either (after_first first)
+        (weakened moment left_since mid new _ Either (second_leaves (records_in store) (text_in seen store) body (seen store.disk) (seen mid) store.gate (may_leave mid) short (staged_now written) durable) second)
+
+    pub appended_now : (new : D) → seen mid ≡ overwritten (store.gate + 1) bytes (seen store.disk) → seen new ≡ overwritten store.gate (1 ∷ []) (seen mid) → Appended (records_in store) (text_in seen store) body store.gate (seen store.disk) (seen new)
+    appended_now new written opened = appended (records_in store) (text_in seen store) body (seen store.disk) (seen mid) (seen new) store.gate short (staged_now written) opened
+
+  -- a call that writes nothing
+  pub after_reading : (new : D) → ((c : List ℕ) → left_since store.disk (moment store.disk) c → may_leave store.disk c) → Elapses (moment store.disk) (moment new) (left_since store.disk) (left_since new) (may_leave new) → Within (may_leave store.disk) (may_leave new)
+      → LeavesOnly moment left_since store.disk new (Stands (records_in store) (text_in seen store))
+  after_reading new only_now time within =
+      goes_on moment left_since store.disk store.disk new (Stands (records_in store) (text_in seen store)) (may_leave new) (resting (Stands (records_in store) (text_in seen store)) (λ c here. here) only_now) time (λ c now. each_now c (within c now))
+
+  -- the slot that the store will choose
+  abbrev second : Bool
+  second = not store.second_start
+
+  module _ (slot text : List ℕ) (few : length text ≤ 127) (spelled : slot ≡ slot_with text) (place : ℕ) (at : place ≡ slot_place second) (mid : D) where
+    abbrev WithEither : List ℕ → Type 0
+    WithEither = StandsWithEither (records_in store) (text_in seen store) (slot_with text)
+
+    long : length (slot_with text) ≡ 128
+    long = omega (arith, length-append text (replicate (127 - length text) 0), length-replicate {A = ℕ} (127 - length text) 0)
+
+    counted_slot : (slice_index (seen store.disk) 9 == 1) ≡ not second
+    counted_slot = sym s.start ∙ twice store.second_start
+      where
+        twice : (b : Bool) → b ≡ not (not b)
+        twice true = refl
+        twice false = refl
+
+    -- the slot that doesn't count is written
+    pub after_slot : LeavesOnly moment left_since store.disk mid (IsTornFrom (may_leave store.disk) place (length slot)) → LeavesOnly moment left_since store.disk mid WithEither
+    after_slot leaves =
+        let size : length slot ≡ 128 = ap length spelled ∙ long in
+        weakened moment left_since store.disk mid _ WithEither (λ c torn. slot_leaves second (records_in store) (text_in seen store) (slot_with text) (seen store.disk) (may_leave store.disk) stands_now counted_slot s.durable c
+        (subst (λ n. IsTornFrom (may_leave store.disk) (slot_place second) n c) size (subst (λ q. IsTornFrom (may_leave store.disk) q (length slot) c) at torn))) leaves
+
+    pub slotted_now : seen mid ≡ overwritten place slot (seen store.disk) → Slotted second (records_in store) (text_in seen store) (slot_with text) (seen store.disk) (seen mid)
+    slotted_now written =
+        slotted second (slot_with text) (seen store.disk) (seen mid) (records_in store) (text_in seen store) long stands_now counted_slot (written ∙ (λ i. overwritten (at i) (spelled i) (seen store.disk)))
+
+    -- the selector is written
+    pub after_selector : (new : D) → LeavesOnly moment left_since store.disk mid (IsTornFrom (may_leave store.disk) place (length slot)) → seen mid ≡ overwritten place slot (seen store.disk) → Only (seen mid) (may_leave mid)
+        → LeavesOnly moment left_since mid new (IsTornFrom (may_leave mid) 9 1) → LeavesOnly moment left_since store.disk new WithEither
+    after_selector new first written durable next =
+        joined moment left_since store.disk mid new WithEither (after_slot first)
+        (weakened moment left_since mid new _ WithEither (selector_leaves second (records_in store) (text_in seen store) (slot_with text) (seen store.disk) (seen mid) (may_leave mid) (slotted_now written) durable) next)
+
+    pub selected_slot : (new : D) (byte : ℕ) → byte ≡ (if second then 1 else 0) → seen mid ≡ overwritten place slot (seen store.disk) → seen new ≡ overwritten 9 (byte ∷ []) (seen mid) → Selected second (records_in store) (slot_with text) (seen store.disk) (seen new)
+    selected_slot new byte is written next =
+        selected_now second (records_in store) (text_in seen store) (slot_with text) (seen store.disk) (seen mid) (seen new) byte (ap (λ b. b == 1) is ∙ chooses second) (slotted_now written) next
+      where
+        chooses : (b : Bool) → ((if b then 1 else 0) == 1) ≡ b
+        chooses true = refl
+        chooses false = refl
+
+-- A creation has touched nothing but the gate of the store.
+pub touched : {D : Type 0} (moment : D → ℕ) (left_since : D → ℕ → List ℕ → Type 0) (may_leave : D → List ℕ → Type 0) (old mid new : D) → LeavesOnly moment left_since old mid (may_leave old) → Within (may_leave old) (may_leave mid)
+    → LeavesOnly moment left_since mid new (IsTornFrom (may_leave mid) 0 1) → LeavesOnly moment left_since old new (IsTornFrom (may_leave old) 0 1)
+touched moment left_since may_leave old mid new first within second =
+    joined moment left_since old mid new _ (weakened moment left_since old mid _ _ (λ c now. inl now) first) (weakened moment left_since mid new _ _ from_old second)
+  where
+    from_old : (c : List ℕ) → IsTornFrom (may_leave mid) 0 1 c → IsTornFrom (may_leave old) 0 1 c
+    from_old c (inl now) = inl (within c now)
+    from_old c (inr torn) = inr (torn.0, within torn.0 torn.1, torn.2)

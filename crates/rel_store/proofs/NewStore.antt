@@ -1,0 +1,159 @@
+-- What stands, and what a crash may leave, after each write of a creation.
+use Rattle.std.proofs.Common.{◌≡◌, ◌≢◌, inl, inr, ℕ, ◌+◌, ◌-◌, ◌≤◌, Bool, true, false, ◌||◌, ◌&&◌, not, List, [], ◌∷◌, ◌++◌, length, take, drop, replicate, Err, refl, sym, ◌∙◌, ap, subst, arith, append_assoc, length-append}
+use Rattle.std.specs.Prelude.{if◌then◌else◌, nat_eq, nat_lt, nat_le, slice_index, bytes_eq}
+use Rattle.std.specs.Int.{w64, from_be_bytes, to_be_bytes}
+use Rattle.std.proofs.lemmas.Bool.{cases_eq}
+use Rattle.std.proofs.lemmas.Bool.Decides.{nat_tests}
+use Rattle.std.proofs.lemmas.List.{take_at, drop_at, length-replicate}
+use Rattle.rel_disk.specs.Damage.{overwritten, Torn, Only}
+use Rattle.rel_disk.specs.Moments.{LeavesOnly}
+use Rattle.rel_disk.proofs.Moments.{joined, weakened}
+use Rattle.rel_store.specs.Creation.{IsNew, IsNoneOrNew, IsBegunAt}
+use Rattle.rel_store.specs.Layout.{magic, has_magic, base_slot, base_of, text_of, slot_with, new_layout}
+use Rattle.rel_store.specs.Moments.{IsTornFrom}
+use Rattle.rel_store.specs.Records.{record_bytes, records_from, records_of, Stands}
+use Rattle.rel_store.specs.declared.error.StoreError.TheVariants.{NotAStore, Damaged}
+use Rattle.rel_store.proofs.Append.{one}
+use Rattle.rel_store.proofs.Whole.{Head, readable, stands, grown}
+
+-- bytes that begin with a closed gate are no store
+pub none : (gate : ℕ) (bytes : List ℕ) → gate ≢ 1 → records_of (gate ∷ bytes) ≡ Err NotAStore
+none gate bytes shut = refused (nat_lt (length (gate ∷ bytes)) 289) (has_magic (gate ∷ bytes)) unlike
+  where
+    closed : nat_eq gate 1 ≡ false
+    closed = grind (arith, nat_tests)
+
+    unlike : has_magic (gate ∷ bytes) ≡ false
+    unlike = ap (λ b. b && bytes_eq (take 8 bytes) magic) closed
+
+    refused : (a b : Bool) → b ≡ false
+        → (if a || not b then Err NotAStore else (if nat_lt (base_of (gate ∷ bytes)) 288 || nat_le (length (gate ∷ bytes)) (base_of (gate ∷ bytes)) then Err (Damaged (base_slot (gate ∷ bytes))) else records_from (base_of (gate ∷ bytes)) 0 (drop (base_of (gate ∷ bytes)) (gate ∷ bytes)))) ≡ Err NotAStore
+    refused true b is = refl
+    refused false true is = absurd cc
+    refused false false is = refl
+
+module _ (start : List ℕ) (few : length start ≤ 127) where
+  abbrev beginning : List ℕ
+  beginning = 1 ∷ (magic ++ replicate 7 0)
+
+  abbrev slot : List ℕ
+  slot = slot_with start
+
+  length-slot : length slot ≡ 128
+  length-slot = omega (arith, length-append start (replicate (127 - length start) 0), length-replicate {A = ℕ} (127 - length start) 0)
+
+  regroup : (a s z p q tail : List ℕ) → (a ++ (s ++ (z ++ (p ++ q)))) ++ tail ≡ (a ++ (s ++ z)) ++ (p ++ (q ++ tail))
+  regroup a s z p q tail = simp append_assoc
+
+  regroup_slot : (a s z tail : List ℕ) → (a ++ (s ++ z)) ++ tail ≡ a ++ (s ++ (z ++ tail))
+  regroup_slot a s z tail = simp append_assoc
+
+  abbrev head : List ℕ
+  head = 1 ∷ new_layout start
+
+  abbrev bases : List ℕ
+  bases = to_be_bytes w64 288 ++ replicate 8 0
+
+  length-head : length head ≡ 288
+  length-head = omega (arith, length-slot, length-append slot (replicate 128 0 ++ bases))
+
+  base : (tail : List ℕ) → base_of (head ++ tail) ≡ 288
+  base tail =
+      let front = beginning ++ (slot ++ replicate 128 0) in
+      let long : length front ≡ 272 = omega (arith, length-slot, length-append slot (replicate 128 0)) in
+      ap (λ l. from_be_bytes w64 (take 8 l)) (ap (λ l. drop 272 l) (regroup beginning slot (replicate 128 0) (to_be_bytes w64 288) (replicate 8 0) tail) ∙ drop_at front (to_be_bytes w64 288 ++ (replicate 8 0 ++ tail)) 272 long)
+
+  text : (tail : List ℕ) → text_of (head ++ tail) ≡ slot
+  text tail = ap (λ l. take 128 (drop 16 l)) (regroup_slot beginning slot (replicate 128 0 ++ bases) tail) ∙ take_at slot ((replicate 128 0 ++ bases) ++ tail) 128 length-slot
+
+  new_head : Head [] slot head
+  new_head = record {
+    long = omega (arith, length-head);
+    records = λ tail some.
+        let long : length (head ++ tail) ≡ 288 + length tail = length-append head tail ∙ ap (λ n. n + length tail) length-head in
+        readable (head ++ tail) (record { long = omega (arith, long, some); begins = refl; low = omega (arith, base tail); high = omega (arith, base tail, long, some) })
+        ∙ ap (λ p. records_from p 0 (drop p (head ++ tail))) (base tail)
+        ∙ ap (λ l. records_from 288 0 l) (drop_at head tail 288 length-head)
+        ∙ ap (λ p. records_from p 0 tail) (sym length-head);
+    start = text;
+    end = λ tail. omega (arith, length-head, base tail);
+  }
+
+  module _ (first : List ℕ) (short : length first ≤ 16777216) where
+    together : (rest : List ℕ) → 1 ∷ (new_layout start ++ (1 ∷ (record_bytes first ++ 0 ∷ rest))) ≡ (head ++ 1 ∷ record_bytes first) ++ 0 ∷ rest
+    together rest = sym (append_assoc head (1 ∷ record_bytes first) (0 ∷ rest))
+
+    -- a new store stands, with its one record
+    pub new_stands : (bytes : List ℕ) → IsNew first start bytes → Stands (first ∷ []) slot bytes
+    new_stands bytes new = subst (Stands (first ∷ []) slot) (sym (new.is ∙ together new.rest)) (stands (first ∷ []) slot (head ++ 1 ∷ record_bytes first) 0 new.rest (grown [] slot head first new_head short) (omega arith))
+
+    pub new_base : (bytes : List ℕ) → IsNew first start bytes → base_of bytes ≡ 288
+    new_base bytes new = ap base_of new.is ∙ base (1 ∷ (record_bytes first ++ 0 ∷ new.rest))
+
+    pub new_selector : (bytes : List ℕ) → IsNew first start bytes → slice_index bytes 9 ≡ 0
+    new_selector bytes new = ap (λ l. slice_index l 9) new.is
+
+    -- with its gate in any state
+    any_gate : (gate : ℕ) (layout rest : List ℕ) → layout ≡ new_layout start ++ (1 ∷ (record_bytes first ++ 0 ∷ rest)) → IsNoneOrNew first start (gate ∷ layout)
+    any_gate gate layout rest is = elim (cases_eq gate 1) [
+      | inl is_open ↦ inr (new_stands (gate ∷ layout) (record { rest = rest; is = λ i. is_open i ∷ is i }))
+      | inr shut ↦ inl (none gate layout shut)
+    ]
+
+    -- The bytes behind the gate, as they are written and whatever follows them.
+    behind : (bytes rest : List ℕ) → bytes ≡ new_layout start ++ (1 ∷ (record_bytes first ++ 0 ∷ [])) → bytes ++ rest ≡ new_layout start ++ (1 ∷ (record_bytes first ++ 0 ∷ rest))
+    behind bytes rest spelled =
+        ap (λ (l : List ℕ). l ++ rest) spelled
+        ∙ append_assoc (new_layout start) (1 ∷ (record_bytes first ++ 0 ∷ [])) rest
+        ∙ ap (λ (l : List ℕ). new_layout start ++ (1 ∷ l)) (append_assoc (record_bytes first) (0 ∷ []) rest)
+
+    -- while the bytes behind the closed gate are written, there is no store
+    pub behind_leaves : (closed old : List ℕ) (n : ℕ) (images : List ℕ → Type 0) → closed ≡ overwritten 0 (0 ∷ []) old → Only closed images → (c : List ℕ) → IsTornFrom images 1 n c → IsNoneOrNew first start c
+    behind_leaves closed old n images is only c (inl now) = inl (ap records_of (only c now ∙ is) ∙ none 0 (drop 1 old) (omega arith))
+    behind_leaves closed old n images is only c (inr torn) =
+        let from = subst (λ d. Torn 1 n d c) (only torn.0 torn.1 ∙ is) torn.2 in
+        inl (ap records_of from.is ∙ none 0 (from.middle ++ (drop (1 + n) (0 ∷ drop 1 old) ++ from.tail)) (omega arith))
+
+    abbrev Laid : List ℕ → List ℕ → Type 0
+    Laid bytes laid = (rest : List ℕ) × (laid ≡ 0 ∷ (bytes ++ rest))
+
+    pub laid_out : (closed old laid bytes : List ℕ) → closed ≡ overwritten 0 (0 ∷ []) old → laid ≡ overwritten 1 bytes closed → Laid bytes laid
+    laid_out closed old laid bytes is written = (drop (1 + length bytes) (0 ∷ drop 1 old), written ∙ ap (overwritten 1 bytes) is)
+
+    -- while the gate is opened, there is none or the new one
+    pub gate_leaves : (laid bytes : List ℕ) (images : List ℕ → Type 0) → bytes ≡ new_layout start ++ (1 ∷ (record_bytes first ++ 0 ∷ [])) → Laid bytes laid → Only laid images → (c : List ℕ) → IsTornFrom images 0 1 c → IsNoneOrNew first start c
+    gate_leaves laid bytes images spelled is only c (inl now) = inl (ap records_of (only c now ∙ is.1) ∙ none 0 (bytes ++ is.0) (omega arith))
+    gate_leaves laid bytes images spelled is only c (inr torn) =
+        let from = subst (λ d. Torn 0 1 d c) (only torn.0 torn.1 ∙ is.1) torn.2 in
+        let byte = one from.middle (omega (arith, from.long)) in
+        let whole : c ≡ byte.0 ∷ ((bytes ++ is.0) ++ from.tail) = from.is ∙ ap (λ (l : List ℕ). l ++ ((bytes ++ is.0) ++ from.tail)) byte.1 in
+        subst (IsNoneOrNew first start) (sym whole) (any_gate byte.0 ((bytes ++ is.0) ++ from.tail) (is.0 ++ from.tail) (append_assoc bytes is.0 from.tail ∙ behind bytes (is.0 ++ from.tail) spelled))
+
+    pub opened_is_new : (laid bytes opened : List ℕ) → bytes ≡ new_layout start ++ (1 ∷ (record_bytes first ++ 0 ∷ [])) → Laid bytes laid → opened ≡ overwritten 0 (1 ∷ []) laid → IsNew first start opened
+    opened_is_new laid bytes opened spelled is written = record {
+      rest = is.0;
+      is = written ∙ ap (overwritten 0 (1 ∷ [])) is.1 ∙ ap (λ (l : List ℕ). 1 ∷ l) (behind bytes is.0 spelled);
+    }
+
+    -- A creation whose first write is done: where it stands in the second write, and in the third.
+    module _ {D : Type 0} (moment : D → ℕ) (left_since : D → ℕ → List ℕ → Type 0) (seen : D → List ℕ) (may_leave : D → List ℕ → Type 0) (old at : D)
+        (until : LeavesOnly moment left_since old at (IsTornFrom (may_leave old) 0 1)) (closed : seen at ≡ overwritten 0 (0 ∷ []) (seen old)) (synced : Only (seen at) (may_leave at)) where
+      pub begun_second : (laid : D) (n : ℕ) → LeavesOnly moment left_since at laid (IsTornFrom (may_leave at) 1 n) → IsBegunAt seen may_leave moment left_since first start old laid at
+      begun_second laid n second = record {
+        until = until;
+        closed = closed;
+        synced = synced;
+        from = weakened moment left_since at laid _ _ (behind_leaves (seen at) (seen old) n (may_leave at) closed synced) second;
+      }
+
+      pub begun_third : (laid new : D) (bytes : List ℕ) → bytes ≡ new_layout start ++ (1 ∷ (record_bytes first ++ 0 ∷ [])) → LeavesOnly moment left_since at laid (IsTornFrom (may_leave at) 1 (length bytes))
+          → seen laid ≡ overwritten 1 bytes (seen at) → Only (seen laid) (may_leave laid) → LeavesOnly moment left_since laid new (IsTornFrom (may_leave laid) 0 1) → IsBegunAt seen may_leave moment left_since first start old new at
+      begun_third laid new bytes spelled second written durable third =
+          let before = begun_second laid (length bytes) second in
+          record {
+            until = until;
+            closed = closed;
+            synced = synced;
+            from = joined moment left_since at laid new _ before.from
+                (weakened moment left_since laid new _ _ (gate_leaves (seen laid) bytes (may_leave laid) spelled (laid_out (seen at) (seen old) (seen laid) bytes closed written) durable) third);
+          }

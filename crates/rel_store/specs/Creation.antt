@@ -1,0 +1,46 @@
+-- What a creation of a store leaves.
+use Rattle.std.specs.Prelude.{◌≡◌, ◌⊎◌, ℕ, true, false, List, [], ◌∷◌, ◌++◌, length, Err}
+use Rattle.rel_disk.specs.Damage.{overwritten, Only}
+use Rattle.rel_disk.specs.Moments.{LeavesOnly, HasFailed}
+use Rattle.rel_store.specs.Layout.{has_magic, slot_with, new_layout}
+use Rattle.rel_store.specs.Moments.{IsTornFrom}
+use Rattle.rel_store.specs.Records.{record_bytes, records_of, Stands}
+use Rattle.rel_store.specs.State.{Fits}
+use Rattle.rel_store.specs.declared.error.StoreError.{StoreError}
+use Rattle.rel_store.specs.declared.error.StoreError.TheVariants.{NotAStore, Exists, Full, Device, NoMemory}
+
+-- these bytes are no store, or one with this record alone and this start text
+abbrev pub IsNoneOrNew : List ℕ → List ℕ → List ℕ → Type 0
+IsNoneOrNew first start bytes = (records_of bytes ≡ Err NotAStore) ⊎ Stands (first ∷ []) (slot_with start) bytes
+
+-- These bytes are a new store: its layout, its record behind an open gate, a closed gate, and anything behind it.
+pub record IsNew (first start bytes : List ℕ) : Type 0 where
+  pub rest : List ℕ
+  pub is : bytes ≡ 1 ∷ (new_layout start ++ (1 ∷ (record_bytes first ++ 0 ∷ rest)))
+
+-- Nothing has been written: the bytes are as they were, and no crash leaves anything that none before would have left.
+pub record IsUnwritten {D : Type 0} (seen : D → List ℕ) (may_leave : D → List ℕ → Type 0) (moment : D → ℕ) (left_since : D → ℕ → List ℕ → Type 0) (old new : D) : Type 0 where
+  pub same : seen new ≡ seen old
+  pub any_moment : LeavesOnly moment left_since old new (may_leave old)
+
+-- Up to this moment nothing but the gate of a store has been written, and it is closed and synced; from then on each
+-- image is no store or the new one.
+pub record IsBegunAt {D : Type 0} (seen : D → List ℕ) (may_leave : D → List ℕ → Type 0) (moment : D → ℕ) (left_since : D → ℕ → List ℕ → Type 0) (first start : List ℕ) (old new at : D) : Type 0 where
+  pub until : LeavesOnly moment left_since old at (IsTornFrom (may_leave old) 0 1)
+  pub closed : seen at ≡ overwritten 0 (0 ∷ []) (seen old)
+  pub synced : Only (seen at) (may_leave at)
+  pub from : LeavesOnly moment left_since at new (IsNoneOrNew first start)
+
+-- At each moment of a creation: before its first sync the images are those from before it, but for a gate that is torn;
+-- from its first sync on each is no store or the new one.
+abbrev pub Creates : {D : Type 0} → (D → List ℕ) → (D → List ℕ → Type 0) → (D → ℕ) → (D → ℕ → List ℕ → Type 0) → List ℕ → List ℕ → D → D → Type 0
+Creates {D = D} seen may_leave moment left_since first start old new =
+    LeavesOnly moment left_since old new (IsTornFrom (may_leave old) 0 1) ⊎ ((at : D) × IsBegunAt seen may_leave moment left_since first start old new at)
+
+-- Why a creation refuses, in the order in which it is told. Nothing has been written then, unless the device failed.
+abbrev pub CreateRefused : List ℕ → List ℕ → ℕ → ℕ → Type 0 → StoreError → Type 0
+CreateRefused bytes first before now unwritten Exists = (has_magic bytes ≡ true) × unwritten
+CreateRefused bytes first before now unwritten Full = (has_magic bytes ≡ false) × (Fits 289 (length first) → ⊥) × unwritten
+CreateRefused bytes first before now unwritten NoMemory = (has_magic bytes ≡ false) × Fits 289 (length first) × unwritten
+CreateRefused bytes first before now unwritten Device = HasFailed before now
+CreateRefused bytes first before now unwritten _ = ⊥

@@ -1,0 +1,117 @@
+// A store is made.
+ghost use Rattle.std.specs.Prelude.{◌≡◌, ◌+◌, ◌≤◌, [], ◌∷◌, map, true, length, IfOk, IfErr, OnOk, IsErr};
+ghost use Rattle.rel_disk.specs.Damage.{Only, Within};
+ghost use Rattle.rel_disk.specs.Moments.{LeavesOnly, HasFailed};
+ghost use Rattle.rel_store.specs.Creation.{IsNew, IsBegunAt, Creates, IsUnwritten, CreateRefused};
+ghost use Rattle.rel_store.specs.Layout.{has_magic, slot_with};
+ghost use Rattle.rel_store.specs.State.{disk_in, disk_of, end_in, records_in, text_in, IsSettled, IsSound};
+
+use crate::bytes::spell_store;
+use crate::device::write_through;
+use crate::layout::{BEGINNING, CLOSED, FIRST_RECORD, MAX_BODY, OPEN, RECORD_HEAD, begins_a_store};
+use crate::{Store, StoreError};
+use rel_disk::{DeviceFault, Disk};
+use std::alloc::{AllocError, Global};
+
+impl<D: Disk> Store<D> {
+    /// Makes a store with one record on a disk that has none, and with this text of at most 127 bytes as its start slot.
+    /// What stands on the disk behind the store's closed gate stays.
+    ///
+    /// Told in this order: `Exists` where the disk begins with an open gate and the magic, `Full` where the record is
+    /// longer than a record may be, `NoMemory`. Nothing has been written then.
+    pub fn create(
+        alloc: Global,
+        disk: D,
+        first: &[u8],
+        start: &[u8],
+    ) -> Result<Store<D>, (StoreError, D)>
+        requires { length start.now ≤ 127 }
+        ensures settled { IfOk result (IsSettled D.seen D.may_leave) }
+        ensures sound { IfOk result (IsSound D.seen D.may_leave) }
+        ensures records { IfOk result (λ store. records_in store ≡ first.now ∷ []) }
+        ensures start { IfOk result (λ store. text_in D.seen store ≡ slot_with start.now) }
+        ensures bytes { IfOk result (λ store. IsNew first.now start.now (D.seen (disk_in store))) }
+        ensures end { IfOk result (λ store. end_in store ≡ 289 + (5 + length first.now)) }
+
+        // At each moment from the first sync on a crash leaves no store, or one with the first record.
+        ensures any_moment { Creates D.seen D.may_leave D.moment D.left_since first.now start.now disk (disk_of result) }
+        ensures begun { OnOk result ((at : D) × IsBegunAt D.seen D.may_leave D.moment D.left_since first.now start.now disk (disk_of result) at) }
+
+        ensures taken { has_magic (D.seen disk) ≡ true → IfErr result (λ e. IsUnwritten D.seen D.may_leave D.moment D.left_since disk e.1) × IsErr result }
+        ensures counted { D.failures disk ≤ D.failures (disk_of result) }
+        ensures refused { IfErr result (λ e. CreateRefused (D.seen disk) first.now (D.failures disk) (D.failures e.1)
+            (IsUnwritten D.seen D.may_leave D.moment D.left_since disk e.1) e.0) }
+    {
+        let mut disk = disk;
+        match lay_out(alloc, &mut disk, first, start) {
+            Ok(records) => Ok(Store {
+                disk,
+                records,
+                gate: FIRST_RECORD + (RECORD_HEAD + first.len()) as u64,
+                second_start: false,
+                must_reopen: false,
+                spare: Vec::new(alloc),
+            }),
+            Err(error) => Err((error, disk)),
+        }
+    }
+}
+
+// Writes a new store, and answers its records.
+fn lay_out<D: Disk>(
+    alloc: Global,
+    disk: &mut D,
+    first: &[u8],
+    start: &[u8],
+) -> Result<Vec<Vec<u8>>, StoreError>
+    requires { length start.now ≤ 127 }
+    ensures records { IfOk result (λ records. map (λ v. v.items) records.items ≡ first.now ∷ []) }
+    ensures short { OnOk result (length first.now ≤ 16777216) }
+    ensures written { OnOk result (IsNew first.now start.now (D.seen disk.new)) }
+    ensures durable { OnOk result (Only (D.seen disk.new) (D.may_leave disk.new)) }
+    ensures any_moment { Creates D.seen D.may_leave D.moment D.left_since first.now start.now disk.old disk.new }
+    ensures begun { OnOk result ((at : D) × IsBegunAt D.seen D.may_leave D.moment D.left_since first.now start.now disk.old disk.new at) }
+    ensures taken { has_magic (D.seen disk.old) ≡ true → IsUnwritten D.seen D.may_leave D.moment D.left_since disk.old disk.new × IsErr result }
+    ensures counted { D.failures disk.old ≤ D.failures disk.new }
+    ensures refused { IfErr result (CreateRefused (D.seen disk.old) first.now (D.failures disk.old) (D.failures disk.new)
+        (IsUnwritten D.seen D.may_leave D.moment D.left_since disk.old disk.new)) }
+{
+    if is_taken(disk)? {
+        return Err(StoreError::Exists);
+    }
+    if first.len() > MAX_BODY {
+        return Err(StoreError::Full);
+    }
+    let bytes = spell_store(alloc, first, start)?;
+    let records = only_record(alloc, first)?;
+    write_through(disk, 0, &[CLOSED])?;
+    write_through(disk, 1, &bytes)?;
+    write_through(disk, 0, &[OPEN])?;
+    Ok(records)
+}
+
+// Whether a store stands on the disk.
+fn is_taken<D: Disk>(disk: &mut D) -> Result<bool, DeviceFault>
+    ensures value { IfOk result (λ taken. taken ≡ has_magic (D.seen disk.old)) }
+    ensures same { D.seen disk.new ≡ D.seen disk.old }
+    ensures crash { Within (D.may_leave disk.old) (D.may_leave disk.new) }
+    ensures any_moment { LeavesOnly D.moment D.left_since disk.old disk.new (D.may_leave disk.old) }
+    ensures counted { D.failures disk.old ≤ D.failures disk.new }
+    ensures cause { IsErr result → HasFailed (D.failures disk.old) (D.failures disk.new) }
+{
+    if disk.len()? < BEGINNING as u64 {
+        return Ok(false);
+    }
+    let mut beginning = [0; BEGINNING];
+    disk.read(0, &mut beginning)?;
+    Ok(begins_a_store(&beginning))
+}
+
+// The records of a new store.
+fn only_record(alloc: Global, first: &[u8]) -> Result<Vec<Vec<u8>>, AllocError>
+    ensures { IfOk result (λ records. map (λ v. v.items) records.items ≡ first.now ∷ []) }
+{
+    let mut records = Vec::new(alloc);
+    records.push(Vec::from_slice(alloc, first)?)?;
+    Ok(records)
+}

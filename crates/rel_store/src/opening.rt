@@ -1,0 +1,59 @@
+// A store is opened.
+ghost use Rattle.std.specs.Prelude.{◌≡◌, ◌≤◌, IfOk, IfErr, OnOk, Ok};
+ghost use Rattle.rel_disk.specs.Damage.{Only};
+ghost use Rattle.rel_disk.specs.Moments.{LeavesOnly};
+ghost use Rattle.rel_store.specs.Contents.{AreContentsOf, OpenRefused};
+ghost use Rattle.rel_store.specs.Records.{records_of};
+ghost use Rattle.rel_store.specs.State.{disk_of, records_in, IsSettled, IsSound};
+
+use crate::contents::Contents;
+use crate::device::read_settled;
+use crate::{Store, StoreError};
+use rel_disk::Disk;
+use std::alloc::Global;
+
+impl<D: Disk> Store<D> {
+    /// Opens the store on a disk. At `Ok` the disk is synced: what was read is what a crash leaves. Reads the disk once.
+    ///
+    /// Refusals: `Device`, `NoMemory`, `NotAStore`, and `Damaged` at a base slot that tells no place behind the layout
+    /// and within the disk, or at the open gate of a record that is too long or that the disk ends within; the gate
+    /// behind a record belongs to it.
+    pub fn open_disk(alloc: Global, disk: D) -> Result<Store<D>, (StoreError, D)>
+        ensures settled { IfOk result (IsSettled D.seen D.may_leave) }
+        ensures sound { IfOk result (IsSound D.seen D.may_leave) }
+        ensures records { IfOk result (λ store. records_of (D.seen disk) ≡ Ok (records_in store)) }
+        ensures same { D.seen (disk_of result) ≡ D.seen disk }
+
+        // No crash in the call leaves anything that none before it would have left.
+        ensures any_moment { LeavesOnly D.moment D.left_since disk (disk_of result) (D.may_leave disk) }
+
+        ensures counted { D.failures disk ≤ D.failures (disk_of result) }
+        ensures refused { IfErr result (λ e. OpenRefused (D.seen disk) (D.failures disk) (D.failures e.1) e.0) }
+    {
+        let mut disk = disk;
+        match read_contents(alloc, &mut disk) {
+            Ok(contents) => Ok(Store {
+                disk,
+                records: contents.records,
+                gate: contents.gate,
+                second_start: contents.second_start,
+                must_reopen: false,
+                spare: Vec::new(alloc),
+            }),
+            Err(error) => Err((error, disk)),
+        }
+    }
+}
+
+// Syncs, and reads what the disk holds.
+fn read_contents<D: Disk>(alloc: Global, disk: &mut D) -> Result<Contents, StoreError>
+    ensures ok { IfOk result (AreContentsOf (D.seen disk.old)) }
+    ensures durable { OnOk result (Only (D.seen disk.old) (D.may_leave disk.new)) }
+    ensures same { D.seen disk.new ≡ D.seen disk.old }
+    ensures any_moment { LeavesOnly D.moment D.left_since disk.old disk.new (D.may_leave disk.old) }
+    ensures counted { D.failures disk.old ≤ D.failures disk.new }
+    ensures refused { IfErr result (OpenRefused (D.seen disk.old) (D.failures disk.old) (D.failures disk.new)) }
+{
+    let bytes = read_settled(alloc, disk)?;
+    Contents::read(alloc, &bytes)
+}
