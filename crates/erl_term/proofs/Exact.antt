@@ -3,59 +3,50 @@ use Rattle.std.proofs.Common.{◌≡◌, ◌≢◌, ℕ, ◌⊎◌, inl, inr, Li
 use Rattle.std.proofs.lemmas.List.{map-append}
 use Rattle.erl_term.specs.declared.fault.TermFault.{TermFault}
 use Rattle.erl_term.specs.declared.fault.TermFault.TheVariants.{Unclosed, NoMemory}
-use Rattle.erl_term.specs.declared.token.Bracket.{Bracket}
-use Rattle.erl_term.specs.declared.parser.Slot.{Slot}
-use Rattle.erl_term.specs.declared.parser.Slot.TheVariants.{First, Next, Later}
 use Rattle.erl_term.specs.Lexing.{Token, Item, items_of}
-use Rattle.erl_term.specs.Lexing.Token.{open_tuple, open_list, comma, dot, name, broken}
+use Rattle.erl_term.specs.Lexing.Token.{dot, broken, cut}
 use Rattle.std.specs.Prelude.{IfOk, IfErr, Vec}
 use Rattle.std.specs.declared.alloc.Global.{Global}
 use Rattle.erl_term.specs.declared.term.Spanned.{Spanned}
 use Rattle.erl_term.specs.Answers.{readings, IsOnly, TellsFault}
 use Rattle.erl_term.specs.Views.{ReadsAs}
-use Rattle.erl_term.specs.Grammar.{Phrase, tokens_of, members_tokens, tokens, Reading, Reads}
-use Rattle.erl_term.specs.Faults.{rows, Fit, MayCome, Tells, TellsOwn, TellsPlace, IsMisplaced, TellsEnd, IsOpening, AreMembers, IsFault}
-use Rattle.erl_term.specs.Machine.{State, Progress, kind_of, next, refusal, misplaced, or_refusal, and_then, run, at_kind, at_end, finished, nothing_read, reading_of}
+use Rattle.erl_term.specs.Grammar.{Phrase, tokens, Reading, Reads}
+use Rattle.erl_term.specs.Faults.{rows, Fit, MayCome, Tells, TellsOwn, TellsCut, TellsPlace, IsMisplaced, TellsEnd, IsFault}
+use Rattle.erl_term.specs.Machine.{State, Progress, kind_of, next, refusal, misplaced, cut_off, or_refusal, and_then, run, at_kind, at_end, finished, nothing_read, reading_of}
 use Rattle.erl_term.specs.Machine.State.{begun, whole, inside}
-use Rattle.erl_term.specs.Machine.Kind.{opening}
 use Rattle.erl_term.proofs.Passes.{progress, reads_terms}
-use Rattle.erl_term.proofs.Standing.{At, phrases_of, ahead, ahead-end, joined, run_stands, nothing_stands}
 use Rattle.erl_term.proofs.Viability.{plain, terms_are_rows, rows_are_terms, reads_only, runs_viable, may_come, may_not_come}
+use Rattle.erl_term.proofs.Innermost.{inside_innermost, begun_has_none, whole_has_none}
+use Rattle.erl_term.proofs.Refusals.{place_tells}
 
--- the place of a token that may not come tells its fault
-place_tells : (limit : ℕ) (is : List Item) (p : Progress) (i : Item) → run limit nothing_read is ≡ Ok p
-    → TellsPlace limit (tokens is) i (misplaced p.state i.token i.from)
-place_tells limit is p i e = go p.state refl
+-- the end within what begins behind these tells the machine's fault
+cut_tells : (limit : ℕ) (is : List Item) (p : Progress) (at : ℕ) → run limit nothing_read is ≡ Ok p → TellsCut is at (cut_off p.state at)
+cut_tells limit is p at e = go p.state e
   where
-    at : (s : State) → p.state ≡ s → run limit nothing_read is ≡ Ok (progress p.done s)
-    at s h = e ∙ (λ j. Ok (progress p.done (h j)))
-
-    go : (s : State) → p.state ≡ s → TellsPlace limit (tokens is) i (misplaced s i.token i.from)
-    go (whole r) h = inl (may_come limit is (progress p.done (whole r)) _ (plain dot) (at (whole r) h) refl, refl)
-    go begun h = inr (inl (may_come limit is (progress p.done begun) _ (plain (name [])) (at begun h) refl, refl))
-    go (inside First l ls) h = inr (inl (may_come limit is (progress p.done (inside First l ls)) _ (plain (name [])) (at (inside First l ls) h) refl, refl))
-    go (inside Next l ls) h = inr (inl (may_come limit is (progress p.done (inside Next l ls)) _ (plain (name [])) (at (inside Next l ls) h) refl, refl))
-    go (inside Later l ls) h = inr (inr (
-      may_not_come limit is (progress p.done (inside Later l ls)) (plain dot) (at (inside Later l ls) h) refl,
-      may_not_come limit is (progress p.done (inside Later l ls)) (plain (name [])) (at (inside Later l ls) h) refl,
-      refl,
-    ))
+    go : (s : State) → run limit nothing_read is ≡ Ok (progress p.done s) → TellsCut is at (cut_off s at)
+    go begun e = inr (begun_has_none limit is p.done e, refl)
+    go (whole r) e = inr (whole_has_none limit is p.done r e, refl)
+    go (inside slot l ls) e = let (i, innermost, from) = inside_innermost limit is p.done slot l ls e in inl (i, innermost, ap Unclosed (sym from))
 
 -- a token that may not come has the fault that the machine tells
 refusal_tells : (limit : ℕ) (is : List Item) (p : Progress) (i : Item) → run limit nothing_read is ≡ Ok p
-    → Tells limit (tokens is) i (refusal limit p i.token i.from)
+    → Tells limit is i (refusal limit p i.token i.from)
 refusal_tells limit is p i e = go i.token refl (place_tells limit is p i e)
   where
-    own_or_place : (like : Token) (own : TermFault) (o : Option Progress) → at_kind limit p.done p.state (kind_of like) i.from i.from ≡ o
-        → TellsPlace limit (tokens is) i (misplaced p.state (broken like own) i.from)
-        → (MayCome limit (tokens is) like × ((if is_some o then own else misplaced p.state (broken like own) i.from) ≡ own))
-        ⊎ ((MayCome limit (tokens is) like → ⊥) × TellsPlace limit (tokens is) i (if is_some o then own else misplaced p.state (broken like own) i.from))
-    own_or_place like own (Some q) h place = inl (may_come limit is p q (record { token = like; from = i.from; to = i.from }) e h, refl)
-    own_or_place like own None h place = inr (may_not_come limit is p (record { token = like; from = i.from; to = i.from }) e h, place)
+    own_or_place : (like : Token) (Own : TermFault → Type 0) (own place : TermFault) (o : Option Progress) → at_kind limit p.done p.state (kind_of like) 0 0 ≡ o
+        → Own own → TellsPlace limit (tokens is) i place
+        → (MayCome limit (tokens is) like × Own (if is_some o then own else place))
+        ⊎ ((MayCome limit (tokens is) like → ⊥) × TellsPlace limit (tokens is) i (if is_some o then own else place))
+    own_or_place like Own own place (Some q) h told tells = inl (may_come limit is p q (plain like) e h, told)
+    own_or_place like Own own place None h told tells = inr (may_not_come limit is p (plain like) e h, tells)
 
     go : (t : Token) → i.token ≡ t → TellsPlace limit (tokens is) i (misplaced p.state t i.from)
-        → TellsOwn limit (tokens is) t (refusal limit p t i.from) ⊎ (IsMisplaced limit (tokens is) t × TellsPlace limit (tokens is) i (refusal limit p t i.from))
-    go (broken like own) h place = own_or_place like own (at_kind limit p.done p.state (kind_of like) i.from i.from) refl place
+        → TellsOwn limit is i.from t (refusal limit p t i.from) ⊎ (IsMisplaced limit (tokens is) t × TellsPlace limit (tokens is) i (refusal limit p t i.from))
+    go (broken like own) h place =
+        own_or_place like (λ f. f ≡ own) own (misplaced p.state (broken like own) i.from) (at_kind limit p.done p.state (kind_of like) 0 0) refl refl place
+    go (cut like) h place =
+        own_or_place like (TellsCut is i.from) (cut_off p.state i.from) (misplaced p.state (cut like) i.from) (at_kind limit p.done p.state (kind_of like) 0 0) refl
+        (cut_tells limit is p i.from e) place
     go t h place = inr (tt, place)
 
 -- where the machine stops within a row
@@ -92,36 +83,14 @@ stops limit p (i ∷ is) f e = go (λ q. stops limit q is f) (next limit p i) re
         err_same : {x y : TermFault} → (let r : Result Progress TermFault = Err x in r) ≡ Err y → x ≡ y
         err_same e = cc
 
-opening_opens : (t : Token) (b : Bracket) → kind_of t ≡ opening b → IsOpening t
-opening_opens open_tuple b e = tt
-opening_opens open_list b e = tt
-opening_opens t b e = absurd (cc)
-
-are_members : (slot : Slot) (ps : List Phrase) (mine : List Item) → At slot ps mine → AreMembers (tokens mine)
-are_members First ps mine (none, bare) = (phrases_of [], inl (ap tokens bare))
-are_members Next ps mine (qs, p, q, e) = (
-  phrases_of ps,
-  inr (e ∙ (ap ahead q ∙ (ahead-end qs p ∙ (sym (append_assoc (ahead qs) (tokens_of p) (comma ∷ []))
-      ∙ ((λ j. sym (joined qs p) j ++ comma ∷ []) ∙ (λ j. members_tokens (phrases_of (sym q j)) ++ comma ∷ [])))))),
-)
-are_members Later ps mine (qs, p, q, e) = (phrases_of ps, inl (e ∙ (sym (joined qs p) ∙ ap (λ ps. members_tokens (phrases_of ps)) (sym q))))
-
 -- where the text ends too early
 end_tells : (limit size : ℕ) (is : List Item) (done : List Reading) (s : State) (f : TermFault) → run limit nothing_read is ≡ Ok (progress done s)
     → at_end size done s ≡ Err f → TellsEnd limit size is f
 end_tells limit size is done begun f e h = absurd (cc)
 end_tells limit size is done (whole r) f e h = inl (may_come limit is (progress done (whole r)) _ (plain dot) e refl, (cc))
 end_tells limit size is done (inside slot l ls) f e h =
-    let (first, row, split, terms, (outer, mine, o, ps, is_row, around, level, members)) = run_stands limit nothing_read (progress done (inside slot l ls)) [] is (nothing_stands limit) e in
-    inr (
-      first ++ outer,
-      mine,
-      o,
-      split ∙ (ap (λ y. first ++ y) is_row ∙ sym (append_assoc first outer (o ∷ mine))),
-      opening_opens o.token l.bracket level.opens,
-      are_members slot ps mine members,
-      told (sym h) ∙ ap Unclosed (sym level.at),
-    )
+    let (i, innermost, from) = inside_innermost limit is done slot l ls e in
+    inr (i, innermost, told (sym h) ∙ ap Unclosed (sym from))
   where
     told : {x y : TermFault} → (let r : Result (List Reading) TermFault = Err x in r) ≡ Err y → x ≡ y
     told e = cc
@@ -169,7 +138,7 @@ err_is_fault limit bytes f e = go (run limit nothing_read (items_of bytes)) refl
           s.split,
           runs_viable limit s.before s.seen s.runs,
           may_not_come limit s.before s.seen s.item s.runs s.refused,
-          subst (λ f. Tells limit (tokens s.before) s.item f) (sym s.told) (refusal_tells limit s.before s.seen s.item s.runs),
+          subst (λ f. Tells limit s.before s.item f) (sym s.told) (refusal_tells limit s.before s.seen s.item s.runs),
         )
 
 -- No text has two readings.

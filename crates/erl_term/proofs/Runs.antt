@@ -4,8 +4,8 @@ use Rattle.std.proofs.lemmas.List.{drop_more}
 use Rattle.std.proofs.lemmas.Option.{slice_get_within, get_or_from_slice_get}
 use Rattle.std.specs.Str.Lossy.{utf8_valid_len}
 use Rattle.std.proofs.lemmas.Str.{utf8_valid_len_le}
-use Rattle.erl_term.specs.declared.lexer.Run.TheVariants.{InName, InNumber, InComment}
-use Rattle.erl_term.specs.Lexing.{sealed, name_bytes, digits, comment_size, is_name_byte, is_in, lex, ends_a_term, decimal_after}
+use Rattle.erl_term.specs.declared.run.Run.TheVariants.{InComment}
+use Rattle.erl_term.specs.Lexing.{sealed, comment_size, lex, ends_a_term}
 use Rattle.erl_term.specs.Views.{front, goes_on_with}
 
 pub sealed-nil : (bytes : List ℕ) → length bytes ≡ 0 → [] ≡ sealed bytes
@@ -34,14 +34,6 @@ pub run_past : (p : ℕ → Bool) (xs : List ℕ) (i : ℕ) → slice_get xs i �
 run_past p xs i e = rw (drop_none xs i e) refl
 
 -- the token's own words for its run
-pub name_bytes-front : (xs : List ℕ) → name_bytes xs ≡ front (goes_on_with InName) xs
-name_bytes-front [] = refl
-name_bytes-front (x ∷ xs) = ap (λ ys. if is_name_byte x then x ∷ ys else []) (name_bytes-front xs)
-
-pub digits-front : (xs : List ℕ) → digits xs ≡ front (goes_on_with InNumber) xs
-digits-front [] = refl
-digits-front (x ∷ xs) = ap (λ ys. if is_in 48 57 x then x ∷ ys else []) (digits-front xs)
-
 pub comment_size-front : (xs : List ℕ) → comment_size xs ≡ length (front (goes_on_with InComment) xs)
 comment_size-front [] = refl
 comment_size-front (x ∷ xs) = go (eqb x 10 || nat_lt 255 x) (comment_size-front xs)
@@ -94,12 +86,3 @@ ends_some xs i b e = rw (drop_some xs i b e) refl
 
 pub ends_none : (xs : List ℕ) (i : ℕ) → slice_get xs i ≡ None → ends_a_term (drop i xs) ≡ true
 ends_none xs i e = rw (drop_none xs i e) refl
-
-decimal_after_ge : (n : ℕ) (xs : List ℕ) → n ≤ decimal_after n xs
-decimal_after_ge n [] = omega arith
-decimal_after_ge n (x ∷ xs) = omega (arith, decimal_after_ge (10 * n + (x - 48)) xs)
-
--- one digit too many
-pub decimal_after-large : (limit n : ℕ) (xs : List ℕ) (i : ℕ) → i < length xs → limit ≤ 10 * n + (get_or xs i 0 - 48) → limit ≤ decimal_after n (drop i xs)
-decimal_after-large limit n xs i within large =
-    rw (drop_more xs i 0) (omega (arith, decimal_after_ge (10 * n + (get_or xs i 0 - 48)) (drop (i + 1) xs)))

@@ -1,25 +1,48 @@
--- The tokens of the texts of names, numbers and strings, whatever stands before and behind.
-use Rattle.std.proofs.Common.{◌≡◌, ℕ, ◌+◌, ◌-◌, ◌*◌, ◌/◌, ◌%◌, ◌<◌, ◌≤◌, ◌^◌, Bool, true, false, ◌&&◌, ◌||◌, ◌==◌, nat_lt, nat_le, List, [], ◌∷◌, ◌++◌, length, refl, ap, ◌∙◌, append_assoc, length-append, not, arith}
-use Rattle.std.specs.List.{list_all}
-use Rattle.std.specs.Fmt.{decimal}
-use Rattle.std.proofs.lemmas.Bool.{and_parts, and_from}
+-- The tokens of the texts of bare names and numbers, whatever stands before and behind.
+use Rattle.std.proofs.Common.{◌≡◌, ℕ, zero, suc, lit<, ℤ, pos, negsuc, ◌+◌, ◌-◌, ◌<◌, ◌^◌, Bool, true, false, ◌||◌, ◌==◌, nat_lt, nat_le, List, [], ◌∷◌, ◌++◌, length, get_or, drop, filter, codes, if◌then◌else◌, refl, ap, subst, ◌∙◌, not, arith}
+use Rattle.std.specs.Char.{is_digit, digit_value}
+use Rattle.std.specs.List.{list_all, list_any}
+use Rattle.std.specs.Str.{chars, bytes_eq}
+use Rattle.std.specs.Str.Parse.{AllDigits, IsNumeral, digits_value}
+use Rattle.std.specs.Fmt.{decimal, signed_decimal}
+use Rattle.std.proofs.lemmas.Bool.{and_parts}
 use Rattle.std.proofs.lemmas.Bool.Decides.{nat_tests}
-use Rattle.std.proofs.lemmas.Fmt.{decimal_by_steps}
-use Rattle.std.proofs.lemmas.List.Folds.{list_all-append}
+use Rattle.std.proofs.lemmas.Fmt.{decimal_is_IsNumeral}
+use Rattle.std.proofs.Math.Seq.{drop-append_seam}
+use Rattle.std.proofs.lemmas.Str.Parse.{digit_from_value}
 use Rattle.erl_term.specs.declared.class.Class.TheVariants.{Letter, Digit}
-use Rattle.erl_term.specs.Lexing.{is_in, class_of, Token, start_of, goes_on, is_name_byte, name_bytes, digits, decimal_after, quoted, lex}
-use Rattle.erl_term.specs.Lexing.Token.{name, number, text}
+use Rattle.erl_term.specs.Escapes.{is_in, front}
+use Rattle.erl_term.specs.Numbers.{Numeral, more_digits, digit_row, spelled_by, goes_on_as_float, behind_digits, digits_numeral, numeral}
+use Rattle.erl_term.specs.Numbers.Numeral.{whole}
+use Rattle.erl_term.specs.Lexing.{class_of, Token, start_of, goes_on, is_name_byte, bare, is_int, signed, lex}
+use Rattle.erl_term.specs.Lexing.Token.{name, number}
 use Rattle.erl_term.specs.Lexing.Start.{token_of}
-use Rattle.erl_term.specs.Printing.{has_bare_form}
+use Rattle.erl_term.specs.Printing.{has_bare_form, is_bare, reserved_words}
+use Rattle.erl_term.specs.Within.{IsShortName}
 
 -- a byte that stands behind a term, in the text of one: a comma, a dot or the end of a bracket
 abbrev pub is_stop : ℕ → Bool
-is_stop x = x == 44 || x == 46 || x == 93 || x == 125
+is_stop x = x == 44 || (x == 46 || (x == 62 || (x == 93 || x == 125)))
 
--- what stands behind a term
+-- what stands behind a term: such a byte, and no digit behind a full stop
 abbrev pub IsBehind : List ℕ → Type 0
 IsBehind [] = ⊥
-IsBehind (x ∷ xs) = is_stop x ≡ true
+IsBehind (x ∷ xs) = (is_stop x ≡ true) × (goes_on_as_float (x ∷ xs) ≡ false)
+
+-- what holds of each of them
+by_stop : (P : ℕ → Type 0) → P 44 → P 46 → P 62 → P 93 → P 125 → (x : ℕ) → is_stop x ≡ true → P x
+by_stop P a b c d e x h = go (x == 44) (x == 46) (x == 62) (x == 93) (x == 125) refl refl refl refl refl h
+  where
+    is : (n : ℕ) → (x == n) ≡ true → P n → P x
+    is n t p = let same : n ≡ x = grind (arith, nat_tests) in subst P same p
+
+    go : (r s t u v : Bool) → (x == 44) ≡ r → (x == 46) ≡ s → (x == 62) ≡ t → (x == 93) ≡ u → (x == 125) ≡ v → (r || (s || (t || (u || v)))) ≡ true → P x
+    go true s t u v p q m n o h = is 44 p a
+    go false true t u v p q m n o h = is 46 q b
+    go false false true u v p q m n o h = is 62 m c
+    go false false false true v p q m n o h = is 93 n d
+    go false false false false true p q m n o h = is 125 o e
+    go false false false false false p q m n o h = absurd cc
 
 -- the bytes of a token are passed over
 pub lex_passes : (xs rest : List ℕ) (at : ℕ) → lex at (length xs) (xs ++ rest) ≡ lex (at + length xs) 0 rest
@@ -38,100 +61,114 @@ lex_token x xs rest at t e =
 
 -- names
 
-stop_is_no_name_byte : (x : ℕ) → is_stop x ≡ true → is_name_byte x ≡ false
-stop_is_no_name_byte x h = grind (arith, nat_tests)
-
 letter_class : (x : ℕ) → is_in 97 122 x ≡ true → class_of x ≡ Letter
 letter_class x h = grind (arith, nat_tests)
 
 -- a name ends where the term ends
-name_bytes-behind : (s rest : List ℕ) → list_all is_name_byte s ≡ true → IsBehind rest → name_bytes (s ++ rest) ≡ s
+name_bytes-behind : (s rest : List ℕ) → list_all is_name_byte s ≡ true → IsBehind rest → front is_name_byte (s ++ rest) ≡ s
 name_bytes-behind [] [] h b = elim b [ ]
-name_bytes-behind [] (x ∷ xs) h b = rw (stop_is_no_name_byte x b) refl
+name_bytes-behind [] (x ∷ xs) h b = let stops : is_name_byte x ≡ false = by_stop (λ y. is_name_byte y ≡ false) refl refl refl refl refl x b.0 in rw stops refl
 name_bytes-behind (x ∷ s) rest h b =
     let p = and_parts (is_name_byte x) (list_all is_name_byte s) h in
     rw p.0 (ap (λ t. x ∷ t) (name_bytes-behind s rest p.1 b))
 
--- a name of the bare form is one token
-pub lex_name : (s rest : List ℕ) (at : ℕ) → has_bare_form s ≡ true → length s ≤ 255 → IsBehind rest →
+-- each fails the test, where none of them passes
+none_passes : (p : List ℕ → Bool) (ws : List (List ℕ)) (i : ℕ) (d : List ℕ) → i < length ws → not (list_any p ws) ≡ true → p (get_or ws i d) ≡ false
+none_passes p [] i d l h = absurd (omega (arith, l))
+none_passes p (w ∷ ws) i d l h = go (p w) (list_any p ws) i refl l h (λ j m g. none_passes p ws j d m g)
+  where
+    go : (a b : Bool) (i : ℕ) → p w ≡ a → i < length (w ∷ ws) → not (a || b) ≡ true → ((j : ℕ) → j < length ws → not b ≡ true → p (get_or ws j d) ≡ false)
+        → p (get_or (w ∷ ws) i d) ≡ false
+    go true b i e l h more = absurd cc
+    go false b zero e l h more = e
+    go false b (suc i) e l h more = more i (omega (arith, l)) h
+
+-- a name of the bare form, and not reserved, is one token
+pub lex_name : (s rest : List ℕ) (at : ℕ) → is_bare s ≡ true → IsShortName s → IsBehind rest →
     lex at 0 (s ++ rest) ≡ record { token = name s; from = at; to = at + length s } ∷ lex (at + length s) 0 rest
 lex_name [] rest at h l b = absurd cc
 lex_name (x ∷ xs) rest at h l b =
-    let p = and_parts (is_in 97 122 x) (list_all is_name_byte xs) h in
-    let short : nat_le (length (x ∷ xs)) 255 ≡ true = grind (arith, nat_tests) in
-    lex_token x xs rest at (name (x ∷ xs)) (rw (letter_class x p.0, name_bytes-behind xs rest p.1 b, short) refl)
+    let own = and_parts (has_bare_form (x ∷ xs)) (not (list_any (bytes_eq (x ∷ xs)) reserved_words)) h in
+    let p = and_parts (is_in 97 122 x) (list_all is_name_byte xs) own.0 in
+    let other : bytes_eq (x ∷ xs) (codes "fun") ≡ false = none_passes (bytes_eq (x ∷ xs)) reserved_words 16 [] (lit< tt) own.1 in
+    let short : nat_le (length (chars (x ∷ xs))) 255 ≡ true = grind (arith, nat_tests) in
+    let is_name : bare at (x ∷ xs) ≡ record { token = name (x ∷ xs); size = length (x ∷ xs) } = rw (other, short) refl in
+    lex_token x xs rest at (name (x ∷ xs)) (rw (letter_class x p.0, name_bytes-behind xs rest p.1 b) (ap token_of is_name))
 
 -- numbers
 
-stop_is_no_digit : (x : ℕ) → is_stop x ≡ true → is_in 48 57 x ≡ false
-stop_is_no_digit x h = grind (arith, nat_tests)
+digit_class : (x : ℕ) → digit_value x < 10 → class_of x ≡ Digit
+digit_class x h = let range = digit_from_value x h in grind (arith, nat_tests)
 
-digit_class : (x : ℕ) → is_in 48 57 x ≡ true → class_of x ≡ Digit
-digit_class x h = grind (arith, nat_tests)
+-- a row of digits ends where the number ends
+more_digits-behind : (ds rest : List ℕ) → AllDigits 10 ds → IsBehind rest → more_digits 10 (ds ++ rest) ≡ ds
+more_digits-behind [] [] h b = elim b [ ]
+more_digits-behind [] (x ∷ xs) h b =
+    let stops : is_digit x 10 ≡ false = by_stop (λ y. is_digit y 10 ≡ false) refl refl refl refl refl x b.0 in
+    let other : (x == 95) ≡ false = by_stop (λ y. (y == 95) ≡ false) refl refl refl refl refl x b.0 in
+    rw (stops, other) refl
+more_digits-behind (d ∷ ds) rest h b =
+    let digit : is_digit d 10 ≡ true = let first = h.0 in grind (arith, nat_tests) in
+    rw digit (ap (λ xs. d ∷ xs) (more_digits-behind ds rest h.1 b))
 
--- a number ends where the term ends
-digits-behind : (s rest : List ℕ) → list_all (is_in 48 57) s ≡ true → IsBehind rest → digits (s ++ rest) ≡ s
-digits-behind [] [] h b = elim b [ ]
-digits-behind [] (x ∷ xs) h b = rw (stop_is_no_digit x b) refl
-digits-behind (x ∷ s) rest h b =
-    let p = and_parts (is_in 48 57 x) (list_all (is_in 48 57) s) h in
-    rw p.0 (ap (λ t. x ∷ t) (digits-behind s rest p.1 b))
+digits_alone : (ds : List ℕ) → AllDigits 10 ds → filter (λ x. not (x == 95)) ds ≡ ds
+digits_alone [] h = refl
+digits_alone (d ∷ ds) h =
+    let range = digit_from_value d h.0 in
+    let other : (d == 95) ≡ false = grind (arith, nat_tests) in
+    rw other (ap (λ xs. d ∷ xs) (digits_alone ds h.1))
 
-decimal_after-append : (ds : List ℕ) (m d : ℕ) → decimal_after m (ds ++ d ∷ []) ≡ 10 * decimal_after m ds + (d - 48)
-decimal_after-append [] m d = refl
-decimal_after-append (e ∷ ds) m d = decimal_after-append ds (10 * m + (e - 48)) d
+-- behind the digits of a number stands neither a base nor what makes a float of it
+behind_digits-stop : (start at : ℕ) (ds rest : List ℕ) → IsBehind rest → behind_digits start at ds rest ≡ whole (spelled_by 10 ds) (length ds)
+behind_digits-stop start at ds [] b = elim b [ ]
+behind_digits-stop start at ds (x ∷ xs) b =
+    let other : (x == 35) ≡ false = by_stop (λ y. (y == 35) ≡ false) refl refl refl refl refl x b.0 in
+    rw (other, b.1) refl
 
--- these digits spell the number
-record Spells (n : ℕ) (ds : List ℕ) : Type 0 where
-  all : list_all (is_in 48 57) ds ≡ true
-  worth : decimal_after 0 ds ≡ n
-  some : 0 < length ds
+chosen : (b : Bool) (m n : Numeral) → b ≡ true → (if b then m else n) ≡ m
+chosen true m n e = refl
+chosen false m n e = absurd cc
 
-decimal_spells : (n : ℕ) → n < 2 ^ 64 → Spells n (decimal n)
-decimal_spells = decimal_by_steps Spells one more
-  where
-    one : (n : ℕ) → n < 10 → Spells n ((48 + n) ∷ [])
-    one n h = record { all = grind (arith, nat_tests); worth = omega arith; some = omega arith }
+-- a number in digits is that number
+numeral-digits : (start at : ℕ) (ds rest : List ℕ) → IsNumeral 10 ds → IsBehind rest → numeral start at (ds ++ rest) ≡ whole (digits_value 10 ds) (length ds)
+numeral-digits start at [] rest h b = absurd (omega (arith, h.0))
+numeral-digits start at (d ∷ ds) rest h b =
+    let digit : is_digit d 10 ≡ true = let first = h.1.0 in grind (arith, nat_tests) in
+    let row : digit_row 10 (d ∷ (ds ++ rest)) ≡ d ∷ ds = rw digit (ap (λ xs. d ∷ xs) (more_digits-behind ds rest h.1.1 b)) in
+    let worth : spelled_by 10 (d ∷ ds) ≡ digits_value 10 (d ∷ ds) = ap (digits_value 10) (digits_alone (d ∷ ds) h.1) in
+    let in_digits : numeral start at (d ∷ (ds ++ rest)) ≡ digits_numeral start at (d ∷ (ds ++ rest)) = chosen (is_digit d 10) _ _ digit in
+    in_digits
+    ∙ (ap (λ r. behind_digits start at r (drop (length r) (d ∷ (ds ++ rest)))) row
+    ∙ (ap (behind_digits start at (d ∷ ds)) (drop-append_seam (d ∷ ds) rest)
+    ∙ (behind_digits-stop start at (d ∷ ds) rest b ∙ ap (λ n. whole n (length (d ∷ ds))) worth)))
 
-    more : (n : ℕ) (ds : List ℕ) → 10 ≤ n → Spells (n / 10) ds → Spells n (ds ++ ((48 + n % 10) ∷ []))
-    more n ds h p = record {
-      all = list_all-append (is_in 48 57) ds ((48 + n % 10) ∷ []) ∙ and_from (list_all (is_in 48 57) ds) (is_in 48 57 (48 + n % 10) && true) p.all (grind (arith, nat_tests));
-      worth = decimal_after-append ds 0 (48 + n % 10) ∙ omega (arith, p.worth);
-      some = omega (arith, length-append ds ((48 + n % 10) ∷ []));
-    }
+-- behind a sign a number stands at once
+signed-number : (at n : ℕ) (ds rest : List ℕ) → IsNumeral 10 ds → digits_value 10 ds ≡ suc n → n < 2 ^ 63 → IsBehind rest
+    → signed at 45 (ds ++ rest) ≡ record { token = number (negsuc n); size = length (45 ∷ ds) }
+signed-number at n [] rest h e l b = absurd (omega (arith, h.0))
+signed-number at n (d ∷ ds) rest h e l b =
+    let range = digit_from_value d h.1.0 in
+    let no_blank : nat_le d 32 ≡ false = grind (arith, nat_tests) in
+    let fits : nat_lt n (2 ^ 63) ≡ true = grind (arith, nat_tests) in
+    let size : 1 + length (d ∷ ds) ≡ length (45 ∷ d ∷ ds) = omega arith in
+    rw (no_blank, numeral-digits at (at + 1 + 0) (d ∷ ds) rest h b, e, fits, size) refl
 
 -- a number is one token
-pub lex_number : (n : ℕ) (rest : List ℕ) (at : ℕ) → n < 2 ^ 63 → IsBehind rest →
-    lex at 0 (decimal n ++ rest) ≡ record { token = number n; from = at; to = at + length (decimal n) } ∷ lex (at + length (decimal n)) 0 rest
-lex_number n rest at h b = go (decimal n) (decimal_spells n (omega arith))
+pub lex_number : (n : ℤ) (rest : List ℕ) (at : ℕ) → is_int n ≡ true → IsBehind rest →
+    lex at 0 (signed_decimal n ++ rest) ≡ record { token = number n; from = at; to = at + length (signed_decimal n) } ∷ lex (at + length (signed_decimal n)) 0 rest
+lex_number (pos n) rest at h b =
+    let small : n < 2 ^ 63 = grind (arith, nat_tests) in
+    let is = decimal_is_IsNumeral n (omega arith) in
+    go (decimal n) is.0 is.1
   where
-    go : (ds : List ℕ) → Spells n ds →
-        lex at 0 (ds ++ rest) ≡ record { token = number n; from = at; to = at + length ds } ∷ lex (at + length ds) 0 rest
-    go [] p = absurd (omega (arith, p.some))
-    go (x ∷ xs) p =
-        let q = and_parts (is_in 48 57 x) (list_all (is_in 48 57) xs) p.all in
-        let fits : nat_lt n (2 ^ 63) ≡ true = grind (arith, nat_tests) in
-        lex_token x xs rest at (number n) (rw (digit_class x q.0, digits-behind xs rest q.1 b, p.worth, fits) refl)
-
--- strings
-
--- an ASCII character that is neither a quote nor a backslash
-abbrev pub stands_in_quotes : ℕ → Bool
-stands_in_quotes x = nat_lt x 128 && not (x == 34 || x == 92)
-
-quoted-ends : (q at : ℕ) (s rest : List ℕ) → list_all stands_in_quotes s ≡ true →
-    quoted q at (s ++ 34 ∷ rest) ≡ record { token = text s; size = length s + 2 }
-quoted-ends q at [] rest h = refl
-quoted-ends q at (x ∷ s) rest h =
-    let p = and_parts (stands_in_quotes x) (list_all stands_in_quotes s) h in
-    let no_quote : (x == 34) ≡ false = grind (arith, nat_tests, p.0) in
-    let no_other : (x == 92 || nat_lt 255 x) ≡ false = grind (arith, nat_tests, p.0) in
-    let size : length s + 2 + 1 ≡ length (x ∷ s) + 2 = omega arith in
-    rw (no_quote, no_other, quoted-ends q (at + 1) s rest p.1, size) refl
-
--- a string of these is one token
-pub lex_text : (s rest : List ℕ) (at : ℕ) → list_all stands_in_quotes s ≡ true →
-    lex at 0 ((34 ∷ (s ++ 34 ∷ [])) ++ rest) ≡ record { token = text s; from = at; to = at + length (34 ∷ (s ++ 34 ∷ [])) } ∷ lex (at + length (34 ∷ (s ++ 34 ∷ []))) 0 rest
-lex_text s rest at h =
-    let size : length s + 2 ≡ length (34 ∷ (s ++ 34 ∷ [])) = omega (arith, length-append s (34 ∷ [])) in
-    lex_token 34 (s ++ 34 ∷ []) rest at (text s) (rw (append_assoc s (34 ∷ []) rest, quoted-ends at (at + 1) s rest h, size) refl)
+    go : (ds : List ℕ) → IsNumeral 10 ds → digits_value 10 ds ≡ n →
+        lex at 0 (ds ++ rest) ≡ record { token = number (pos n); from = at; to = at + length ds } ∷ lex (at + length ds) 0 rest
+    go [] p e = absurd (omega (arith, p.0))
+    go (x ∷ xs) p e =
+        let size : 0 + length (x ∷ xs) ≡ length (x ∷ xs) = omega arith in
+        let whole_number : numeral at at (x ∷ (xs ++ rest)) ≡ whole n (length (x ∷ xs)) = numeral-digits at at (x ∷ xs) rest p b ∙ ap (λ m. whole m (length (x ∷ xs))) e in
+        lex_token x xs rest at (number (pos n)) (rw (digit_class x p.1.0, whole_number, h, size) refl)
+lex_number (negsuc n) rest at h b =
+    let small : n < 2 ^ 63 = grind (arith, nat_tests) in
+    let is = decimal_is_IsNumeral (suc n) (omega arith) in
+    lex_token 45 (decimal (suc n)) rest at (number (negsuc n)) (ap token_of (signed-number at n (decimal (suc n)) rest is.0 is.1 small b))

@@ -1,16 +1,17 @@
 -- A row of tokens can be completed exactly where the machine takes it.
-use Rattle.std.proofs.Common.{◌≡◌, ℕ, List, [], ◌∷◌, ◌++◌, map, Some, None, Result, Ok, Err, refl, sym, ◌∙◌, ap, subst, append-nil}
+use Rattle.std.proofs.Common.{◌≡◌, ℕ, pos, Bool, true, false, if◌then◌else◌, List, [], ◌∷◌, ◌++◌, map, Some, None, Result, Ok, Err, refl, sym, ◌∙◌, ap, subst, append_assoc, append-nil}
 use Rattle.std.proofs.lemmas.List.{map-append}
 use Rattle.erl_term.specs.declared.fault.TermFault.{TermFault}
 use Rattle.erl_term.specs.declared.parser.Slot.TheVariants.{First, Next, Later}
-use Rattle.erl_term.specs.Lexing.{Token, Item}
-use Rattle.erl_term.specs.Lexing.Token.{dot, name}
+use Rattle.erl_term.specs.Lexing.{Token, Item, some_number}
+use Rattle.erl_term.specs.Lexing.Token.{dot}
 use Rattle.erl_term.specs.Grammar.{Phrase, meaning, tokens_of, tokens, first_from, last_to, Reading, AreTerms}
+use Rattle.erl_term.specs.Grammar.Phrase.{a_number}
 use Rattle.erl_term.specs.Faults.{rows, Fit, Viable, MayCome}
-use Rattle.erl_term.specs.Value.Value.{atom}
-use Rattle.erl_term.specs.Machine.{Level, State, Progress, put, enclosed, next, or_refusal, and_then, run, nothing_read}
+use Rattle.erl_term.specs.Value.Value.{int}
+use Rattle.erl_term.specs.Machine.{Level, State, Progress, bracket_of, with_member, is_binary, added, open_levels, put, enclosed, next, or_refusal, and_then, run, nothing_read}
 use Rattle.erl_term.specs.Machine.State.{begun, whole, inside}
-use Rattle.erl_term.proofs.Passes.{progress, reading, tokens_split, run-append, goes, next_leaf, next_closing, closes, behind, dot_ends, reads_terms}
+use Rattle.erl_term.proofs.Passes.{progress, reading, tokens_split, run-append, goes, worth, next_leaf, next_closing, closes, behind, dot_ends, reads_terms}
 use Rattle.erl_term.proofs.Standing.{run_stands, nothing_stands}
 
 -- terms with their dots, as tokens
@@ -75,26 +76,35 @@ whole_ends limit done r = (plain dot ∷ [], done ++ r ∷ [], dot_ends limit do
 
 later_ends : (limit : ℕ) (done : List Reading) (l : Level) (ls : List Level) → Ends limit done (inside Later l ls)
 later_ends limit done l [] =
-    ends_behind limit done (inside Later l []) (plain (closes l.bracket)) (progress done (behind l [] 0))
-    (next_closing limit done (inside Later l []) l [] (plain (closes l.bracket)) (λ b to. refl) refl)
-    (whole_ends limit done (reading (enclosed l.bracket l.members) l.from 0))
+    ends_behind limit done (inside Later l []) (plain (closes (bracket_of l.members))) (progress done (behind l [] 0))
+    (next_closing limit done (inside Later l []) l [] (plain (closes (bracket_of l.members))) (λ b to. refl) refl)
+    (whole_ends limit done (reading (enclosed l.members) l.from 0))
 later_ends limit done l (k ∷ ks) =
-    ends_behind limit done (inside Later l (k ∷ ks)) (plain (closes l.bracket)) (progress done (behind l (k ∷ ks) 0))
-    (next_closing limit done (inside Later l (k ∷ ks)) l (k ∷ ks) (plain (closes l.bracket)) (λ b to. refl) refl)
-    (later_ends limit done (record k { members = k.members ++ enclosed l.bracket l.members ∷ [] }) ks)
+    ends_behind limit done (inside Later l (k ∷ ks)) (plain (closes (bracket_of l.members))) (progress done (behind l (k ∷ ks) 0))
+    (next_closing limit done (inside Later l (k ∷ ks)) l (k ∷ ks) (plain (closes (bracket_of l.members))) (λ b to. refl) refl)
+    (later_ends limit done (record k { members = with_member (enclosed l.members) [] k.members }) ks)
+
+-- a zero may stand as a member of each bracket
+pub zero_adds : (ls : List Level) → added (Some (0 ∷ [])) ls ≡ Some (worth (is_binary ls) (a_number (pos 0)))
+zero_adds ls = go (is_binary ls)
+  where
+    go : (b : Bool) → (if b then Some (0 ∷ []) else Some []) ≡ Some (worth b (a_number (pos 0)))
+    go true = refl
+    go false = refl
+
+member_ends : (limit : ℕ) (done : List Reading) (s : State) (l : Level) (ls : List Level) → open_levels s ≡ Some (l ∷ ls) → Ends limit done s
+member_ends limit done s l ls free =
+    let bs = worth (is_binary (l ∷ ls)) (a_number (pos 0)) in
+    ends_behind limit done s (plain some_number) (progress done (put (reading (int (pos 0)) 0 0) bs (l ∷ ls)))
+    (next_leaf limit done s (l ∷ ls) (plain some_number) (int (pos 0)) (Some (0 ∷ [])) bs free refl (zero_adds (l ∷ ls)))
+    (later_ends limit done (record l { members = with_member (int (pos 0)) bs l.members }) ls)
 
 state_ends : (limit : ℕ) (done : List Reading) (s : State) → Ends limit done s
 state_ends limit done begun = ([], done, refl)
 state_ends limit done (whole r) = whole_ends limit done r
 state_ends limit done (inside Later l ls) = later_ends limit done l ls
-state_ends limit done (inside Next l ls) =
-    ends_behind limit done (inside Next l ls) (plain (name [])) (progress done (put (reading (atom []) 0 0) (l ∷ ls)))
-    (next_leaf limit done (inside Next l ls) (l ∷ ls) (plain (name [])) (atom []) refl refl)
-    (later_ends limit done (record l { members = l.members ++ atom [] ∷ [] }) ls)
-state_ends limit done (inside First l ls) =
-    ends_behind limit done (inside First l ls) (plain (name [])) (progress done (put (reading (atom []) 0 0) (l ∷ ls)))
-    (next_leaf limit done (inside First l ls) (l ∷ ls) (plain (name [])) (atom []) refl refl)
-    (later_ends limit done (record l { members = l.members ++ atom [] ∷ [] }) ls)
+state_ends limit done (inside Next l ls) = member_ends limit done (inside Next l ls) l ls refl
+state_ends limit done (inside First l ls) = member_ends limit done (inside First l ls) l ls refl
 
 -- what the machine takes up to its end is whole terms
 pub reads_only : (limit : ℕ) (is : List Item) (rs : List Reading) → run limit nothing_read is ≡ Ok (progress rs begun) → AreTerms limit is rs
@@ -109,10 +119,17 @@ runs_viable limit is p e =
     let (ps, fit, spelled) = terms_are_rows limit (is ++ more) rs (reads_only limit (is ++ more) rs all) in
     (tokens more, ps, fit, sym (map-append (λ i. i.token) is more) ∙ spelled)
 
+pub runs_on : (limit : ℕ) (is : List Item) (p q : Progress) (i : Item) → run limit nothing_read is ≡ Ok p → next limit p i ≡ Some q → run limit nothing_read (is ++ i ∷ []) ≡ Ok q
+runs_on limit is p q i e n =
+    run-append limit nothing_read is (i ∷ []) ∙ ((λ j. and_then (e j) (λ q. run limit q (i ∷ []))) ∙ goes limit p q i [] n)
+
+-- what can be completed has come token by token
+pub viable_front : (limit : ℕ) (a b : List Token) → Viable limit (a ++ b) → Viable limit a
+viable_front limit a b (more, ps, fit, e) = (b ++ more, ps, fit, sym (append_assoc a b more) ∙ e)
+
 pub may_come : (limit : ℕ) (is : List Item) (p q : Progress) (i : Item) → run limit nothing_read is ≡ Ok p → next limit p i ≡ Some q → MayCome limit (tokens is) i.token
 may_come limit is p q i e n =
-    let one : run limit nothing_read (is ++ i ∷ []) ≡ Ok q = run-append limit nothing_read is (i ∷ []) ∙ ((λ j. and_then (e j) (λ q. run limit q (i ∷ []))) ∙ goes limit p q i [] n) in
-    subst (λ ts. Viable limit ts) (map-append (λ i. i.token) is (i ∷ [])) (runs_viable limit (is ++ i ∷ []) q one)
+    subst (λ ts. Viable limit ts) (map-append (λ i. i.token) is (i ∷ [])) (runs_viable limit (is ++ i ∷ []) q (runs_on limit is p q i e n))
 
 pub may_not_come : (limit : ℕ) (is : List Item) (p : Progress) (i : Item) → run limit nothing_read is ≡ Ok p → next limit p i ≡ None → MayCome limit (tokens is) i.token → ⊥
 may_not_come limit is p i e n viable =

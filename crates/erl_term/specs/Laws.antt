@@ -15,3 +15,7 @@ NeverBoth = (limit : ℕ) (bytes : List ℕ) (rs : List Reading) (f : TermFault)
 -- Each text reads or has a fault.
 abbrev pub ReadsOrFails : Type 0
 ReadsOrFails = (limit : ℕ) (bytes : List ℕ) → ((rs : List Reading) × Reads limit bytes rs) ⊎ ((f : TermFault) × IsFault limit bytes f)
+
+-- No text has two faults.
+abbrev pub HasOneFault : Type 0
+HasOneFault = (limit : ℕ) (bytes : List ℕ) (f g : TermFault) → IsFault limit bytes f → IsFault limit bytes g → f ≡ g

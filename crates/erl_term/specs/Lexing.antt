@@ -1,87 +1,114 @@
 -- The tokens of a text, with their places (Erlang Reference Manual, Data Types; `erl_scan`).
-use Rattle.std.specs.Prelude.{ℕ, zero, suc, ◌+◌, ◌-◌, ◌*◌, ◌^◌, Bool, true, ◌&&◌, ◌||◌, List, [], ◌∷◌, ◌++◌, length, take, nat_lt, nat_le, ◌==◌, if◌then◌else◌}
+use Rattle.std.specs.Prelude.{ℕ, ℤ, zero, suc, pos, negsuc, neg_ℤ, ◌+◌, ◌-◌, ◌^◌, Bool, true, ◌&&◌, ◌||◌, List, [], ◌∷◌, ◌++◌, length, take, drop, codes, chars, nat_lt, nat_le, ◌==◌, if◌then◌else◌, Option, Some, None}
+use Rattle.std.specs.Str.{bytes_eq}
 use Rattle.std.specs.Str.Lossy.{utf8_valid_len}
+pub use Rattle.erl_term.specs.Escapes.{is_in}
+use Rattle.erl_term.specs.Escapes.{front}
+use Rattle.erl_term.specs.Numbers.{Numeral, numeral}
+use Rattle.erl_term.specs.Numbers.Numeral.{whole, faulty as faulty_number, cut_off}
+use Rattle.erl_term.specs.Quotes.{Quoted, quoted}
+use Rattle.erl_term.specs.Quotes.Quoted.{closed, faulty}
 use Rattle.erl_term.specs.declared.fault.TermFault.{TermFault}
-use Rattle.erl_term.specs.declared.fault.TermFault.TheVariants.{BadToken, BadNumber, Unclosed}
+use Rattle.erl_term.specs.declared.fault.TermFault.TheVariants.{BadToken, BadNumber, Unsupported}
 use Rattle.erl_term.specs.declared.class.Class.{Class}
-use Rattle.erl_term.specs.declared.class.Class.TheVariants.{Blank, Percent, Comma, Dot, OpenTuple, CloseTuple, OpenList, CloseList, Quote, Letter, Digit, Other}
-
--- low to high, both of them too
-abbrev pub is_in : ℕ → ℕ → ℕ → Bool
-is_in low high x = nat_le low x && nat_le x high
+use Rattle.erl_term.specs.declared.class.Class.TheVariants.{Blank, Percent, Comma, Dot, OpenTuple, CloseTuple, OpenList, CloseList, Less, Greater, Quote, Apostrophe, Dollar, Sign, Letter, Digit, Other}
 
 -- what a byte begins where a token may begin
 abbrev pub class_of : ℕ → Class
 class_of x =
     if nat_le x 32 then Blank else if x == 37 then Percent else if x == 44 then Comma else if x == 46 then Dot
     else if x == 123 then OpenTuple else if x == 125 then CloseTuple else if x == 91 then OpenList else if x == 93 then CloseList
-    else if x == 34 then Quote else if is_in 97 122 x then Letter else if is_in 48 57 x then Digit else Other
+    else if x == 60 then Less else if x == 62 then Greater
+    else if x == 34 then Quote else if x == 39 then Apostrophe else if x == 36 then Dollar else if x == 43 || x == 45 then Sign
+    else if is_in 97 122 x then Letter else if is_in 48 57 x then Digit else Other
 
--- A token. Two are of no term: a byte that begins none, and one that begins as another does and has a fault.
+-- A token: names and texts by their bytes in UTF-8. Three are of no term: a byte that begins none, one that begins as another
+-- does and has a fault, and one that begins as another does and that the end of the text cuts off.
 pub data Token : Type 0 where
   open_tuple : Token
   close_tuple : Token
   open_list : Token
   close_list : Token
+  open_binary : Token
+  close_binary : Token
   comma : Token
   dot : Token
   name : List ℕ → Token
-  number : ℕ → Token
+  number : ℤ → Token
   text : List ℕ → Token
-  stray : Token
+  stray : ℕ → Token
   broken : Token → TermFault → Token
+  cut : Token → Token
 
--- a token, and how many bytes it takes
+-- what a faulty name, number or text begins as
+abbrev pub some_name : Token
+some_name = name []
+
+abbrev pub some_number : Token
+some_number = number (pos 0)
+
+abbrev pub some_text : Token
+some_text = text []
+
+-- a token, and how many bytes it takes; one that is of no term is not read past its first
 pub record Spelling : Type 0 where
   pub token : Token
   pub size : ℕ
+
+abbrev pub alone : Token → Spelling
+alone t = record { token = t; size = 1 }
 
 -- what a bare name goes on with
 abbrev pub is_name_byte : ℕ → Bool
 is_name_byte x = is_in 97 122 x || is_in 65 90 x || is_in 48 57 x || x == 95 || x == 64
 
--- the bytes up to the first that a bare name doesn't go on with
-abbrev pub name_bytes : List ℕ → List ℕ
-name_bytes [] = []
-name_bytes (x ∷ xs) = if is_name_byte x then x ∷ name_bytes xs else []
+-- a name of at most 255 characters
+abbrev pub named : ℕ → List ℕ → ℕ → Spelling
+named at s size = if nat_le (length (chars s)) 255 then record { token = name s; size = size } else alone (broken some_name (BadToken at))
 
--- the digits that the bytes begin with
-abbrev pub digits : List ℕ → List ℕ
-digits [] = []
-digits (x ∷ xs) = if is_in 48 57 x then x ∷ digits xs else []
+-- a name without quotes: `fun` begins what isn't read
+abbrev pub bare : ℕ → List ℕ → Spelling
+bare at s = if bytes_eq s (codes "fun") then alone (broken some_name (Unsupported at)) else named at s (length s)
 
--- the number that decimal digits spell, behind digits that spell n
-abbrev pub decimal_after : ℕ → List ℕ → ℕ
-decimal_after n [] = n
-decimal_after n (x ∷ xs) = decimal_after (10 * n + (x - 48)) xs
+-- what stands between these quotes is a name, or a text
+abbrev pub name_in_quotes : ℕ → Quoted → Spelling
+name_in_quotes at (closed s size) = named at s (size + 1)
+name_in_quotes at (faulty f) = alone (broken some_name f)
 
-abbrev pub name_spelling : ℕ → List ℕ → Spelling
-name_spelling at xs = record { token = if nat_le (length xs) 255 then name xs else broken (name []) (BadToken at); size = length xs }
+abbrev pub text_in_quotes : Quoted → Spelling
+text_in_quotes (closed s size) = record { token = text s; size = size + 1 }
+text_in_quotes (faulty f) = alone (broken some_text f)
 
-abbrev pub number_spelling : ℕ → List ℕ → Spelling
-number_spelling at xs = record { token = if nat_lt (decimal_after 0 xs) (2 ^ 63) then number (decimal_after 0 xs) else broken (name []) (BadNumber at); size = length xs }
+-- within 64 bits signed: `negsuc n` is below zero by n + 1
+abbrev pub is_int : ℤ → Bool
+is_int (pos n) = nat_lt n (2 ^ 63)
+is_int (negsuc n) = nat_lt n (2 ^ 63)
 
--- one more byte in front, within the quotes
-abbrev pub put_within : ℕ → Token → Token
-put_within x (text xs) = text (x ∷ xs)
-put_within x t = t
+abbrev pub in_range : ℕ → ℤ → ℕ → Spelling
+in_range at z size = if is_int z then record { token = number z; size = size } else alone (broken some_number (BadNumber at))
 
--- What follows a quote, up to the next: q is the place of the quote, and at that of the next byte.
--- No backslash and nothing that isn't UTF-8 stands there.
-abbrev pub quoted : ℕ → ℕ → List ℕ → Spelling
-quoted q at [] = record { token = broken (name []) (Unclosed q); size = 1 }
-quoted q at (x ∷ xs) =
-    if x == 34 then record { token = text []; size = 2 }
-    else if x == 92 || nat_lt 255 x then record { token = broken (name []) (BadToken at); size = 1 }
-    else let rest = quoted q (at + 1) xs in record { token = put_within x rest.token; size = rest.size + 1 }
+-- the number with its sign, which takes so many bytes with the blanks behind it
+abbrev pub numbered : ℕ → (ℕ → ℤ) → ℕ → Numeral → Spelling
+numbered at sign size (whole n m) = in_range at (sign n) (size + m)
+numbered at sign size (faulty_number f) = alone (broken some_number f)
+numbered at sign size cut_off = alone (cut some_number)
+
+abbrev pub sign_of : ℕ → ℕ → ℤ
+sign_of x n = if x == 45 then neg_ℤ (pos n) else pos n
+
+-- behind a sign: blanks, and a number
+abbrev pub signed : ℕ → ℕ → List ℕ → Spelling
+signed at x xs = let n = length (front (λ y. nat_le y 32) xs) in numbered at (sign_of x) (n + 1) (numeral at (at + 1 + n) (drop n xs))
+
+-- two such bytes in a row are a token
+abbrev pub doubled : Token → ℕ → List ℕ → Spelling
+doubled t x [] = alone (cut t)
+doubled t x (y ∷ ys) = if y == x then record { token = t; size = 2 } else alone (stray x)
 
 -- what may stand behind a full stop that is a dot: a blank, a comment or the end
 abbrev pub ends_a_term : List ℕ → Bool
 ends_a_term [] = true
 ends_a_term (x ∷ xs) = nat_le x 32 || x == 37
-
-abbrev pub alone : Token → Spelling
-alone t = record { token = t; size = 1 }
 
 -- The token at this place: the class of its first byte, that byte, and those behind it. No blank and no comment begins one.
 abbrev pub spelling : ℕ → Class → ℕ → List ℕ → Spelling
@@ -90,13 +117,18 @@ spelling at OpenTuple x xs = alone open_tuple
 spelling at CloseTuple x xs = alone close_tuple
 spelling at OpenList x xs = alone open_list
 spelling at CloseList x xs = alone close_list
-spelling at Dot x xs = alone (if ends_a_term xs then dot else stray)
-spelling at Letter x xs = name_spelling at (x ∷ name_bytes xs)
-spelling at Digit x xs = number_spelling at (x ∷ digits xs)
-spelling at Quote x xs = quoted at (at + 1) xs
-spelling at Blank x xs = alone stray
-spelling at Percent x xs = alone stray
-spelling at Other x xs = alone stray
+spelling at Less x xs = doubled open_binary x xs
+spelling at Greater x xs = doubled close_binary x xs
+spelling at Dot x xs = alone (if ends_a_term xs then dot else stray x)
+spelling at Letter x xs = bare at (x ∷ front is_name_byte xs)
+spelling at Digit x xs = numbered at pos 0 (numeral at at (x ∷ xs))
+spelling at Dollar x xs = numbered at pos 0 (numeral at at (x ∷ xs))
+spelling at Sign x xs = signed at x xs
+spelling at Quote x xs = text_in_quotes (quoted 34 at (at + 1) 0 xs)
+spelling at Apostrophe x xs = name_in_quotes at (quoted 39 at (at + 1) 0 xs)
+spelling at Blank x xs = alone (stray x)
+spelling at Percent x xs = alone (stray x)
+spelling at Other x xs = alone (stray x)
 
 -- the length of a comment: up to the end of its line, or to what isn't UTF-8
 abbrev pub comment_size : List ℕ → ℕ
@@ -129,10 +161,30 @@ lex at n [] = []
 lex at (suc n) (x ∷ xs) = lex (at + 1) n xs
 lex at zero (x ∷ xs) = goes_on at (start_of at (class_of x) x xs) (λ n. lex (at + 1) n xs)
 
+-- two texts in a row are one, and faulty if the second is
+abbrev pub joined : Token → Token → Option Token
+joined (text s) (text t) = Some (text (s ++ t))
+joined (text s) (broken (text t) f) = Some (broken some_text f)
+joined s t = None
+
+-- an item in front of others, of which the first may go on with it
+abbrev pub in_front : Item → Option Token → Item → List Item → List Item
+in_front i (Some t) j js = record { token = t; from = i.from; to = j.to } ∷ js
+in_front i None j js = i ∷ j ∷ js
+
+abbrev pub put_item : Item → List Item → List Item
+put_item i [] = i ∷ []
+put_item i (j ∷ js) = in_front i (joined i.token j.token) j js
+
+-- the items, where texts in a row are one (`erl_parse`)
+abbrev pub join : List Item → List Item
+join [] = []
+join (i ∷ is) = put_item i (join is)
+
 -- the bytes as far as they are UTF-8, and behind them, where there are more, a number that is no byte
 abbrev pub sealed : List ℕ → List ℕ
 sealed bytes = take (utf8_valid_len bytes) bytes ++ (if utf8_valid_len bytes == length bytes then [] else 256 ∷ [])
 
 -- the tokens of a text
 abbrev pub items_of : List ℕ → List Item
-items_of bytes = lex 0 0 (sealed bytes)
+items_of bytes = join (lex 0 0 (sealed bytes))

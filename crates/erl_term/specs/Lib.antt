@@ -1,10 +1,17 @@
 pub mod Value
+pub mod Escapes
+pub mod Numbers
+pub mod Quotes
 pub mod Lexing
 pub mod Grammar
 pub mod Faults
+pub mod OneTerm
 pub mod Laws
 pub mod Answers
 pub mod Machine
+pub mod Contents
 pub mod Views
+pub mod Scanned
 pub mod Printing
 pub mod Within
+pub mod Limits

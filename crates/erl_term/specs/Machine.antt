@@ -1,25 +1,31 @@
 -- The reader as a machine: what has been read, and what one more token makes of it. Only contracts within the crate cite it.
-use Rattle.std.specs.Prelude.{ℕ, pos, Bool, true, false, List, [], ◌∷◌, ◌++◌, length, nat_lt, if◌then◌else◌, Option, Some, None, Result, Ok, Err, is_some}
+use Rattle.std.specs.Prelude.{ℕ, ℤ, pos, negsuc, Bool, true, false, ◌||◌, not, List, [], ◌∷◌, ◌++◌, length, nat_lt, ◌==◌, if◌then◌else◌, Option, Some, None, Result, Ok, Err, is_some}
 use Rattle.std.specs.Option.{option_map, option_and_then}
+use Rattle.std.specs.List.{list_all}
 use Rattle.std.specs.Str.{chars}
 use Rattle.erl_term.specs.declared.fault.TermFault.{TermFault}
-use Rattle.erl_term.specs.declared.fault.TermFault.TheVariants.{BadToken, MissingDot, Unclosed}
+use Rattle.erl_term.specs.declared.fault.TermFault.TheVariants.{BadToken, MissingDot, Unclosed, Unsupported}
 use Rattle.erl_term.specs.declared.token.Bracket.{Bracket}
-use Rattle.erl_term.specs.declared.token.Bracket.TheVariants.{Tuple, List as Square}
+use Rattle.erl_term.specs.declared.token.Bracket.TheVariants.{Tuple, List as Square, Binary}
 use Rattle.erl_term.specs.declared.parser.Slot.{Slot}
 use Rattle.erl_term.specs.declared.parser.Slot.TheVariants.{First, Next, Later}
 use Rattle.erl_term.specs.Value.{Value, values_of}
-use Rattle.erl_term.specs.Value.Value.{int, atom, list, tuple}
+use Rattle.erl_term.specs.Value.Value.{int, atom, list, tuple, bin}
 use Rattle.erl_term.specs.Lexing.{Token, Item, items_of}
-use Rattle.erl_term.specs.Lexing.Token.{open_tuple, close_tuple, open_list, close_list, comma, dot, name, number, text, stray, broken}
+use Rattle.erl_term.specs.Lexing.Token.{open_tuple, close_tuple, open_list, close_list, open_binary, close_binary, comma, dot, name, number, text, stray, broken, cut}
 use Rattle.erl_term.specs.Grammar.{Reading, numbers}
-use Rattle.erl_term.specs.Faults.{for_a_dot, for_a_term}
+use Rattle.erl_term.specs.Faults.{for_a_dot, for_a_term, for_a_segment}
+
+-- what stands in an open bracket so far
+pub data Members : Type 0 where
+  in_tuple : List Value → Members
+  in_list : List Value → Members
+  in_binary : List ℕ → Members
 
 -- an open bracket, where it stands, and its members so far
 pub record Level : Type 0 where
-  pub bracket : Bracket
   pub from : ℕ
-  pub members : List Value
+  pub members : Members
 
 -- A term may begin, a whole term waits for its dot, or a bracket is open, with those around it, innermost first.
 pub data State : Type 0 where
@@ -32,52 +38,99 @@ pub record Progress : Type 0 where
   pub done : List Reading
   pub state : State
 
--- what a token is to the machine
+-- What a token is to the machine: a term that is one token, with the bytes that it stands for in a binary, or what it does.
 pub data Kind : Type 0 where
-  leaf : Value → Kind
+  leaf : Value → Option (List ℕ) → Kind
   opening : Bracket → Kind
   closing : Bracket → Kind
   separator : Kind
   ending : Kind
   senseless : Kind
 
+-- the numbers, if they are bytes
+abbrev pub bytes_of : List ℕ → Option (List ℕ)
+bytes_of ns = if list_all (λ n. nat_lt n 256) ns then Some ns else None
+
+abbrev pub byte_of : ℤ → Option (List ℕ)
+byte_of (pos n) = if nat_lt n 256 then Some (n ∷ []) else None
+byte_of (negsuc n) = None
+
 abbrev pub kind_of : Token → Kind
-kind_of (name s) = leaf (atom s)
-kind_of (number n) = leaf (int (pos n))
-kind_of (text s) = leaf (list (numbers (chars s)))
+kind_of (name s) = leaf (atom s) None
+kind_of (number n) = leaf (int n) (byte_of n)
+kind_of (text s) = leaf (list (numbers (chars s))) (bytes_of (chars s))
 kind_of open_tuple = opening Tuple
 kind_of open_list = opening Square
+kind_of open_binary = opening Binary
 kind_of close_tuple = closing Tuple
 kind_of close_list = closing Square
+kind_of close_binary = closing Binary
 kind_of comma = separator
 kind_of dot = ending
-kind_of stray = senseless
+kind_of (stray x) = senseless
 kind_of (broken like own) = senseless
+kind_of (cut like) = senseless
 
--- the open brackets, where a term may begin in the innermost
+abbrev pub bracket_of : Members → Bracket
+bracket_of (in_tuple vs) = Tuple
+bracket_of (in_list vs) = Square
+bracket_of (in_binary bs) = Binary
+
+-- a bracket with nothing in it
+abbrev pub empty : Bracket → Members
+empty Tuple = in_tuple []
+empty Square = in_list []
+empty Binary = in_binary []
+
+-- the term that ends with the bracket
+abbrev pub enclosed : Members → Value
+enclosed (in_tuple vs) = tuple (values_of vs)
+enclosed (in_list vs) = list (values_of vs)
+enclosed (in_binary bs) = bin bs
+
+-- one member more: a term, and the bytes that it stands for in a binary
+abbrev pub with_member : Value → List ℕ → Members → Members
+with_member v bs (in_tuple vs) = in_tuple (vs ++ v ∷ [])
+with_member v bs (in_list vs) = in_list (vs ++ v ∷ [])
+with_member v bs (in_binary xs) = in_binary (xs ++ bs)
+
+abbrev pub is_same : Bracket → Bracket → Bool
+is_same Tuple Tuple = true
+is_same Square Square = true
+is_same Binary Binary = true
+is_same a b = false
+
+-- the innermost bracket is a binary
+abbrev pub is_binary : List Level → Bool
+is_binary [] = false
+is_binary (l ∷ ls) = is_same (bracket_of l.members) Binary
+
+-- the open brackets, where a member may begin in the innermost
 abbrev pub open_levels : State → Option (List Level)
 open_levels begun = Some []
 open_levels (inside First l ls) = Some (l ∷ ls)
 open_levels (inside Next l ls) = Some (l ∷ ls)
 open_levels s = None
 
--- a term is whole in the innermost of these brackets
-abbrev pub put : Reading → List Level → State
-put r [] = whole r
-put r (l ∷ ls) = inside Later (record l { members = l.members ++ r.term ∷ [] }) ls
+-- a term may begin
+abbrev pub begins_term : State → Bool
+begins_term begun = true
+begins_term (inside First l ls) = not (is_binary (l ∷ ls))
+begins_term (inside Next l ls) = not (is_binary (l ∷ ls))
+begins_term s = false
 
-abbrev pub enclosed : Bracket → List Value → Value
-enclosed Tuple vs = tuple (values_of vs)
-enclosed Square vs = list (values_of vs)
+-- the bytes that a term adds to the innermost of these brackets: those that it stands for in a binary, none elsewhere
+abbrev pub added : Option (List ℕ) → List Level → Option (List ℕ)
+added segment ls = if is_binary ls then segment else Some []
 
-abbrev pub is_same : Bracket → Bracket → Bool
-is_same Tuple Tuple = true
-is_same Square Square = true
-is_same a b = false
+-- a term is whole in the innermost of these brackets, and adds these bytes
+abbrev pub put : Reading → List ℕ → List Level → State
+put r bs [] = whole r
+put r bs (l ∷ ls) = inside Later (record l { members = with_member r.term bs l.members }) ls
 
 -- the innermost bracket is closed behind this place
 abbrev pub shut : Level → List Level → Bracket → ℕ → Option State
-shut l ls b to = if is_same l.bracket b then Some (put (record { term = enclosed l.bracket l.members; from = l.from; to = to }) ls) else None
+shut l ls b to = if is_same (bracket_of l.members) b then Some (put (record { term = enclosed l.members; from = l.from; to = to }) [] ls) else None
 
 abbrev pub close : State → Bracket → ℕ → Option State
 close (inside First l ls) b to = shut l ls b to
@@ -92,11 +145,15 @@ abbrev pub end : List Reading → State → Option Progress
 end done (whole r) = Some (record { done = done ++ r ∷ []; state = begun })
 end done s = None
 
+-- a bracket is opened at this place
+abbrev pub enter : ℕ → Bracket → ℕ → List Level → Option State
+enter limit b from ls =
+    if is_binary ls then None else if nat_lt (length ls) limit then Some (inside First (record { from = from; members = empty b }) ls) else None
+
 abbrev pub at_kind : ℕ → List Reading → State → Kind → ℕ → ℕ → Option Progress
-at_kind limit done s (leaf v) from to =
-    option_map (λ ls. record { done = done; state = put (record { term = v; from = from; to = to }) ls }) (open_levels s)
-at_kind limit done s (opening b) from to =
-    option_and_then (λ ls. if nat_lt (length ls) limit then Some (record { done = done; state = inside First (record { bracket = b; from = from; members = [] }) ls }) else None) (open_levels s)
+at_kind limit done s (leaf v segment) from to =
+    option_and_then (λ ls. option_map (λ bs. record { done = done; state = put (record { term = v; from = from; to = to }) bs ls }) (added segment ls)) (open_levels s)
+at_kind limit done s (opening b) from to = option_and_then (λ ls. option_map (λ t. record { done = done; state = t }) (enter limit b from ls)) (open_levels s)
 at_kind limit done s (closing b) from to = option_map (λ t. record { done = done; state = t }) (close s b to)
 at_kind limit done s separator from to = option_map (λ t. record { done = done; state = t }) (separate s)
 at_kind limit done s ending from to = end done s
@@ -106,16 +163,38 @@ at_kind limit done s senseless from to = None
 abbrev pub next : ℕ → Progress → Item → Option Progress
 next limit p i = at_kind limit p.done p.state (kind_of i.token) i.from i.to
 
+-- the token may stand there
+abbrev pub comes : ℕ → Progress → Token → Bool
+comes limit p t = is_some (at_kind limit p.done p.state (kind_of t) 0 0)
+
+-- a byte of a form of Erlang that isn't read, directly inside such a bracket
+abbrev pub is_left_out : Bracket → Token → Bool
+is_left_out Square (stray x) = x == 124
+is_left_out Binary (stray x) = x == 47 || x == 58
+is_left_out b t = false
+
+-- the fault of a token that may not stand inside a bracket, by what may come there
+abbrev pub misplaced_inside : Slot → Bracket → Token → ℕ → TermFault
+misplaced_inside Later b t at = BadToken at
+misplaced_inside slot Binary t at = for_a_segment t at
+misplaced_inside slot b t at = for_a_term t at
+
 -- the fault of a token that its place alone refuses
 abbrev pub misplaced : State → Token → ℕ → TermFault
+misplaced begun t at = for_a_term t at
 misplaced (whole r) t at = for_a_dot t at
-misplaced (inside Later l ls) t at = BadToken at
-misplaced s t at = for_a_term t at
+misplaced (inside slot l ls) t at =
+    if is_left_out (bracket_of l.members) t then Unsupported at else misplaced_inside slot (bracket_of l.members) t at
+
+-- the fault of the end within what begins at this place
+abbrev pub cut_off : State → ℕ → TermFault
+cut_off (inside slot l ls) at = Unclosed l.from
+cut_off s at = BadToken at
 
 -- the fault of a token that may not stand there
 abbrev pub refusal : ℕ → Progress → Token → ℕ → TermFault
-refusal limit p (broken like own) at =
-    if is_some (at_kind limit p.done p.state (kind_of like) at at) then own else misplaced p.state (broken like own) at
+refusal limit p (broken like own) at = if comes limit p like then own else misplaced p.state (broken like own) at
+refusal limit p (cut like) at = if comes limit p like then cut_off p.state at else misplaced p.state (cut like) at
 refusal limit p t at = misplaced p.state t at
 
 abbrev pub or_refusal : ℕ → Progress → Item → Option Progress → Result Progress TermFault

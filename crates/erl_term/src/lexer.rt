@@ -1,61 +1,148 @@
 //! Bytes into tokens.
-ghost use Rattle.std.specs.Prelude.{◌≡◌, ℕ, ◌+◌, ◌<◌, ◌≤◌, ◌^◌, IsTrue, ◌↔◌, length, drop, slice_index, EachIndex, MatchOption};
+ghost use Rattle.std.specs.Prelude.{◌≡◌, ◌≢◌, ℕ, pos, ◌+◌, ◌-◌, ◌<◌, ◌≤◌, ◌^◌, length, drop, slice_index, slice_get, Some, IfSome, IfOk};
 ghost use Rattle.std.specs.Str.{IsUtf8};
-ghost use Rattle.erl_term.specs.Lexing.{class_of, spelling, decimal_after, alone as alone_spelling, name_spelling, name_bytes, number_spelling, digits, quoted as quoted_spelling, ends_a_term};
-ghost use Rattle.erl_term.specs.Views.{text_bytes, front, goes_on_with, token_value, IsSpelled, IsInRange, Yields};
-ghost use Rattle.erl_term.specs.declared.class.Class.TheVariants.{Dot as DotClass, Letter, Digit, Quote};
-ghost use Rattle.erl_term.specs.declared.lexer.Run.TheVariants.{InNumber};
+ghost use Rattle.erl_term.specs.Lexing.{class_of, spelling, is_name_byte, alone as alone_spelling, doubled as doubled_spelling, bare, named as named_spelling, name_in_quotes, text_in_quotes, numbered as numbered_spelling, signed as signed_spelling, put_item, ends_a_term};
+ghost use Rattle.erl_term.specs.Lexing.Token.{text as text_token};
+ghost use Rattle.erl_term.specs.Numbers.{Numeral as NumeralSpelling, numeral as numeral_spelling};
+ghost use Rattle.erl_term.specs.Quotes.{quoted};
+ghost use Rattle.erl_term.specs.Scanned.{capped_numeral, numeral_value, signed_number, EndsAfter};
+ghost use Rattle.erl_term.specs.Views.{text_bytes, front, token_value, like_value, item_value, IsSpelled, lexed, items_from, IsFirst, Yields};
+ghost use Rattle.erl_term.specs.Contents.{content_bytes};
+ghost use Rattle.erl_term.specs.declared.class.Class.TheVariants.{Blank, Percent, Dot as DotClass, Letter};
 
 use crate::class::Class;
+use crate::content::Content;
 use crate::fault::TermFault;
+use crate::number::{Numeral, in_range, numeral_at};
+use crate::quote::{Quoted, quoted_from};
+use crate::run::{Run, run_end};
 use crate::text::Text;
-use crate::token::{Bracket, Item, Token};
+use crate::token::{Bracket, Item, Like, Token};
+use std::alloc::{AllocError, Global};
 
 /// The longest name, in characters.
 const LONGEST_NAME: usize = 255;
 
-/// The largest number of 64 bits signed.
-const LARGEST_NUMBER: u64 = 9_223_372_036_854_775_807;
+/// The first token from this place on, or none up to the end. Texts in a row are one.
+pub fn next_item<'a>(
+    alloc: Global,
+    text: Text<'a>,
+    from: usize,
+) -> Result<Option<Item<'a>>, AllocError>
+    ensures { IfOk result (Yields (text_bytes text.entry) from) }
+{
+    let at = gap_end(text, from);
+    let Some(byte) = text.at(at) else {
+        return Ok(None);
+    };
+    let Item { token, from, to } = item_at(alloc, text, at, byte, Class::of(byte))?;
+    match token {
+        Token::Text(content) => Ok(Some(text_row(alloc, text, content, from, to)?)),
+        token => Ok(Some(Item { token, from, to })),
+    }
+}
 
-/// The first token from this place on, or none up to the end.
-pub fn next_item(text: Text<'_>, from: usize) -> Option<Item<'_>>
-    ensures { Yields (text_bytes text.entry) from result }
+/// The first place from this one on where no blank and no comment stands.
+fn gap_end(text: Text<'_>, from: usize) -> usize
+    ensures same { lexed (text_bytes text.entry) from ≡ lexed (text_bytes text.entry) result }
+    ensures onward { from ≤ result }
+    ensures stops { IfSome (slice_get (text_bytes text.entry) result) (λ byte. (class_of byte ≢ Blank) × (class_of byte ≢ Percent)) }
 {
     let mut at = from;
     while let Some(byte) = text.at(at) {
         match Class::of(byte) {
             Class::Blank => at += 1,
             Class::Percent => at = run_end(text, Run::InComment, at + 1),
-            class => return Some(item_at(text, at, class)),
+            _ => return at,
         }
     }
-    None
+    at
 }
 
-/// The token at this place, which begins with a byte of this class.
-fn item_at(text: Text<'_>, at: usize, class: Class) -> Item<'_>
+/// The texts in a row, of which the first holds this and stands between these places.
+fn text_row<'a>(
+    alloc: Global,
+    text: Text<'a>,
+    mut content: Content<'a>,
+    from: usize,
+    mut to: usize,
+) -> Result<Item<'a>, AllocError>
+    requires onward { from < to }
+    requires utf8 { IsUtf8 text.valid.now }
+    ensures { IfOk result (λ i. IsFirst (text_bytes text.entry)
+        (put_item (record { token = text_token (content_bytes content.entry); from = from; to = to }) (items_from (text_bytes text.entry) to)) from (item_value i)) }
+{
+    let mut next = gap_end(text, to);
+    while let Some(34) = text.at(next) {
+        match quoted_from(alloc, text, 34, next)? {
+            Quoted::Closed(more, end) => {
+                content = content.and(alloc, more)?;
+                to = end;
+                next = gap_end(text, to);
+            }
+            Quoted::Faulty(fault) => {
+                return Ok(Item {
+                    token: Token::Broken(Like::Text, fault),
+                    from,
+                    to: next + 1,
+                });
+            }
+        }
+    }
+    Ok(Item {
+        token: Token::Text(content),
+        from,
+        to,
+    })
+}
+
+/// The token at this place, which begins with this byte, of this class.
+fn item_at<'a>(
+    alloc: Global,
+    text: Text<'a>,
+    at: usize,
+    byte: u16,
+    class: Class,
+) -> Result<Item<'a>, AllocError>
     requires within { at < length (text_bytes text) }
-    requires class { class ≡ class_of (slice_index (text_bytes text) at) }
-    ensures { IsSpelled (spelling at class (slice_index (text_bytes text.entry) at) (drop (at + 1) (text_bytes text.entry))) at result }
+    requires byte { byte ≡ slice_index (text_bytes text) at }
+    requires class { class ≡ class_of byte }
+    requires utf8 { IsUtf8 text.valid.now }
+    ensures { IfOk result (IsSpelled (spelling at class byte (drop (at + 1) (text_bytes text.entry))) at) }
 {
     match class {
-        Class::Comma => alone(Token::Comma, at),
-        Class::OpenTuple => alone(Token::Open(Bracket::Tuple), at),
-        Class::CloseTuple => alone(Token::Close(Bracket::Tuple), at),
-        Class::OpenList => alone(Token::Open(Bracket::List), at),
-        Class::CloseList => alone(Token::Close(Bracket::List), at),
-        Class::Dot => full_stop(text, at),
-        Class::Letter => name(text, at),
-        Class::Digit => number(text, at),
-        Class::Quote => quoted(text, at),
-        Class::Blank | Class::Percent | Class::Other => alone(Token::Stray, at),
+        Class::Comma => Ok(alone(Token::Comma, at)),
+        Class::OpenTuple => Ok(alone(Token::Open(Bracket::Tuple), at)),
+        Class::CloseTuple => Ok(alone(Token::Close(Bracket::Tuple), at)),
+        Class::OpenList => Ok(alone(Token::Open(Bracket::List), at)),
+        Class::CloseList => Ok(alone(Token::Close(Bracket::List), at)),
+        Class::Less => Ok(doubled(
+            text,
+            at,
+            byte,
+            Token::Open(Bracket::Binary),
+            Like::OpenBinary,
+        )),
+        Class::Greater => Ok(doubled(
+            text,
+            at,
+            byte,
+            Token::Close(Bracket::Binary),
+            Like::CloseBinary,
+        )),
+        Class::Dot => Ok(full_stop(text, at, byte)),
+        Class::Letter => Ok(bare_name(text, at)),
+        Class::Digit | Class::Dollar => Ok(number(text, at)),
+        Class::Sign => Ok(signed(text, at, byte)),
+        Class::Quote => quoted_text(alloc, text, at),
+        Class::Apostrophe => quoted_name(alloc, text, at),
+        Class::Blank | Class::Percent | Class::Other => Ok(alone(Token::Stray(byte), at)),
     }
 }
 
 /// A token of one byte.
 fn alone(token: Token<'_>, at: usize) -> Item<'_>
-    requires room { at < 2 ^ 63 }
-    requires range { IsInRange token }
+    requires { at < 2 ^ 63 }
     ensures { IsSpelled (alone_spelling (token_value token.entry)) at result }
 {
     Item {
@@ -65,15 +152,37 @@ fn alone(token: Token<'_>, at: usize) -> Item<'_>
     }
 }
 
+/// Two such bytes in a row are a token, which is cut off where the text ends between them.
+fn doubled<'a>(text: Text<'a>, at: usize, byte: u16, token: Token<'a>, like: Like) -> Item<'a>
+    requires room { at < 2 ^ 63 }
+    requires like { token_value token ≡ like_value like }
+    ensures { IsSpelled (doubled_spelling (token_value token.entry) byte (drop (at + 1) (text_bytes text.entry))) at result }
+{
+    match text.at(at + 1) {
+        None => alone(Token::Cut(like), at),
+        Some(next) => {
+            if next == byte {
+                Item {
+                    token,
+                    from: at,
+                    to: at + 2,
+                }
+            } else {
+                alone(Token::Stray(byte), at)
+            }
+        }
+    }
+}
+
 /// A full stop is a dot where a term may end.
-fn full_stop(text: Text<'_>, at: usize) -> Item<'_>
+fn full_stop(text: Text<'_>, at: usize, byte: u16) -> Item<'_>
     requires { at < 2 ^ 63 }
-    ensures { IsSpelled (spelling at DotClass 46 (drop (at + 1) (text_bytes text.entry))) at result }
+    ensures { IsSpelled (spelling at DotClass byte (drop (at + 1) (text_bytes text.entry))) at result }
 {
     if ends_term(text, at + 1) {
         alone(Token::Dot, at)
     } else {
-        alone(Token::Stray, at)
+        alone(Token::Stray(byte), at)
     }
 }
 
@@ -87,126 +196,102 @@ fn ends_term(text: Text<'_>, at: usize) -> bool
     }
 }
 
-/// A bare name.
-fn name(text: Text<'_>, from: usize) -> Item<'_>
+/// A name without quotes.
+fn bare_name(text: Text<'_>, from: usize) -> Item<'_>
     requires within { from < length (text_bytes text) }
     requires class { class_of (slice_index (text_bytes text) from) ≡ Letter }
-    ensures { IsSpelled (name_spelling from (name_bytes (drop from (text_bytes text.entry)))) from result }
+    ensures { IsSpelled (bare from (front is_name_byte (drop from (text_bytes text.entry)))) from result }
 {
     let to = run_end(text, Run::InName, from);
-    if to - from > LONGEST_NAME {
-        return Item {
-            token: Token::Broken(TermFault::BadToken(from)),
+    let name = text.part(from, to);
+    if name == "fun" {
+        alone(
+            Token::Broken(Like::Name, TermFault::Unsupported(from)),
+            from,
+        )
+    } else {
+        named(Content::Part(name), from, to)
+    }
+}
+
+/// A name between these places, if it isn't too long.
+fn named(name: Content<'_>, from: usize, to: usize) -> Item<'_>
+    requires onward { from < to }
+    requires room { from < 2 ^ 63 }
+    ensures { IsSpelled (named_spelling from (content_bytes name.entry) (to - from)) from result }
+{
+    if name.as_str().chars().count() > LONGEST_NAME {
+        alone(Token::Broken(Like::Name, TermFault::BadToken(from)), from)
+    } else {
+        Item {
+            token: Token::Name(name),
             from,
             to,
-        };
-    }
-    Item {
-        token: Token::Name(text.part(from, to)),
-        from,
-        to,
-    }
-}
-
-/// A decimal number.
-fn number(text: Text<'_>, from: usize) -> Item<'_>
-    requires within { from < length (text_bytes text) }
-    requires class { class_of (slice_index (text_bytes text) from) ≡ Digit }
-    ensures { IsSpelled (number_spelling from (digits (drop from (text_bytes text.entry)))) from result }
-{
-    let to = run_end(text, Run::InNumber, from);
-    match decimal(text.part(from, to)) {
-        Some(n) => Item {
-            token: Token::Number(n),
-            from,
-            to,
-        },
-        None => Item {
-            token: Token::Broken(TermFault::BadNumber(from)),
-            from,
-            to,
-        },
-    }
-}
-
-/// What stands between quotes.
-fn quoted(text: Text<'_>, from: usize) -> Item<'_>
-    requires within { from < length (text_bytes text) }
-    requires class { class_of (slice_index (text_bytes text) from) ≡ Quote }
-    ensures { IsSpelled (quoted_spelling from (from + 1) (drop (from + 1) (text_bytes text.entry))) from result }
-{
-    let end = run_end(text, Run::InQuotes, from + 1);
-    match text.at(end) {
-        Some(34) => Item {
-            token: Token::Text(text.part(from + 1, end)),
-            from,
-            to: end + 1,
-        },
-        Some(_) => Item {
-            token: Token::Broken(TermFault::BadToken(end)),
-            from,
-            to: end,
-        },
-        None => Item {
-            token: Token::Broken(TermFault::Unclosed(from)),
-            from,
-            to: end,
-        },
-    }
-}
-
-/// The number that decimal digits spell, if it fits 64 bits signed.
-fn decimal(digits: &str) -> Option<u64>
-    requires { EachIndex digits.now (λ k. IsTrue (goes_on_with InNumber (slice_index digits.now k))) }
-    ensures { MatchOption result (2 ^ 63 ≤ decimal_after 0 digits.now) (λ n. (n < 2 ^ 63) × (n ≡ decimal_after 0 digits.now)) }
-{
-    let mut number: u64 = 0;
-    for byte in digits.as_bytes() {
-        let digit = u64::from(*byte - b'0');
-        if number > (LARGEST_NUMBER - digit) / 10 {
-            return None;
-        }
-        number = number * 10 + digit;
-    }
-    Some(number)
-}
-
-/// Bytes in a row that a token or a comment goes on with.
-#[derive(Clone, Copy, Debug)]
-pub enum Run {
-    InName,
-    InNumber,
-    InQuotes,
-    InComment,
-}
-
-impl Run {
-    /// The run goes on with the byte.
-    fn goes_on_with(self, byte: u16) -> bool
-        ensures { result ≡ goes_on_with self byte }
-    {
-        match self {
-            Run::InName => matches!(byte, 97..=122 | 65..=90 | 48..=57 | 95 | 64),
-            Run::InNumber => matches!(byte, 48..=57),
-            Run::InQuotes => !(byte == 34 || byte == 92 || byte > 255),
-            Run::InComment => !(byte == 10 || byte > 255),
         }
     }
 }
 
-/// Where the run from this place on ends.
-fn run_end(text: Text<'_>, run: Run, from: usize) -> usize
-    requires { from ≤ 2 ^ 63 }
-    ensures end { result ≡ from + length (front (goes_on_with run) (drop from (text_bytes text.entry))) }
-    ensures within { result ≤ 2 ^ 63 }
-    ensures utf8 { IsUtf8 text.entry.valid.now }
+/// A name between quotes.
+fn quoted_name<'a>(alloc: Global, text: Text<'a>, from: usize) -> Result<Item<'a>, AllocError>
+    requires begins { slice_get (text_bytes text) from ≡ Some 39 }
+    requires utf8 { IsUtf8 text.valid.now }
+    ensures { IfOk result (IsSpelled (name_in_quotes from (quoted 39 from (from + 1) 0 (drop (from + 1) (text_bytes text.entry)))) from) }
 {
-    let mut at = from;
-    while let Some(byte) = text.at(at) {
-        if !run.goes_on_with(byte) {
-            break;
-        }
-        at += 1;
+    match quoted_from(alloc, text, 39, from)? {
+        Quoted::Closed(content, to) => Ok(named(content, from, to)),
+        Quoted::Faulty(fault) => Ok(alone(Token::Broken(Like::Name, fault), from)),
     }
-    at
+}
+
+/// A text between quotes.
+fn quoted_text<'a>(alloc: Global, text: Text<'a>, from: usize) -> Result<Item<'a>, AllocError>
+    requires begins { slice_get (text_bytes text) from ≡ Some 34 }
+    requires utf8 { IsUtf8 text.valid.now }
+    ensures { IfOk result (IsSpelled (text_in_quotes (quoted 34 from (from + 1) 0 (drop (from + 1) (text_bytes text.entry)))) from) }
+{
+    match quoted_from(alloc, text, 34, from)? {
+        Quoted::Closed(content, to) => Ok(Item {
+            token: Token::Text(content),
+            from,
+            to,
+        }),
+        Quoted::Faulty(fault) => Ok(alone(Token::Broken(Like::Text, fault), from)),
+    }
+}
+
+/// A number without a sign.
+fn number(text: Text<'_>, at: usize) -> Item<'_>
+    requires { at < 2 ^ 63 }
+    ensures { IsSpelled (numbered_spelling at pos 0 (numeral_spelling at at (drop at (text_bytes text.entry)))) at result }
+{
+    numbered(numeral_at(text, at, at), at, false)
+}
+
+/// A number behind its sign, which is this byte, and blanks.
+fn signed(text: Text<'_>, at: usize, byte: u16) -> Item<'_>
+    requires { at < 2 ^ 63 }
+    ensures { IsSpelled (signed_spelling at byte (drop (at + 1) (text_bytes text.entry))) at result }
+{
+    let from = run_end(text, Run::InBlanks, at + 1);
+    numbered(numeral_at(text, at, from), at, byte == 45)
+}
+
+/// The token of a number, which begins at this place with its sign.
+fn numbered<'a>(numeral: Numeral, at: usize, is_negative: bool) -> Item<'a>
+    requires { at < 2 ^ 63 }
+    ensures { (n : NumeralSpelling) (from : ℕ) → at ≤ from → EndsAfter from numeral → numeral_value from numeral ≡ capped_numeral n
+        → IsSpelled (numbered_spelling at (signed_number is_negative) (from - at) n) at result }
+{
+    match numeral {
+        Numeral::Whole(magnitude, to) => match in_range(magnitude, is_negative) {
+            Some(number) => Item {
+                token: Token::Number(number),
+                from: at,
+                to,
+            },
+            None => alone(Token::Broken(Like::Number, TermFault::BadNumber(at)), at),
+        },
+        Numeral::Faulty(fault) => alone(Token::Broken(Like::Number, fault), at),
+        Numeral::CutOff => alone(Token::Cut(Like::Number), at),
+    }
 }

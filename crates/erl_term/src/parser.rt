@@ -1,17 +1,19 @@
 //! Tokens into terms, with the open brackets on a stack.
-ghost use Rattle.std.specs.Prelude.{◌≡◌, ◌+◌, [], ◌∷◌, length, map, IsSome, is_some, OnOk, IfOk, IfErr};
+ghost use Rattle.std.specs.Prelude.{◌≡◌, ◌+◌, ◌++◌, true, false, [], ◌∷◌, length, map, is_some, Some, None, OnOk, IfOk, IfErr};
 ghost use Rattle.std.specs.Str.{chars};
 ghost use Rattle.erl_term.specs.Value.{value_of, values_of};
 ghost use Rattle.erl_term.specs.Grammar.{numbers};
-ghost use Rattle.erl_term.specs.Machine.{step, misplaced, put, open_levels, close, enclosed, at_end, nothing_read};
-ghost use Rattle.erl_term.specs.Views.{token_value, item_value, IsInRange, level_of, progress_of, all_levels, Gives, ReadsAs};
+ghost use Rattle.erl_term.specs.Machine.{step, misplaced, is_left_out, comes, cut_off, put, with_member, begins_term, open_levels, bytes_of, empty, bracket_of, close, enclosed, at_end, nothing_read};
+ghost use Rattle.erl_term.specs.Faults.{for_a_term, for_a_segment};
+ghost use Rattle.erl_term.specs.Views.{token_value, like_value, item_value, members_are, IsAdded, level_of, progress_of, all_levels, Gives, ReadsAs};
 ghost use Rattle.erl_term.specs.Answers.{reading_of_spanned};
 ghost use Rattle.erl_term.specs.declared.fault.TermFault.TheVariants.{NoMemory};
-ghost use Rattle.erl_term.specs.declared.token.Token.TheVariants.{Open, Close, Comma, Dot};
+ghost use Rattle.erl_term.specs.declared.token.Token.TheVariants.{Open, Close, Comma, Dot, Number};
+ghost use Rattle.erl_term.specs.Lexing.Token.{text as text_token};
 
 use crate::fault::TermFault;
 use crate::term::{Spanned, Term};
-use crate::token::{Bracket, Item, Token};
+use crate::token::{Bracket, Item, Like, Token};
 use std::alloc::{AllocError, Global};
 use std::mem;
 
@@ -26,12 +28,20 @@ pub enum Slot {
     Later,
 }
 
+/// What stands in an open bracket so far.
+#[derive(Drop)]
+enum Members {
+    Tuple(Vec<Term>),
+    List(Vec<Term>),
+    /// The bytes of its segments.
+    Binary(Vec<u8>),
+}
+
 /// An open bracket, where it stands, and its members so far.
 #[derive(Drop)]
 struct Level {
-    bracket: Bracket,
     from: usize,
-    members: Vec<Term>,
+    members: Members,
 }
 
 /// What stands since the last dot.
@@ -68,32 +78,29 @@ impl Parser {
     }
 
     /// Takes one more token. After an `Err` the parser is of no use.
-    pub fn take(&mut self, alloc: Global, item: Item<'_>) -> Result<(), TermFault>
-        requires { IsInRange item.token }
-        ensures step { Gives result (progress_of self.new) (step self.old.limit (progress_of self.old) (item_value item.entry)) }
+    pub fn take(&mut self, alloc: Global, item: &Item<'_>) -> Result<(), TermFault>
+        ensures step { Gives result (progress_of self.new) (step self.old.limit (progress_of self.old) (item_value item.now)) }
         ensures limit { self.new.limit ≡ self.old.limit }
     {
-        match item.token {
-            Token::Open(bracket) => self.open(alloc, bracket, item),
-            Token::Close(bracket) => self.close(bracket, item),
+        match &item.token {
+            Token::Open(bracket) => self.open(alloc, *bracket, item),
+            Token::Close(bracket) => self.close(*bracket, item),
             Token::Comma => self.separate(item),
             Token::Dot => self.end(item),
             Token::Name(name) => {
                 self.expect_term(item)?;
-                self.put(item.spans(Term::Atom(String::from_str(alloc, name)?)))
+                self.put(item.spans(Term::Atom(String::from_str(alloc, name.as_str())?)))
             }
-            Token::Number(n) => {
-                self.expect_term(item)?;
-                self.put(item.spans(Term::Int(n as i64)))
+            Token::Number(n) => self.put_number(*n, item),
+            Token::Text(text) => self.put_text(alloc, text.as_str(), item),
+            Token::Stray(_) => Err(self.misplaced(item)),
+            Token::Broken(like, fault) => {
+                self.expect(*like, item)?;
+                Err(*fault)
             }
-            Token::Text(text) => {
-                self.expect_term(item)?;
-                self.put(item.spans(Term::List(characters(alloc, text)?)))
-            }
-            Token::Stray => Err(self.misplaced(item)),
-            Token::Broken(fault) => {
-                self.expect_term(item)?;
-                Err(fault)
+            Token::Cut(like) => {
+                self.expect(*like, item)?;
+                Err(self.cut_off(item.from))
             }
         }
     }
@@ -111,33 +118,106 @@ impl Parser {
     }
 
     /// A term may begin here, or else its fault is told.
-    fn expect_term(&self, item: Item<'_>) -> Result<(), TermFault>
-        ensures begins { OnOk result (IsSome (open_levels (progress_of self.now).state)) }
-        ensures refused { IfErr result (λ f. open_levels (progress_of self.now).state ≡ None) }
-        ensures fault { IfErr result (λ f. f ≡ misplaced (progress_of self.now).state (token_value item.entry.token) item.entry.from) }
+    fn expect_term(&self, item: &Item<'_>) -> Result<(), TermFault>
+        ensures begins { OnOk result (begins_term (progress_of self.now).state ≡ true) }
+        ensures refused { IfErr result (λ f. begins_term (progress_of self.now).state ≡ false) }
+        ensures fault { IfErr result (λ f. f ≡ misplaced (progress_of self.now).state (token_value item.now.token) item.now.from) }
     {
-        match self.state {
-            State::Begun | State::Inside(Slot::First | Slot::Next, ..) => Ok(()),
-            _ => Err(self.misplaced(item)),
+        if self.begins_term() {
+            Ok(())
+        } else {
+            Err(self.misplaced(item))
+        }
+    }
+
+    /// What the token begins as may stand here, or else its fault is told.
+    fn expect(&self, like: Like, item: &Item<'_>) -> Result<(), TermFault>
+        ensures may { OnOk result (comes self.now.limit (progress_of self.now) (like_value like) ≡ true) }
+        ensures refused { IfErr result (λ f. comes self.now.limit (progress_of self.now) (like_value like) ≡ false) }
+        ensures fault { IfErr result (λ f. f ≡ misplaced (progress_of self.now).state (token_value item.now.token) item.now.from) }
+    {
+        if self.may_come(like) {
+            Ok(())
+        } else {
+            Err(self.misplaced(item))
+        }
+    }
+
+    /// A token that begins so may stand here.
+    #[tactic(auto, using(crate::proofs::Parsing::comes_name, crate::proofs::Parsing::comes_number, crate::proofs::Parsing::comes_text, crate::proofs::Parsing::comes_open_binary, crate::proofs::Parsing::comes_close_binary))]
+    fn may_come(&self, like: Like) -> bool
+        ensures { result ≡ comes self.now.limit (progress_of self.now) (like_value like) }
+    {
+        match like {
+            Like::Name => self.begins_term(),
+            Like::Number => self.begins_member(),
+            Like::Text => self.begins_member(),
+            Like::OpenBinary => self.begins_term() && self.open_brackets() < self.limit,
+            Like::CloseBinary => self.may_close(Bracket::Binary),
+        }
+    }
+
+    /// A term may begin here.
+    fn begins_term(&self) -> bool
+        ensures { result ≡ begins_term (progress_of self.now).state }
+    {
+        match &self.state {
+            State::Begun => true,
+            State::Inside(Slot::First | Slot::Next, level, _) => {
+                level.members.bracket() != Bracket::Binary
+            }
+            _ => false,
+        }
+    }
+
+    /// A term or a segment of a binary may begin here.
+    fn begins_member(&self) -> bool
+        ensures { result ≡ is_some (open_levels (progress_of self.now).state) }
+    {
+        matches!(
+            &self.state,
+            State::Begun | State::Inside(Slot::First | Slot::Next, ..)
+        )
+    }
+
+    /// The fault of the end of the text within what begins at this place.
+    fn cut_off(&self, at: usize) -> TermFault
+        ensures { result ≡ cut_off (progress_of self.now).state at }
+    {
+        match &self.state {
+            State::Inside(_, level, _) => TermFault::Unclosed(level.from),
+            _ => TermFault::BadToken(at),
         }
     }
 
     /// The fault of a token that its place alone refuses.
-    fn misplaced(&self, item: Item<'_>) -> TermFault
-        ensures { result ≡ misplaced (progress_of self.now).state (token_value item.entry.token) item.entry.from }
+    fn misplaced(&self, item: &Item<'_>) -> TermFault
+        ensures { result ≡ misplaced (progress_of self.now).state (token_value item.now.token) item.now.from }
     {
-        match (&self.state, item.token) {
-            (State::Whole(_), Token::Stray) => TermFault::BadToken(item.from),
-            (State::Whole(_), _) => TermFault::MissingDot(item.from),
-            (State::Inside(Slot::Later, ..), _) => TermFault::BadToken(item.from),
-            (_, Token::Open(_)) => TermFault::Deep(item.from),
-            _ => TermFault::BadToken(item.from),
+        match &self.state {
+            State::Begun => no_term(item),
+            State::Whole(_) => match item.token {
+                Token::Stray(_) => TermFault::BadToken(item.from),
+                _ => TermFault::MissingDot(item.from),
+            },
+            State::Inside(slot, level, _) => {
+                let bracket = level.members.bracket();
+                if is_left_out(bracket, item) {
+                    TermFault::Unsupported(item.from)
+                } else if *slot == Slot::Later {
+                    TermFault::BadToken(item.from)
+                } else if bracket == Bracket::Binary {
+                    no_segment(item)
+                } else {
+                    no_term(item)
+                }
+            }
         }
     }
 
     /// A term is whole: a member of the innermost bracket, or by itself.
     fn put(&mut self, whole: Spanned) -> Result<(), TermFault>
-        ensures ok { OnOk result (progress_of self.new ≡ record (progress_of self.old) { state = put (reading_of_spanned whole) (all_levels (progress_of self.old).state) }) }
+        ensures ok { OnOk result (progress_of self.new ≡ record (progress_of self.old) { state = put (reading_of_spanned whole) [] (all_levels (progress_of self.old).state) }) }
         ensures err { IfErr result (λ f. f ≡ NoMemory) }
         ensures limit { self.new.limit ≡ self.old.limit }
     {
@@ -151,10 +231,54 @@ impl Parser {
         Ok(())
     }
 
+    /// A number, by itself or as a byte of a binary.
+    fn put_number(&mut self, n: i64, item: &Item<'_>) -> Result<(), TermFault>
+        requires { item.now.token ≡ Number n }
+        ensures step { Gives result (progress_of self.new) (step self.old.limit (progress_of self.old) (item_value item.now)) }
+        ensures limit { self.new.limit ≡ self.old.limit }
+    {
+        if let State::Inside(slot, level, _) = &mut self.state {
+            if let Members::Binary(bytes) = &mut level.members {
+                if *slot != Slot::Later {
+                    let Ok(byte) = u8::try_from(n) else {
+                        return Err(TermFault::BadNumber(item.from));
+                    };
+                    bytes.push(byte)?;
+                    *slot = Slot::Later;
+                    return Ok(());
+                }
+            }
+        }
+        self.expect_term(item)?;
+        self.put(item.spans(Term::Int(n)))
+    }
+
+    /// A text, as the list of its characters or as bytes of a binary.
+    fn put_text(&mut self, alloc: Global, text: &str, item: &Item<'_>) -> Result<(), TermFault>
+        requires { token_value item.now.token ≡ text_token text.now }
+        ensures step { Gives result (progress_of self.new) (step self.old.limit (progress_of self.old) (item_value item.now)) }
+        ensures limit { self.new.limit ≡ self.old.limit }
+    {
+        if let State::Inside(slot, level, _) = &mut self.state {
+            if let Members::Binary(bytes) = &mut level.members {
+                if *slot != Slot::Later {
+                    if !push_characters(bytes, text)? {
+                        return Err(TermFault::BadNumber(item.from));
+                    }
+                    *slot = Slot::Later;
+                    return Ok(());
+                }
+            }
+        }
+        self.expect_term(item)?;
+        self.put(item.spans(Term::List(characters(alloc, text)?)))
+    }
+
     /// Opens a bracket.
-    fn open(&mut self, alloc: Global, bracket: Bracket, item: Item<'_>) -> Result<(), TermFault>
-        requires { item.token ≡ Open bracket }
-        ensures step { Gives result (progress_of self.new) (step self.old.limit (progress_of self.old) (item_value item.entry)) }
+    #[tactic(auto, using(crate::proofs::Parsing::opening_steps))]
+    fn open(&mut self, alloc: Global, bracket: Bracket, item: &Item<'_>) -> Result<(), TermFault>
+        requires { item.now.token ≡ Open bracket }
+        ensures step { Gives result (progress_of self.new) (step self.old.limit (progress_of self.old) (item_value item.now)) }
         ensures limit { self.new.limit ≡ self.old.limit }
     {
         self.expect_term(item)?;
@@ -162,9 +286,8 @@ impl Parser {
             return Err(self.misplaced(item));
         }
         let level = Level {
-            bracket,
             from: item.from,
-            members: Vec::new(alloc),
+            members: Members::none(alloc, bracket),
         };
         match mem::replace(&mut self.state, State::Begun) {
             State::Inside(_, around, mut outer) => {
@@ -190,9 +313,9 @@ impl Parser {
     }
 
     /// Closes the innermost bracket.
-    fn close(&mut self, bracket: Bracket, item: Item<'_>) -> Result<(), TermFault>
-        requires { item.token ≡ Close bracket }
-        ensures step { Gives result (progress_of self.new) (step self.old.limit (progress_of self.old) (item_value item.entry)) }
+    fn close(&mut self, bracket: Bracket, item: &Item<'_>) -> Result<(), TermFault>
+        requires { item.now.token ≡ Close bracket }
+        ensures step { Gives result (progress_of self.new) (step self.old.limit (progress_of self.old) (item_value item.now)) }
         ensures limit { self.new.limit ≡ self.old.limit }
     {
         if !self.may_close(bracket) {
@@ -214,15 +337,17 @@ impl Parser {
         ensures { result ≡ is_some (close (progress_of self.now).state bracket 0) }
     {
         match &self.state {
-            State::Inside(Slot::First | Slot::Later, level, _) => level.bracket == bracket,
+            State::Inside(Slot::First | Slot::Later, level, _) => {
+                level.members.bracket() == bracket
+            }
             _ => false,
         }
     }
 
     /// A comma behind a member.
-    fn separate(&mut self, item: Item<'_>) -> Result<(), TermFault>
-        requires { item.token ≡ Comma }
-        ensures step { Gives result (progress_of self.new) (step self.old.limit (progress_of self.old) (item_value item.entry)) }
+    fn separate(&mut self, item: &Item<'_>) -> Result<(), TermFault>
+        requires { item.now.token ≡ Comma }
+        ensures step { Gives result (progress_of self.new) (step self.old.limit (progress_of self.old) (item_value item.now)) }
         ensures limit { self.new.limit ≡ self.old.limit }
     {
         match &mut self.state {
@@ -235,9 +360,9 @@ impl Parser {
     }
 
     /// A dot behind a term.
-    fn end(&mut self, item: Item<'_>) -> Result<(), TermFault>
-        requires { item.token ≡ Dot }
-        ensures step { Gives result (progress_of self.new) (step self.old.limit (progress_of self.old) (item_value item.entry)) }
+    fn end(&mut self, item: &Item<'_>) -> Result<(), TermFault>
+        requires { item.now.token ≡ Dot }
+        ensures step { Gives result (progress_of self.new) (step self.old.limit (progress_of self.old) (item_value item.now)) }
         ensures limit { self.new.limit ≡ self.old.limit }
     {
         match mem::replace(&mut self.state, State::Begun) {
@@ -253,17 +378,92 @@ impl Parser {
 impl Level {
     /// The term that ends here.
     fn closed(self, to: usize) -> Spanned
-        ensures { reading_of_spanned result ≡ record { term = enclosed self.bracket (level_of self).members; from = self.from; to = to } }
+        ensures { reading_of_spanned result ≡ record { term = enclosed (level_of self).members; from = self.from; to = to } }
     {
-        let term = match self.bracket {
-            Bracket::Tuple => Term::Tuple(self.members),
-            Bracket::List => Term::List(self.members),
-        };
+        let Level { from, members } = self;
         Spanned {
-            term,
-            from: self.from,
+            term: members.enclosed(),
+            from,
             to,
         }
+    }
+}
+
+impl Members {
+    /// Nothing in such a bracket.
+    fn none(alloc: Global, bracket: Bracket) -> Members
+        ensures { members_are result ≡ empty bracket }
+    {
+        match bracket {
+            Bracket::Tuple => Members::Tuple(Vec::new(alloc)),
+            Bracket::List => Members::List(Vec::new(alloc)),
+            Bracket::Binary => Members::Binary(Vec::new(alloc)),
+        }
+    }
+
+    /// The bracket that they stand in.
+    fn bracket(&self) -> Bracket
+        ensures { result ≡ bracket_of (members_are self.now) }
+    {
+        match self {
+            Members::Tuple(_) => Bracket::Tuple,
+            Members::List(_) => Bracket::List,
+            Members::Binary(_) => Bracket::Binary,
+        }
+    }
+
+    /// One term more, which adds no byte to a binary.
+    fn push(&mut self, term: Term) -> Result<(), AllocError>
+        ensures { OnOk result (members_are self.new ≡ with_member (value_of term) [] (members_are self.old)) }
+    {
+        match self {
+            Members::Tuple(members) => Ok(members.push(term)?),
+            Members::List(members) => Ok(members.push(term)?),
+            Members::Binary(_) => Ok(()),
+        }
+    }
+
+    /// The term that they are.
+    fn enclosed(self) -> Term
+        ensures { value_of result ≡ enclosed (members_are self) }
+    {
+        match self {
+            Members::Tuple(members) => Term::Tuple(members),
+            Members::List(members) => Term::List(members),
+            Members::Binary(bytes) => Term::Bin(bytes),
+        }
+    }
+}
+
+/// A byte of a form of Erlang that isn't read, directly inside such a bracket.
+fn is_left_out(bracket: Bracket, item: &Item<'_>) -> bool
+    ensures { result ≡ is_left_out bracket (token_value item.now.token) }
+{
+    match (bracket, &item.token) {
+        (Bracket::List, Token::Stray(byte)) => *byte == 124,
+        (Bracket::Binary, Token::Stray(byte)) => *byte == 47 || *byte == 58,
+        _ => false,
+    }
+}
+
+/// The fault of a token that stands where a term may begin.
+fn no_term(item: &Item<'_>) -> TermFault
+    ensures { result ≡ for_a_term (token_value item.now.token) item.now.from }
+{
+    match item.token {
+        Token::Open(_) => TermFault::Deep(item.from),
+        Token::Stray(35) => TermFault::Unsupported(item.from),
+        _ => TermFault::BadToken(item.from),
+    }
+}
+
+/// The fault of a token that stands where a segment of a binary may begin.
+fn no_segment(item: &Item<'_>) -> TermFault
+    ensures { result ≡ for_a_segment (token_value item.now.token) item.now.from }
+{
+    match item.token {
+        Token::Number(_) | Token::Text(_) => TermFault::BadNumber(item.from),
+        _ => TermFault::BadToken(item.from),
     }
 }
 
@@ -276,4 +476,17 @@ fn characters(alloc: Global, text: &str) -> Result<Vec<Term>, AllocError>
         members.push(Term::Int(i64::from(u32::from(character))))?;
     }
     Ok(members)
+}
+
+/// Adds a text's characters to bytes, up to the first that is no byte: whether all are.
+fn push_characters(bytes: &mut Vec<u8>, text: &str) -> Result<bool, AllocError>
+    ensures { IfOk result (λ all. IsAdded all (chars text.now) bytes.old.items bytes.new.items) }
+{
+    for character in text.chars() {
+        let Ok(byte) = u8::try_from(u32::from(character)) else {
+            return Ok(false);
+        };
+        bytes.push(byte)?;
+    }
+    Ok(true)
 }

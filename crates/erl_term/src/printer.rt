@@ -1,10 +1,12 @@
 //! Terms as text, with no blanks.
-ghost use Rattle.std.specs.Prelude.{◌≡◌, ℕ, ◌++◌, FitsSigned, IfOk, OnOk, string_bytes};
+ghost use Rattle.std.specs.Prelude.{◌≡◌, ℕ, ◌++◌, FitsSigned, IfOk, OnOk, codes, string_bytes};
 ghost use Rattle.std.specs.Fmt.{signed_decimal};
 ghost use Rattle.std.specs.Int.{w64};
 ghost use Rattle.erl_term.specs.Value.{FitTerms, FitsTerm, members_of, value_of};
 ghost use Rattle.erl_term.specs.Value.Value.{list, tuple};
 ghost use Rattle.erl_term.specs.Within.{IsWithin, ReadsAs};
+ghost use Rattle.erl_term.specs.OneTerm.{HasTerm};
+ghost use Rattle.erl_term.specs.declared.record.TheConstants.{RECORD_DEPTH};
 ghost use Rattle.erl_term.specs.Printing.{text_of, texts_of, with_commas};
 
 mod atoms;
@@ -22,6 +24,10 @@ pub fn print(alloc: Global, term: &Term) -> Result<String, AllocError>
     // Within a reader's limit the text reads as that one term.
     ensures reads_back { IfOk result (λ s.
         (limit : ℕ) → IsWithin limit (value_of term.now) → ReadsAs limit (string_bytes s) (value_of term.now)) }
+
+    // With a dot and a new line it is the body of a record, and reads as that term.
+    ensures is_a_body { IfOk result (λ s.
+        IsWithin RECORD_DEPTH (value_of term.now) → HasTerm RECORD_DEPTH (string_bytes s ++ codes ".\n") (value_of term.now)) }
 {
     let mut out = String::new(alloc);
     print_term(&mut out, term)?;

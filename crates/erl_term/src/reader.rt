@@ -25,14 +25,14 @@ pub fn read_terms(alloc: Global, bytes: &[u8]) -> Result<Vec<Spanned>, TermFault
 }
 
 /// The terms of a text in which at most so many brackets are open at once.
-fn read(alloc: Global, bytes: &[u8], limit: usize) -> Result<Vec<Spanned>, TermFault>
+pub fn read(alloc: Global, bytes: &[u8], limit: usize) -> Result<Vec<Spanned>, TermFault>
     ensures { ReadsAs result (reading_of limit bytes.now) }
 {
     let text = Text::of(bytes);
     let mut parser = Parser::new(alloc, limit);
     let mut at = 0;
-    while let Some(item) = next_item(text, at) {
-        parser.take(alloc, item)?;
+    while let Some(item) = next_item(alloc, text, at)? {
+        parser.take(alloc, &item)?;
         at = item.to;
     }
     parser.finish(bytes.len())

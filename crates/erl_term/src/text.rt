@@ -1,7 +1,9 @@
 //! The bytes of a text, as far as they are UTF-8.
-ghost use Rattle.std.specs.Prelude.{◌≡◌, ◌<◌, ◌≤◌, ◌^◌, slice_get, slice_range, IfSome};
+ghost use Rattle.std.specs.Prelude.{◌≡◌, ◌+◌, ◌-◌, ◌<◌, ◌≤◌, ◌^◌, length, drop, slice_index, slice_get, slice_range, if◌then◌else◌, Some, None, IfSome, EachIndex};
 ghost use Rattle.std.specs.Str.{IsCharBoundary, IsUtf8};
 ghost use Rattle.erl_term.specs.Lexing.{sealed};
+ghost use Rattle.erl_term.specs.Escapes.{itself};
+ghost use Rattle.erl_term.specs.Escapes.Character.{means};
 
 /// A text as far as it is UTF-8.
 #[derive(Clone, Copy, Debug)]
@@ -13,6 +15,7 @@ pub struct Text<'a> {
 
 impl<'a> Text<'a> {
     ghost use Rattle.erl_term.specs.Views.{text_bytes};
+    ghost use Rattle.erl_term.specs.Scanned.{byte_in, IsBehind};
 
     /// The bytes as a text.
     pub fn of(bytes: &'a [u8]) -> Text<'a>
@@ -50,6 +53,32 @@ impl<'a> Text<'a> {
         }
     }
 
+    /// The byte at a place, as far as the text is UTF-8.
+    pub fn byte(self, place: usize) -> Option<u8>
+        ensures is { result ≡ byte_in (slice_get (text_bytes self.entry) place) }
+        ensures within { IfSome result (λ _. place < 2 ^ 63) }
+        // Behind a byte that is a character of its own the text may be cut.
+        ensures cut { IfSome result (λ byte. byte < 128 → IsCharBoundary self.entry.valid.now (place + 1)) }
+    {
+        match self.at(place) {
+            Some(byte @ 0..=255) => Some(byte as u8),
+            Some(_) | None => None,
+        }
+    }
+
+    /// The place from which on the bytes are not UTF-8, if there is one.
+    pub fn bad_place(self) -> Option<usize>
+        ensures place { result ≡ (if self.entry.is_spoilt then Some (length self.entry.valid.now) else None) }
+        ensures bytes { EachIndex self.entry.valid.now (λ k. slice_index self.entry.valid.now k < 256) }
+    {
+        let bytes = self.valid.as_bytes();
+        if self.is_spoilt {
+            Some(bytes.len())
+        } else {
+            None
+        }
+    }
+
     /// The text between two places.
     pub fn part(self, from: usize, to: usize) -> &'a str
         requires ordered { from ≤ to }
@@ -59,5 +88,21 @@ impl<'a> Text<'a> {
     {
         let valid = self.valid;
         &valid[from..to]
+    }
+
+    /// The character that begins at a place, and the place behind it.
+    pub fn character_at(self, at: usize) -> (char, usize)
+        requires within { at < length self.valid.now }
+        requires begins { IsCharBoundary self.valid.now at }
+        ensures is { itself (slice_index (text_bytes self.entry) at) (drop (at + 1) (text_bytes self.entry)) ≡ means result.0 (result.1 - at) }
+        ensures behind { IsBehind self.entry at result.1 }
+    {
+        let valid = self.valid;
+        let length = valid.as_bytes().len();
+        let mut characters = valid[at..].chars();
+        match characters.next() {
+            Some(character) => (character, length - characters.as_str().len()),
+            None => unreachable!(),
+        }
     }
 }
