@@ -6,5 +6,7 @@ mod Terms
 mod Endings
 mod Shape
 mod Versions
-mod Outcomes
+pub mod Outcomes
 mod Files
+pub mod OneFault
+mod Limits

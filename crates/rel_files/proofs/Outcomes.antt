@@ -21,12 +21,12 @@ draft_names : (as' : List AppDraft) → sketch_names (map app_sketch_of as') ≡
 draft_names [] = refl
 draft_names (a ∷ as') = ap (λ (ns : List (List ℕ)). string_bytes a.name ∷ ns) (draft_names as')
 
-form_names : (forms : List AppForm) → sketch_names (map app_form_sketch forms) ≡ map (λ (a : AppForm). a.name) forms
+pub form_names : (forms : List AppForm) → sketch_names (map app_form_sketch forms) ≡ map (λ (a : AppForm). a.name) forms
 form_names [] = refl
 form_names (f ∷ forms) = ap (λ (ns : List (List ℕ)). f.name ∷ ns) (form_names forms)
 
 -- a name that stands behind itself isn't distinct
-clash : (before after : List (List ℕ)) (n : List ℕ) → AreDistinct (before ++ (n ∷ after)) → Contains before n → ⊥
+pub clash : (before after : List (List ℕ)) (n : List ℕ) → AreDistinct (before ++ (n ∷ after)) → Contains before n → ⊥
 clash [] after n distinct there = absurd (omega (arith, there.1))
 clash (m ∷ before) after n distinct there = go (Contains-append_cases (m ∷ []) before n there) (clash before after n distinct.1)
   where

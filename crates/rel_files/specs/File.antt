@@ -4,6 +4,7 @@ use Rattle.std.specs.List.{AllByRecursion}
 use Rattle.erl_term.specs.Value.{Value}
 use Rattle.erl_term.specs.Grammar.{Reads, Reading}
 use Rattle.erl_term.specs.Faults.{IsFault}
+use Rattle.erl_term.specs.OneTerm
 use Rattle.rel_files.specs.declared.fault.FileFault.{FileFault}
 use Rattle.rel_files.specs.declared.fault.FileFault.TheVariants.{BadTerm, BadShape, Duplicate, BadVersion, NoMemory}
 use Rattle.rel_files.specs.Name.{IsVersion, AreDistinct, IsFirstTwice}
@@ -32,7 +33,7 @@ IsTermFault v at NoMemory = ⊥
 
 -- The file has one term, and it is this.
 abbrev pub HasTerm : List ℕ → Value → Type 0
-HasTerm bytes v = (reading : Reading) × Reads 64 bytes (reading ∷ []) × (reading.term ≡ v)
+HasTerm bytes v = OneTerm.HasTerm 64 bytes v
 
 -- The file says this of a release.
 abbrev pub SaysRelease : List ℕ → Release → Type 0

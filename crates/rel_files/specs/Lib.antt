@@ -6,3 +6,4 @@ pub mod File
 pub mod Parts
 pub mod Sketch
 pub mod Sketched
+pub mod Laws

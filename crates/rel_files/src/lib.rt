@@ -3,12 +3,16 @@
 //! [`read_rel`] reads a `.rel` file. It gives a release exactly where the file says one, and then that
 //! one; a refusal is the file's fault, the first in the order of [`FileFault`]'s cases. Want of memory may
 //! come in place of any answer and says nothing of the file.
+//!
+//! The functions of `laws` say of these definitions that no file says two releases, that none has two faults,
+//! and that none has both.
 #![tactic(auto)]
 
 mod draft;
 mod duplicates;
 mod ending;
 mod fault;
+pub mod laws;
 mod parts;
 mod reader;
 mod release;

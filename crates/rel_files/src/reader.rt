@@ -1,6 +1,7 @@
 //! From a `.rel` file to a release.
 ghost use Rattle.std.specs.Prelude.{◌≡◌, ◌≢◌, IfOk, IfErr, MatchResult};
 ghost use Rattle.erl_term.specs.Value.{value_of};
+ghost use Rattle.erl_term.specs.Within.{IsWithin};
 ghost use Rattle.rel_files.specs.Release.{Release, release_of};
 ghost use Rattle.rel_files.specs.File.{HasTerm, IsReleaseTerm, IsTermFault, SaysRelease, IsRelFault};
 
@@ -32,6 +33,9 @@ pub fn read_rel_file(alloc: Global, bytes: &[u8]) -> Result<RelFile, FileFault>
     ensures says { IfOk result (λ file. HasTerm bytes.now (value_of file.term) × IsReleaseTerm (value_of file.term) (release_of file.release)) }
     ensures only { (r : Release) → SaysRelease bytes.now r → MatchResult result (λ file. release_of file.release ≡ r) (λ f. f ≡ FileFault.NoMemory) }
     ensures fault { IfErr result (λ f. f ≢ FileFault.NoMemory → IsRelFault bytes.now f) }
+
+    // The term has short atoms, and few brackets are open at once when it is printed.
+    ensures within { IfOk result (λ file. IsWithin 65 (value_of file.term)) }
 {
     let mut terms = read_terms(alloc, bytes)?;
     let Some(last) = terms.pop() else {

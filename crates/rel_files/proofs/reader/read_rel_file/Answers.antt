@@ -6,6 +6,7 @@ use Rattle.rel_files.specs.Fault.{file_fault_of}
 use Rattle.rel_files.specs.Release.{Release, release_of}
 use Rattle.rel_files.specs.File.{IsRelFault}
 use Rattle.rel_files.proofs.Files.{tells_terms, several, says_alone}
+use Rattle.rel_files.proofs.Limits.{last_keeps_limits}
 use Rattle.rel_files.proofs.reader.read_rel_file.Goals as goal
 
 -- an error that is passed on
@@ -47,3 +48,6 @@ returns-clause-only c = λ r says.
     let none : None ≡ slice_get c.pop.new.self.items 0 = search rules in
     c.in_ok-release.ensures.only r
     (says_alone c.pop.new.self.items c.in_ok-terms.terms.items c.in-Some.last c.args.bytes.now r none c.in-Some.ensures.items c.in_ok-terms.ensures.only says)
+
+pub returns-clause-within : goal.returns-clause-within
+returns-clause-within c = last_keeps_limits 64 c.args.bytes.now c.pop.new.self.items c.in_ok-terms.terms.items c.in-Some.last c.in-Some.ensures.items c.in_ok-terms.ensures.found
