@@ -1,0 +1,80 @@
+-- A node that is booted, and one that is made.
+use Rattle.std.proofs.Common.{◌≡◌, inl, inr, ◌⊎◌, ℕ, true, false, List, [], ◌∷◌, Some, Ok, Err, refl, sym, ap, ◌∙◌, subst}
+use Rattle.std.specs.Prelude.{codes}
+use Rattle.erl_term.specs.OneTerm.{HasTerm}
+use Rattle.erl_term.specs.Value.{Value}
+use Rattle.rel_disk.specs.Moments.{LeavesOnly}
+use Rattle.rel_disk.proofs.Moments.{weakened}
+use Rattle.rel_files.specs.File.{IsReleaseTerm}
+use Rattle.rel_files.specs.Release.{Release}
+use Rattle.rel_list.specs.declared.status.Status.TheVariants.{Permanent}
+use Rattle.rel_list.specs.Releases.{Releases}
+use Rattle.rel_list.specs.Event.{entry, booted}
+use Rattle.rel_list.specs.Event.Event.{made}
+use Rattle.rel_store.specs.Creation.{IsNoneOrNew, IsBegunAt, Creates}
+use Rattle.rel_store.specs.Records.{records_of}
+use Rattle.rel_store.specs.State as store
+use Rattle.rel_store.specs.declared.store.Store.{Store}
+use Rattle.rel_handler.specs.Events.{Known, doubted, IsOfPrefix, IsNoneOrOfPrefix}
+use Rattle.rel_handler.specs.Image.{IsImageOf}
+use Rattle.rel_handler.specs.Limits.{is_small}
+use Rattle.rel_handler.specs.Moments.{Begins, BeginsAt, BootsTo}
+use Rattle.rel_handler.specs.Records.{makes, record_term, Spells, Makes, IsBadRecord}
+use Rattle.rel_handler.specs.State.{IsSound}
+use Rattle.rel_handler.specs.declared.error.BootError.{BootError}
+use Rattle.rel_handler.specs.declared.error.BootError.TheVariants as boot
+use Rattle.rel_handler.specs.declared.handler.Handler.{Handler}
+use Rattle.rel_handler.proofs.Images.{each_image, booted_image, boots_to, first_record, while_creating}
+use Rattle.rel_handler.proofs.Making.{makes_not_bad}
+use Rattle.rel_handler.proofs.Standing.{settled_made}
+
+-- what was read from records is as it is behind a boot
+pub as_booted : (bodies : List (List ℕ)) (es : Releases) → Makes bodies es → booted es ≡ es
+as_booted bodies es makes_it = settled_made [] bodies es makes_it.0 refl
+
+-- a list that was read from the records of a store
+pub made_again : (bodies records : List (List ℕ)) (es : Releases) → bodies ≡ records → Makes bodies es → Makes records (booted es)
+made_again bodies records es same makes_it = subst (λ rs. Makes rs (booted es)) same (subst (Makes bodies) (sym (as_booted bodies es makes_it)) makes_it)
+
+-- a handler of such a list
+pub sound_so : {D : Type 0} (seen : D → List ℕ) (may_leave : D → List ℕ → Type 0) (of : Store D) (es : Releases) → store.IsSound seen may_leave of → store.IsSettled seen may_leave of → Makes (store.records_in of) (booted es)
+    → IsSound seen may_leave (record { store = of; list = es; dead = false })
+sound_so seen may_leave of es sound settled makes_it = record { store = sound; works = λ still. settled.works; list = λ still. makes_it }
+
+-- bytes with the records of a list stand for it
+pub image_so : (c : List ℕ) (bodies records : List (List ℕ)) (es : Releases) → bodies ≡ records → Makes bodies es → records_of c ≡ Ok records → IsImageOf c es × (booted es ≡ es)
+image_so c bodies records es same makes_it read = (record { bodies = records; store = read; list = made_again bodies records es same makes_it }, as_booted bodies es makes_it)
+
+-- the records that were read are those of the bytes
+pub read_so : (c : List ℕ) (bodies records : List (List ℕ)) → bodies ≡ records → records_of c ≡ Ok records → records_of c ≡ Ok bodies
+read_so c bodies records same read = read ∙ ap (λ bs. Ok bs) (sym same)
+
+-- bytes that stand for a list have no bad record
+pub only_memory : (c : List ℕ) (bodies records : List (List ℕ)) (es : Releases) (e : BootError) → bodies ≡ records → records_of c ≡ Ok records → IsImageOf c es
+    → (e ≡ boot.NoMemory) ⊎ ((i : ℕ) × (e ≡ boot.BadRecord i) × IsBadRecord bodies i) → (e ≡ boot.Device) ⊎ (e ≡ boot.NoMemory)
+only_memory c bodies records es e same read image (inl memory) = inr memory
+only_memory c bodies records es e same read image (inr (i, is, bad)) =
+    let here : image.bodies ≡ bodies = cc (read, image.store, same) in
+    absurd (makes_not_bad bodies (booted es) i (subst (λ bs. Makes bs (booted es)) here image.list) bad)
+
+-- at each moment of a creation
+module _ {D : Type 0} (seen : D → List ℕ) (may_leave : D → List ℕ → Type 0) (moment : D → ℕ) (left_since : D → ℕ → List ℕ → Type 0) (r : Release) (body start : List ℕ) (small : is_small r ≡ true) (spelled : Spells body (makes r)) (old new : D) where
+  pub begins_at : (at : D) → IsBegunAt seen may_leave moment left_since body start old new at → BeginsAt seen may_leave moment left_since (doubted [] (made r)) old new at
+  begins_at at begun = record {
+    until = begun.until;
+    synced = begun.synced;
+    from = weakened moment left_since at new (IsNoneOrNew body start) (IsNoneOrOfPrefix (doubted [] (made r))) (while_creating r body start small spelled) begun.from;
+  }
+
+  pub begins : Creates seen may_leave moment left_since body start old new → Begins seen may_leave moment left_since (doubted [] (made r)) old new
+  begins (inl before) = inl before
+  begins (inr (at, begun)) = inr (at, begins_at at begun)
+
+-- the first record of a new node
+pub made_new : (r : Release) (body : List ℕ) (records : List (List ℕ)) (es : Releases) → is_small r ≡ true → Spells body (makes r) → records ≡ body ∷ [] → es ≡ entry r Permanent ∷ [] → Makes records (booted es)
+made_new r body records es small spelled is listed =
+    subst (λ rs. Makes rs (booted es)) (sym is) (subst (λ l. Makes (body ∷ []) (booted l)) (sym listed) (first_record r body small spelled))
+
+-- the same bytes spell the same record
+pub spelled_made : (bytes body : List ℕ) (rel : Value) (r : Release) → bytes ≡ body → HasTerm 72 body (record_term (codes "made") rel) → IsReleaseTerm rel r → Spells bytes (makes r)
+spelled_made bytes body rel r same text says = record { rel = rel; text = subst (λ b. HasTerm 72 b (record_term (codes "made") rel)) (sym same) text; says = says }

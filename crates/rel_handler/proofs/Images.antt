@@ -1,0 +1,100 @@
+-- Which lists the images of a disk stand for.
+use Rattle.std.proofs.Common.{◌≡◌, inl, inr, ◌⊎◌, ⊎_elim, ℕ, Bool, true, false, List, [], ◌∷◌, ◌++◌, Option, Some, None, Ok, Err, refl, sym, ap, ◌∙◌, subst, append_assoc}
+use Rattle.std.specs.Prelude.{is_some, if◌then◌else◌}
+use Rattle.std.specs.Result.{result_ok}
+use Rattle.std.proofs.lemmas.List.{append-nil}
+use Rattle.rel_disk.specs.Damage.{Only}
+use Rattle.rel_files.specs.Release.{Release}
+use Rattle.rel_list.specs.declared.status.Status.TheVariants.{Permanent}
+use Rattle.rel_list.specs.Releases.{Releases}
+use Rattle.rel_list.specs.Event.{Event, entry, booted, step, list_after}
+use Rattle.rel_list.specs.Event.Event.{made, unpacked, boot}
+use Rattle.rel_store.specs.Creation.{IsNoneOrNew}
+use Rattle.rel_store.specs.Records.{records_of, Stands, StandsEither}
+use Rattle.rel_store.specs.State.{records_in, IsSettled}
+use Rattle.rel_store.specs.declared.store.Store.{Store}
+use Rattle.rel_handler.specs.Events.{Known, doubted, with_doubt, accepted, IsPrefix, IsOfPrefix, IsNoneOrOfPrefix}
+use Rattle.rel_handler.specs.Image.{IsImageOf}
+use Rattle.rel_handler.specs.Limits.{has_one_permanent, is_small}
+use Rattle.rel_handler.specs.Moments.{BootsTo}
+use Rattle.rel_handler.specs.Records.{Record, makes, adds, Spells, with_one_permanent, assigned, MakesFrom, Makes}
+use Rattle.rel_handler.specs.Taking.{allowed, commanded}
+use Rattle.rel_handler.specs.declared.error.HandlerError.TheVariants.{TooMany, Exists}
+use Rattle.rel_handler.proofs.Lists.{list_after-push}
+use Rattle.rel_handler.proofs.Making.{makes-push, makes_once}
+use Rattle.rel_handler.proofs.Unpacking.{unpacked_behind_a_boot, steps}
+
+-- each image of a settled store's disk stands for the list that its records make
+pub each_image : {D : Type 0} (seen : D → List ℕ) (may_leave : D → List ℕ → Type 0) (store : Store D) (es : Releases) → IsSettled seen may_leave store → Makes (records_in store) (booted es)
+    → (c : List ℕ) → may_leave store.disk c → IsImageOf c es
+each_image seen may_leave store es s makes_it c now = record { bodies = records_in store; store = ap records_of (s.durable c now) ∙ s.records; list = makes_it }
+
+-- the acknowledged events are a prefix that lacks the one in doubt
+pub prefix_without : (events : List Event) (e : Event) → IsPrefix (doubted events e) events
+prefix_without events e = go (is_some (list_after (events ++ e ∷ []))) refl
+  where
+    none : events ≡ events ++ []
+    none = sym (append-nil _)
+
+    go : (b : Bool) → is_some (list_after (events ++ e ∷ [])) ≡ b → IsPrefix (doubted events e) events
+    go true is = record { lacks = e ∷ []; of_accepted = ap (λ b. if b then events ++ e ∷ [] else events) is; more = []; holds = none }
+    go false is = record { lacks = []; of_accepted = ap (λ b. if b then events ++ e ∷ [] else events) is ∙ none; more = []; holds = none }
+
+-- and with it they are one, where the list allows it
+pub prefix_with : (events : List Event) (e : Event) (es : Releases) → list_after (events ++ e ∷ []) ≡ Some es → IsPrefix (doubted events e) (events ++ e ∷ [])
+prefix_with events e es after = record { lacks = []; of_accepted = ap (λ o. if is_some o then events ++ e ∷ [] else events) after ∙ none; more = e ∷ []; holds = refl }
+  where
+    none : events ++ e ∷ [] ≡ (events ++ e ∷ []) ++ []
+    none = sym (append-nil _)
+
+-- an image of the list before a command is one of a prefix
+pub as_before : (events : List Event) (e : Event) (es : Releases) (c : List ℕ) → list_after events ≡ Some es → IsImageOf c es → IsOfPrefix (doubted events e) c
+as_before events e es c after image = record { events = events; prefix = prefix_without events e; list = es; after = after; image_of = image }
+
+-- and one of the list after it too
+pub as_after : (events : List Event) (e : Event) (es end : Releases) (c : List ℕ) → list_after events ≡ Some es → step e es ≡ Some end → IsImageOf c end → IsOfPrefix (doubted events e) c
+as_after events e es end c after next image =
+    let all = list_after-push events e es end after next in
+    record { events = events ++ e ∷ []; prefix = prefix_with events e end all; list = end; after = all; image_of = image }
+
+-- with the record the store makes the list with the release
+pub with_record : (r : Release) (es end : Releases) (bodies : List (List ℕ)) (body : List ℕ) → Makes bodies (booted es) → Spells body (adds r) → commanded (unpacked r) es ≡ Ok end
+    → Makes (bodies ++ body ∷ []) (booted end)
+with_record r es end bodies body (so_far, one) spelled allows =
+    let behind = unpacked_behind_a_boot r es end allows one in
+    (makes-push [] bodies (booted es) body (adds r) (booted end) so_far spelled behind.0, behind.1)
+
+-- The record of an unpacked release is being appended: the store makes the list from before it or the one with it.
+pub while_unpacking : (r : Release) (es end : Releases) (bodies : List (List ℕ)) (body text : List ℕ) (events : List Event)
+    → Makes bodies (booted es) → Spells body (adds r) → commanded (unpacked r) es ≡ Ok end → list_after events ≡ Some es
+    → (c : List ℕ) → StandsEither bodies body text c → IsOfPrefix (doubted events (unpacked r)) c
+while_unpacking r es end bodies body text events makes_it spelled allows after c (inl stands) =
+    as_before events (unpacked r) es c after (record { bodies = bodies; store = stands.records; list = makes_it })
+while_unpacking r es end bodies body text events makes_it spelled allows after c (inr stands) =
+    as_after events (unpacked r) es end c after (steps r es end allows) (record { bodies = bodies ++ body ∷ []; store = stands.records; list = with_record r es end bodies body makes_it spelled allows })
+
+-- the first record makes the list of its release
+pub first_record : (r : Release) (body : List ℕ) → is_small r ≡ true → Spells body (makes r) → Makes (body ∷ []) (booted (entry r Permanent ∷ []))
+first_record r body small spelled = ((makes r, entry r Permanent ∷ [], spelled, there, refl), refl)
+  where
+    there : assigned (makes r) [] ≡ Some (entry r Permanent ∷ [])
+    there = ap (λ b. with_one_permanent (result_ok (if b then allowed Exists (step (made r) []) else Err TooMany))) small
+
+-- A creation leaves no store or one of a prefix.
+pub while_creating : (r : Release) (body start : List ℕ) → is_small r ≡ true → Spells body (makes r) → (c : List ℕ) → IsNoneOrNew body start c → IsNoneOrOfPrefix (doubted [] (made r)) c
+while_creating r body start small spelled c (inl none) = inl none
+while_creating r body start small spelled c (inr stands) =
+    inr (as_after [] (made r) [] (entry r Permanent ∷ []) c refl refl (record { bodies = body ∷ []; store = stands.records; list = first_record r body small spelled }))
+
+-- A disk that stands for a list is booted to it.
+pub booted_image : (c : List ℕ) (bodies : List (List ℕ)) (found es : Releases) → records_of c ≡ Ok bodies → Makes bodies found → IsImageOf c es → found ≡ booted es
+booted_image c bodies found es read makes_it image =
+    let same : bodies ≡ image.bodies = cc (read, image.store) in
+    makes_once [] bodies found (booted es) makes_it.0 (subst (λ l. MakesFrom [] l (booted es)) (sym same) image.list.0)
+
+pub boots_to : (k : Known) (c : List ℕ) (bodies : List (List ℕ)) (found : Releases) → records_of c ≡ Ok bodies → Makes bodies found → IsOfPrefix k c → BootsTo k found
+boots_to k c bodies found read makes_it of = record {
+  events = of.events;
+  prefix = of.prefix;
+  after = list_after-push of.events boot of.list (booted of.list) of.after refl ∙ ap (λ l. Some l) (sym (booted_image c bodies found of.list read makes_it of.image_of));
+}

@@ -1,0 +1,11 @@
+pub mod Lists
+pub mod Reading
+pub mod Bodies
+pub mod Making
+pub mod Unpacking
+pub mod Standing
+pub mod Progress
+pub mod Images
+pub mod Commits
+pub mod Boots
+pub mod Within

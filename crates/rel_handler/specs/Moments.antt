@@ -1,0 +1,27 @@
+-- What the calls of a handler leave at each moment.
+use Rattle.std.specs.Prelude.{◌≡◌, ◌⊎◌, ℕ, List, [], ◌∷◌, ◌++◌, Some}
+use Rattle.rel_disk.specs.Damage.{Only}
+use Rattle.rel_disk.specs.Moments.{LeavesOnly}
+use Rattle.rel_list.specs.Releases.{Releases}
+use Rattle.rel_list.specs.Event.{Event, list_after}
+use Rattle.rel_list.specs.Event.Event.{boot}
+use Rattle.rel_store.specs.Moments.{IsTornFrom}
+use Rattle.rel_handler.specs.Events.{Known, IsPrefix, IsNoneOrOfPrefix}
+
+-- From its first sync on, at which it stands here, a creation leaves no store or one of a prefix; before it the images are
+-- those from before the call, but for a gate that is torn.
+pub record BeginsAt {D : Type 0} (seen : D → List ℕ) (may_leave : D → List ℕ → Type 0) (moment : D → ℕ) (left_since : D → ℕ → List ℕ → Type 0) (k : Known) (old new at : D) : Type 0 where
+  pub until : LeavesOnly moment left_since old at (IsTornFrom (may_leave old) 0 1)
+  pub synced : Only (seen at) (may_leave at)
+  pub from : LeavesOnly moment left_since at new (IsNoneOrOfPrefix k)
+
+-- At each moment of a creation: as long as its first sync hasn't succeeded, nothing but the gate of a store is torn.
+abbrev pub Begins : {D : Type 0} → (D → List ℕ) → (D → List ℕ → Type 0) → (D → ℕ) → (D → ℕ → List ℕ → Type 0) → Known → D → D → Type 0
+Begins {D = D} seen may_leave moment left_since k old new =
+    LeavesOnly moment left_since old new (IsTornFrom (may_leave old) 0 1) ⊎ ((at : D) × BeginsAt seen may_leave moment left_since k old new at)
+
+-- The list is that of such a prefix, and then a boot.
+pub record BootsTo (k : Known) (es : Releases) : Type 0 where
+  pub events : List Event
+  pub prefix : IsPrefix k events
+  pub after : list_after (events ++ boot ∷ []) ≡ Some es

@@ -1,0 +1,60 @@
+-- What stands where in the term of a record, and what was made of it.
+use Rattle.std.specs.Prelude.{ℕ, Bool, true, false, ◌&&◌, nat_lt, List, [], length, codes, if◌then◌else◌, Option, None, Some}
+use Rattle.std.specs.Option.{option_map, option_and_then}
+use Rattle.erl_term.specs.Value.{Value}
+use Rattle.erl_term.specs.Value.Value.{atom, list}
+use Rattle.erl_term.specs.Value.Values.{no_values}
+use Rattle.erl_term.specs.declared.fault.TermFault.{TermFault}
+use Rattle.erl_term.specs.declared.fault.TermFault.TheVariants as term
+use Rattle.rel_files.specs.Parts.{four_in, is_word}
+use Rattle.rel_files.specs.Release.{release_of}
+use Rattle.rel_files.specs.declared.fault.FileFault.{FileFault}
+use Rattle.rel_files.specs.declared.fault.FileFault.TheVariants as file
+use Rattle.rel_list.specs.declared.event.Event.{Event}
+use Rattle.rel_list.specs.declared.event.Event.TheVariants as memory
+use Rattle.rel_list.specs.declared.fault.ListError.{ListError}
+use Rattle.rel_list.specs.declared.fault.ListError.TheVariants as list_error
+use Rattle.rel_list.specs.Releases.{Releases}
+use Rattle.rel_handler.specs.Limits.{is_small, most_releases}
+use Rattle.rel_handler.specs.Records.{Record, makes, adds}
+use Rattle.rel_handler.specs.declared.records.RecordFault.{RecordFault}
+use Rattle.rel_handler.specs.declared.records.RecordFault.TheVariants.{Bad, NoMemory}
+
+-- the text of an atom
+abbrev pub name_in : Value → Option (List ℕ)
+name_in (atom s) = Some s
+name_in v = None
+
+-- a list without members
+abbrev pub is_empty_list : Value → Bool
+is_empty_list (list no_values) = true
+is_empty_list v = false
+
+-- the word of a record, and the term of its release
+abbrev pub parts_in : Value → Option (List ℕ × Value)
+parts_in v =
+    option_and_then (λ m. if is_empty_list m.2 && is_word (codes "none") m.3 then option_map (λ word. (word, m.1)) (name_in m.0) else None) (four_in v)
+
+-- the record that brings an event
+abbrev pub record_of : Event → Record
+record_of (memory.Made r) = makes (release_of r)
+record_of (memory.Unpacked r) = adds (release_of r)
+
+-- whether the limits allow it behind this list, and it isn't a further release behind none
+abbrev pub may_stand : Record → Releases → Bool
+may_stand (makes r) es = is_small r
+may_stand (adds r) [] = false
+may_stand (adds r) es = is_small r && nat_lt (length es) most_releases
+
+-- what a fault of its text, of its release or of the list says of a record
+abbrev pub fault_of_text : TermFault → RecordFault
+fault_of_text term.NoMemory = NoMemory
+fault_of_text f = Bad
+
+abbrev pub fault_of_release : FileFault → RecordFault
+fault_of_release file.NoMemory = NoMemory
+fault_of_release f = Bad
+
+abbrev pub fault_of_list : ListError → RecordFault
+fault_of_list list_error.NoMemory = NoMemory
+fault_of_list f = Bad

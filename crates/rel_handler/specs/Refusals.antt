@@ -1,0 +1,83 @@
+-- Why a call is refused, and what stands after it.
+use Rattle.std.specs.Prelude.{◌≡◌, ℕ, true, false, List, Result, Ok, Err}
+use Rattle.rel_disk.specs.Moments.{HasFailed}
+use Rattle.rel_files.specs.Release.{Release}
+use Rattle.rel_list.specs.Releases.{Releases}
+use Rattle.rel_list.specs.Event.{Event}
+use Rattle.rel_store.specs.Layout.{has_magic}
+use Rattle.rel_store.specs.Records.{records_of}
+use Rattle.rel_store.specs.State.{Fits}
+use Rattle.rel_store.specs.declared.error.StoreError.{StoreError}
+use Rattle.rel_store.specs.declared.error.StoreError.TheVariants as store
+use Rattle.rel_handler.specs.Limits.{is_small}
+use Rattle.rel_handler.specs.Records.{IsBadRecord}
+use Rattle.rel_handler.specs.State.{disk_in, list_in, is_dead, end_in, IsSame}
+use Rattle.rel_handler.specs.Taking.{commanded}
+use Rattle.rel_handler.specs.declared.error.HandlerError.{HandlerError}
+use Rattle.rel_handler.specs.declared.error.HandlerError.TheVariants.{ExistingRelease, TooMany, Device, Full, Dead, NoMemory, Exists}
+use Rattle.rel_handler.specs.declared.error.BootError.{BootError}
+use Rattle.rel_handler.specs.declared.error.BootError.TheVariants as boot
+use Rattle.rel_handler.specs.declared.handler.Handler.{Handler}
+
+-- the event's command would be refused so by the list
+abbrev pub IsRefused : {D : Type 0} → Event → Handler D → HandlerError → Type 0
+IsRefused e old refusal = (is_dead old ≡ false) × (commanded e (list_in old) ≡ Err refusal)
+
+-- the list allows the event
+abbrev pub IsAllowed : {D : Type 0} → Event → Handler D → Type 0
+IsAllowed e old = (is_dead old ≡ false) × ((es : Releases) × (commanded e (list_in old) ≡ Ok es))
+
+-- Why a command is refused that brings a release with this event, and a record with a body of so many bytes. Nothing has
+-- changed then, unless the device failed: then the handler is dead.
+abbrev pub CommandRefused : {D : Type 0} → (D → ℕ) → Event → ℕ → Handler D → Handler D → HandlerError → Type 0
+CommandRefused failures e size old new Dead = (is_dead old ≡ true) × IsSame old new
+CommandRefused failures e size old new ExistingRelease = IsRefused e old ExistingRelease × IsSame old new
+CommandRefused failures e size old new TooMany = IsRefused e old TooMany × IsSame old new
+CommandRefused failures e size old new Full = IsAllowed e old × (Fits (end_in old) size → ⊥) × IsSame old new
+CommandRefused failures e size old new NoMemory = (is_dead old ≡ false) × IsSame old new
+CommandRefused failures e size old new Device = IsAllowed e old × HasFailed (failures (disk_in old)) (failures (disk_in new)) × (is_dead new ≡ true)
+CommandRefused failures e size old new Exists = ⊥
+
+-- Why a node isn't made with this release, on a disk with these bytes, by a record with a body of so many. Nothing has been
+-- written then, unless the device failed.
+abbrev pub CreateRefused : List ℕ → Release → ℕ → ℕ → ℕ → Type 0 → HandlerError → Type 0
+CreateRefused bytes r size before now unwritten TooMany = (is_small r ≡ false) × unwritten
+CreateRefused bytes r size before now unwritten Exists = (is_small r ≡ true) × (has_magic bytes ≡ true) × unwritten
+CreateRefused bytes r size before now unwritten Full = (is_small r ≡ true) × (has_magic bytes ≡ false) × (Fits 289 size → ⊥) × unwritten
+CreateRefused bytes r size before now unwritten NoMemory = (is_small r ≡ true) × unwritten
+CreateRefused bytes r size before now unwritten Device = (is_small r ≡ true) × HasFailed before now
+CreateRefused bytes r size before now unwritten _ = ⊥
+
+-- Why a boot refuses a disk with these bytes: what they tell, a failure of the device, or want of memory.
+abbrev pub BootRefused : List ℕ → ℕ → ℕ → BootError → Type 0
+BootRefused bytes before now boot.NotAStore = records_of bytes ≡ Err store.NotAStore
+BootRefused bytes before now (boot.Damaged at) = records_of bytes ≡ Err (store.Damaged at)
+BootRefused bytes before now boot.Device = HasFailed before now
+BootRefused bytes before now boot.NoMemory = Unit {0}
+BootRefused bytes before now (boot.BadRecord i) = (bodies : List (List ℕ)) × (records_of bytes ≡ Ok bodies) × IsBadRecord bodies i
+
+-- what a boot tells of a store that isn't opened
+abbrev pub told_boot : StoreError → BootError
+told_boot store.NotAStore = boot.NotAStore
+told_boot (store.Damaged at) = boot.Damaged at
+told_boot store.Device = boot.Device
+told_boot e = boot.NoMemory
+
+abbrev pub IsOpenError : StoreError → Type 0
+IsOpenError store.Exists = ⊥
+IsOpenError store.Full = ⊥
+IsOpenError store.MustReopen = ⊥
+IsOpenError e = Unit {0}
+
+-- what is told of a store that isn't made
+abbrev pub told_create : StoreError → HandlerError
+told_create store.Exists = Exists
+told_create store.Full = Full
+told_create store.Device = Device
+told_create e = NoMemory
+
+abbrev pub IsCreateError : StoreError → Type 0
+IsCreateError store.NotAStore = ⊥
+IsCreateError (store.Damaged at) = ⊥
+IsCreateError store.MustReopen = ⊥
+IsCreateError e = Unit {0}

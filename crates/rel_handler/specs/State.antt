@@ -1,0 +1,42 @@
+-- A handler as its callers see it: its disk, its list, and what is known of them.
+use Rattle.std.specs.Prelude.{◌≡◌, ℕ, Bool, false, List, Result, Ok, Err}
+use Rattle.rel_list.specs.Releases.{Releases}
+use Rattle.rel_list.specs.Event.{booted}
+use Rattle.rel_store.specs.State as of_store
+use Rattle.rel_handler.specs.Records.{Makes}
+use Rattle.rel_handler.specs.declared.handler.Handler.{Handler}
+
+-- its disk
+abbrev pub disk_in : {D : Type 0} → Handler D → D
+disk_in handler = of_store.disk_in handler.store
+
+-- the disk in a handler that was made or booted, or beside the refusal
+abbrev pub disk_of : {D E : Type 0} → Result (Handler D) (E × D) → D
+disk_of (Ok handler) = of_store.disk_in handler.store
+disk_of (Err refusal) = refusal.1
+
+-- its releases
+abbrev pub list_in : {D : Type 0} → Handler D → Releases
+list_in handler = handler.list
+
+-- nothing can be asked of it until the next boot
+abbrev pub is_dead : {D : Type 0} → Handler D → Bool
+is_dead handler = handler.dead
+
+-- where its store ends
+abbrev pub end_in : {D : Type 0} → Handler D → ℕ
+end_in handler = of_store.end_in handler.store
+
+-- What is known of a handler between two calls: unless it is dead, its store is settled, and the records make its list as
+-- it is behind a boot.
+pub record IsSound {D : Type 0} (seen : D → List ℕ) (may_leave : D → List ℕ → Type 0) (handler : Handler D) : Type 0 where
+  pub store : of_store.IsSound seen may_leave handler.store
+  pub works : is_dead handler ≡ false → of_store.has_failed handler.store ≡ false
+  pub list : is_dead handler ≡ false → Makes (of_store.records_in handler.store) (booted handler.list)
+
+-- nothing of it has changed but the memory that it holds
+pub record IsSame {D : Type 0} (old new : Handler D) : Type 0 where
+  pub disk : disk_in new ≡ disk_in old
+  pub list : list_in new ≡ list_in old
+  pub dead : is_dead new ≡ is_dead old
+  pub end : end_in new ≡ end_in old

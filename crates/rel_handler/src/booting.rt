@@ -1,0 +1,92 @@
+// A node is read from its disk again.
+ghost use Rattle.std.specs.Prelude.{◌≡◌, ◌⊎◌, ℕ, ◌≤◌, List, map, false, IfOk, IfErr, MatchResult};
+ghost use Rattle.rel_disk.specs.Moments.{LeavesOnly};
+ghost use Rattle.rel_list.specs.Releases.{Releases};
+ghost use Rattle.rel_list.specs.Event.{booted};
+ghost use Rattle.rel_store.specs.Contents.{OpenRefused};
+ghost use Rattle.rel_handler.specs.Events.{Known, IsOfPrefix};
+ghost use Rattle.rel_handler.specs.Image.{IsImageOf};
+ghost use Rattle.rel_handler.specs.Moments.{BootsTo};
+ghost use Rattle.rel_handler.specs.Records.{Makes, IsBadRecord};
+ghost use Rattle.rel_handler.specs.Refusals.{BootRefused, told_boot, IsOpenError};
+ghost use Rattle.rel_handler.specs.State.{disk_in, disk_of, list_in, is_dead, IsSound};
+
+use crate::records::{RecordFault, take_record};
+use crate::{BootError, Handler};
+use rel_disk::Disk;
+use rel_list::ReleaseList;
+use rel_store::{Store, StoreError};
+use std::alloc::Global;
+
+/// Boots the node on a disk: its list is that of the store's records. Reads the disk once, and writes nothing.
+///
+/// Refusals: `Device`, `NoMemory`, `NotAStore`, `Damaged`, and `BadRecord` with the number of the first record that no
+/// command could have written where it stands. A disk that stands for a list is refused for want of memory or the device
+/// alone.
+pub fn boot<D: Disk>(alloc: Global, disk: D) -> Result<Handler<D>, (BootError, D)>
+    ensures sound { IfOk result (IsSound D.seen D.may_leave) }
+    ensures works { IfOk result (λ handler. is_dead handler ≡ false) }
+    ensures same { D.seen (disk_of result) ≡ D.seen disk }
+    ensures image { IfOk result (λ handler. IsImageOf (D.seen disk) (list_in handler) × (booted (list_in handler) ≡ list_in handler)) }
+    ensures acknowledged { IfOk result (λ handler. (c : List ℕ) → D.may_leave (disk_in handler) c → IsImageOf c (list_in handler)) }
+
+    // A disk that stands for a list is booted to that list.
+    ensures only { (es : Releases) → IsImageOf (D.seen disk) es
+        → MatchResult result (λ handler. list_in handler ≡ booted es) (λ e. (e.0 ≡ BootError.Device) ⊎ (e.0 ≡ BootError.NoMemory)) }
+
+    // So whatever a crash left of a node is booted to the list of a prefix of its accepted events that holds every
+    // acknowledged one.
+    ensures recovers { (k : Known) → ((c : List ℕ) → D.may_leave disk c → IsOfPrefix k c)
+        → MatchResult result (λ handler. BootsTo k (list_in handler)) (λ e. (e.0 ≡ BootError.Device) ⊎ (e.0 ≡ BootError.NoMemory)) }
+
+    // No crash in the call leaves anything that none before it would have left.
+    ensures any_moment { LeavesOnly D.moment D.left_since disk (disk_of result) (D.may_leave disk) }
+
+    ensures counted { D.failures disk ≤ D.failures (disk_of result) }
+    ensures refused { IfErr result (λ e. BootRefused (D.seen disk) (D.failures disk) (D.failures e.1) e.0) }
+{
+    match Store::open_disk(alloc, disk) {
+        Ok(store) => match read_list(alloc, store.records()) {
+            Ok(list) => Ok(Handler {
+                store,
+                list,
+                dead: false,
+            }),
+            Err(error) => Err((error, store.into_disk())),
+        },
+        Err((error, disk)) => Err((boot_error(error), disk)),
+    }
+}
+
+// The list that these records make.
+fn read_list(alloc: Global, records: &[Vec<u8>]) -> Result<ReleaseList, BootError>
+    ensures made { IfOk result (Makes (map (λ v. v.items) records.now)) }
+    ensures bad { IfErr result (λ e. (e ≡ BootError.NoMemory) ⊎ ((i : ℕ) × (e ≡ BootError.BadRecord i) × IsBadRecord (map (λ v. v.items) records.now) i)) }
+{
+    let mut list = ReleaseList::new(alloc);
+    for (i, body) in records.iter().enumerate() {
+        match take_record(alloc, &mut list, body.as_slice()) {
+            Ok(()) => {}
+            Err(RecordFault::Bad) => return Err(BootError::BadRecord(i as u64 + 1)),
+            Err(RecordFault::NoMemory) => return Err(BootError::NoMemory),
+        }
+    }
+    if list.is_empty() {
+        return Err(BootError::BadRecord(1));
+    }
+    Ok(list)
+}
+
+// What a boot tells of a store that isn't opened.
+fn boot_error(error: StoreError) -> BootError
+    requires { IsOpenError error }
+    ensures { result ≡ told_boot error }
+{
+    match error {
+        StoreError::NotAStore => BootError::NotAStore,
+        StoreError::Damaged(at) => BootError::Damaged(at),
+        StoreError::Device => BootError::Device,
+        StoreError::NoMemory => BootError::NoMemory,
+        StoreError::Exists | StoreError::Full | StoreError::MustReopen => unreachable!(),
+    }
+}

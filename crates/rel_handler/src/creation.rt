@@ -1,0 +1,122 @@
+// A node is made.
+ghost use Rattle.std.specs.Prelude.{◌≡◌, ℕ, ◌≤◌, ◌+◌, List, [], ◌∷◌, ◌++◌, length, true, false, codes, string_bytes, IfOk, IfErr, OnOk, IsErr};
+ghost use Rattle.erl_term.specs.OneTerm.{HasTerm};
+ghost use Rattle.erl_term.specs.Value.{value_of};
+ghost use Rattle.rel_files.specs.Release.{release_of};
+ghost use Rattle.rel_list.specs.Event.{entry};
+ghost use Rattle.rel_list.specs.Event.Event.{made};
+ghost use Rattle.rel_store.specs.Creation.{IsUnwritten};
+ghost use Rattle.rel_store.specs.Layout.{has_magic};
+ghost use Rattle.rel_handler.specs.Events.{doubted};
+ghost use Rattle.rel_handler.specs.Files.{IsRelFile, start_text};
+ghost use Rattle.rel_handler.specs.Image.{IsImageOf};
+ghost use Rattle.rel_handler.specs.Limits.{is_small};
+ghost use Rattle.rel_handler.specs.Moments.{Begins, BeginsAt};
+ghost use Rattle.rel_handler.specs.Records.{body_of, record_term, word_of, makes};
+ghost use Rattle.rel_handler.specs.Refusals.{CreateRefused, told_create, IsCreateError};
+ghost use Rattle.rel_handler.specs.State.{disk_in, disk_of, list_in, is_dead, end_in, IsSound};
+ghost use Rattle.rel_list.specs.declared.status.Status.TheVariants.{Permanent};
+
+use crate::limits::is_small;
+use crate::records::{MADE, spell};
+use crate::{Handler, HandlerError};
+use rel_disk::Disk;
+use rel_files::{Rel, RelFile};
+use rel_list::{Event, ReleaseList};
+use rel_store::{Store, StoreError};
+use std::alloc::{AllocError, Global};
+
+impl<D: Disk> Handler<D> {
+    /// Makes a node on a disk that has none, with a release from its file as the permanent one.
+    ///
+    /// Told in this order: `TooMany` for its applications, `Exists`, `Full`; `NoMemory` may come in place of `Exists` and
+    /// `Full`. Nothing has been written then. After `Device` the disk has no store, or the new one. The disk comes back
+    /// with each refusal.
+    pub fn create(alloc: Global, disk: D, file: RelFile) -> Result<Handler<D>, (HandlerError, D)>
+        requires { IsRelFile file }
+        ensures sound { IfOk result (IsSound D.seen D.may_leave) }
+        ensures works { IfOk result (λ handler. is_dead handler ≡ false) }
+        ensures small { OnOk result (is_small (release_of file.release) ≡ true) }
+        ensures list { IfOk result (λ handler. list_in handler ≡ entry (release_of file.release) Permanent ∷ []) }
+        ensures acknowledged { IfOk result (λ handler. (c : List ℕ) → D.may_leave (disk_in handler) c → IsImageOf c (list_in handler)) }
+        ensures end { IfOk result (λ handler. end_in handler ≡ 289 + (5 + length (body_of (word_of (makes (release_of file.release))) (value_of file.term)))) }
+
+        // A crash at any moment from the first sync on leaves no store, or the list with the release.
+        ensures any_moment { Begins D.seen D.may_leave D.moment D.left_since (doubted [] (made (release_of file.release))) disk (disk_of result) }
+        ensures begun { OnOk result ((at : D) × BeginsAt D.seen D.may_leave D.moment D.left_since (doubted [] (made (release_of file.release))) disk (disk_of result) at) }
+
+        ensures taken { has_magic (D.seen disk) ≡ true → IfErr result (λ e. IsUnwritten D.seen D.may_leave D.moment D.left_since disk e.1) × IsErr result }
+        ensures counted { D.failures disk ≤ D.failures (disk_of result) }
+        ensures refused { IfErr result (λ e. CreateRefused (D.seen disk) (release_of file.release)
+            (length (body_of (word_of (makes (release_of file.release))) (value_of file.term))) (D.failures disk) (D.failures e.1)
+            (IsUnwritten D.seen D.may_leave D.moment D.left_since disk e.1) e.0) }
+    {
+        if !is_small(&file.release) {
+            return Err((HandlerError::TooMany, disk));
+        }
+        let Ok(new) = NewNode::of(alloc, file) else {
+            return Err((HandlerError::NoMemory, disk));
+        };
+        let NewNode { body, start, list } = new;
+        match Store::create(alloc, disk, body.as_bytes(), start.as_bytes()) {
+            Ok(store) => Ok(Handler {
+                store,
+                list,
+                dead: false,
+            }),
+            Err((error, disk)) => Err((create_error(error), disk)),
+        }
+    }
+}
+
+// What a node begins with: its record, its start slot and its list.
+#[derive(Drop)]
+struct NewNode {
+    body: String,
+    start: String,
+    list: ReleaseList,
+}
+
+impl NewNode {
+    // All of it, or nothing where memory is refused.
+    fn of(alloc: Global, file: RelFile) -> Result<NewNode, AllocError>
+        requires { IsRelFile file }
+        ensures body { IfOk result (λ new. string_bytes new.body ≡ body_of (codes "made") (value_of file.term)) }
+        ensures read_back { IfOk result (λ new. HasTerm 72 (string_bytes new.body) (record_term (codes "made") (value_of file.term))) }
+        ensures start { IfOk result (λ new. string_bytes new.start ≡ start_text (release_of file.release)) }
+        ensures list { IfOk result (λ new. new.list ≡ entry (release_of file.release) Permanent ∷ []) }
+    {
+        let start = start_text(alloc, &file.release)?;
+        let body = spell(alloc, MADE, file.term)?;
+        let mut list = ReleaseList::new(alloc);
+        if list.accept(alloc, Event::Made(file.release)).is_err() {
+            return Err(AllocError);
+        }
+        Ok(NewNode { body, start, list })
+    }
+}
+
+// The text of the start slot for a release.
+fn start_text(alloc: Global, release: &Rel) -> Result<String, AllocError>
+    ensures { IfOk result (λ text. string_bytes text ≡ start_text (release_of release.now)) }
+{
+    let mut text = String::from_str(alloc, release.erts.as_str())?;
+    text.push(' ')?;
+    text.push_str(release.vsn.as_str())?;
+    text.push('\n')?;
+    Ok(text)
+}
+
+// What is told of a store that isn't made.
+fn create_error(error: StoreError) -> HandlerError
+    requires { IsCreateError error }
+    ensures { result ≡ told_create error }
+{
+    match error {
+        StoreError::Exists => HandlerError::Exists,
+        StoreError::Full => HandlerError::Full,
+        StoreError::Device => HandlerError::Device,
+        StoreError::NoMemory => HandlerError::NoMemory,
+        StoreError::NotAStore | StoreError::Damaged(_) | StoreError::MustReopen => unreachable!(),
+    }
+}

@@ -1,0 +1,77 @@
+// Why a call was refused.
+ghost use Rattle.std.specs.Prelude.{◌≡◌};
+ghost use Rattle.rel_handler.specs.declared.error.HandlerError.TheVariants as command;
+ghost use Rattle.rel_handler.specs.declared.error.BootError.TheVariants as boot;
+
+use std::alloc::{AllocError, AllocFailed};
+use thiserror::Error;
+
+/// Why a command was refused. Nothing has changed then, but after `Device`.
+#[derive(Clone, Copy, Debug, PartialEq, Eq, Error)]
+pub enum HandlerError {
+    /// The list has a release of this version.
+    #[error("ExistingRelease")]
+    ExistingRelease,
+    /// The release has more applications than a release may have, or would be one more than a node may have.
+    #[error("TooMany")]
+    TooMany,
+    /// The device failed. The handler is dead until the next boot, which finds the command's event or not.
+    #[error("Device")]
+    Device,
+    /// The store would be longer than it may be.
+    #[error("Full")]
+    Full,
+    /// The device failed in an earlier command, and the node has to be booted.
+    #[error("Dead")]
+    Dead,
+    /// No memory was left. It says nothing of the command.
+    #[error("NoMemory")]
+    NoMemory,
+    /// A node is on the disk already.
+    #[error("Exists")]
+    Exists,
+}
+
+impl From<AllocError> for HandlerError {
+    ghost from_gives = { λ _ e. e ≡ command.NoMemory };
+
+    fn from(_: AllocError) -> HandlerError {
+        HandlerError::NoMemory
+    }
+}
+
+impl<T: Drop> From<AllocFailed<T>> for HandlerError {
+    ghost from_gives = { λ _ e. e ≡ command.NoMemory };
+
+    fn from(_: AllocFailed<T>) -> HandlerError {
+        HandlerError::NoMemory
+    }
+}
+
+/// Why a disk isn't booted.
+#[derive(Clone, Copy, Debug, PartialEq, Eq, Error)]
+pub enum BootError {
+    /// The disk is no store.
+    #[error("NotAStore")]
+    NotAStore,
+    /// The place of a base slot that tells no place of a record, or of the open gate of a record that isn't whole.
+    #[error("Damaged")]
+    Damaged(u64),
+    /// The device failed.
+    #[error("Device")]
+    Device,
+    /// No memory was left. It says nothing of the disk.
+    #[error("NoMemory")]
+    NoMemory,
+    /// The number of the first record, from 1, that no command could have written where it stands; 1 where there is none.
+    #[error("BadRecord")]
+    BadRecord(u64),
+}
+
+impl From<AllocError> for BootError {
+    ghost from_gives = { λ _ e. e ≡ boot.NoMemory };
+
+    fn from(_: AllocError) -> BootError {
+        BootError::NoMemory
+    }
+}
