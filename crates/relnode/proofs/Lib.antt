@@ -5,7 +5,9 @@ pub mod Splitting
 pub mod Said
 pub mod Commanding
 pub mod Going
-pub mod Telling
 pub mod Mapped
 pub mod Handling
 pub mod Giving
+pub mod OneAnswer
+pub mod Placing
+pub mod Following

@@ -29,6 +29,7 @@ pub data Command : Type 0 where
   file : List ℕ → File → Command
   create : List ℕ → Command
   set_unpacked : List ℕ → Command
+  boot : Command
   releases : Command
   quit : Command
   bad : Command
@@ -42,7 +43,8 @@ pub data Saying : Type 0 where
 -- what a word says alone
 abbrev pub said_alone : List ℕ → Saying
 said_alone word =
-    if bytes_eq word (codes "releases") then tells releases
+    if bytes_eq word (codes "boot") then tells boot
+    else if bytes_eq word (codes "releases") then tells releases
     else if bytes_eq word (codes "quit") then tells quit
     else tells bad
 
@@ -109,6 +111,7 @@ abbrev pub command_of : CommandInMemory → Command
 command_of (memory.File p g) = file (string_bytes p) (given_of g)
 command_of (memory.Create p) = create (string_bytes p)
 command_of (memory.SetUnpacked p) = set_unpacked (string_bytes p)
+command_of memory.Boot = boot
 command_of memory.Releases = releases
 command_of memory.Quit = quit
 command_of memory.Bad = bad

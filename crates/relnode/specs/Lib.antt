@@ -7,10 +7,11 @@ pub mod AheadView
 pub mod Commands
 pub mod Saying
 pub mod Refusals
-pub mod ListRefusals
 pub mod Listing
 pub mod Node
 pub mod Answers
 pub mod Given
 pub mod Told
 pub mod Nodes
+pub mod Laws
+pub mod Exits

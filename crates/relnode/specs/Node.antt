@@ -1,25 +1,22 @@
 -- What a node answers to a command, and what it is then.
-use Rattle.std.specs.Prelude.{◌≡◌, ℕ, List, [], ◌++◌, length, nat_lt, if◌then◌else◌, codes, Option, None, Some, Result, Ok, Err}
+use Rattle.std.specs.Prelude.{◌≡◌, ◌⊎◌, ℕ, Bool, true, List, [], ◌∷◌, ◌++◌, length, nat_lt, if◌then◌else◌, codes, Option, None, Some, Result, Ok, Err}
 use Rattle.std.specs.Str.{bytes_eq}
 use Rattle.rel_files.specs.declared.fault.FileFault.{FileFault}
+use Rattle.rel_files.specs.Fault.{fault_of}
 use Rattle.rel_files.specs.File.{SaysRelease, IsRelFault}
 use Rattle.rel_files.specs.Release.{Release}
-use Rattle.rel_list.specs.Releases.{Releases}
-use Rattle.rel_list.specs.Event.{step}
+use Rattle.rel_list.specs.Releases.{Releases, running}
+use Rattle.rel_list.specs.Event.{booted}
 use Rattle.rel_list.specs.Event.Event.{made, unpacked}
+use Rattle.rel_handler.specs.declared.error.HandlerError.{HandlerError}
+use Rattle.rel_handler.specs.Limits.{is_small}
+use Rattle.rel_handler.specs.Taking.{commanded}
 use Rattle.relnode.specs.Commands.{Command, File}
-use Rattle.relnode.specs.Commands.Command.{file, create, set_unpacked, releases, quit, bad}
+use Rattle.relnode.specs.Commands.Command.{file, create, set_unpacked, boot, releases, quit, bad}
 use Rattle.relnode.specs.Commands.File.{bytes, too_large}
-use Rattle.relnode.specs.Refusals.{Refusal, refusal_line}
-use Rattle.relnode.specs.Refusals.Refusal.{existing_release, bad_file, missing_file, too_many, dead, exists}
+use Rattle.relnode.specs.Refusals.{Refusal, refusal_of, refusal_line, handler_refusal}
+use Rattle.relnode.specs.Refusals.Refusal.{bad_file, missing_file, too_many, full, dead, exists}
 use Rattle.relnode.specs.Listing.{listing}
-
--- how many applications a release has at most, and how many releases a node
-abbrev pub most_applications : ℕ
-most_applications = 64
-
-abbrev pub most_releases : ℕ
-most_releases = 32
 
 -- the files that were given, by their paths
 abbrev pub Files : Type 0
@@ -28,9 +25,15 @@ Files = List ℕ → Option File
 abbrev pub give : Files → List ℕ → File → Files
 give files path f = λ q. if bytes_eq path q then Some f else files q
 
--- a session's node: its releases, if it was made, and the files
+-- Where a session's node lives: a disk that is empty, one that stands for a list whose node wasn't booted, or a node with a
+-- list.
+pub data Place : Type 0 where
+  bare : Place
+  asleep : Releases → Place
+  awake : Releases → Place
+
 pub record Node : Type 0 where
-  pub list : Option Releases
+  pub place : Place
   pub files : Files
 
 -- what the bytes of a `.rel` file say
@@ -40,8 +43,8 @@ Says bs (Err fault) = IsRelFault bs fault
 
 -- what a command makes of that
 abbrev pub usable : List ℕ → Result Release FileFault → Result Release Refusal
-usable path (Ok r) = if nat_lt most_applications (length r.apps) then Err too_many else Ok r
-usable path (Err fault) = Err (bad_file path fault)
+usable path (Ok r) = if is_small r then Ok r else Err too_many
+usable path (Err fault) = Err (bad_file path (fault_of fault))
 
 -- the release in a file, or why there is none
 abbrev pub IsIn : List ℕ → Option File → Result Release Refusal → Type 0
@@ -54,31 +57,38 @@ pub record Done : Type 0 where
   pub vsn : List ℕ
   pub list : Releases
 
--- a release was taken in, if the list allowed it and has room
-abbrev pub taken_in : Release → Option Releases → Result Done Refusal
-taken_in r None = Err existing_release
-taken_in r (Some es) = if nat_lt most_releases (length es) then Err too_many else Ok (record { vsn = r.vsn; list = es })
+-- a release was taken in, or refused
+abbrev pub taken_in : Release → Result Releases HandlerError → Result Done Refusal
+taken_in r (Ok es) = Ok (record { vsn = r.vsn; list = es })
+taken_in r (Err refusal) = Err (refusal_of (handler_refusal refusal))
 
-abbrev pub created : Option Releases → Result Release Refusal → Result Done Refusal
-created list (Err refusal) = Err refusal
-created None (Ok r) = taken_in r (step (made r) [])
-created (Some es) (Ok r) = Err exists
+-- what `create` makes of a release: a node where the disk is empty
+abbrev pub created : Place → Result Release Refusal → Result Done Refusal
+created place (Err refusal) = Err refusal
+created bare (Ok r) = taken_in r (commanded (made r) [])
+created place (Ok r) = Err exists
 
 abbrev pub unpacked_in : Releases → Result Release Refusal → Result Done Refusal
 unpacked_in es (Err refusal) = Err refusal
-unpacked_in es (Ok r) = taken_in r (step (unpacked r) es)
+unpacked_in es (Ok r) = taken_in r (commanded (unpacked r) es)
+
+-- the answer; where a store may be full, that may be told in place of a command's being done
+abbrev pub IsTold : Bool → Result Done Refusal → Result Done Refusal → Type 0
+IsTold may_be_full want answer = (answer ≡ want) ⊎ ((may_be_full ≡ true) × ((done : Done) × (want ≡ Ok done)) × (answer ≡ Err full))
 
 -- the answer to `create PATH`
-abbrev pub IsCreated : Node → List ℕ → Result Done Refusal → Type 0
-IsCreated n path answer = (found : Result Release Refusal) × IsIn path (n.files path) found × (answer ≡ created n.list found)
+abbrev pub IsCreated : Bool → Node → List ℕ → Result Done Refusal → Type 0
+IsCreated may_be_full n path answer =
+    (found : Result Release Refusal) × IsIn path (n.files path) found × IsTold may_be_full (created n.place found) answer
 
 -- the answer to `set_unpacked PATH`
-abbrev pub IsUnpackedIn : Option Releases → Files → List ℕ → Result Done Refusal → Type 0
-IsUnpackedIn None files path answer = answer ≡ Err dead
-IsUnpackedIn (Some es) files path answer = (found : Result Release Refusal) × IsIn path (files path) found × (answer ≡ unpacked_in es found)
+abbrev pub IsUnpackedAt : Bool → Place → Files → List ℕ → Result Done Refusal → Type 0
+IsUnpackedAt may_be_full (awake es) files path answer =
+    (found : Result Release Refusal) × IsIn path (files path) found × IsTold may_be_full (unpacked_in es found) answer
+IsUnpackedAt may_be_full place files path answer = answer ≡ Err dead
 
-abbrev pub IsUnpacked : Node → List ℕ → Result Done Refusal → Type 0
-IsUnpacked n path answer = IsUnpackedIn n.list n.files path answer
+abbrev pub IsUnpacked : Bool → Node → List ℕ → Result Done Refusal → Type 0
+IsUnpacked may_be_full n path answer = IsUnpackedAt may_be_full n.place n.files path answer
 
 -- what a session does at a command: it goes on with a node and this text, or stops
 pub data Step : Type 0 where
@@ -90,19 +100,36 @@ ok_line vsn = codes "ok " ++ (vsn ++ codes "\n")
 
 -- how the answer of a command is told
 abbrev pub told : Node → Result Done Refusal → Step
-told n (Ok done) = go (record n { list = Some done.list }) (ok_line done.vsn)
+told n (Ok done) = go (record n { place = awake done.list }) (ok_line done.vsn)
 told n (Err refusal) = go n (refusal_line refusal)
 
+-- the version of the release that runs; a node that was booted has one
+abbrev pub vsn_of : Option Release → List ℕ
+vsn_of None = []
+vsn_of (Some r) = r.vsn
+
+-- the node behind `boot`, and what is told
+abbrev pub woken : Place → Place
+woken bare = bare
+woken (asleep es) = awake (booted es)
+woken (awake es) = awake (booted es)
+
+abbrev pub woken_line : Place → List ℕ
+woken_line bare = codes "error boot 1 NotAStore\n"
+woken_line (asleep es) = ok_line (vsn_of (running (booted es)))
+woken_line (awake es) = ok_line (vsn_of (running (booted es)))
+
 -- the answer to `releases`
-abbrev pub listed : Option Releases → List ℕ
-listed None = refusal_line dead
-listed (Some es) = listing es
+abbrev pub listed : Place → List ℕ
+listed (awake es) = listing es
+listed place = refusal_line dead
 
 -- What a session does at a command.
-abbrev pub Follows : Node → Command → Step → Type 0
-Follows n (file path f) s = s ≡ go (record n { files = give n.files path f }) (codes "ok\n")
-Follows n (create path) s = (answer : Result Done Refusal) × IsCreated n path answer × (s ≡ told n answer)
-Follows n (set_unpacked path) s = (answer : Result Done Refusal) × IsUnpacked n path answer × (s ≡ told n answer)
-Follows n releases s = s ≡ go n (listed n.list)
-Follows n quit s = s ≡ stop
-Follows n bad s = s ≡ go n (codes "error session 1 BadCommand\n")
+abbrev pub Follows : Bool → Node → Command → Step → Type 0
+Follows may_be_full n (file path f) s = s ≡ go (record n { files = give n.files path f }) (codes "ok\n")
+Follows may_be_full n (create path) s = (answer : Result Done Refusal) × IsCreated may_be_full n path answer × (s ≡ told n answer)
+Follows may_be_full n (set_unpacked path) s = (answer : Result Done Refusal) × IsUnpacked may_be_full n path answer × (s ≡ told n answer)
+Follows may_be_full n boot s = s ≡ go (record n { place = woken n.place }) (woken_line n.place)
+Follows may_be_full n releases s = s ≡ go n (listed n.place)
+Follows may_be_full n quit s = s ≡ stop
+Follows may_be_full n bad s = s ≡ go n (codes "error session 1 BadCommand\n")

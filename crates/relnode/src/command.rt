@@ -10,6 +10,8 @@ pub enum Command {
     Create(String),
     /// Has the node take in the release of the file, to be installed later.
     SetUnpacked(String),
+    /// Boots the node on the disk.
+    Boot,
     /// Lists the node's releases.
     Releases,
     /// Ends the session.

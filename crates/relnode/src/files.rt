@@ -1,20 +1,21 @@
 //! The files of a session.
-ghost use Rattle.std.specs.Prelude.{◌≡◌, ◌≢◌, None, Some, Ok, Err, string_bytes, IfOk, IfErr, OnOk};
+ghost use Rattle.std.specs.Prelude.{◌≡◌, ◌≢◌, true, None, Some, Ok, Err, string_bytes, IfOk, IfErr, OnOk};
 ghost use Rattle.relnode.specs.Commands.{given_of};
 ghost use Rattle.relnode.specs.Commands.File.{bytes as kept};
 ghost use Rattle.relnode.specs.Node.{give, IsIn, usable};
 ghost use Rattle.relnode.specs.Refusals.{refusal_of};
 ghost use Rattle.relnode.specs.Refusals.Refusal.{bad_file};
+ghost use Rattle.rel_files.specs.Fault.{fault_of};
 ghost use Rattle.rel_files.specs.Release.{release_of};
+ghost use Rattle.rel_handler.specs.Files.{IsRelFile};
+ghost use Rattle.rel_handler.specs.Limits.{is_small};
 
 use crate::given::GivenFile;
 use crate::refusal::Refusal;
 use indexmap::IndexMap;
-use rel_files::{FileFault, Rel, read_rel};
+use rel_files::{FileFault, RelFile, read_rel_file};
+use rel_handler::MOST_APPLICATIONS;
 use std::alloc::{AllocFailed, Global};
-
-/// How many applications a release has at most.
-const MOST_APPLICATIONS: usize = 64;
 
 /// The files that were given, by their paths.
 #[derive(Drop)]
@@ -47,8 +48,10 @@ impl Files {
     }
 
     /// The release in the file of this path.
-    pub fn release(&self, alloc: Global, path: &str) -> Result<Rel, Refusal>
-        ensures found { IfOk result (λ rel. IsIn path.now (files_of self.now path.now) (Ok (release_of rel))) }
+    pub fn release(&self, alloc: Global, path: &str) -> Result<RelFile, Refusal>
+        ensures found { IfOk result (λ file. IsIn path.now (files_of self.now path.now) (Ok (release_of file.release))) }
+        ensures file { IfOk result IsRelFile }
+        ensures small { IfOk result (λ file. is_small (release_of file.release) ≡ true) }
         ensures refused { IfErr result (λ r. r ≢ Refusal.NoMemory → IsIn path.now (files_of self.now path.now) (Err (refusal_of r))) }
     {
         match self.given.get(path) {
@@ -60,12 +63,14 @@ impl Files {
 }
 
 /// The release in the bytes of a `.rel` file.
-fn release_in(alloc: Global, path: &str, bytes: &[u8]) -> Result<Rel, Refusal>
-    ensures found { IfOk result (λ rel. IsIn path.now (Some (kept bytes.now)) (Ok (release_of rel))) }
+fn release_in(alloc: Global, path: &str, bytes: &[u8]) -> Result<RelFile, Refusal>
+    ensures found { IfOk result (λ file. IsIn path.now (Some (kept bytes.now)) (Ok (release_of file.release))) }
+    ensures file { IfOk result IsRelFile }
+    ensures small { IfOk result (λ file. is_small (release_of file.release) ≡ true) }
     ensures refused { IfErr result (λ r. r ≢ Refusal.NoMemory → IsIn path.now (Some (kept bytes.now)) (Err (refusal_of r))) }
 {
-    match read_rel(alloc, bytes) {
-        Ok(release) if release.apps.as_slice().len() <= MOST_APPLICATIONS => Ok(release),
+    match read_rel_file(alloc, bytes) {
+        Ok(file) if file.release.apps.as_slice().len() <= MOST_APPLICATIONS => Ok(file),
         Ok(_) => Err(Refusal::TooMany),
         Err(fault) => Err(refusal_for(alloc, path, fault)),
     }
@@ -73,7 +78,7 @@ fn release_in(alloc: Global, path: &str, bytes: &[u8]) -> Result<Rel, Refusal>
 
 /// The refusal that tells a file's fault, where memory isn't what was wanting.
 fn refusal_for(alloc: Global, path: &str, fault: FileFault) -> Refusal
-    ensures { result ≢ Refusal.NoMemory → (fault ≢ FileFault.NoMemory) × (refusal_of result ≡ bad_file path.now fault) }
+    ensures { result ≢ Refusal.NoMemory → (fault ≢ FileFault.NoMemory) × (refusal_of result ≡ bad_file path.now (fault_of fault)) }
 {
     match fault {
         FileFault::NoMemory => Refusal::NoMemory,

@@ -1,135 +1,215 @@
 //! The node of a session.
-ghost use Rattle.std.specs.Prelude.{◌≡◌, ◌≢◌, Ok, Err, string_bytes, IfOk, IfErr, OnErr};
-ghost use Rattle.relnode.specs.Refusals.{refusal_of};
-ghost use Rattle.relnode.specs.Commands.{command_of};
-ghost use Rattle.relnode.specs.Node.{unpacked_in};
-ghost use Rattle.relnode.specs.Told.{IsAnswered, IsLine};
-ghost use Rattle.rel_files.specs.Release.{release_of};
+ghost use Rattle.std.specs.Prelude.{◌≡◌, ◌≤◌, true, codes, None, Some, Ok, Err, string_bytes, IfOk, IfErr, OnOk, MatchResult};
+ghost use Rattle.relnode.specs.Commands.{command_of, given_of};
+ghost use Rattle.relnode.specs.Commands.Command.{file as file_given, create, set_unpacked, boot};
+ghost use Rattle.relnode.specs.Given.{files_of};
+ghost use Rattle.relnode.specs.Node.{Follows, IsUnpackedAt, give};
+ghost use Rattle.relnode.specs.Nodes.{Turns};
+ghost use Rattle.relnode.specs.Told.{IsAnswered, IsLine, IsText};
+ghost use Rattle.relnode.specs.declared.place.Place.TheVariants.{Bare, Made};
+ghost use Rattle.rel_handler.specs.State.{IsSound, disk_in, is_dead};
 
 use crate::command::Command;
 use crate::error::SessionError;
 use crate::files::Files;
-use crate::listing::listing;
+use crate::given::GivenFile;
+use crate::place::Place;
 use crate::refusal::Refusal;
-use rel_files::Rel;
-use rel_list::{Event, ReleaseList};
+use rel_disk::Disk;
+use rel_handler::Handler;
 use std::alloc::{AllocError, Global};
 
-/// How many releases a node has at most.
-const MOST_RELEASES: usize = 32;
-
-/// The node of a session: its releases, once it was made, and the files that were given.
-#[derive(Drop)]
-pub struct Node {
-    list: Option<ReleaseList>,
+/// The node of a session: the disk that it is on, and the files that were given.
+pub struct Node<D: Disk> {
+    place: Place<D>,
     files: Files,
 }
 
-impl Node {
-    ghost use Rattle.relnode.specs.Nodes.{node_of, step_of};
-    ghost use Rattle.relnode.specs.Node.{IsCreated, IsUnpacked, Follows, listed};
-    ghost use Rattle.relnode.specs.Answers.{begun};
+impl<D: Disk> Node<D> {
+    ghost use Rattle.relnode.specs.Nodes.{disk_of, IsSoundPlace, IsNode, Turns, TurnsNode, step_of};
 
-    /// There is no node yet, and no file.
-    pub fn new(alloc: Global) -> Node
-        ensures { node_of result ≡ begun }
+    /// No node was made or booted on the disk yet, and no file was given.
+    pub fn new(alloc: Global, disk: D) -> Node<D>
+        ensures place { result.place ≡ Bare disk }
+        ensures files { files_of result.files ≡ (λ path. None) }
     {
         Node {
-            list: None,
+            place: Place::Bare(disk),
             files: Files::new(alloc),
         }
     }
 
+    /// The disk.
+    pub fn into_disk(self) -> D
+        ensures { result ≡ disk_of self }
+    {
+        let Node { place, files: _ } = self;
+        place.into_disk()
+    }
+
     /// Does what the command says. The answer is its text, or none where the session ends.
     pub fn follow(
-        &mut self,
+        self,
         alloc: Global,
         command: Command,
-    ) -> Result<Option<String>, SessionError>
-        ensures followed { IfOk result (λ text. Follows (node_of self.old) (command_of command) (step_of (node_of self.new) text)) }
-        ensures memory { IfErr result (λ e. e ≡ SessionError.NoMemory) }
+    ) -> (Node<D>, Result<Option<String>, SessionError>)
+        requires { IsSoundPlace D.seen D.may_leave self.place }
+        ensures sound { IsSoundPlace D.seen D.may_leave result.0.place }
+        ensures counted { D.failures (disk_of self) ≤ D.failures (disk_of result.0) }
+        ensures followed { IfOk result.1 (λ text. TurnsNode D.seen D.failures self result.0 (λ n m. Follows true n (command_of command) (step_of m text))) }
+        ensures memory { IfErr result.1 (λ e. e ≡ SessionError.NoMemory) }
     {
         match command {
-            Command::File(path, file) => {
-                self.files.give(path, file)?;
-                Ok(Some(String::from_str(alloc, "ok\n")?))
+            Command::File(path, file) => self.give(alloc, path, file),
+            Command::Create(path) => self.create(alloc, path.as_str()),
+            Command::SetUnpacked(path) => self.set_unpacked(alloc, path.as_str()),
+            Command::Boot => self.boot(alloc),
+            Command::Releases => {
+                let lines = self.place.releases(alloc);
+                (self, text_of(lines))
             }
-            Command::Create(path) => {
-                let created = self.create(alloc, path.as_str());
-                Ok(Some(line_of(alloc, created)?))
-            }
-            Command::SetUnpacked(path) => {
-                let unpacked = self.set_unpacked(alloc, path.as_str());
-                Ok(Some(line_of(alloc, unpacked)?))
-            }
-            Command::Releases => Ok(Some(self.releases(alloc)?)),
-            Command::Quit => Ok(None),
-            Command::Bad => Ok(Some(String::from_str(alloc, "error session 1 BadCommand\n")?)),
+            Command::Quit => (self, Ok(None)),
+            Command::Bad => (
+                self,
+                text_of(String::from_str(alloc, "error session 1 BadCommand\n")),
+            ),
         }
     }
 
-    /// Makes the node, with the release in the file of this path as its permanent one. The answer is its version.
-    fn create(&mut self, alloc: Global, path: &str) -> Result<String, Refusal>
-        ensures { IsAnswered result (node_of self.old) (node_of self.new) (IsCreated (node_of self.old) path.now) }
+    /// Keeps a file for its path.
+    fn give(
+        self,
+        alloc: Global,
+        path: String,
+        file: GivenFile,
+    ) -> (Node<D>, Result<Option<String>, SessionError>)
+        ensures place { result.0.place ≡ self.place }
+        ensures followed { IfOk result.1 (λ text. TurnsNode D.seen D.failures self result.0 (λ n m. Follows true n (file_given (string_bytes path) (given_of file)) (step_of m text))) }
+        ensures memory { IfErr result.1 (λ e. e ≡ SessionError.NoMemory) }
     {
-        let release = self.files.release(alloc, path)?;
-        if self.list.is_some() {
-            return Err(Refusal::Exists);
-        }
-        let vsn = String::from_str(alloc, release.vsn.as_str())?;
-        let mut list = ReleaseList::new(alloc);
-        list.accept(alloc, Event::Made(release))?;
-        self.list = Some(list);
-        Ok(vsn)
+        let Node { place, mut files } = self;
+        let text = keep(alloc, &mut files, path, file);
+        (Node { place, files }, text)
     }
 
-    /// Takes in the release in the file of this path as unpacked. The answer is its version.
-    fn set_unpacked(&mut self, alloc: Global, path: &str) -> Result<String, Refusal>
-        ensures { IsAnswered result (node_of self.old) (node_of self.new) (IsUnpacked (node_of self.old) path.now) }
+    /// Makes the node, with the release in the file of this path as its permanent one.
+    fn create(self, alloc: Global, path: &str) -> (Node<D>, Result<Option<String>, SessionError>)
+        requires { IsSoundPlace D.seen D.may_leave self.place }
+        ensures sound { IsSoundPlace D.seen D.may_leave result.0.place }
+        ensures counted { D.failures (disk_of self) ≤ D.failures (disk_of result.0) }
+        ensures followed { IfOk result.1 (λ text. TurnsNode D.seen D.failures self result.0 (λ n m. Follows true n (create path.now) (step_of m text))) }
+        ensures memory { IfErr result.1 (λ e. e ≡ SessionError.NoMemory) }
     {
-        let Some(list) = &mut self.list else {
-            return Err(Refusal::Dead);
-        };
-        let release = self.files.release(alloc, path)?;
-        unpack(alloc, list, release)
+        let Node { place, files } = self;
+        match files.release(alloc, path) {
+            Ok(file) => {
+                let (place, created) = place.make(alloc, file);
+                (Node { place, files }, line_of(alloc, created))
+            }
+            Err(refusal) => (Node { place, files }, line_of(alloc, Err(refusal))),
+        }
     }
 
-    /// The lines that list the releases.
-    fn releases(&self, alloc: Global) -> Result<String, AllocError>
-        ensures { IfOk result (λ text. string_bytes text ≡ listed (node_of self.now).list) }
+    /// Takes in the release in the file of this path as unpacked.
+    fn set_unpacked(
+        self,
+        alloc: Global,
+        path: &str,
+    ) -> (Node<D>, Result<Option<String>, SessionError>)
+        requires { IsSoundPlace D.seen D.may_leave self.place }
+        ensures sound { IsSoundPlace D.seen D.may_leave result.0.place }
+        ensures counted { D.failures (disk_of self) ≤ D.failures (disk_of result.0) }
+        ensures followed { IfOk result.1 (λ text. TurnsNode D.seen D.failures self result.0 (λ n m. Follows true n (set_unpacked path.now) (step_of m text))) }
+        ensures memory { IfErr result.1 (λ e. e ≡ SessionError.NoMemory) }
     {
-        match &self.list {
-            Some(list) => listing(alloc, list),
-            None => Refusal::Dead.line(alloc),
+        let Node { place, files } = self;
+        match place {
+            Place::Bare(disk) => (
+                Node {
+                    place: Place::Bare(disk),
+                    files,
+                },
+                line_of(alloc, Err(Refusal::Dead)),
+            ),
+            Place::Made(mut handler) => {
+                let unpacked = unpack(alloc, &mut handler, &files, path);
+                (
+                    Node {
+                        place: Place::Made(handler),
+                        files,
+                    },
+                    line_of(alloc, unpacked),
+                )
+            }
         }
+    }
+
+    /// Boots the node.
+    fn boot(self, alloc: Global) -> (Node<D>, Result<Option<String>, SessionError>)
+        requires { IsSoundPlace D.seen D.may_leave self.place }
+        ensures sound { IsSoundPlace D.seen D.may_leave result.0.place }
+        ensures counted { D.failures (disk_of self) ≤ D.failures (disk_of result.0) }
+        ensures followed { IfOk result.1 (λ text. TurnsNode D.seen D.failures self result.0 (λ n m. Follows true n boot (step_of m text))) }
+        ensures memory { IfErr result.1 (λ e. e ≡ SessionError.NoMemory) }
+    {
+        let Node { place, files } = self;
+        let (place, line) = place.boot(alloc);
+        (Node { place, files }, text_of(line))
     }
 }
 
-/// Takes a release into the list as unpacked. The answer is its version.
-fn unpack(alloc: Global, list: &mut ReleaseList, release: Rel) -> Result<String, Refusal>
-    ensures unpacked { IfOk result (λ vsn. unpacked_in list.old (Ok (release_of release)) ≡ Ok (record { vsn = string_bytes vsn; list = list.new })) }
-    ensures refused { IfErr result (λ r. r ≢ Refusal.NoMemory → unpacked_in list.old (Ok (release_of release)) ≡ Err (refusal_of r)) }
-    ensures same { OnErr result (list.new ≡ list.old) }
+/// Keeps a file for its path.
+fn keep(
+    alloc: Global,
+    files: &mut Files,
+    path: String,
+    file: GivenFile,
+) -> Result<Option<String>, SessionError>
+    ensures kept { OnOk result (files_of files.new ≡ give (files_of files.old) (string_bytes path) (given_of file)) }
+    ensures told { IfOk result (λ text. IsText text (codes "ok\n")) }
+    ensures memory { IfErr result (λ e. e ≡ SessionError.NoMemory) }
 {
-    if list.status(release.vsn.as_str()).is_some() {
-        return Err(Refusal::ExistingRelease);
+    files.give(path, file)?;
+    Ok(Some(String::from_str(alloc, "ok\n")?))
+}
+
+/// Has a node take in the release in the file of this path as unpacked. The answer is its version.
+fn unpack<D: Disk>(
+    alloc: Global,
+    handler: &mut Handler<D>,
+    files: &Files,
+    path: &str,
+) -> Result<String, Refusal>
+    requires { IsSound D.seen D.may_leave handler.old }
+    ensures sound { IsSound D.seen D.may_leave handler.new }
+    ensures counted { D.failures (disk_in handler.old) ≤ D.failures (disk_in handler.new) }
+    ensures unpacked { Turns D.seen D.failures (Made handler.old) (Made handler.new) (λ p q. IsAnswered result p q (IsUnpackedAt true p (files_of files.now) path.now)) }
+    ensures dead { is_dead handler.old ≡ true → (result ≡ Err Refusal.Dead) × (is_dead handler.new ≡ true) }
+{
+    if handler.is_dead() {
+        return Err(Refusal::Dead);
     }
-    if list.len() >= MOST_RELEASES {
-        return Err(Refusal::TooMany);
-    }
-    let vsn = String::from_str(alloc, release.vsn.as_str())?;
-    list.accept(alloc, Event::Unpacked(release))?;
+    let file = files.release(alloc, path)?;
+    let vsn = String::from_str(alloc, file.release.vsn.as_str())?;
+    handler.set_unpacked(alloc, file)?;
     Ok(vsn)
 }
 
 /// The line that tells what a command has done, or why it was refused.
-fn line_of(alloc: Global, done: Result<String, Refusal>) -> Result<String, SessionError>
-    ensures line { IfOk result (λ text. IsLine done (string_bytes text)) }
+fn line_of(alloc: Global, done: Result<String, Refusal>) -> Result<Option<String>, SessionError>
+    ensures line { IfOk result (λ text. IsLine done text) }
     ensures memory { IfErr result (λ e. e ≡ SessionError.NoMemory) }
 {
     match done {
-        Ok(vsn) => Ok(format!(in alloc; "ok {vsn}\n")?),
+        Ok(vsn) => Ok(Some(format!(in alloc; "ok {vsn}\n")?)),
         Err(Refusal::NoMemory) => Err(SessionError::NoMemory),
-        Err(refusal) => Ok(refusal.line(alloc)?),
+        Err(refusal) => Ok(Some(refusal.line(alloc)?)),
     }
+}
+
+/// A line as a text of a session.
+fn text_of(line: Result<String, AllocError>) -> Result<Option<String>, SessionError>
+    ensures same { MatchResult line (λ s. result ≡ Ok (Some s)) (λ _. result ≡ Err SessionError.NoMemory) }
+{
+    Ok(Some(line?))
 }

@@ -1,16 +1,17 @@
 //! Why the node refuses a command.
 ghost use Rattle.std.specs.Prelude.{◌≡◌, ◌++◌, codes, string_bytes, IfOk};
-ghost use Rattle.relnode.specs.declared.refusal.Refusal.TheVariants.{ExistingRelease, NoMemory};
+ghost use Rattle.rel_files.specs.Fault.{fault_of};
+ghost use Rattle.relnode.specs.declared.refusal.Refusal.TheVariants.{NoMemory};
 ghost use Rattle.relnode.specs.Refusals.{file_fault_text, term_fault_text, refusal_line};
 ghost use Rattle.relnode.specs.Refusals.Refusal.{bad_file as bad_file_refusal};
 
 use erl_term::TermFault;
 use rel_files::FileFault;
-use rel_list::ListError;
+use rel_handler::HandlerError;
 use std::alloc::{AllocError, AllocFailed, Global};
 use thiserror::Error;
 
-/// Why the node refuses a command. Nothing has changed then.
+/// Why the node refuses a command. Nothing has changed then, but after `Device`.
 #[derive(Debug, Drop, Error)]
 pub enum Refusal {
     /// A release of this version is there.
@@ -25,7 +26,13 @@ pub enum Refusal {
     /// A limit is passed.
     #[error("a limit is passed")]
     TooMany,
-    /// There is no node.
+    /// The device failed.
+    #[error("the device failed")]
+    Device,
+    /// The store would be longer than it may be.
+    #[error("the store is full")]
+    Full,
+    /// There is no node, or the device has failed it.
     #[error("there is no node")]
     Dead,
     /// No memory was left.
@@ -52,15 +59,20 @@ impl<T: Drop> From<AllocFailed<T>> for Refusal {
     }
 }
 
-impl From<ListError> for Refusal {
-    ghost use Rattle.relnode.specs.ListRefusals.{list_refusal};
+impl From<HandlerError> for Refusal {
+    ghost use Rattle.relnode.specs.Refusals.{handler_refusal};
 
-    ghost from_gives = { λ e r. r ≡ list_refusal e };
+    ghost from_gives = { λ e r. r ≡ handler_refusal e };
 
-    fn from(error: ListError) -> Refusal {
+    fn from(error: HandlerError) -> Refusal {
         match error {
-            ListError::ExistingRelease => Refusal::ExistingRelease,
-            ListError::NoMemory => Refusal::NoMemory,
+            HandlerError::ExistingRelease => Refusal::ExistingRelease,
+            HandlerError::TooMany => Refusal::TooMany,
+            HandlerError::Device => Refusal::Device,
+            HandlerError::Full => Refusal::Full,
+            HandlerError::Dead => Refusal::Dead,
+            HandlerError::NoMemory => Refusal::NoMemory,
+            HandlerError::Exists => Refusal::Exists,
         }
     }
 }
@@ -80,6 +92,8 @@ impl Refusal {
             Refusal::BadFile(path, fault) => bad_file(alloc, path.as_str(), fault),
             Refusal::MissingFile(path) => format!(in alloc; "error handler 9 MissingFile {path}\n"),
             Refusal::TooMany => String::from_str(alloc, "error handler 12 TooMany\n"),
+            Refusal::Device => String::from_str(alloc, "error handler 16 Device\n"),
+            Refusal::Full => String::from_str(alloc, "error handler 17 Full\n"),
             Refusal::Dead => String::from_str(alloc, "error handler 18 Dead\n"),
             Refusal::NoMemory => String::from_str(alloc, "error handler 19 NoMemory\n"),
             Refusal::Exists => String::from_str(alloc, "error handler 20 Exists\n"),
@@ -89,7 +103,7 @@ impl Refusal {
 
 /// The line that tells of a file's fault.
 fn bad_file(alloc: Global, path: &str, fault: &FileFault) -> Result<String, AllocError>
-    ensures { IfOk result (λ s. string_bytes s ≡ refusal_line (bad_file_refusal path.now fault.now)) }
+    ensures { IfOk result (λ s. string_bytes s ≡ refusal_line (bad_file_refusal path.now (fault_of fault.now))) }
 {
     let told = file_fault(alloc, fault)?;
     format!(in alloc; "error handler 8 BadFile {path} {told}\n")
@@ -97,7 +111,7 @@ fn bad_file(alloc: Global, path: &str, fault: &FileFault) -> Result<String, Allo
 
 /// The fault of a file, with its place if it has one.
 fn file_fault(alloc: Global, fault: &FileFault) -> Result<String, AllocError>
-    ensures { IfOk result (λ s. string_bytes s ≡ file_fault_text fault.now) }
+    ensures { IfOk result (λ s. string_bytes s ≡ file_fault_text (fault_of fault.now)) }
 {
     match fault {
         FileFault::BadTerm(fault) => term_fault(alloc, *fault),

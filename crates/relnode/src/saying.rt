@@ -64,6 +64,7 @@ impl Saying {
         ensures { saying_of result ≡ said_alone word.now }
     {
         match word {
+            "boot" => Saying::Tells(Command::Boot),
             "releases" => Saying::Tells(Command::Releases),
             "quit" => Saying::Tells(Command::Quit),
             _ => Saying::Tells(Command::Bad),

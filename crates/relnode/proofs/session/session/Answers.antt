@@ -1,39 +1,75 @@
-use Rattle.std.proofs.Common.{◌≡◌, ◌∙◌, refl}
+use Rattle.std.proofs.Common.{◌≡◌, ◌∙◌, ◌≤◌, refl, string_bytes, arith}
 use Rattle.relnode.specs.declared.command.Command.{Command as CommandInMemory}
 use Rattle.relnode.specs.Commands.{command_of}
-use Rattle.relnode.proofs.Going.{started, goes_on, at_end, at_quit, at_cut, stopped_between, stopped_within, on_err, cut_told}
+use Rattle.relnode.specs.Input.{commands_left}
+use Rattle.relnode.proofs.Going.{starts, steps, ends, ends_cut, gives_up, gives_up_within, quits, cut_told}
 use Rattle.relnode.proofs.session.session.Goals as goal
 
-pub loop-node-init : goal.loop-node-init
-loop-node-init g c = (started g.R.Read.remaining c.args.input.now (g.W.Write.contents c.args.output.now.writer) _ c.requires c.new-node.ensures, refl, refl)
-
-pub loop-node-preserved : goal.loop-node-preserved
-loop-node-preserved g c = (
-  goes_on _ _ _ _ _ _ _ _ _ _ c.loop-node.invariant.0 (rw c.in-Some.is at c.in_ok-command.ensures.command)
-      (rw c.in-Some-2.is at c.in_ok-text.ensures.followed) (rw c.as_bytes.ensures.value at c.in_ok-write.ensures.written),
-  c.in_ok-command.ensures.cause ∙ c.loop-node.invariant.1,
-  c.in_ok-write.ensures.same ∙ c.loop-node.invariant.2,
+pub loop-command-init : goal.loop-command-init
+loop-command-init g c = (
+  starts g.D.Disk.seen g.D.Disk.failures c.args.disk g.R.Read.remaining c.args.input.now (g.W.Write.contents c.args.output.now.writer) c.new-node.result
+      c.requires c.new-node.ensures.place c.new-node.ensures.files,
+  rw c.new-node.ensures.place tt,
+  rw c.new-node.ensures.place (omega arith),
+  refl,
+  refl,
 )
 
-pub returns-in_err-command-clause-cut : goal.returns-in_err-command-clause-cut
-returns-in_err-command-clause-cut g c = λ is.
-    at_cut _ _ _ _ _ _ c.loop-node.invariant.0 (cut_told (λ (known : CommandInMemory) d. command_of known ≡ d) _ _ _ _ c.from_residual.ensures.1 is c.in_err-command.ensures.command)
+pub loop-command-preserved : goal.loop-command-preserved
+loop-command-preserved g c =
+    let counted = c.loop-command.invariant.2 in
+    let more = c.follow-next.ensures.counted in (
+      steps g.D.Disk.seen g.D.Disk.failures c.args.disk (g.R.Read.remaining c.args.input.now.reader) (commands_left g.R.Read.remaining c.loop-command.input)
+          (commands_left g.R.Read.remaining c.next_command.new.self) (g.W.Write.contents c.args.output.now.writer) (g.W.Write.contents c.loop-command.output.writer)
+          c.loop-command.node c.loop-command.invariant.0 counted (g.W.Write.contents c.write.new.self.writer) c.follow-next.result.0 (command_of c.in-Ok-Some.command)
+          (string_bytes c.in-Ok-Some-text.text) more (rw c.in-Ok-Some.field-0-is at c.in-Ok-Some.ensures.command)
+          (rw (c.in-Ok-Some-text.is, c.in-Ok-Some-text.field-0-is) at c.follow-next.ensures.followed) (rw c.as_bytes.ensures.value at c.in_default.ensures.written),
+      c.follow-next.ensures.sound,
+      (omega (arith, counted, more)),
+      c.in-Ok-Some.ensures.cause ∙ c.loop-command.invariant.3,
+      c.in_default.ensures.same ∙ c.loop-command.invariant.4,
+    )
 
-pub returns-in_err-command-clause-front : goal.returns-in_err-command-clause-front
-returns-in_err-command-clause-front g c = on_err _ (stopped_between _ _ _ _ _ c.loop-node.invariant.0)
+pub returns-in-Ok-None-clause-answered : goal.returns-in-Ok-None-clause-answered
+returns-in-Ok-None-clause-answered g c =
+    ends g.D.Disk.seen g.D.Disk.failures c.args.disk (g.R.Read.remaining c.args.input.now.reader) (commands_left g.R.Read.remaining c.loop-command.input)
+    (commands_left g.R.Read.remaining c.next_command.new.self) (g.W.Write.contents c.args.output.now.writer) (g.W.Write.contents c.loop-command.output.writer)
+    c.loop-command.node c.loop-command.invariant.0 c.loop-command.invariant.2 c.into_disk.result c.into_disk.ensures (rw c.in-Ok-None.field-0-is at c.in-Ok-None.ensures.command)
 
-pub returns-in_err-text-clause-front : goal.returns-in_err-text-clause-front
-returns-in_err-text-clause-front g c = on_err _ (stopped_between _ _ _ _ _ c.loop-node.invariant.0)
+pub returns-in-Err-clause-cut : goal.returns-in-Err-clause-cut
+returns-in-Err-clause-cut g c = λ is.
+    ends_cut g.D.Disk.seen g.D.Disk.failures c.args.disk (g.R.Read.remaining c.args.input.now.reader) (commands_left g.R.Read.remaining c.loop-command.input)
+    (commands_left g.R.Read.remaining c.next_command.new.self) (g.W.Write.contents c.args.output.now.writer) (g.W.Write.contents c.loop-command.output.writer)
+    c.loop-command.node c.loop-command.invariant.0 c.loop-command.invariant.2 c.into_disk-in-Err.result c.into_disk-in-Err.ensures
+    (cut_told (λ (known : CommandInMemory) d. command_of known ≡ d) c.in-Err.error (commands_left g.R.Read.remaining c.loop-command.input)
+    (commands_left g.R.Read.remaining c.next_command.new.self) is c.in-Err.ensures.command)
 
-pub returns-in_default-2-clause-answered : goal.returns-in_default-2-clause-answered
-returns-in_default-2-clause-answered g c =
-    at_quit _ _ _ _ _ _ _ c.loop-node.invariant.0 (rw c.in-Some.is at c.in_ok-command.ensures.command)
-    (rw c.in_default-2.is at c.in_ok-text.ensures.followed)
+pub returns-in-Err-clause-front : goal.returns-in-Err-clause-front
+returns-in-Err-clause-front g c =
+    gives_up g.D.Disk.seen g.D.Disk.failures c.args.disk (g.R.Read.remaining c.args.input.now.reader) (commands_left g.R.Read.remaining c.loop-command.input)
+    (commands_left g.R.Read.remaining c.next_command.new.self) (g.W.Write.contents c.args.output.now.writer) (g.W.Write.contents c.loop-command.output.writer)
+    c.loop-command.node c.loop-command.invariant.0 c.loop-command.invariant.2 c.loop-command.node c.into_disk-in-Err.result c.into_disk-in-Err.ensures (omega arith)
 
-pub returns-in_err-write-clause-front : goal.returns-in_err-write-clause-front
-returns-in_err-write-clause-front g c =
-    on_err _ (stopped_within _ _ _ _ _ _ _ _ _ _ c.loop-node.invariant.0 (rw c.in-Some.is at c.in_ok-command.ensures.command)
-    (rw c.in-Some-2.is at c.in_ok-text.ensures.followed) (rw c.as_bytes.ensures.value at c.in_err-write.ensures.front))
+pub returns-in-Err-write-clause-front : goal.returns-in-Err-write-clause-front
+returns-in-Err-write-clause-front g c =
+    gives_up_within g.D.Disk.seen g.D.Disk.failures c.args.disk (g.R.Read.remaining c.args.input.now.reader) (commands_left g.R.Read.remaining c.loop-command.input)
+    (commands_left g.R.Read.remaining c.next_command.new.self) (g.W.Write.contents c.args.output.now.writer) (g.W.Write.contents c.loop-command.output.writer)
+    c.loop-command.node c.loop-command.invariant.0 c.loop-command.invariant.2 (g.W.Write.contents c.write.new.self.writer) c.follow-next.result.0 c.into_disk-in-Err-write.result
+    (command_of c.in-Ok-Some.command) (string_bytes c.in-Ok-Some-text.text) c.into_disk-in-Err-write.ensures c.follow-next.ensures.counted
+    (rw c.in-Ok-Some.field-0-is at c.in-Ok-Some.ensures.command) (rw (c.in-Ok-Some-text.is, c.in-Ok-Some-text.field-0-is) at c.follow-next.ensures.followed)
+    (rw c.as_bytes.ensures.value at c.in-Err-write.ensures.front)
 
-pub returns-clause-answered : goal.returns-clause-answered
-returns-clause-answered g c = at_end _ _ _ _ _ _ c.loop-node.invariant.0 (rw c.in_default.is at c.in_ok-command.ensures.command)
+pub returns-in-Ok-None-text-clause-answered : goal.returns-in-Ok-None-text-clause-answered
+returns-in-Ok-None-text-clause-answered g c =
+    quits g.D.Disk.seen g.D.Disk.failures c.args.disk (g.R.Read.remaining c.args.input.now.reader) (commands_left g.R.Read.remaining c.loop-command.input)
+    (commands_left g.R.Read.remaining c.next_command.new.self) (g.W.Write.contents c.args.output.now.writer) (g.W.Write.contents c.loop-command.output.writer)
+    c.loop-command.node c.loop-command.invariant.0 c.loop-command.invariant.2 c.follow-next.result.0 c.into_disk-in-Ok-None-text.result (command_of c.in-Ok-Some.command)
+    c.into_disk-in-Ok-None-text.ensures c.follow-next.ensures.counted (rw c.in-Ok-Some.field-0-is at c.in-Ok-Some.ensures.command)
+    (rw (c.in-Ok-None-text.is, c.in-Ok-None-text.field-0-is) at c.follow-next.ensures.followed)
+
+pub returns-in-Err-text-clause-front : goal.returns-in-Err-text-clause-front
+returns-in-Err-text-clause-front g c =
+    gives_up g.D.Disk.seen g.D.Disk.failures c.args.disk (g.R.Read.remaining c.args.input.now.reader) (commands_left g.R.Read.remaining c.loop-command.input)
+    (commands_left g.R.Read.remaining c.next_command.new.self) (g.W.Write.contents c.args.output.now.writer) (g.W.Write.contents c.loop-command.output.writer)
+    c.loop-command.node c.loop-command.invariant.0 c.loop-command.invariant.2 c.follow-next.result.0 c.into_disk-in-Err-text.result c.into_disk-in-Err-text.ensures
+    c.follow-next.ensures.counted

@@ -1,15 +1,17 @@
-use Rattle.std.proofs.Common.{◌≡◌}
+use Rattle.std.proofs.Common.{◌≡◌, ◌≤◌}
 use Rattle.relnode.specs.Input.{left, commands_left}
-use Rattle.relnode.specs.Nodes.{node_of}
-use Rattle.relnode.proofs.Going.{IsGoing}
+use Rattle.relnode.specs.Nodes.{disk_of, IsSoundPlace}
+use Rattle.relnode.proofs.Going.{Goes}
 use Rattle.relnode.proofs.session.session.Given as goal
 
-abbrev pub invariant-loop-node : goal.invariant-loop-node
-invariant-loop-node g l =
-    IsGoing (g.R.Read.remaining l.initial.input.reader) (commands_left g.R.Read.remaining l.input)
-    (g.W.Write.contents l.initial.output.writer) (g.W.Write.contents l.output.writer) (node_of l.node)
+abbrev pub invariant-loop-command : goal.invariant-loop-command
+invariant-loop-command g l =
+    Goes g.D.Disk.seen g.D.Disk.failures l.fn.disk (g.R.Read.remaining l.initial.input.reader) (commands_left g.R.Read.remaining l.input)
+    (g.W.Write.contents l.initial.output.writer) (g.W.Write.contents l.output.writer) l.node
+    × IsSoundPlace g.D.Disk.seen g.D.Disk.may_leave l.node.place
+    × (g.D.Disk.failures l.fn.disk ≤ g.D.Disk.failures (disk_of l.node))
     × (l.input.failures ≡ l.initial.input.failures)
     × (l.output.failures ≡ l.initial.output.failures)
 
-abbrev pub decreases-loop-node : goal.decreases-loop-node
-decreases-loop-node g l = left l.input
+abbrev pub decreases-loop-command : goal.decreases-loop-command
+decreases-loop-command g l = left l.input

@@ -1,17 +1,12 @@
-use Rattle.std.proofs.Common.{rules, refl}
-use Rattle.std.specs.Prelude.{Ok, string_bytes}
 use Rattle.rel_files.specs.Release.{release_of}
-use Rattle.relnode.proofs.Handling.{created_first}
+use Rattle.relnode.proofs.Following.{creates, creates_none}
 use Rattle.relnode.proofs.node.Node.create.Goals as goal
 
-pub returns : goal.returns
-returns c = (
-  record { vsn = string_bytes c.in_ok-vsn.vsn; list = c.accept.new.self },
-  (
-    Ok (release_of c.in_ok-release.release),
-    c.in_ok-release.ensures.found,
-    created_first _ (release_of c.in_ok-release.release) c.new-list.result _ _ (search rules) c.new-list.ensures c.in_ok-accept.ensures.accepted (search rules),
-  ),
-  refl,
-  refl,
-)
+pub returns-in-Ok-clause-followed : goal.returns-in-Ok-clause-followed
+returns-in-Ok-clause-followed g c =
+    creates g.D.Disk.seen g.D.Disk.failures c.args.self c.make-place.result.0 c.make-place.result.1 c.args.path.now (release_of c.in-Ok.file.release) _
+    c.in-Ok.ensures.found c.make-place.ensures.made c.line_of.ensures.line
+
+pub returns-in-Err-clause-followed : goal.returns-in-Err-clause-followed
+returns-in-Err-clause-followed g c =
+    creates_none g.D.Disk.seen g.D.Disk.failures c.args.self c.in-Err.refusal c.args.path.now _ c.in-Err.ensures.refused c.line_of-in-Err.ensures.line
