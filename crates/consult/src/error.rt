@@ -1,0 +1,37 @@
+//! Why a text was not listed.
+ghost use Rattle.std.specs.Prelude.{◌≡◌};
+ghost use Rattle.consult.specs.declared.error.ConsultError.TheVariants.{Fault, Failed};
+
+use erl_term::TermFault;
+use std::io;
+use thiserror::Error;
+
+/// Why a text was not listed.
+#[derive(Clone, Copy, Debug, PartialEq, Eq, Error)]
+pub enum ConsultError {
+    /// It is no row of terms, or no memory was left.
+    #[error("{0}")]
+    Fault(TermFault),
+    /// A read or a write failed.
+    #[error("input or output failed")]
+    Failed,
+    /// It has more bytes than a text may have.
+    #[error("input too long")]
+    TooLong,
+}
+
+impl From<TermFault> for ConsultError {
+    ghost from_gives = { λ f e. e ≡ Fault f };
+
+    fn from(fault: TermFault) -> ConsultError {
+        ConsultError::Fault(fault)
+    }
+}
+
+impl From<io::Error> for ConsultError {
+    ghost from_gives = { λ _ e. e ≡ Failed };
+
+    fn from(_: io::Error) -> ConsultError {
+        ConsultError::Failed
+    }
+}

@@ -1,0 +1,48 @@
+//! A reader and a writer in memory.
+use crate::consult::consult;
+use crate::error::ConsultError;
+use erl_term::TermFault;
+use std::alloc::Global;
+use std::process::Abort;
+use std::test::Fail;
+
+/// The text is listed so.
+fn lists(rt: &impl Abort, alloc: Global, text: &str, want: &str) -> Result<(), Fail> {
+    let mut out = Vec::new(alloc);
+    let ended = consult(alloc, text.as_bytes(), &mut out);
+    assert_eq!(rt; ended, Ok(()));
+    assert_eq!(rt; out.as_slice(), want.as_bytes());
+    Ok(())
+}
+
+#[test]
+fn terms_one_a_line(rt: HostRuntime) -> Result<(), Fail> {
+    let alloc = rt.alloc();
+    lists(&rt, alloc, "", "")?;
+    lists(&rt, alloc, "a. {b , 1}.", "a.\n{b,1}.\n")?;
+    lists(&rt, alloc, "<<\"hi\">>. [].\n", "<<104,105>>.\n[].\n")
+}
+
+#[test]
+fn nothing_is_written_of_a_faulty_text(rt: HostRuntime) -> Result<(), Fail> {
+    let alloc = rt.alloc();
+    let mut out = Vec::new(alloc);
+    let ended = consult(alloc, b"a. b".as_slice(), &mut out);
+    assert_eq!(&rt; ended, Err(ConsultError::Fault(TermFault::MissingDot(4))));
+    assert_eq!(&rt; out.len(), 0);
+    Ok(())
+}
+
+#[test]
+fn longest_text(rt: HostRuntime) -> Result<(), Fail> {
+    let alloc = rt.alloc();
+    let mut blanks = vec![in alloc; b' '; 1_048_576]?;
+    let mut out = Vec::new(alloc);
+    assert_eq!(&rt; consult(alloc, blanks.as_slice(), &mut out), Ok(()));
+    blanks.push(b' ')?;
+    assert_eq!(&rt;
+        consult(alloc, blanks.as_slice(), &mut out),
+        Err(ConsultError::TooLong)
+    );
+    Ok(())
+}
