@@ -1,11 +1,11 @@
 -- Digits in a row, and the number that they spell.
-use Rattle.std.proofs.Common.{◌≡◌, ℕ, suc, ◌+◌, ◌*◌, ◌-◌, ◌<◌, ◌≤◌, ◌^◌, Bool, true, false, ◌&&◌, ◌||◌, not, if◌then◌else◌, nat_lt, eqb, List, [], ◌∷◌, length, drop, filter, min, Option, Some, None, slice_get, refl, sym, ◌∙◌, ap, arith}
+use Rattle.std.proofs.Common.{◌≡◌, ℕ, suc, ◌+◌, ◌*◌, ◌<◌, ◌≤◌, ◌^◌, Bool, true, false, ◌&&◌, not, if◌then◌else◌, nat_lt, eqb, List, [], ◌∷◌, length, drop, filter, Option, Some, None, slice_get, refl, sym, ◌∙◌, ap, arith}
 use Rattle.std.proofs.Math.Nat.{mul-le-mul_left}
 use Rattle.std.specs.Prelude.{is_some}
 use Rattle.std.specs.Char.{is_digit, digit_value}
-use Rattle.std.specs.Str.Parse.{digits_value_after, digits_value}
+use Rattle.std.specs.Str.Parse.{digits_value_after}
 use Rattle.std.proofs.lemmas.Bool.Decides.{nat_tests}
-use Rattle.erl_term.specs.Numbers.{begins, spelled_by}
+use Rattle.erl_term.specs.Numbers.{begins}
 use Rattle.erl_term.specs.Scanned.{byte_in, digit_in, digits_here, capped}
 use Rattle.erl_term.proofs.Runs.{drop_some, drop_none}
 

@@ -1,11 +1,11 @@
 -- What stands behind a backslash, byte by byte.
-use Rattle.std.proofs.Common.{◌≡◌, ℕ, suc, ◌+◌, ◌*◌, ◌-◌, ◌<◌, ◌≤◌, ◌^◌, ◌%◌, Bool, true, false, ◌&&◌, ◌||◌, not, if◌then◌else◌, nat_lt, nat_le, eqb, List, [], ◌∷◌, length, drop, get_or, Option, Some, None, slice_get, refl, sym, ◌∙◌, ap, arith}
+use Rattle.std.proofs.Common.{◌≡◌, ℕ, ◌+◌, ◌*◌, ◌-◌, ◌<◌, ◌≤◌, ◌^◌, ◌%◌, Bool, true, false, ◌&&◌, ◌||◌, if◌then◌else◌, nat_lt, nat_le, eqb, List, [], ◌∷◌, length, drop, get_or, Option, Some, None, slice_get, refl, sym, ◌∙◌, ap, arith}
 use Rattle.std.specs.Char.{is_digit, digit_value}
 use Rattle.std.specs.Str.Parse.{digits_value}
 use Rattle.std.proofs.lemmas.List.{drop-drop}
 use Rattle.std.proofs.lemmas.Bool.Decides.{nat_tests}
 use Rattle.std.proofs.lemmas.Option.{get_or_from_slice_get}
-use Rattle.erl_term.specs.Escapes.{Character, front, is_in, with_next, scalar, octal, braced, paired, hexadecimal, caret, named, by_name, itself, escape}
+use Rattle.erl_term.specs.Escapes.{Character, front, is_in, with_next, scalar, octal, braced, paired, hexadecimal, caret, named, by_name, escape}
 use Rattle.erl_term.specs.Escapes.Character.{means, senseless, unfinished}
 use Rattle.erl_term.specs.Numbers.{spelled_by}
 use Rattle.erl_term.specs.Scanned.{byte_in, digit_in, digits_here, capped}

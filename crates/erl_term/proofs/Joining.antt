@@ -1,12 +1,12 @@
 -- Texts in a row as one.
-use Rattle.std.proofs.Common.{◌≡◌, ◌≢◌, ℕ, ℤ, ◌+◌, ◌-◌, ◌<◌, pos, Bool, true, false, eqb, if◌then◌else◌, nat_lt, nat_le, List, [], ◌∷◌, ◌++◌, length, drop, slice_get, Option, Some, None, refl, sym, ◌∙◌, ap, subst, append_assoc, arith}
+use Rattle.std.proofs.Common.{◌≡◌, ◌≢◌, ℕ, ℤ, ◌+◌, ◌-◌, ◌<◌, pos, Bool, true, false, eqb, if◌then◌else◌, nat_le, List, [], ◌∷◌, ◌++◌, length, drop, slice_get, Some, None, refl, sym, ◌∙◌, ap, subst, append_assoc, arith}
 use Rattle.std.proofs.lemmas.Bool.Decides.{nat_tests}
 use Rattle.std.specs.Str.{bytes_eq, chars}
-use Rattle.std.specs.Prelude.{codes, ◌^◌}
+use Rattle.std.specs.Prelude.{codes}
 use Rattle.erl_term.specs.declared.fault.TermFault.{TermFault}
 use Rattle.erl_term.specs.declared.fault.TermFault.TheVariants.{BadToken, BadNumber, Unsupported}
 use Rattle.erl_term.specs.declared.class.Class.{Class}
-use Rattle.erl_term.specs.declared.class.Class.TheVariants.{Blank, Percent, Comma, Dot, OpenTuple, CloseTuple, OpenList, CloseList, Less, Greater, Quote, Apostrophe, Dollar, Sign, Letter, Digit, Other}
+use Rattle.erl_term.specs.declared.class.Class.TheVariants.{Blank, Percent, Dot, Less, Greater, Quote, Apostrophe, Dollar, Sign, Letter, Digit}
 use Rattle.erl_term.specs.Numbers.{Numeral, numeral}
 use Rattle.erl_term.specs.Numbers.Numeral.{whole, faulty as faulty_number, cut_off}
 use Rattle.erl_term.specs.Quotes.{Quoted, quoted}
@@ -19,8 +19,8 @@ use Rattle.erl_term.specs.declared.content.Content.{Content}
 use Rattle.erl_term.specs.declared.token.Item.{Item as CodeItem}
 use Rattle.erl_term.specs.Views.{token_value, item_value, IsSpelled, lexed, items_from}
 use Rattle.erl_term.proofs.Lexemes.{takes_spelling, takes_item, begins_token, no_item}
-use Rattle.erl_term.specs.Lexing.{Token, Item, Spelling, alone, some_name, some_number, some_text, text_in_quotes, class_of, is_name_byte, named, bare, name_in_quotes, is_int, numbered, sign_of, doubled, ends_a_term, spelling, start_of, goes_on, lex, joined, in_front, put_item, join}
-use Rattle.erl_term.specs.Lexing.Token.{open_tuple, close_tuple, open_list, close_list, open_binary, close_binary, comma, dot, name, number, text, stray, broken, cut}
+use Rattle.erl_term.specs.Lexing.{Token, Item, alone, some_name, some_number, some_text, text_in_quotes, class_of, is_name_byte, named, bare, name_in_quotes, is_int, numbered, sign_of, doubled, ends_a_term, spelling, joined, in_front, put_item, join}
+use Rattle.erl_term.specs.Lexing.Token.{open_binary, close_binary, dot, name, number, text, stray, broken}
 
 -- a text, whole or faulty
 abbrev pub begins_text : Token → Bool

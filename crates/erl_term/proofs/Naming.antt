@@ -1,17 +1,24 @@
 -- Names as they are spelled.
-use Rattle.std.proofs.Common.{◌≡◌, ℕ, ◌+◌, ◌-◌, ◌<◌, ◌≤◌, Bool, true, false, nat_le, List, length, refl, sym, ap, ◌∙◌, arith}
+use Rattle.std.proofs.Common.{◌≡◌, ℕ, ◌+◌, ◌-◌, ◌<◌, ◌≤◌, true, false, nat_le, nat_lt, List, length, refl, sym, ap, subst, ◌∙◌, arith}
 use Rattle.std.proofs.lemmas.Bool.Decides.{nat_tests}
-use Rattle.std.specs.Str.{bytes_eq, chars}
+use Rattle.std.proofs.lemmas.Str.{encodes-chars, length-le-encodes}
+use Rattle.std.specs.Str.{bytes_eq, chars, IsUtf8}
 use Rattle.std.specs.Prelude.{codes}
 use Rattle.erl_term.specs.declared.fault.TermFault.TheVariants.{BadToken, Unsupported}
 use Rattle.erl_term.specs.Lexing.{named, bare, some_name}
 use Rattle.erl_term.specs.Lexing.Token.{name, broken}
 use Rattle.erl_term.proofs.Parts.{item, spelled_item}
 
-pub named_long : (from to : ℕ) (s : List ℕ) → 255 < length (chars s) → item (broken some_name (BadToken from)) from (from + 1) ≡ spelled_item (named from s (to - from)) from
+-- Few bytes are few characters.
+pub few_bytes : (s : List ℕ) → IsUtf8 s → length s ≤ 255 → nat_lt 255 (length s) ≡ nat_lt 255 (length (chars s))
+few_bytes s utf8 few =
+    let fewer : length (chars s) ≤ length s = subst (λ (bs : List ℕ). length (chars s) ≤ length bs) (encodes-chars s utf8) (length-le-encodes (chars s)) in
+    grind (arith, nat_tests)
+
+pub named_long : (from to : ℕ) (s : List ℕ) → nat_lt 255 (length (chars s)) ≡ true → item (broken some_name (BadToken from)) from (from + 1) ≡ spelled_item (named from s (to - from)) from
 named_long from to s long = let fits : nat_le (length (chars s)) 255 ≡ false = grind (arith, nat_tests) in rw fits refl
 
-pub named_short : (from to : ℕ) (s : List ℕ) → length (chars s) ≤ 255 → from < to → item (name s) from to ≡ spelled_item (named from s (to - from)) from
+pub named_short : (from to : ℕ) (s : List ℕ) → nat_lt 255 (length (chars s)) ≡ false → from < to → item (name s) from to ≡ spelled_item (named from s (to - from)) from
 named_short from to s short some =
     let fits : nat_le (length (chars s)) 255 ≡ true = grind (arith, nat_tests) in
     let place : to ≡ from + (to - from) = omega arith in

@@ -1,15 +1,15 @@
 -- Numbers without their sign, byte by byte.
-use Rattle.std.proofs.Common.{◌≡◌, ℕ, suc, ◌+◌, ◌*◌, ◌-◌, ◌<◌, ◌≤◌, ◌^◌, Bool, true, false, ◌&&◌, ◌||◌, not, if◌then◌else◌, nat_lt, nat_le, eqb, List, [], ◌∷◌, length, drop, get_or, Option, Some, None, slice_get, refl, sym, ◌∙◌, ap, arith}
-use Rattle.std.specs.Char.{is_digit, digit_value}
+use Rattle.std.proofs.Common.{◌≡◌, ℕ, suc, ◌+◌, ◌-◌, ◌<◌, ◌≤◌, ◌^◌, Bool, true, false, ◌&&◌, ◌||◌, if◌then◌else◌, nat_lt, nat_le, eqb, List, [], ◌∷◌, length, drop, get_or, Option, Some, None, slice_get, refl, sym, ◌∙◌, ap, arith}
+use Rattle.std.specs.Char.{is_digit}
 use Rattle.std.specs.Str.{bytes_eq}
 use Rattle.std.proofs.lemmas.List.{drop-drop}
 use Rattle.std.proofs.lemmas.Bool.Decides.{nat_tests}
 use Rattle.std.proofs.lemmas.Option.{get_or_from_slice_get}
 use Rattle.erl_term.specs.declared.fault.TermFault.TheVariants.{BadToken, BadNumber, Unsupported}
 use Rattle.erl_term.specs.declared.run.Run.TheVariants.{InDigits, InText}
-use Rattle.erl_term.specs.Escapes.{Character, front, is_in, itself, escape}
+use Rattle.erl_term.specs.Escapes.{front, is_in, itself, escape}
 use Rattle.erl_term.specs.Escapes.Character.{means, senseless, unfinished}
-use Rattle.erl_term.specs.Numbers.{Numeral, begins, more_digits, digit_row, spelled_by, goes_on_as_float, unless_float, is_alphanumeric, in_base, behind_base, behind_digits, digits_numeral, ended, character_number, character_numeral, numeral}
+use Rattle.erl_term.specs.Numbers.{begins, more_digits, digit_row, spelled_by, goes_on_as_float, unless_float, is_alphanumeric, in_base, behind_base, behind_digits, digits_numeral, ended, character_number, character_numeral, numeral}
 use Rattle.erl_term.specs.Numbers.Numeral.{whole, faulty, cut_off}
 use Rattle.erl_term.specs.Views.{goes_on_with}
 use Rattle.erl_term.specs.Scanned.{digits_here, capped, capped_numeral}

@@ -21,7 +21,7 @@ use Rattle.erl_term.specs.Value.Values.{no_values, value}
 use Rattle.erl_term.specs.Grammar.{Reading, numbers}
 use Rattle.erl_term.specs.Lexing.{Item, some_name, some_number, some_text}
 use Rattle.erl_term.specs.Lexing.Token.{open_binary, close_binary}
-use Rattle.erl_term.specs.Machine.{State, Progress, kind_of, is_binary, begins_term, open_levels, put, empty, close, comes, step, at_kind, bytes_of}
+use Rattle.erl_term.specs.Machine.{State, Progress, kind_of, is_binary, begins_term, open_levels, empty, close, comes, step, at_kind, bytes_of}
 use Rattle.erl_term.specs.Machine.State.{begun, whole, inside}
 use Rattle.erl_term.specs.Machine.Kind.{leaf, opening}
 use Rattle.erl_term.specs.Views.{all_levels, token_value, level_of}
@@ -95,11 +95,6 @@ begins_free (whole r) h = absurd (cc)
 begins_free (inside First l ls) h = (refl, not-true (is_binary (l ∷ ls)) h)
 begins_free (inside Next l ls) h = (refl, not-true (is_binary (l ∷ ls)) h)
 begins_free (inside Later l ls) h = absurd (cc)
-
--- a term that is one token, where a term may begin
-pub leaf_steps : (limit : ℕ) (p : Progress) (i : Item) (v : Value) (segment : Option (List ℕ)) → begins_term p.state ≡ true → kind_of i.token ≡ leaf v segment
-    → step limit p i ≡ Ok (record p { state = put (record { term = v; from = i.from; to = i.to }) [] (all_levels p.state) })
-leaf_steps limit p i v segment h k = let (free, square) = begins_free p.state h in rw (k, free, square) refl
 
 -- a bracket, where a term may begin
 pub opening_steps : (limit : ℕ) (p : Progress) (i : Item) (b : Bracket) → begins_term p.state ≡ true → kind_of i.token ≡ opening b → nat_lt (length (all_levels p.state)) limit ≡ true

@@ -1,17 +1,15 @@
 -- Names, numbers and texts as parts of the bytes that are UTF-8.
-use Rattle.std.proofs.Common.{◌≡◌, ◌≢◌, ℕ, ℤ, pos, suc, ◌+◌, ◌-◌, ◌<◌, ◌≤◌, ◌^◌, Bool, true, false, ◌||◌, eqb, if◌then◌else◌, nat_lt, nat_le, List, [], ◌∷◌, ◌++◌, length, take, drop, get_or, slice_get, Some, None, refl, sym, ◌∙◌, ap, subst, arith, append-nil, add-zero}
-use Rattle.std.proofs.lemmas.List.{drop_more, drop-drop, drop-append-le, length-drop, length-append, get_or-drop, get_or-take, get_or_append_left, get_or-append_right}
+use Rattle.std.proofs.Common.{◌≡◌, ◌≢◌, ℕ, suc, ◌+◌, ◌-◌, ◌<◌, ◌≤◌, Bool, true, false, eqb, if◌then◌else◌, nat_lt, List, [], ◌∷◌, ◌++◌, length, take, drop, get_or, slice_get, Some, None, refl, sym, ◌∙◌, ap, subst, arith, append-nil}
+use Rattle.std.proofs.lemmas.List.{drop_more, drop-append-le, length-drop, length-append, get_or-drop, get_or_append_left, get_or-append_right}
 use Rattle.std.proofs.lemmas.Bool.Decides.{nat_tests}
 use Rattle.std.proofs.lemmas.Str.{IsCharBoundary-before_ascii, IsCharBoundary-after_ascii}
-use Rattle.std.proofs.lemmas.Option.{slice_get_within, get_or_from_slice_get}
 use Rattle.std.specs.Str.{IsUtf8, IsCharBoundary}
 use Rattle.std.specs.Prelude.{slice_range}
 use Rattle.erl_term.specs.declared.class.Class.TheVariants.{Letter}
 use Rattle.erl_term.specs.declared.run.Run.{Run}
 use Rattle.erl_term.specs.declared.run.Run.TheVariants.{InName, InQuotes, InComment, InDigits, InBlanks, InText}
-use Rattle.erl_term.specs.declared.fault.TermFault.TheVariants.{BadToken, BadNumber, Unclosed}
-use Rattle.erl_term.specs.Lexing.{class_of, is_name_byte, alone, doubled, some_name, some_number, Spelling, Token, Item}
-use Rattle.erl_term.specs.Lexing.Token.{name, number, text, broken, cut, stray}
+use Rattle.erl_term.specs.Lexing.{class_of, is_name_byte, alone, doubled, Spelling, Token, Item}
+use Rattle.erl_term.specs.Lexing.Token.{cut, stray}
 use Rattle.erl_term.specs.Views.{seal, front, goes_on_with}
 use Rattle.erl_term.proofs.Runs.{drop_some, drop_none, front-take, front_le, front_passes}
 

@@ -1,5 +1,5 @@
 -- What private contracts read of the crate's own types.
-use Rattle.std.specs.Prelude.{◌≡◌, ℕ, ◌+◌, ◌<◌, ◌^◌, Bool, true, false, ◌||◌, not, List, [], ◌∷◌, ◌++◌, map, drop, reverse, nat_lt, nat_le, ◌==◌, if◌then◌else◌, Option, Some, None, Result, Ok, Err, Vec}
+use Rattle.std.specs.Prelude.{◌≡◌, ℕ, ◌+◌, ◌<◌, Bool, true, false, ◌||◌, not, List, [], ◌∷◌, ◌++◌, map, drop, reverse, nat_lt, nat_le, ◌==◌, Option, Some, None, Result, Ok, Err, Vec}
 use Rattle.std.specs.declared.alloc.Global.{Global}
 use Rattle.erl_term.specs.declared.text.Text.{Text}
 use Rattle.erl_term.specs.declared.token.Token.{Token as CodeToken}
@@ -28,7 +28,7 @@ use Rattle.erl_term.specs.Grammar.{Reading}
 use Rattle.erl_term.specs.Machine.{Level, Members, State, Progress, bytes_of}
 use Rattle.erl_term.specs.Machine.Members.{in_tuple, in_list, in_binary}
 use Rattle.erl_term.specs.Machine.State.{begun, whole, inside}
-use Rattle.erl_term.specs.Lexing.{Token, Item, Spelling, is_name_byte, some_name, some_number, some_text, lex, put_item, join}
+use Rattle.erl_term.specs.Lexing.{Token, Item, Spelling, is_name_byte, some_name, some_number, some_text, lex, join}
 use Rattle.erl_term.specs.Lexing.Token.{open_tuple, close_tuple, open_list, close_list, open_binary, close_binary, comma, dot, name, number, text, stray, broken, cut}
 
 -- behind bytes that are UTF-8: a number that is no byte, if more follow
@@ -72,6 +72,12 @@ token_value (Quoted c) = text (content_bytes c)
 token_value (Stray x) = stray x
 token_value (Broken like f) = broken (like_value like) f
 token_value (Cut like) = cut (like_value like)
+
+-- the text of a name or a text, and of any other token none
+abbrev pub token_text : CodeToken → List ℕ
+token_text (Name c) = content_bytes c
+token_text (Quoted c) = content_bytes c
+token_text t = []
 
 abbrev pub item_value : CodeItem → Item
 item_value i = record { token = token_value i.token; from = i.from; to = i.to }

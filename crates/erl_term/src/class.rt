@@ -27,6 +27,7 @@ impl Class {
     ghost use Rattle.erl_term.specs.Lexing.{class_of};
 
     /// The class of a byte.
+    #[inline(always)]
     pub fn of(byte: u16) -> Class
         ensures { result ≡ class_of byte }
     {

@@ -46,7 +46,7 @@ impl<'a> Content<'a> {
     }
 
     /// As a text of its own.
-    fn into_string(self, alloc: Global) -> Result<String, AllocError>
+    pub fn into_string(self, alloc: Global) -> Result<String, AllocError>
         ensures { IfOk result (λ s. string_bytes s ≡ content_bytes self.entry) }
     {
         match self {

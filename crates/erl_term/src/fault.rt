@@ -8,16 +8,17 @@ use thiserror::Error;
 /// The first fault of a text. A place counts bytes from 0.
 #[derive(Clone, Copy, Debug, PartialEq, Eq, Error)]
 pub enum TermFault {
-    /// A byte or a token that can't stand there.
+    /// A byte or a token that can't stand there, or a token that the end cuts off where no bracket is open.
     #[error("BadToken {0}")]
     BadToken(usize),
-    /// A number outside 64 bits signed, told where it begins.
+    /// A number outside 64 bits signed, of a base outside 2 to 36, or with a digit outside its base; or a segment of a binary
+    /// that is no byte or has a character that is none. It is told where it begins.
     #[error("BadNumber {0}")]
     BadNumber(usize),
     /// The innermost bracket or quote that is open at the end.
     #[error("Unclosed {0}")]
     Unclosed(usize),
-    /// What stands in the place of a whole term's dot, or the length of the text.
+    /// A whole term has no dot behind it: the place of what stands there instead, or of the text's end.
     #[error("MissingDot {0}")]
     MissingDot(usize),
     /// A form of Erlang that isn't read.

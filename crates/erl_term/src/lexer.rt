@@ -1,6 +1,6 @@
 //! Bytes into tokens.
-ghost use Rattle.std.specs.Prelude.{◌≡◌, ◌≢◌, ℕ, pos, ◌+◌, ◌-◌, ◌<◌, ◌≤◌, ◌^◌, length, drop, slice_index, slice_get, Some, IfSome, IfOk};
-ghost use Rattle.std.specs.Str.{IsUtf8};
+ghost use Rattle.std.specs.Prelude.{◌≡◌, ◌≢◌, ℕ, pos, ◌+◌, ◌-◌, ◌<◌, ◌≤◌, ◌^◌, length, drop, slice_index, slice_get, nat_lt, Some, IfSome, IfOk};
+ghost use Rattle.std.specs.Str.{IsUtf8, chars};
 ghost use Rattle.erl_term.specs.Lexing.{class_of, spelling, is_name_byte, alone as alone_spelling, doubled as doubled_spelling, bare, named as named_spelling, name_in_quotes, text_in_quotes, numbered as numbered_spelling, signed as signed_spelling, put_item, ends_a_term};
 ghost use Rattle.erl_term.specs.Lexing.Token.{text as text_token};
 ghost use Rattle.erl_term.specs.Numbers.{Numeral as NumeralSpelling, numeral as numeral_spelling};
@@ -43,6 +43,7 @@ pub fn next_item<'a>(
 }
 
 /// The first place from this one on where no blank and no comment stands.
+#[inline(always)]
 fn gap_end(text: Text<'_>, from: usize) -> usize
     ensures same { lexed (text_bytes text.entry) from ≡ lexed (text_bytes text.entry) result }
     ensures onward { from ≤ result }
@@ -220,7 +221,7 @@ fn named(name: Content<'_>, from: usize, to: usize) -> Item<'_>
     requires room { from < 2 ^ 63 }
     ensures { IsSpelled (named_spelling from (content_bytes name.entry) (to - from)) from result }
 {
-    if name.as_str().chars().count() > LONGEST_NAME {
+    if is_too_long(name.as_str()) {
         alone(Token::Broken(Like::Name, TermFault::BadToken(from)), from)
     } else {
         Item {
@@ -229,6 +230,13 @@ fn named(name: Content<'_>, from: usize, to: usize) -> Item<'_>
             to,
         }
     }
+}
+
+/// A name has more characters than it may have. Where its bytes aren't more, they aren't counted.
+fn is_too_long(name: &str) -> bool
+    ensures { result ≡ nat_lt 255 (length (chars name.now)) }
+{
+    name.len() > LONGEST_NAME && name.chars().count() > LONGEST_NAME
 }
 
 /// A name between quotes.

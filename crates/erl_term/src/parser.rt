@@ -78,28 +78,30 @@ impl Parser {
     }
 
     /// Takes one more token. After an `Err` the parser is of no use.
-    pub fn take(&mut self, alloc: Global, item: &Item<'_>) -> Result<(), TermFault>
-        ensures step { Gives result (progress_of self.new) (step self.old.limit (progress_of self.old) (item_value item.now)) }
+    pub fn take(&mut self, alloc: Global, item: Item<'_>) -> Result<(), TermFault>
+        ensures step { Gives result (progress_of self.new) (step self.old.limit (progress_of self.old) (item_value item.entry)) }
         ensures limit { self.new.limit ≡ self.old.limit }
     {
         match &item.token {
-            Token::Open(bracket) => self.open(alloc, *bracket, item),
-            Token::Close(bracket) => self.close(*bracket, item),
-            Token::Comma => self.separate(item),
-            Token::Dot => self.end(item),
-            Token::Name(name) => {
-                self.expect_term(item)?;
-                self.put(item.spans(Term::Atom(String::from_str(alloc, name.as_str())?)))
+            Token::Open(bracket) => self.open(alloc, *bracket, &item),
+            Token::Close(bracket) => self.close(*bracket, &item),
+            Token::Comma => self.separate(&item),
+            Token::Dot => self.end(&item),
+            Token::Name(_) => {
+                self.expect_term(&item)?;
+                let Item { token, from, to } = item;
+                let term = Term::Atom(token.into_text(alloc)?);
+                self.put(Spanned { term, from, to })
             }
-            Token::Number(n) => self.put_number(*n, item),
-            Token::Text(text) => self.put_text(alloc, text.as_str(), item),
-            Token::Stray(_) => Err(self.misplaced(item)),
+            Token::Number(n) => self.put_number(*n, &item),
+            Token::Text(text) => self.put_text(alloc, text.as_str(), &item),
+            Token::Stray(_) => Err(self.misplaced(&item)),
             Token::Broken(like, fault) => {
-                self.expect(*like, item)?;
+                self.expect(*like, &item)?;
                 Err(*fault)
             }
             Token::Cut(like) => {
-                self.expect(*like, item)?;
+                self.expect(*like, &item)?;
                 Err(self.cut_off(item.from))
             }
         }
@@ -275,7 +277,6 @@ impl Parser {
     }
 
     /// Opens a bracket.
-    #[tactic(auto, using(crate::proofs::Parsing::opening_steps))]
     fn open(&mut self, alloc: Global, bracket: Bracket, item: &Item<'_>) -> Result<(), TermFault>
         requires { item.now.token ≡ Open bracket }
         ensures step { Gives result (progress_of self.new) (step self.old.limit (progress_of self.old) (item_value item.now)) }
@@ -289,17 +290,16 @@ impl Parser {
             from: item.from,
             members: Members::none(alloc, bracket),
         };
-        match mem::replace(&mut self.state, State::Begun) {
-            State::Inside(_, around, mut outer) => {
-                outer.push(around)?;
-                self.state = State::Inside(Slot::First, level, outer);
-                Ok(())
+        match &mut self.state {
+            State::Inside(slot, innermost, outer) => {
+                outer.push(mem::replace(innermost, level))?;
+                *slot = Slot::First;
             }
             State::Begun | State::Whole(_) => {
                 self.state = State::Inside(Slot::First, level, Vec::new(alloc));
-                Ok(())
             }
         }
+        Ok(())
     }
 
     /// How many brackets are open.
@@ -417,7 +417,13 @@ impl Members {
         ensures { OnOk result (members_are self.new ≡ with_member (value_of term) [] (members_are self.old)) }
     {
         match self {
-            Members::Tuple(members) => Ok(members.push(term)?),
+            Members::Tuple(members) => {
+                if members.is_empty() {
+                    // Most tuples are pairs.
+                    members.reserve_exact(2)?;
+                }
+                Ok(members.push(term)?)
+            }
             Members::List(members) => Ok(members.push(term)?),
             Members::Binary(_) => Ok(()),
         }
@@ -467,11 +473,11 @@ fn no_segment(item: &Item<'_>) -> TermFault
     }
 }
 
-/// A text's characters.
+/// A text's characters. It has at most as many as bytes.
 fn characters(alloc: Global, text: &str) -> Result<Vec<Term>, AllocError>
     ensures { IfOk result (λ v. values_of (map value_of v.items) ≡ numbers (chars text.now)) }
 {
-    let mut members = Vec::new(alloc);
+    let mut members = Vec::with_capacity(alloc, text.len())?;
     for character in text.chars() {
         members.push(Term::Int(i64::from(u32::from(character))))?;
     }

@@ -32,8 +32,8 @@ pub fn read(alloc: Global, bytes: &[u8], limit: usize) -> Result<Vec<Spanned>, T
     let mut parser = Parser::new(alloc, limit);
     let mut at = 0;
     while let Some(item) = next_item(alloc, text, at)? {
-        parser.take(alloc, &item)?;
         at = item.to;
+        parser.take(alloc, item)?;
     }
     parser.finish(bytes.len())
 }

@@ -1,6 +1,7 @@
 //! Bytes in a row.
 ghost use Rattle.std.specs.Prelude.{◌≡◌, ◌+◌, ◌≤◌, ◌^◌, length, drop};
 ghost use Rattle.std.specs.Str.{IsUtf8};
+ghost use Rattle.erl_term.specs.Escapes.{is_in};
 ghost use Rattle.erl_term.specs.Views.{text_bytes, front, goes_on_with};
 
 use crate::text::Text;
@@ -25,7 +26,7 @@ impl Run {
         ensures { result ≡ goes_on_with self byte }
     {
         match self {
-            Run::InName => matches!(byte, 97..=122 | 65..=90 | 48..=57 | 95 | 64),
+            Run::InName => is_small_letter(byte) || matches!(byte, 65..=90 | 48..=57 | 95 | 64),
             Run::InQuotes(quote) => !(byte == quote || byte == 92 || byte > 255),
             Run::InComment => !(byte == 10 || byte > 255),
             Run::InDigits => matches!(byte, 48..=57 | 65..=90 | 97..=122 | 95),
@@ -33,6 +34,13 @@ impl Run {
             Run::InText => byte <= 255,
         }
     }
+}
+
+/// A small letter of ASCII, as most bytes of names are.
+fn is_small_letter(byte: u16) -> bool
+    ensures { result ≡ is_in 97 122 byte }
+{
+    97 <= byte && byte <= 122
 }
 
 /// Where the run from this place on ends.

@@ -1,9 +1,10 @@
 //! The tokens of a text.
-ghost use Rattle.std.specs.Prelude.{◌≡◌};
+ghost use Rattle.std.specs.Prelude.{◌≡◌, IfOk, string_bytes};
 
 use crate::content::Content;
 use crate::fault::TermFault;
 use crate::term::{Spanned, Term};
+use std::alloc::{AllocError, Global};
 
 /// A pair of brackets.
 #[derive(Clone, Copy, Debug, PartialEq, Eq)]
@@ -40,6 +41,20 @@ pub enum Token<'a> {
     Broken(Like, TermFault),
     /// It begins as another token does, and the end of the text cuts it off.
     Cut(Like),
+}
+
+impl Token<'_> {
+    ghost use Rattle.erl_term.specs.Views.{token_text};
+
+    /// The text of a name or a text, as one of its own. No other token has one.
+    pub fn into_text(self, alloc: Global) -> Result<String, AllocError>
+        ensures { IfOk result (λ s. string_bytes s ≡ token_text self.entry) }
+    {
+        match self {
+            Token::Name(content) | Token::Text(content) => content.into_string(alloc),
+            _ => Ok(String::new(alloc)),
+        }
+    }
 }
 
 /// A token, from its first byte to behind its last.

@@ -52,42 +52,43 @@ fn is_name_byte(byte: u8) -> bool
     matches!(byte, b'a'..=b'z' | b'A'..=b'Z' | b'0'..=b'9' | b'_' | b'@')
 }
 
-// Whether a name is a word that is no atom without quotes.
+// Whether a name is a word that is no atom without quotes. None has more bytes than `receive`.
 fn is_reserved(name: &str) -> bool
     ensures { result ≡ list_any (bytes_eq name.now) reserved_words }
 {
-    matches!(
-        name,
-        "after"
-            | "and"
-            | "andalso"
-            | "band"
-            | "begin"
-            | "bnot"
-            | "bor"
-            | "bsl"
-            | "bsr"
-            | "bxor"
-            | "case"
-            | "catch"
-            | "cond"
-            | "div"
-            | "else"
-            | "end"
-            | "fun"
-            | "if"
-            | "let"
-            | "maybe"
-            | "not"
-            | "of"
-            | "or"
-            | "orelse"
-            | "receive"
-            | "rem"
-            | "try"
-            | "when"
-            | "xor"
-    )
+    name.len() <= 7
+        && matches!(
+            name,
+            "after"
+                | "and"
+                | "andalso"
+                | "band"
+                | "begin"
+                | "bnot"
+                | "bor"
+                | "bsl"
+                | "bsr"
+                | "bxor"
+                | "case"
+                | "catch"
+                | "cond"
+                | "div"
+                | "else"
+                | "end"
+                | "fun"
+                | "if"
+                | "let"
+                | "maybe"
+                | "not"
+                | "of"
+                | "or"
+                | "orelse"
+                | "receive"
+                | "rem"
+                | "try"
+                | "when"
+                | "xor"
+        )
 }
 
 // Appends a character of an atom, within the quotes.

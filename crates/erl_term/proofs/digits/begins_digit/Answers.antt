@@ -1,4 +1,4 @@
-use Rattle.std.proofs.Common.{sym, rules}
+use Rattle.std.proofs.Common.{rules}
 use Rattle.erl_term.specs.Views.{text_bytes}
 use Rattle.erl_term.proofs.DigitRows.{begins-digit}
 use Rattle.erl_term.proofs.digits.begins_digit.Goals as goal

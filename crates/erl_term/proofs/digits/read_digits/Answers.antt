@@ -1,5 +1,5 @@
-use Rattle.std.proofs.Common.{◌≡◌, ◌+◌, ◌≤◌, ◌<◌, ◌^◌, ◌&&◌, true, false, ◌∷◌, Some, length, drop, slice_get, eqb, sym, arith, rules}
-use Rattle.std.specs.Char.{digit_value, is_digit}
+use Rattle.std.proofs.Common.{◌≡◌, ◌+◌, ◌&&◌, true, false, length, drop, slice_get, eqb, sym, arith, rules}
+use Rattle.std.specs.Char.{is_digit}
 use Rattle.erl_term.specs.Views.{text_bytes}
 use Rattle.erl_term.specs.Scanned.{digits_here, capped}
 use Rattle.erl_term.specs.Numbers.{spelled_by, begins}

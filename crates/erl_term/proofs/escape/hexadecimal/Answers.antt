@@ -1,4 +1,4 @@
-use Rattle.std.proofs.Common.{◌∙◌, sym, arith, rules}
+use Rattle.std.proofs.Common.{◌∙◌, sym, rules}
 use Rattle.erl_term.specs.Views.{text_bytes}
 use Rattle.erl_term.proofs.Escaping.{hexadecimal_end, hexadecimal_brace, hexadecimal_pair, hexadecimal_other}
 use Rattle.erl_term.proofs.escape.hexadecimal.Goals as goal

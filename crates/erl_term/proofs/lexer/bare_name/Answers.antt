@@ -1,7 +1,6 @@
-use Rattle.std.proofs.Common.{◌≡◌, sym, ◌∙◌, true, false, rules}
+use Rattle.std.proofs.Common.{◌≡◌, sym, ◌∙◌, true, false}
 use Rattle.std.specs.Prelude.{codes}
 use Rattle.std.specs.Str.{bytes_eq}
-use Rattle.erl_term.specs.Views.{text_bytes}
 use Rattle.erl_term.proofs.Parts.{name_run, name_ends, name_part, name_size}
 use Rattle.erl_term.proofs.Naming.{bare_fun, bare_named}
 use Rattle.erl_term.proofs.lexer.bare_name.Goals as goal

@@ -1,9 +1,9 @@
-use Rattle.std.proofs.Common.{◌≡◌, ◌<◌, length, slice_get, get_or, Some, sym, ◌∙◌, ap, subst, arith, rules}
+use Rattle.std.proofs.Common.{◌≡◌, slice_get, Some, sym, ◌∙◌, ap, subst, arith, rules}
 use Rattle.std.proofs.lemmas.Option.{slice_get_within, get_or_from_slice_get}
 use Rattle.erl_term.specs.Lexing.{join, put_item}
 use Rattle.erl_term.specs.Views.{text_bytes, items_from, item_value, token_value, IsFirst}
 use Rattle.erl_term.specs.declared.token.Token.{Token}
-use Rattle.erl_term.proofs.Lexemes.{takes_item, no_item}
+use Rattle.erl_term.proofs.Lexemes.{no_item}
 use Rattle.erl_term.proofs.Joining.{put_item-other, no_whole_text, first_item}
 use Rattle.erl_term.proofs.lexer.next_item.Goals as goal
 

@@ -1,4 +1,4 @@
-use Rattle.std.proofs.Common.{◌≡◌, slice_get, ◌∷◌, Some, None, sym, ◌∙◌, ap, arith, rules}
+use Rattle.std.proofs.Common.{◌≡◌, slice_get, ◌∷◌, Some, None, sym, ◌∙◌, ap, arith}
 use Rattle.erl_term.specs.Lexing.{join, put_item}
 use Rattle.erl_term.specs.Views.{text_bytes, items_from}
 use Rattle.erl_term.specs.Contents.{content_bytes}

@@ -1,4 +1,4 @@
-use Rattle.std.proofs.Common.{sym, arith, rules}
+use Rattle.std.proofs.Common.{sym}
 use Rattle.erl_term.specs.Views.{text_bytes}
 use Rattle.erl_term.proofs.Numerals.{ended_some, ended_none}
 use Rattle.erl_term.proofs.number.ended.Goals as goal

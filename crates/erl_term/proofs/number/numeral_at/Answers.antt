@@ -1,4 +1,4 @@
-use Rattle.std.proofs.Common.{◌+◌, ◌∙◌, ap, sym, arith, rules}
+use Rattle.std.proofs.Common.{◌∙◌, ap, sym, arith, rules}
 use Rattle.erl_term.specs.Views.{text_bytes}
 use Rattle.erl_term.specs.Scanned.{capped_numeral}
 use Rattle.erl_term.proofs.TextPlaces.{byte_cut}

@@ -1,4 +1,4 @@
-use Rattle.std.proofs.Common.{rules, sym}
+use Rattle.std.proofs.Common.{rules}
 use Rattle.erl_term.proofs.TextPlaces.{byte_cut}
 use Rattle.erl_term.proofs.text.Text.byte.Goals as goal
 

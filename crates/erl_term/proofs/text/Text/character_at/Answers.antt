@@ -1,7 +1,6 @@
 use Rattle.std.proofs.Common.{◌≡◌, ◌++◌, drop, rules}
 use lib.Utf8.{encode}
 use Rattle.std.specs.Str.{IsUtf8}
-use Rattle.std.specs.Str.Iter.{chars_rest}
 use Rattle.erl_term.proofs.TextPlaces.{itself_at, character_cut}
 use Rattle.erl_term.proofs.text.Text.character_at.Goals as goal
 
