@@ -1,9 +1,9 @@
 -- Which bodies spell a record.
-use Rattle.std.proofs.Common.{◌≡◌, ℕ, ◌≤◌, Bool, true, false, List, [], ◌∷◌, ◌++◌, Option, Some, None, Result, Ok, Err, codes, refl, sym, ap, ◌∙◌, subst, length}
+use Rattle.std.proofs.Common.{◌≡◌, ℕ, false, List, [], ◌∷◌, ◌++◌, Option, Some, None, Result, Ok, Err, codes, refl, sym, ap, ◌∙◌, subst, length}
 use Rattle.std.specs.Prelude.{IsErr, IsErrOf}
 use Rattle.std.specs.Result.{IsErrAnd}
 use Rattle.std.specs.Str.{bytes_eq}
-use Rattle.erl_term.specs.Grammar.{Reading, Reads}
+use Rattle.erl_term.specs.Grammar.{Reads}
 use Rattle.erl_term.specs.OneTerm.{HasTerm}
 use Rattle.erl_term.specs.Value.{Value}
 use Rattle.erl_term.specs.Within.{IsWithin, ReadsAs}
@@ -16,7 +16,7 @@ use Rattle.rel_files.specs.declared.fault.FileFault.TheVariants as file
 use Rattle.rel_handler.specs.Parts.{parts_in, fault_of_text, fault_of_release}
 use Rattle.rel_handler.specs.Records.{Record, makes, adds, record_term, word_of, release_in, Spells}
 use Rattle.rel_handler.specs.declared.records.RecordFault.{RecordFault}
-use Rattle.rel_handler.specs.declared.records.RecordFault.TheVariants.{Bad, NoMemory}
+use Rattle.rel_handler.specs.declared.records.RecordFault.TheVariants.{Bad}
 use Rattle.rel_handler.proofs.Reading.{one_term}
 
 -- what is printed within the limit, with a dot behind it, has the term

@@ -1,9 +1,8 @@
 -- A node that is booted, and one that is made.
-use Rattle.std.proofs.Common.{◌≡◌, inl, inr, ◌⊎◌, ℕ, true, false, List, [], ◌∷◌, Some, Ok, Err, refl, sym, ap, ◌∙◌, subst}
+use Rattle.std.proofs.Common.{◌≡◌, inl, inr, ◌⊎◌, ℕ, true, false, List, [], ◌∷◌, Ok, refl, sym, ap, ◌∙◌, subst}
 use Rattle.std.specs.Prelude.{codes}
 use Rattle.erl_term.specs.OneTerm.{HasTerm}
 use Rattle.erl_term.specs.Value.{Value}
-use Rattle.rel_disk.specs.Moments.{LeavesOnly}
 use Rattle.rel_disk.proofs.Moments.{weakened}
 use Rattle.rel_files.specs.File.{IsReleaseTerm}
 use Rattle.rel_files.specs.Release.{Release}
@@ -15,16 +14,15 @@ use Rattle.rel_store.specs.Creation.{IsNoneOrNew, IsBegunAt, Creates}
 use Rattle.rel_store.specs.Records.{records_of}
 use Rattle.rel_store.specs.State as store
 use Rattle.rel_store.specs.declared.store.Store.{Store}
-use Rattle.rel_handler.specs.Events.{Known, doubted, IsOfPrefix, IsNoneOrOfPrefix}
+use Rattle.rel_handler.specs.Events.{doubted, IsNoneOrOfPrefix}
 use Rattle.rel_handler.specs.Image.{IsImageOf}
 use Rattle.rel_handler.specs.Limits.{is_small}
-use Rattle.rel_handler.specs.Moments.{Begins, BeginsAt, BootsTo}
+use Rattle.rel_handler.specs.Moments.{Begins, BeginsAt}
 use Rattle.rel_handler.specs.Records.{makes, record_term, Spells, Makes, IsBadRecord}
 use Rattle.rel_handler.specs.State.{IsSound}
 use Rattle.rel_handler.specs.declared.error.BootError.{BootError}
 use Rattle.rel_handler.specs.declared.error.BootError.TheVariants as boot
-use Rattle.rel_handler.specs.declared.handler.Handler.{Handler}
-use Rattle.rel_handler.proofs.Images.{each_image, booted_image, boots_to, first_record, while_creating}
+use Rattle.rel_handler.proofs.Images.{first_record, while_creating}
 use Rattle.rel_handler.proofs.Making.{makes_not_bad}
 use Rattle.rel_handler.proofs.Standing.{settled_made}
 

@@ -1,5 +1,5 @@
 -- A handler at rest, and one that commits a release.
-use Rattle.std.proofs.Common.{◌≡◌, inl, inr, ℕ, ◌+◌, ◌≤◌, ◌<◌, Bool, true, false, List, [], ◌∷◌, ◌++◌, map, length, Option, Some, None, Result, Ok, Err, refl, sym, ap, ◌∙◌, subst, arith, length-append}
+use Rattle.std.proofs.Common.{◌≡◌, ℕ, ◌<◌, true, false, List, [], ◌∷◌, ◌++◌, length, Some, None, Result, Ok, Err, sym, ap, ◌∙◌, subst, arith, length-append}
 use Rattle.std.specs.Prelude.{is_err, is_some, IfErr, OnOk, nat_le, if◌then◌else◌, codes}
 use Rattle.std.proofs.lemmas.Bool.Decides.{nat_tests}
 use Rattle.rel_disk.specs.Moments.{LeavesOnly, HasFailed}
@@ -20,7 +20,7 @@ use Rattle.rel_store.specs.declared.store.Store.{Store}
 use Rattle.rel_handler.specs.Events.{Events, doubted, IsOfPrefix}
 use Rattle.rel_handler.specs.Image.{IsImageOf}
 use Rattle.rel_handler.specs.Limits.{is_small, most_releases}
-use Rattle.rel_handler.specs.Records.{Record, adds, record_term, Spells, Makes}
+use Rattle.rel_handler.specs.Records.{adds, record_term, Spells, Makes}
 use Rattle.rel_handler.specs.State.{disk_in, list_in, is_dead, IsSound}
 use Rattle.rel_handler.specs.Taking.{commanded}
 use Rattle.rel_handler.specs.declared.handler.Handler.{Handler}

@@ -1,23 +1,22 @@
 -- Which lists the images of a disk stand for.
-use Rattle.std.proofs.Common.{◌≡◌, inl, inr, ◌⊎◌, ⊎_elim, ℕ, Bool, true, false, List, [], ◌∷◌, ◌++◌, Option, Some, None, Ok, Err, refl, sym, ap, ◌∙◌, subst, append_assoc}
+use Rattle.std.proofs.Common.{◌≡◌, inl, inr, ℕ, Bool, true, false, List, [], ◌∷◌, ◌++◌, Some, Ok, Err, refl, sym, ap, ◌∙◌, subst}
 use Rattle.std.specs.Prelude.{is_some, if◌then◌else◌}
 use Rattle.std.specs.Result.{result_ok}
 use Rattle.std.proofs.lemmas.List.{append-nil}
-use Rattle.rel_disk.specs.Damage.{Only}
 use Rattle.rel_files.specs.Release.{Release}
 use Rattle.rel_list.specs.declared.status.Status.TheVariants.{Permanent}
 use Rattle.rel_list.specs.Releases.{Releases}
 use Rattle.rel_list.specs.Event.{Event, entry, booted, step, list_after}
 use Rattle.rel_list.specs.Event.Event.{made, unpacked, boot}
 use Rattle.rel_store.specs.Creation.{IsNoneOrNew}
-use Rattle.rel_store.specs.Records.{records_of, Stands, StandsEither}
+use Rattle.rel_store.specs.Records.{records_of, StandsEither}
 use Rattle.rel_store.specs.State.{records_in, IsSettled}
 use Rattle.rel_store.specs.declared.store.Store.{Store}
-use Rattle.rel_handler.specs.Events.{Known, doubted, with_doubt, accepted, IsPrefix, IsOfPrefix, IsNoneOrOfPrefix}
+use Rattle.rel_handler.specs.Events.{Known, doubted, IsPrefix, IsOfPrefix, IsNoneOrOfPrefix}
 use Rattle.rel_handler.specs.Image.{IsImageOf}
-use Rattle.rel_handler.specs.Limits.{has_one_permanent, is_small}
+use Rattle.rel_handler.specs.Limits.{is_small}
 use Rattle.rel_handler.specs.Moments.{BootsTo}
-use Rattle.rel_handler.specs.Records.{Record, makes, adds, Spells, with_one_permanent, assigned, MakesFrom, Makes}
+use Rattle.rel_handler.specs.Records.{makes, adds, Spells, with_one_permanent, assigned, MakesFrom, Makes}
 use Rattle.rel_handler.specs.Taking.{allowed, commanded}
 use Rattle.rel_handler.specs.declared.error.HandlerError.TheVariants.{TooMany, Exists}
 use Rattle.rel_handler.proofs.Lists.{list_after-push}

@@ -1,6 +1,6 @@
 -- Lists of releases behind events and behind boots.
-use Rattle.std.proofs.Common.{◌≡◌, ℕ, ◌+◌, Bool, true, false, cond, List, [], ◌∷◌, ◌++◌, map, length, Option, Some, None, refl, sym, ap, ◌∙◌, find, suc, arith}
-use Rattle.std.specs.Prelude.{is_some, if◌then◌else◌, ◌==◌}
+use Rattle.std.proofs.Common.{◌≡◌, ℕ, ◌+◌, Bool, true, false, cond, List, [], ◌∷◌, ◌++◌, length, Option, Some, None, refl, sym, ap, ◌∙◌, find, suc, arith}
+use Rattle.std.specs.Prelude.{is_some, ◌==◌}
 use Rattle.std.specs.Option.{option_map, option_and_then}
 use Rattle.std.specs.List.{count_by}
 use Rattle.std.specs.Str.{bytes_eq}
@@ -9,7 +9,7 @@ use Rattle.rel_list.specs.declared.status.Status.{Status}
 use Rattle.rel_list.specs.declared.status.Status.TheVariants.{Unpacked, Current, Old, Permanent}
 use Rattle.rel_list.specs.Status.{is_permanent}
 use Rattle.rel_list.specs.Releases.{Releases, Entry, status_of}
-use Rattle.rel_list.specs.Event.{Event, entry, booted_status, booted, step, list_from, list_after}
+use Rattle.rel_list.specs.Event.{Event, booted_status, booted, step, list_from, list_after}
 use Rattle.rel_handler.specs.Limits.{has_one_permanent}
 
 -- one event more

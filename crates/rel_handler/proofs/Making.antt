@@ -1,5 +1,5 @@
 -- What the records of a store make.
-use Rattle.std.proofs.Common.{◌≡◌, inl, inr, ℕ, ◌+◌, true, false, List, [], ◌∷◌, ◌++◌, length, Option, Some, None, refl, sym, ap, ◌∙◌, subst, arith}
+use Rattle.std.proofs.Common.{◌≡◌, ℕ, List, [], ◌∷◌, ◌++◌, Option, Some, None, refl, sym, ap, ◌∙◌, subst}
 use Rattle.rel_list.specs.Releases.{Releases}
 use Rattle.rel_handler.specs.Limits.{has_one_permanent}
 use Rattle.rel_handler.specs.Records.{Record, Spells, assigned, MakesFrom, Makes, CannotStand, IsBadRecord, none_at_all, bad_after}

@@ -1,13 +1,12 @@
 -- A body spells one record at most.
-use Rattle.std.proofs.Common.{◌≡◌, ℕ, List, [], ◌∷◌, codes, refl, sym, ap, ◌∙◌, subst}
-use Rattle.erl_term.specs.Value.{Value, Values}
-use Rattle.erl_term.specs.Value.Value.{int, atom, list, tuple, bin}
-use Rattle.erl_term.specs.Value.Values.{no_values, value}
+use Rattle.std.proofs.Common.{◌≡◌, ℕ, List, [], ◌∷◌, codes, sym, ap, ◌∙◌, subst}
+use Rattle.erl_term.specs.Value.{Value}
+use Rattle.erl_term.specs.Value.Value.{atom, tuple}
+use Rattle.erl_term.specs.Value.Values.{value}
 use Rattle.erl_term.specs.Grammar.{Reading}
 use Rattle.erl_term.specs.OneTerm.{HasTerm}
 use Rattle.erl_term.proofs.Exact.{one_reading}
 use Rattle.rel_files.specs.File.{IsReleaseTerm}
-use Rattle.rel_files.specs.Release.{Release}
 use Rattle.rel_files.proofs.Outcomes.{one_release}
 use Rattle.rel_handler.specs.Records.{Record, makes, adds, record_term, word_of, release_in, Spells}
 

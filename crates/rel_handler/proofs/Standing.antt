@@ -1,19 +1,19 @@
 -- What stands behind a record.
-use Rattle.std.proofs.Common.{◌≡◌, inl, inr, ◌⊎◌, ℕ, ◌+◌, ◌≤◌, ◌<◌, Bool, true, false, ◌&&◌, List, [], ◌∷◌, ◌++◌, length, Option, Some, None, Ok, Err, Result, refl, sym, ap, ◌∙◌, subst, arith, length-append}
-use Rattle.std.specs.Prelude.{is_some, if◌then◌else◌, ◌==◌, nat_le, nat_lt}
+use Rattle.std.proofs.Common.{◌≡◌, ℕ, Bool, true, false, List, [], ◌∷◌, ◌++◌, Some, None, Ok, Err, Result, refl, sym, ap, ◌∙◌}
+use Rattle.std.specs.Prelude.{if◌then◌else◌}
 use Rattle.std.specs.Result.{result_ok}
-use Rattle.rel_files.specs.Release.{Release, release_of}
+use Rattle.rel_files.specs.Release.{Release}
 use Rattle.rel_list.specs.declared.status.Status.TheVariants.{Unpacked, Permanent}
-use Rattle.rel_list.specs.Releases.{Releases, Entry, status_of}
-use Rattle.rel_list.specs.Event.{entry, booted, step, event_of}
+use Rattle.rel_list.specs.Releases.{Releases}
+use Rattle.rel_list.specs.Event.{entry, booted, step}
 use Rattle.rel_list.specs.Event.Event.{made, unpacked}
-use Rattle.rel_handler.specs.Limits.{has_one_permanent, is_small, most_releases}
+use Rattle.rel_handler.specs.Limits.{has_one_permanent, is_small}
 use Rattle.rel_handler.specs.Records.{Record, makes, adds, with_one_permanent, assigned, MakesFrom}
-use Rattle.rel_handler.specs.Taking.{allowed, kept_short, commanded}
+use Rattle.rel_handler.specs.Taking.{allowed, commanded}
 use Rattle.rel_handler.specs.declared.error.HandlerError.{HandlerError}
-use Rattle.rel_handler.specs.declared.error.HandlerError.TheVariants.{ExistingRelease, TooMany, Exists}
-use Rattle.rel_handler.proofs.Lists.{booted-push, count-unpacked}
-use Rattle.rel_handler.proofs.Unpacking.{with_it, unpacks, unpacked_so}
+use Rattle.rel_handler.specs.declared.error.HandlerError.TheVariants.{TooMany, Exists}
+use Rattle.rel_handler.proofs.Lists.{booted-push}
+use Rattle.rel_handler.proofs.Unpacking.{unpacked_so}
 
 -- what a record makes, its command makes, and it has one permanent release
 allowed_so : (o : Result Releases HandlerError) (next : Releases) → with_one_permanent (result_ok o) ≡ Some next → (o ≡ Ok next) × (has_one_permanent next ≡ true)

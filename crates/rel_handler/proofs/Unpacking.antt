@@ -1,17 +1,17 @@
 -- A release that comes in unpacked.
-use Rattle.std.proofs.Common.{◌≡◌, ◌≢◌, inl, inr, ℕ, ◌+◌, ◌≤◌, ◌<◌, Bool, true, false, cond, ◌&&◌, List, [], ◌∷◌, ◌++◌, map, length, Option, Some, None, Ok, Err, refl, sym, ap, ◌∙◌, subst, arith, length-append}
-use Rattle.std.specs.Prelude.{is_some, if◌then◌else◌, ◌==◌, nat_le, nat_lt}
+use Rattle.std.proofs.Common.{◌≡◌, ◌+◌, Bool, true, false, [], ◌∷◌, ◌++◌, length, Some, None, Ok, Err, refl, sym, ap, ◌∙◌, length-append}
+use Rattle.std.specs.Prelude.{is_some, if◌then◌else◌, ◌==◌, nat_le}
 use Rattle.std.specs.Result.{result_ok}
 use Rattle.rel_files.specs.Release.{Release}
-use Rattle.rel_list.specs.declared.status.Status.TheVariants.{Unpacked, Current, Old, Permanent}
-use Rattle.rel_list.specs.Releases.{Releases, Entry, status_of}
-use Rattle.rel_list.specs.Event.{Event, entry, booted_status, booted, step}
-use Rattle.rel_list.specs.Event.Event.{made, unpacked, boot}
+use Rattle.rel_list.specs.declared.status.Status.TheVariants.{Unpacked}
+use Rattle.rel_list.specs.Releases.{Releases, status_of}
+use Rattle.rel_list.specs.Event.{entry, booted, step}
+use Rattle.rel_list.specs.Event.Event.{unpacked}
 use Rattle.rel_handler.specs.Limits.{has_one_permanent, is_small, most_releases}
-use Rattle.rel_handler.specs.Taking.{allowed, kept_short, commanded}
-use Rattle.rel_handler.specs.Records.{Record, makes, adds, with_one_permanent, assigned}
-use Rattle.rel_handler.specs.declared.error.HandlerError.TheVariants.{ExistingRelease, TooMany, Exists}
-use Rattle.rel_handler.proofs.Lists.{booted-push, listed-booted, length-booted, count-unpacked, one-booted}
+use Rattle.rel_handler.specs.Taking.{allowed, commanded}
+use Rattle.rel_handler.specs.Records.{adds, with_one_permanent, assigned}
+use Rattle.rel_handler.specs.declared.error.HandlerError.TheVariants.{ExistingRelease, TooMany}
+use Rattle.rel_handler.proofs.Lists.{booted-push, listed-booted, length-booted, count-unpacked}
 
 -- What an unpacked release makes of a list: the list with it last.
 abbrev pub with_it : Release → Releases → Releases

@@ -1,5 +1,5 @@
 -- A record is deeper than its release by a bracket.
-use Rattle.std.proofs.Common.{◌≡◌, ℕ, zero, suc, ◌+◌, ◌-◌, ◌*◌, ◌≤◌, max, List, [], ◌∷◌, length, arith, codes}
+use Rattle.std.proofs.Common.{ℕ, zero, suc, ◌+◌, ◌-◌, ◌*◌, ◌≤◌, List, [], ◌∷◌, length, arith, codes}
 use Rattle.std.specs.Str.{chars, chars_after, continuation_len, lead_bits}
 use Rattle.erl_term.specs.Value.{Value}
 use Rattle.erl_term.specs.Within.{IsWithin}

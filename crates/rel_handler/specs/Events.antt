@@ -39,7 +39,7 @@ pub record IsPrefix (k : Known) (events : Events) : Type 0 where
   pub more : Events
   pub holds : events ≡ k.acknowledged ++ more
 
--- The image stands for the list of a prefix of the accepted events that holds every acknowledged one.
+-- These bytes stand for the list of a prefix of the accepted events that holds every acknowledged one.
 pub record IsOfPrefix (k : Known) (image : List ℕ) : Type 0 where
   pub events : Events
   pub prefix : IsPrefix k events
@@ -47,6 +47,6 @@ pub record IsOfPrefix (k : Known) (image : List ℕ) : Type 0 where
   pub after : list_after events ≡ Some list
   pub image_of : IsImageOf image list
 
--- There is no store yet, or it stands for such a list.
+-- They are no store, or stand for such a list.
 abbrev pub IsNoneOrOfPrefix : Known → List ℕ → Type 0
 IsNoneOrOfPrefix k image = (records_of image ≡ Err NotAStore) ⊎ IsOfPrefix k image

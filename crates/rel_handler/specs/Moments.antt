@@ -8,8 +8,8 @@ use Rattle.rel_list.specs.Event.Event.{boot}
 use Rattle.rel_store.specs.Moments.{IsTornFrom}
 use Rattle.rel_handler.specs.Events.{Known, IsPrefix, IsNoneOrOfPrefix}
 
--- From its first sync on, at which it stands here, a creation leaves no store or one of a prefix; before it the images are
--- those from before the call, but for a gate that is torn.
+-- At this moment the first sync of a creation has succeeded. From it on a crash leaves no store, or one that stands for the
+-- list of such a prefix; before it what it left before the call, but for a torn gate.
 pub record BeginsAt {D : Type 0} (seen : D → List ℕ) (may_leave : D → List ℕ → Type 0) (moment : D → ℕ) (left_since : D → ℕ → List ℕ → Type 0) (k : Known) (old new at : D) : Type 0 where
   pub until : LeavesOnly moment left_since old at (IsTornFrom (may_leave old) 0 1)
   pub synced : Only (seen at) (may_leave at)
@@ -20,7 +20,7 @@ abbrev pub Begins : {D : Type 0} → (D → List ℕ) → (D → List ℕ → Ty
 Begins {D = D} seen may_leave moment left_since k old new =
     LeavesOnly moment left_since old new (IsTornFrom (may_leave old) 0 1) ⊎ ((at : D) × BeginsAt seen may_leave moment left_since k old new at)
 
--- The list is that of such a prefix, and then a boot.
+-- The list is that of such a prefix, with a boot behind it.
 pub record BootsTo (k : Known) (es : Releases) : Type 0 where
   pub events : List Event
   pub prefix : IsPrefix k events

@@ -1,5 +1,5 @@
 -- Why a call is refused, and what stands after it.
-use Rattle.std.specs.Prelude.{◌≡◌, ℕ, true, false, List, Result, Ok, Err}
+use Rattle.std.specs.Prelude.{◌≡◌, ℕ, true, false, List, Ok, Err}
 use Rattle.rel_disk.specs.Moments.{HasFailed}
 use Rattle.rel_files.specs.Release.{Release}
 use Rattle.rel_list.specs.Releases.{Releases}

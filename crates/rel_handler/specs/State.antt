@@ -27,6 +27,10 @@ is_dead handler = handler.dead
 abbrev pub end_in : {D : Type 0} → Handler D → ℕ
 end_in handler = of_store.end_in handler.store
 
+-- the start slot that counts, on its disk
+abbrev pub start_in : {D : Type 0} → (D → List ℕ) → Handler D → List ℕ
+start_in seen handler = of_store.text_in seen handler.store
+
 -- What is known of a handler between two calls: unless it is dead, its store is settled, and the records make its list as
 -- it is behind a boot.
 pub record IsSound {D : Type 0} (seen : D → List ℕ) (may_leave : D → List ℕ → Type 0) (handler : Handler D) : Type 0 where

@@ -6,7 +6,8 @@ ghost use Rattle.rel_files.specs.Release.{release_of};
 ghost use Rattle.rel_list.specs.Event.{entry};
 ghost use Rattle.rel_list.specs.Event.Event.{made};
 ghost use Rattle.rel_store.specs.Creation.{IsUnwritten};
-ghost use Rattle.rel_store.specs.Layout.{has_magic};
+ghost use Rattle.rel_store.specs.Layout.{has_magic, slot_with};
+ghost use Rattle.rel_store.specs.State.{Fits};
 ghost use Rattle.rel_handler.specs.Events.{doubted};
 ghost use Rattle.rel_handler.specs.Files.{IsRelFile, start_text};
 ghost use Rattle.rel_handler.specs.Image.{IsImageOf};
@@ -14,7 +15,7 @@ ghost use Rattle.rel_handler.specs.Limits.{is_small};
 ghost use Rattle.rel_handler.specs.Moments.{Begins, BeginsAt};
 ghost use Rattle.rel_handler.specs.Records.{body_of, record_term, word_of, makes};
 ghost use Rattle.rel_handler.specs.Refusals.{CreateRefused, told_create, IsCreateError};
-ghost use Rattle.rel_handler.specs.State.{disk_in, disk_of, list_in, is_dead, end_in, IsSound};
+ghost use Rattle.rel_handler.specs.State.{disk_in, disk_of, list_in, is_dead, end_in, start_in, IsSound};
 ghost use Rattle.rel_list.specs.declared.status.Status.TheVariants.{Permanent};
 
 use crate::limits::is_small;
@@ -30,8 +31,8 @@ impl<D: Disk> Handler<D> {
     /// Makes a node on a disk that has none, with a release from its file as the permanent one.
     ///
     /// Told in this order: `TooMany` for its applications, `Exists`, `Full`; `NoMemory` may come in place of `Exists` and
-    /// `Full`. Nothing has been written then. After `Device` the disk has no store, or the new one. The disk comes back
-    /// with each refusal.
+    /// `Full`. Nothing has been written then. After `Device` the disk has no store or the new one, once the first sync has
+    /// succeeded; before that nothing but its first byte was written. The disk comes back with each refusal.
     pub fn create(alloc: Global, disk: D, file: RelFile) -> Result<Handler<D>, (HandlerError, D)>
         requires { IsRelFile file }
         ensures sound { IfOk result (IsSound D.seen D.may_leave) }
@@ -39,9 +40,11 @@ impl<D: Disk> Handler<D> {
         ensures small { OnOk result (is_small (release_of file.release) ≡ true) }
         ensures list { IfOk result (λ handler. list_in handler ≡ entry (release_of file.release) Permanent ∷ []) }
         ensures acknowledged { IfOk result (λ handler. (c : List ℕ) → D.may_leave (disk_in handler) c → IsImageOf c (list_in handler)) }
+        ensures start { IfOk result (λ handler. start_in D.seen handler ≡ slot_with (start_text (release_of file.release))) }
+        ensures fits { OnOk result (Fits 289 (length (body_of (word_of (makes (release_of file.release))) (value_of file.term)))) }
         ensures end { IfOk result (λ handler. end_in handler ≡ 289 + (5 + length (body_of (word_of (makes (release_of file.release))) (value_of file.term)))) }
 
-        // A crash at any moment from the first sync on leaves no store, or the list with the release.
+        // A crash at any moment from the first sync on leaves no store, or one that stands for the list with the release.
         ensures any_moment { Begins D.seen D.may_leave D.moment D.left_since (doubted [] (made (release_of file.release))) disk (disk_of result) }
         ensures begun { OnOk result ((at : D) × BeginsAt D.seen D.may_leave D.moment D.left_since (doubted [] (made (release_of file.release))) disk (disk_of result) at) }
 

@@ -10,7 +10,7 @@ ghost use Rattle.rel_handler.specs.Events.{Events, IsOfPrefix, doubted};
 ghost use Rattle.rel_handler.specs.Image.{IsImageOf};
 ghost use Rattle.rel_handler.specs.Records.{body_of, word_of, adds};
 ghost use Rattle.rel_handler.specs.Refusals.{CommandRefused};
-ghost use Rattle.rel_handler.specs.State.{disk_in, list_in, is_dead, end_in, IsSound};
+ghost use Rattle.rel_handler.specs.State.{disk_in, list_in, is_dead, end_in, start_in, IsSound};
 ghost use Rattle.rel_handler.specs.Taking.{commanded};
 ghost use Rattle.rel_handler.specs.Files.{IsRelFile};
 
@@ -57,9 +57,10 @@ impl<D: Disk> Handler<D> {
         ensures { MatchResult result (λ list. (is_dead self.now ≡ false) × (list.now ≡ list_in self.now)) (λ e. (e ≡ HandlerError.Dead) × (is_dead self.now ≡ true)) }
     {
         if self.dead {
-            return Err(HandlerError::Dead);
+            Err(HandlerError::Dead)
+        } else {
+            Ok(&self.list)
         }
-        Ok(&self.list)
     }
 
     /// Takes in a release as unpacked, from its file. At `Ok` it is acknowledged: from then on each crash leaves a disk that
@@ -75,6 +76,7 @@ impl<D: Disk> Handler<D> {
         ensures works { OnOk result (is_dead self.new ≡ false) }
         ensures accepted { OnOk result (commanded (unpacked (release_of file.release)) (list_in self.old) ≡ Ok (list_in self.new)) }
         ensures acknowledged { OnOk result ((c : List ℕ) → D.may_leave (disk_in self.new) c → IsImageOf c (list_in self.new)) }
+        ensures start { OnOk result (start_in D.seen self.new ≡ start_in D.seen self.old) }
         ensures fits { OnOk result (Fits (end_in self.old) (length (body_of (word_of (adds (release_of file.release))) (value_of file.term)))) }
         ensures end { OnOk result (end_in self.new ≡ end_in self.old + (5 + length (body_of (word_of (adds (release_of file.release))) (value_of file.term)))) }
 

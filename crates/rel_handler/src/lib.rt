@@ -3,12 +3,14 @@
 //! A [`Handler`] keeps the list of a node's releases, and on a disk a store with a record for each change of it. `create`
 //! makes a node, `set_unpacked` brings a further release, `boot` reads the node from its disk again.
 //!
-//! Each command is an event of the list (`step`). Stopped at any moment of a call, the disk stands for the list of a prefix
-//! of the accepted events that holds every acknowledged one (`IsOfPrefix`), and a boot of it answers that list, as it is
-//! behind a boot, or refuses for memory or the device alone. After an `Ok` the disk stands for the list with the command's
-//! event. A refusal changes nothing, but after `Device` the handler is dead until the next boot.
+//! Each command is an event of the list (`step`). Stopped at any moment of a call (of `create` from its first sync on, and
+//! then it may also be no store), the disk stands for the list of a prefix of the accepted events that holds every
+//! acknowledged one (`IsOfPrefix`), and a boot of it answers that list, as it is behind a boot, or refuses for memory or
+//! the device alone. After an `Ok` the disk stands for the list with the command's event. A refusal changes nothing, but
+//! after `Device` the handler is dead until the next boot.
 //!
-//! The clauses speak of whole bytes and of records as terms (`IsImageOf`, `Spells`): no proof here is about bytes.
+//! The clauses speak of the bytes of a store as a whole (`IsImageOf`) and of its records as terms (`Spells`): no proof here
+//! is about single bytes.
 #![tactic(auto)]
 
 mod booting;

@@ -22,7 +22,7 @@ fn file_of(rt: &impl Abort, alloc: Global, text: &[u8]) -> Result<RelFile, Fail>
 {
     match read_rel_file(alloc, text) {
         Ok(file) => Ok(file),
-        Err(_) => panic!(rt; "the file isn't read"),
+        Err(fault) => panic!(rt; "the file isn't read: {fault}"),
     }
 }
 
@@ -85,7 +85,7 @@ fn new_node<D: Disk + Drop>(rt: &impl Abort, alloc: Global, disk: D) -> Result<H
 {
     match Handler::create(alloc, disk, rel_file(rt, alloc, "A")?) {
         Ok(node) => Ok(node),
-        Err(_) => panic!(rt; "no node is made"),
+        Err((error, _disk)) => panic!(rt; "no node is made: {error}"),
     }
 }
 
@@ -95,7 +95,7 @@ fn booted<D: Disk + Drop>(rt: &impl Abort, alloc: Global, disk: D) -> Handler<D>
 {
     match boot(alloc, disk) {
         Ok(node) => node,
-        Err(_) => panic!(rt; "the disk isn't booted"),
+        Err((error, _disk)) => panic!(rt; "the disk isn't booted: {error}"),
     }
 }
 
@@ -155,7 +155,7 @@ fn bytes_of_a_node(rt: HostRuntime) -> Result<(), Fail> {
                 assert_eq!(rt; record.as_slice(), body.as_bytes());
             }
         }
-        Err(_) => panic!(rt; "the store isn't opened"),
+        Err((error, _disk)) => panic!(rt; "the store isn't opened: {error}"),
     }
     Ok(())
 }
@@ -243,7 +243,7 @@ fn with_record(rt: &impl Abort, alloc: Global, disk: MemDisk, body: &str) -> Mem
             assert_eq!(rt; store.append(alloc, body.as_bytes()), Ok(()));
             store.into_disk()
         }
-        Err(_) => panic!(rt; "the store isn't opened"),
+        Err((error, _disk)) => panic!(rt; "the store isn't opened: {error}"),
     }
 }
 
@@ -261,7 +261,7 @@ fn store_of(rt: &impl Abort, alloc: Global, bodies: &[&str]) -> Result<MemDisk, 
             }
             Ok(disk)
         }
-        Err(_) => panic!(rt; "no store is made"),
+        Err((error, _disk)) => panic!(rt; "no store is made: {error}"),
     }
 }
 
@@ -374,7 +374,7 @@ fn each_byte_is_damaged(rt: HostRuntime) -> Result<(), Fail> {
                 }
                 Err((error, _disk)) => assert!(rt;
                     error != BootError::Device && error != BootError::NoMemory,
-                    "at {at}"
+                    "at {at}: {error}"
                 ),
             }
         }
@@ -398,7 +398,7 @@ fn each_call_of_a_creation_fails(rt: HostRuntime) -> Result<(), Fail> {
                 let told = boot_refusal(alloc, disk.disk);
                 assert!(rt;
                     told == Some(BootError::NotAStore) || (told == None && call == 7),
-                    "call {call}"
+                    "call {call}: {told:?}"
                 );
             }
         }
@@ -485,6 +485,6 @@ fn full_disks(rt: HostRuntime) -> Result<(), Fail> {
                 "A permanent;",
             )
         }
-        Err(_) => panic!(rt; "no node is made"),
+        Err((error, _disk)) => panic!(rt; "no node is made: {error}"),
     }
 }

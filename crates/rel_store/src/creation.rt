@@ -4,7 +4,7 @@ ghost use Rattle.rel_disk.specs.Damage.{Only, Within};
 ghost use Rattle.rel_disk.specs.Moments.{LeavesOnly, HasFailed};
 ghost use Rattle.rel_store.specs.Creation.{IsNew, IsBegunAt, Creates, IsUnwritten, CreateRefused};
 ghost use Rattle.rel_store.specs.Layout.{has_magic, slot_with};
-ghost use Rattle.rel_store.specs.State.{disk_in, disk_of, end_in, records_in, text_in, IsSettled, IsSound};
+ghost use Rattle.rel_store.specs.State.{disk_in, disk_of, end_in, records_in, text_in, Fits, IsSettled, IsSound};
 
 use crate::bytes::spell_store;
 use crate::device::write_through;
@@ -31,6 +31,7 @@ impl<D: Disk> Store<D> {
         ensures records { IfOk result (λ store. records_in store ≡ first.now ∷ []) }
         ensures start { IfOk result (λ store. text_in D.seen store ≡ slot_with start.now) }
         ensures bytes { IfOk result (λ store. IsNew first.now start.now (D.seen (disk_in store))) }
+        ensures fits { OnOk result (Fits 289 (length first.now)) }
         ensures end { IfOk result (λ store. end_in store ≡ 289 + (5 + length first.now)) }
 
         // At each moment from the first sync on a crash leaves no store, or one with the first record.

@@ -1,4 +1,3 @@
-use Rattle.std.proofs.Common.{refl}
 use Rattle.rel_handler.proofs.Boots.{made_again, sound_so, image_so, read_so, only_memory}
 use Rattle.rel_handler.proofs.Images.{each_image, booted_image, boots_to}
 use Rattle.rel_handler.proofs.Progress.{bodies_in}

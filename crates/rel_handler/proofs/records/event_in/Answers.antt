@@ -1,4 +1,4 @@
-use Rattle.std.proofs.Common.{rules, sym, ◌∙◌}
+use Rattle.std.proofs.Common.{rules}
 use Rattle.rel_handler.proofs.Bodies.{no_term, no_parts, no_word, no_release}
 use Rattle.rel_handler.proofs.records.event_in.Goals as goal
 

@@ -1,16 +1,13 @@
-use Rattle.std.proofs.Common.{◌≡◌, ◌≤◌, ◌<◌, ℕ, List, true, false, rules, refl, sym, ap, ◌∙◌, subst, length, string_bytes, Ok, arith}
-use Rattle.std.specs.Prelude.{is_some, codes}
+use Rattle.std.proofs.Common.{◌≡◌, ◌≤◌, ◌<◌, true, false, rules, refl, sym, subst, length, string_bytes}
+use Rattle.std.specs.Prelude.{is_some}
 use Rattle.erl_term.specs.Value.{value_of}
 use Rattle.rel_disk.specs.Moments.{HasFailed}
 use Rattle.rel_files.specs.Release.{release_of}
-use Rattle.rel_list.specs.Event.Event.{unpacked}
 use Rattle.rel_list.specs.Releases.{status_of}
 use Rattle.rel_store.specs.State as store
 use Rattle.rel_handler.specs.Limits.{is_small}
-use Rattle.rel_handler.specs.Records.{Spells, adds}
-use Rattle.rel_handler.specs.State.{list_in, is_dead}
-use Rattle.rel_handler.specs.Taking.{commanded}
-use Rattle.rel_handler.proofs.Commits.{opened, spelled_so, allowed_so, accepted_so, failed_so, image_now, resting, reserved_works, committing, committed}
+use Rattle.rel_handler.specs.State.{list_in}
+use Rattle.rel_handler.proofs.Commits.{opened, spelled_so, allowed_so, accepted_so, failed_so, resting, reserved_works, committing, committed}
 use Rattle.rel_handler.proofs.Images.{each_image}
 use Rattle.rel_handler.proofs.Unpacking.{with_it}
 use Rattle.rel_handler.proofs.Within.{within-unpacked}
