@@ -1,5 +1,7 @@
 //! Why a text was not listed.
 ghost use Rattle.std.specs.Prelude.{◌≡◌};
+ghost use Rattle.std.specs.IoError.{error_kind};
+ghost use Rattle.consult.specs.Listing.{told_of_a_read};
 ghost use Rattle.consult.specs.declared.error.ConsultError.TheVariants.{Fault, Failed};
 
 use erl_term::TermFault;
@@ -25,6 +27,18 @@ impl From<TermFault> for ConsultError {
 
     fn from(fault: TermFault) -> ConsultError {
         ConsultError::Fault(fault)
+    }
+}
+
+impl ConsultError {
+    /// What is told of a read that failed: it asks for memory too.
+    pub fn of_a_read(error: io::Error) -> ConsultError
+        ensures { result ≡ told_of_a_read (error_kind error) }
+    {
+        match error.kind() {
+            io::ErrorKind::OutOfMemory => ConsultError::Fault(TermFault::NoMemory),
+            _ => ConsultError::Failed,
+        }
     }
 }
 

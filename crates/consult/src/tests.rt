@@ -3,6 +3,7 @@ use crate::consult::consult;
 use crate::error::ConsultError;
 use erl_term::TermFault;
 use std::alloc::Global;
+use std::io::{self, Read};
 use std::process::Abort;
 use std::test::Fail;
 
@@ -44,5 +45,44 @@ fn longest_text(rt: HostRuntime) -> Result<(), Fail> {
         consult(alloc, blanks.as_slice(), &mut out),
         Err(ConsultError::TooLong)
     );
+    Ok(())
+}
+
+/// Gives a whole term, and fails at the next read.
+#[derive(Drop)]
+struct Failing {
+    begun: bool,
+    kind: io::ErrorKind,
+}
+
+impl Read for Failing {
+    fn read(&mut self, buf: &mut [u8]) -> io::Result<usize> {
+        let Some(first) = buf.first_mut() else {
+            return Ok(0);
+        };
+        if self.begun {
+            return Err(io::Error::from(self.kind));
+        }
+        *first = b'a';
+        self.begun = true;
+        Ok(1)
+    }
+}
+
+#[test]
+fn reads_that_fail(rt: HostRuntime) -> Result<(), Fail> {
+    let alloc = rt.alloc();
+    for (kind, want) in [
+        (io::ErrorKind::Other, ConsultError::Failed),
+        (
+            io::ErrorKind::OutOfMemory,
+            ConsultError::Fault(TermFault::NoMemory),
+        ),
+    ] {
+        let mut out = Vec::new(alloc);
+        let reader = Failing { begun: false, kind };
+        assert_eq!(&rt; consult(alloc, reader, &mut out), Err(want));
+        assert_eq!(&rt; out.len(), 0);
+    }
     Ok(())
 }
