@@ -1,12 +1,11 @@
 -- A command of a session's node, and the step that it makes.
-use Rattle.std.proofs.Common.{◌≡◌, ◌≢◌, ℕ, true, false, List, [], inl, inr, refl, ap, sym, subst, ◌∙◌}
+use Rattle.std.proofs.Common.{◌≡◌, ◌≢◌, ℕ, true, false, List, inl, inr, refl, ap, sym, subst, ◌∙◌}
 use Rattle.std.specs.Prelude.{Option, None, Some, Result, Ok, Err, IfOk, OnOk, MatchResult, String, string_bytes, codes}
 use Rattle.std.specs.Result.{IsErrAnd}
 use Rattle.std.specs.declared.alloc.Global.{Global}
 use Rattle.std.specs.declared.alloc.AllocError.{AllocError}
 use Rattle.rel_disk.specs.Moments.{HasFailed}
 use Rattle.rel_files.specs.Release.{Release}
-use Rattle.rel_list.specs.Releases.{Releases}
 use Rattle.rel_list.specs.Event.Event.{unpacked}
 use Rattle.rel_handler.specs.declared.handler.Handler.{Handler}
 use Rattle.rel_handler.specs.declared.error.HandlerError.{HandlerError}
@@ -30,7 +29,7 @@ use Rattle.relnode.specs.Refusals.Refusal.{dead}
 use Rattle.relnode.specs.Node.{Place, Node, Files, Done, IsIn, IsTold, IsUnpackedAt, created, unpacked_in, taken_in, told, ok_line, woken, woken_line, give, Follows}
 use Rattle.relnode.specs.Node.Place.{bare, asleep, awake}
 use Rattle.relnode.specs.Node.Step.{go}
-use Rattle.relnode.specs.Nodes.{disk_at, disk_of, IsPlace, IsNode, Turns, TurnsNode, step_of}
+use Rattle.relnode.specs.Nodes.{disk_at, IsPlace, Turns, TurnsNode, step_of}
 use Rattle.relnode.specs.Told.{IsAnswered, IsLine, IsText}
 
 refused : (P : Result Done Refusal → Type 0) (r : Refusal) (n : Node) (q : Place) (text : String Global)

@@ -1,7 +1,6 @@
 -- A session, command by command.
 use Rattle.std.proofs.Common.{◌≡◌, ℕ, true, List, [], ◌++◌, refl, ap, sym, subst, ◌∙◌, append_assoc, append-nil, ◌⊎◌, inl, inr, ◌<◌, ◌≤◌, arith}
-use Rattle.std.specs.Prelude.{Option, None, Some, IfSome, Result, Ok, Err, IsErrOf, OnErr}
-use Rattle.std.specs.Result.{IsErrAnd}
+use Rattle.std.specs.Prelude.{Option, None, Some, IfSome, Err, IsErrOf}
 use Rattle.std.specs.Option.{option_map}
 use Rattle.std.specs.Io.KnownBytes.{Appends, prepend_known}
 use Rattle.relnode.specs.declared.error.SessionError.{SessionError}
@@ -44,7 +43,7 @@ all_left : (known : Option (List ℕ)) → option_map commands_of (option_map li
 all_left None = refl
 all_left (Some bytes) = refl
 
-fresh_left : {R : Type 0} (remaining : R → Option (List ℕ)) (i : Input R) → IsFresh i → commands_left remaining i ≡ option_map commands_in (remaining i.reader)
+pub fresh_left : {R : Type 0} (remaining : R → Option (List ℕ)) (i : Input R) → IsFresh i → commands_left remaining i ≡ option_map commands_in (remaining i.reader)
 fresh_left remaining i fresh = rw (fresh.0, fresh.1) (all_left (remaining i.reader))
 
 -- a step is done

@@ -11,3 +11,9 @@ pub mod Giving
 pub mod OneAnswer
 pub mod Placing
 pub mod Following
+pub mod Running
+pub mod Lasting
+pub mod OneNews
+pub mod Histories
+pub mod Keeping
+pub mod Surviving

@@ -1,5 +1,5 @@
 -- An input has one answer.
-use Rattle.std.proofs.Common.{◌≡◌, ℕ, Bool, true, false, List, [], ◌++◌, ◌⊎◌, inl, inr, refl, sym, ap, subst, ◌∙◌, append_assoc}
+use Rattle.std.proofs.Common.{◌≡◌, ℕ, true, false, List, [], ◌++◌, ◌⊎◌, inl, inr, refl, sym, ap, subst, ◌∙◌, append_assoc}
 use Rattle.std.specs.Prelude.{Option, None, Some, Result, Ok, Err}
 use Rattle.rel_files.specs.declared.fault.FileFault.{FileFault}
 use Rattle.rel_files.proofs.OneFault.{one_fault, says_one, says_or_fails}
@@ -23,7 +23,7 @@ one_saying path bs (Ok r) (Err f) p q = absurd (says_or_fails bs r f p q)
 one_saying path bs (Err f) (Ok r) p q = absurd (says_or_fails bs r f q p)
 one_saying path bs (Err f) (Err g) p q = ap (λ t. Err (bad_file path t)) (one_fault bs f g p q)
 
-one_found : (path : List ℕ) (f : Option File) (a b : Result Release Refusal) → IsIn path f a → IsIn path f b → a ≡ b
+pub one_found : (path : List ℕ) (f : Option File) (a b : Result Release Refusal) → IsIn path f a → IsIn path f b → a ≡ b
 one_found path None a b p q = p ∙ sym q
 one_found path (Some too_large) a b p q = p ∙ sym q
 one_found path (Some (bytes bs)) a b (said, says, p) (also, says_too, q) = p ∙ (one_saying path bs said also says says_too ∙ sym q)

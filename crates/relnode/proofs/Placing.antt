@@ -1,5 +1,5 @@
 -- A node is made on a disk, or booted from it.
-use Rattle.std.proofs.Common.{◌≡◌, ◌≢◌, ℕ, true, false, List, [], ◌∷◌, ◌⊎◌, inl, inr, refl, ap, sym, subst, ◌∙◌}
+use Rattle.std.proofs.Common.{◌≡◌, ℕ, true, false, List, [], ◌∷◌, ◌⊎◌, inl, inr, refl, ap, sym, subst, ◌∙◌}
 use Rattle.std.specs.Prelude.{Result, Ok, Err, IfOk, IsErr, String, string_bytes}
 use Rattle.std.specs.declared.alloc.Global.{Global}
 use Rattle.std.specs.declared.alloc.AllocError.{AllocError}
@@ -7,9 +7,7 @@ use Rattle.rel_disk.specs.Moments.{HasFailed}
 use Rattle.rel_files.specs.Release.{Release}
 use Rattle.rel_list.specs.Releases.{Releases, running}
 use Rattle.rel_list.specs.Event.{booted, entry}
-use Rattle.rel_list.specs.Event.Event.{made}
 use Rattle.rel_list.specs.declared.status.Status.TheVariants.{Permanent}
-use Rattle.rel_store.specs.Creation.{IsUnwritten}
 use Rattle.rel_store.specs.Layout.{has_magic}
 use Rattle.rel_store.specs.Records.{records_of}
 use Rattle.rel_store.proofs.Whole.{sound}
@@ -22,7 +20,6 @@ use Rattle.rel_handler.specs.Image.{IsImageOf}
 use Rattle.rel_handler.specs.Limits.{is_small}
 use Rattle.rel_handler.specs.Refusals.{CreateRefused, BootRefused}
 use Rattle.rel_handler.specs.State.{disk_in, list_in, is_dead, IsSound}
-use Rattle.rel_handler.specs.Taking.{commanded}
 use Rattle.relnode.specs.declared.place.Place.{Place as PlaceInMemory}
 use Rattle.relnode.specs.declared.place.Place.TheVariants as memory
 use Rattle.relnode.specs.declared.refusal.Refusal.{Refusal as RefusalInMemory}
@@ -33,7 +30,7 @@ use Rattle.relnode.specs.Nodes.{disk_at, IsSoundPlace, IsDisk, IsPlace, Turns}
 use Rattle.relnode.specs.Told.{IsAnswered}
 
 -- a disk that stands for a list has a store, and so isn't empty
-has_a_store : (bytes : List ℕ) (es : Releases) → IsImageOf bytes es → has_magic bytes ≡ true
+pub has_a_store : (bytes : List ℕ) (es : Releases) → IsImageOf bytes es → has_magic bytes ≡ true
 has_a_store bytes es image = (sound bytes image.bodies image.store).begins
 
 never_empty : (bytes : List ℕ) (es : Releases) → bytes ≡ [] → IsImageOf bytes es → ⊥

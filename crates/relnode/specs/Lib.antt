@@ -15,3 +15,7 @@ pub mod Told
 pub mod Nodes
 pub mod Laws
 pub mod Exits
+pub mod Runs
+pub mod Kept
+pub mod RunLaws
+pub mod Leads

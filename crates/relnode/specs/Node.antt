@@ -1,5 +1,5 @@
 -- What a node answers to a command, and what it is then.
-use Rattle.std.specs.Prelude.{◌≡◌, ◌⊎◌, ℕ, Bool, true, List, [], ◌∷◌, ◌++◌, length, nat_lt, if◌then◌else◌, codes, Option, None, Some, Result, Ok, Err}
+use Rattle.std.specs.Prelude.{◌≡◌, ◌⊎◌, ℕ, Bool, true, List, [], ◌++◌, if◌then◌else◌, codes, Option, None, Some, Result, Ok, Err}
 use Rattle.std.specs.Str.{bytes_eq}
 use Rattle.rel_files.specs.declared.fault.FileFault.{FileFault}
 use Rattle.rel_files.specs.Fault.{fault_of}

@@ -4,7 +4,7 @@ use Rattle.std.specs.declared.alloc.Global.{Global}
 use Rattle.relnode.specs.declared.refusal.Refusal.{Refusal as RefusalInMemory}
 use Rattle.relnode.specs.declared.refusal.Refusal.TheVariants as memory
 use Rattle.relnode.specs.Refusals.{Refusal, refusal_of, refusal_line}
-use Rattle.relnode.specs.Node.{Place, Node, Done, ok_line}
+use Rattle.relnode.specs.Node.{Place, Done, ok_line}
 use Rattle.relnode.specs.Node.Place.{awake}
 
 -- Done, and the place has a node with the list then; or refused, and it is as it was. P says which answers are right.

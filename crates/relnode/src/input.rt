@@ -28,6 +28,7 @@ impl<R: Read + Drop> Input<R> {
     /// An input from which nothing was taken yet. It takes memory for a buffer.
     pub fn new(alloc: Global, reader: R) -> Result<Input<R>, SessionError>
         ensures fresh { IfOk result (λ i. IsFresh i × (reader_of i ≡ reader) × (failed_reads i ≡ 0)) }
+        ensures memory { IfErr result (λ e. e ≡ SessionError.NoMemory) }
     {
         Ok(Input {
             reader,

@@ -7,6 +7,9 @@
 //! tells a failed read, a failed write and an input that is too long only where one was. It takes at most
 //! 16,777,216 bytes of its input, and each answer is written once its command was read.
 //!
+//! At each moment of a session a crash leaves its disk with every event that an answer has acknowledged, where the
+//! device fails too: `Runs` and `TellsAll` in `specs/Runs.antt` say how, and the laws what follows for whole runs.
+//!
 //! A command is added by a clause of `said_in` (what is typed), one of `Follows` (what it answers), a
 //! variant of `Command` and a function of `Node`.
 #![tactic(auto)]

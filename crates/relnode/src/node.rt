@@ -1,8 +1,11 @@
 //! The node of a session.
 ghost use Rattle.std.specs.Prelude.{◌≡◌, ◌≤◌, true, codes, None, Some, Ok, Err, string_bytes, IfOk, IfErr, OnOk, MatchResult};
 ghost use Rattle.relnode.specs.Commands.{command_of, given_of};
+ghost use Rattle.rel_list.specs.Event.Event.{unpacked};
 ghost use Rattle.relnode.specs.Commands.Command.{file as file_given, create, set_unpacked, boot};
 ghost use Rattle.relnode.specs.Given.{files_of};
+ghost use Rattle.relnode.specs.Kept.{Survives};
+ghost use Rattle.relnode.specs.Leads.{Brings};
 ghost use Rattle.relnode.specs.Node.{Follows, IsUnpackedAt, give};
 ghost use Rattle.relnode.specs.Nodes.{Turns};
 ghost use Rattle.relnode.specs.Told.{IsAnswered, IsLine, IsText};
@@ -57,6 +60,7 @@ impl<D: Disk> Node<D> {
         ensures sound { IsSoundPlace D.seen D.may_leave result.0.place }
         ensures counted { D.failures (disk_of self) ≤ D.failures (disk_of result.0) }
         ensures followed { IfOk result.1 (λ text. TurnsNode D.seen D.failures self result.0 (λ n m. Follows true n (command_of command) (step_of m text))) }
+        ensures survives { Survives D.seen D.may_leave D.moment D.left_since (command_of command) result.1 self result.0 }
         ensures memory { IfErr result.1 (λ e. e ≡ SessionError.NoMemory) }
     {
         match command {
@@ -85,6 +89,7 @@ impl<D: Disk> Node<D> {
     ) -> (Node<D>, Result<Option<String>, SessionError>)
         ensures place { result.0.place ≡ self.place }
         ensures followed { IfOk result.1 (λ text. TurnsNode D.seen D.failures self result.0 (λ n m. Follows true n (file_given (string_bytes path) (given_of file)) (step_of m text))) }
+        ensures survives { Survives D.seen D.may_leave D.moment D.left_since (file_given (string_bytes path) (given_of file)) result.1 self result.0 }
         ensures memory { IfErr result.1 (λ e. e ≡ SessionError.NoMemory) }
     {
         let Node { place, mut files } = self;
@@ -98,6 +103,7 @@ impl<D: Disk> Node<D> {
         ensures sound { IsSoundPlace D.seen D.may_leave result.0.place }
         ensures counted { D.failures (disk_of self) ≤ D.failures (disk_of result.0) }
         ensures followed { IfOk result.1 (λ text. TurnsNode D.seen D.failures self result.0 (λ n m. Follows true n (create path.now) (step_of m text))) }
+        ensures survives { Survives D.seen D.may_leave D.moment D.left_since (create path.now) result.1 self result.0 }
         ensures memory { IfErr result.1 (λ e. e ≡ SessionError.NoMemory) }
     {
         let Node { place, files } = self;
@@ -120,6 +126,7 @@ impl<D: Disk> Node<D> {
         ensures sound { IsSoundPlace D.seen D.may_leave result.0.place }
         ensures counted { D.failures (disk_of self) ≤ D.failures (disk_of result.0) }
         ensures followed { IfOk result.1 (λ text. TurnsNode D.seen D.failures self result.0 (λ n m. Follows true n (set_unpacked path.now) (step_of m text))) }
+        ensures survives { Survives D.seen D.may_leave D.moment D.left_since (set_unpacked path.now) result.1 self result.0 }
         ensures memory { IfErr result.1 (λ e. e ≡ SessionError.NoMemory) }
     {
         let Node { place, files } = self;
@@ -150,6 +157,7 @@ impl<D: Disk> Node<D> {
         ensures sound { IsSoundPlace D.seen D.may_leave result.0.place }
         ensures counted { D.failures (disk_of self) ≤ D.failures (disk_of result.0) }
         ensures followed { IfOk result.1 (λ text. TurnsNode D.seen D.failures self result.0 (λ n m. Follows true n boot (step_of m text))) }
+        ensures survives { Survives D.seen D.may_leave D.moment D.left_since boot result.1 self result.0 }
         ensures memory { IfErr result.1 (λ e. e ≡ SessionError.NoMemory) }
     {
         let Node { place, files } = self;
@@ -185,6 +193,7 @@ fn unpack<D: Disk>(
     ensures counted { D.failures (disk_in handler.old) ≤ D.failures (disk_in handler.new) }
     ensures unpacked { Turns D.seen D.failures (Made handler.old) (Made handler.new) (λ p q. IsAnswered result p q (IsUnpackedAt true p (files_of files.now) path.now)) }
     ensures dead { is_dead handler.old ≡ true → (result ≡ Err Refusal.Dead) × (is_dead handler.new ≡ true) }
+    ensures survives { Brings D.seen D.may_leave D.moment D.left_since unpacked (files_of files.now) path.now result (Made handler.old) (Made handler.new) }
 {
     if handler.is_dead() {
         return Err(Refusal::Dead);

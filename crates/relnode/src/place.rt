@@ -4,8 +4,10 @@ ghost use Rattle.rel_files.specs.Release.{release_of};
 ghost use Rattle.rel_handler.specs.Files.{IsRelFile};
 ghost use Rattle.rel_handler.specs.Limits.{is_small};
 ghost use Rattle.rel_handler.specs.State.{is_dead, list_in};
+ghost use Rattle.rel_list.specs.Event.Event.{made};
 ghost use Rattle.rel_list.specs.Releases.{running};
-ghost use Rattle.relnode.specs.Node.{IsTold, created, woken, woken_line, listed, ok_line, vsn_of};
+ghost use Rattle.relnode.specs.Leads.{news_of, Keeps, IsBooted};
+ghost use Rattle.relnode.specs.Node.{Place as SomePlace, IsTold, created, woken, woken_line, listed, ok_line, vsn_of};
 ghost use Rattle.relnode.specs.Refusals.{boot_line};
 ghost use Rattle.relnode.specs.Told.{IsAnswered};
 
@@ -46,6 +48,10 @@ impl<D: Disk> Place<D> {
         ensures sound { IsSoundPlace D.seen D.may_leave result.0 }
         ensures counted { D.failures (disk_at self) ≤ D.failures (disk_at result.0) }
         ensures made { Turns D.seen D.failures self result.0 (λ p q. IsAnswered result.1 p q (IsTold true (created p (Ok (release_of file.release))))) }
+        ensures vsn { IfOk result.1 (λ vsn. string_bytes vsn ≡ (release_of file.release).vsn) }
+
+        // Done, it is acknowledged, where the device failed it is in doubt, and else no crash leaves anything new.
+        ensures survives { Keeps D.seen D.may_leave D.moment D.left_since (news_of (made (release_of file.release)) result.1) self result.0 }
     {
         let disk = match self {
             Place::Bare(disk) => disk,
@@ -66,6 +72,7 @@ impl<D: Disk> Place<D> {
         ensures sound { IsSoundPlace D.seen D.may_leave result.0 }
         ensures counted { D.failures (disk_at self) ≤ D.failures (disk_at result.0) }
         ensures booted { IfOk result.1 (λ text. Turns D.seen D.failures self result.0 (λ p q. (q ≡ woken p) × (string_bytes text ≡ woken_line p))) }
+        ensures survives { IsBooted D.seen D.may_leave D.moment D.left_since result.1 self result.0 }
     {
         match rel_handler::boot(alloc, self.into_disk()) {
             Ok(handler) => {
@@ -78,7 +85,8 @@ impl<D: Disk> Place<D> {
 
     /// The lines that list the releases.
     pub fn releases(&self, alloc: Global) -> Result<String, AllocError>
-        ensures { IfOk result (λ text. OfPlace D.seen self.now (λ p. string_bytes text ≡ listed p)) }
+        ensures of_place { IfOk result (λ text. OfPlace D.seen self.now (λ p. string_bytes text ≡ listed p)) }
+        ensures some_list { IfOk result (λ text. (p : SomePlace) × (string_bytes text ≡ listed p)) }
     {
         let Place::Made(handler) = self else {
             return Refusal::Dead.line(alloc);

@@ -1,9 +1,11 @@
 //! A session of a node.
-ghost use Rattle.std.specs.Prelude.{◌≡◌, ◌≤◌, IfSome, IsErrOf, OnOk, OnErr};
-ghost use Rattle.relnode.specs.Answers.{IsAnswerOrFull, BeginsAnswer, FromDisk};
+ghost use Rattle.std.specs.Prelude.{◌≡◌, ◌≤◌, List, Option, None, IfSome, IsErrOf, OnOk, OnErr};
+ghost use Rattle.rel_handler.specs.Events.{Known};
+ghost use Rattle.relnode.specs.Answers.{IsAnswerOrFull, BeginsAnswer, FromDisk, commands_in};
 ghost use Rattle.relnode.specs.Answers.Ending.{ended, cut_off};
 ghost use Rattle.relnode.specs.Input.{IsFresh, reader_of, taken, failed_reads, most_bytes, HasRisen};
 ghost use Rattle.relnode.specs.Output.{writer_of, failed_writes, Writes};
+ghost use Rattle.relnode.specs.Runs.{News, TellsAll, IsKept, Runs};
 
 use crate::error::SessionError;
 use crate::input::Input;
@@ -35,6 +37,13 @@ pub fn session<D: Disk, R: Read + Drop, W: Write + Drop>(
     // After any error a front of it was written.
     ensures front { OnErr result.1 (FromDisk (D.seen disk) (D.failures disk) (D.failures result.0) (λ place. IfSome (R.remaining (reader_of input.old)) (λ bytes.
         Writes (W.contents (writer_of output.old)) (W.contents (writer_of output.new)) (BeginsAnswer place bytes)))) }
+
+    // At each moment a crash leaves the list of a prefix of the events so far that holds every acknowledged one, as the
+    // answers tell them, and so does the disk that comes back.
+    ensures survives { (known : Option Known) → IsKept D.seen D.may_leave D.moment D.left_since known disk
+        → (run : List News) × Runs D.seen D.may_leave D.moment D.left_since known run disk result.0
+        × IfSome (R.remaining (reader_of input.old)) (λ bytes. Writes (W.contents (writer_of output.old)) (W.contents (writer_of output.new))
+        (λ text. TellsAll (λ path. None) (commands_in bytes) text run)) }
 
     // Each error but want of memory has its cause in this call.
     ensures read { IsErrOf result.1 SessionError.Read → HasRisen (failed_reads input.old) (failed_reads input.new) }

@@ -469,6 +469,54 @@ fn each_device_call_fails(rt: HostRuntime) -> Result<(), Fail> {
     Ok(())
 }
 
+/// The session of a writer that fails after so many bytes has followed the command whose answer was cut off.
+#[test]
+fn cut_answers_and_the_next_session(rt: HostRuntime) -> Result<(), Fail> {
+    let alloc = rt.alloc();
+    let told = "ok\nok\nok A\nok B\n";
+    let none = "error boot 1 NotAStore\nerror handler 18 Dead\n";
+    let first = format!(in alloc; "ok A\n{LIST_A}ok 1\n")?;
+    let both = format!(in alloc; "ok A\n{LIST_A}{LIST_B}ok 2\n")?;
+    for count in 0..16 {
+        let mut written = Vec::new(alloc);
+        let narrow = Narrow {
+            writes: count,
+            written: &mut written,
+        };
+        let mut input = Input::new(alloc, TWO_RELEASES.as_bytes())?;
+        let mut output = Output::new(narrow);
+        let disk = MemDisk::new(alloc, DISK, LOG)?;
+        let (disk, how) = session(alloc, disk, &mut input, &mut output);
+        assert!(rt; how == Err(SessionError::Write));
+        drop(output);
+        assert_eq!(rt; written.len() as u64, count);
+        assert!(rt; told.as_bytes().starts_with(written.as_slice()));
+        let (later, _disk) = written_on(alloc, disk, "boot\nreleases\n")?;
+        let listed = match count {
+            0..=5 => none,
+            6..=10 => first.as_str(),
+            _ => both.as_str(),
+        };
+        assert_eq!(rt; later.as_slice(), listed.as_bytes(), "byte {count}");
+    }
+    Ok(())
+}
+
+/// A node whose creation is in doubt works once it is booted, and its next release lasts.
+#[test]
+fn creation_in_doubt_and_a_boot(rt: HostRuntime) -> Result<(), Fail> {
+    let alloc = rt.alloc();
+    let input = format!(in alloc; "{TWO_RELEASES}boot\nset_unpacked b.rel\n")?;
+    let disk = FailDisk::new(MemDisk::new(alloc, DISK, LOG)?, 7);
+    let (written, disk) = written_on(alloc, disk, input.as_str())?;
+    let told = "ok\nok\nerror handler 16 Device\nerror handler 18 Dead\nok A\nok B\n";
+    assert_eq!(rt; written.as_slice(), told.as_bytes());
+    let (later, _disk) = written_on(alloc, disk.disk, "boot\nreleases\n")?;
+    let both = format!(in alloc; "ok A\n{LIST_A}{LIST_B}ok 2\n")?;
+    assert_eq!(rt; later.as_slice(), both.as_bytes());
+    Ok(())
+}
+
 /// Gives a text in pieces of at most so many bytes, and fails behind it.
 #[derive(Drop)]
 struct Broken<'a> {

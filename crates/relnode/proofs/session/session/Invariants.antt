@@ -2,6 +2,7 @@ use Rattle.std.proofs.Common.{◌≡◌, ◌≤◌}
 use Rattle.relnode.specs.Input.{left, commands_left}
 use Rattle.relnode.specs.Nodes.{disk_of, IsSoundPlace}
 use Rattle.relnode.proofs.Going.{Goes}
+use Rattle.relnode.proofs.Running.{IsSurviving}
 use Rattle.relnode.proofs.session.session.Given as goal
 
 abbrev pub invariant-loop-command : goal.invariant-loop-command
@@ -12,6 +13,8 @@ invariant-loop-command g l =
     × (g.D.Disk.failures l.fn.disk ≤ g.D.Disk.failures (disk_of l.node))
     × (l.input.failures ≡ l.initial.input.failures)
     × (l.output.failures ≡ l.initial.output.failures)
+    × IsSurviving g.D.Disk.seen g.D.Disk.may_leave g.D.Disk.moment g.D.Disk.left_since l.fn.disk (g.R.Read.remaining l.initial.input.reader) (commands_left g.R.Read.remaining l.input)
+    (g.W.Write.contents l.initial.output.writer) (g.W.Write.contents l.output.writer) l.node
 
 abbrev pub decreases-loop-command : goal.decreases-loop-command
 decreases-loop-command g l = left l.input
