@@ -12,6 +12,7 @@ pub mod Numerals
 pub mod Quoting
 pub mod Joining
 pub mod Naming
+pub mod Pieces
 pub mod Lexemes
 pub mod Parsing
 pub mod Characters

@@ -10,8 +10,8 @@ use Rattle.erl_term.specs.Lexing.Token.{name, broken}
 use Rattle.erl_term.proofs.Parts.{item, spelled_item}
 
 -- Few bytes are few characters.
-pub few_bytes : (s : List ℕ) → IsUtf8 s → length s ≤ 255 → nat_lt 255 (length s) ≡ nat_lt 255 (length (chars s))
-few_bytes s utf8 few =
+pub few_bytes : (s : List ℕ) (limit : ℕ) → IsUtf8 s → length s ≤ limit → nat_lt limit (length s) ≡ nat_lt limit (length (chars s))
+few_bytes s limit utf8 few =
     let fewer : length (chars s) ≤ length s = subst (λ (bs : List ℕ). length (chars s) ≤ length bs) (encodes-chars s utf8) (length-le-encodes (chars s)) in
     grind (arith, nat_tests)
 

@@ -1,16 +1,35 @@
 -- What private contracts read of what stands between quotes.
-use Rattle.std.specs.Prelude.{◌≡◌, ℕ, ◌+◌, ◌-◌, ◌<◌, ◌⊎◌, List, string_bytes}
+use Rattle.std.specs.Prelude.{◌≡◌, ℕ, pos, ◌+◌, ◌-◌, ◌<◌, ◌⊎◌, List, [], ◌∷◌, map, encode_utf8}
+use Rattle.std.specs.List.{flat_map}
+use Rattle.std.specs.Str.{IsUtf8, chars}
+use Rattle.erl_term.specs.declared.content.Piece.{Piece}
+use Rattle.erl_term.specs.declared.content.Piece.TheVariants.{Part as PiecePart, Character}
 use Rattle.erl_term.specs.declared.content.Content.{Content}
-use Rattle.erl_term.specs.declared.content.Content.TheVariants.{Part, Made}
+use Rattle.erl_term.specs.declared.content.Content.TheVariants.{Part, Row}
 use Rattle.erl_term.specs.declared.quote.Quoted.{Quoted as CodeQuoted}
 use Rattle.erl_term.specs.declared.quote.Quoted.TheVariants.{Closed, Faulty}
+use Rattle.erl_term.specs.Value.{Value}
+use Rattle.erl_term.specs.Value.Value.{int}
 use Rattle.erl_term.specs.Quotes.{Quoted}
 use Rattle.erl_term.specs.Quotes.Quoted.{closed, faulty}
+
+-- a piece of what quotes hold
+abbrev pub piece_bytes : Piece → List ℕ
+piece_bytes (PiecePart s) = s.now
+piece_bytes (Character c) = encode_utf8 c
 
 -- what quotes hold
 abbrev pub content_bytes : Content → List ℕ
 content_bytes (Part s) = s.now
-content_bytes (Made s) = string_bytes s
+content_bytes (Row v) = flat_map piece_bytes v.items
+
+-- a character that stands in a text of its own
+abbrev pub IsAlone : ℕ → Type 0
+IsAlone c = (chars (encode_utf8 c) ≡ c ∷ []) × IsUtf8 (encode_utf8 c)
+
+-- the members of a list that these bytes of a text are
+abbrev pub character_values : List ℕ → List Value
+character_values s = map (λ n. int (pos n)) (chars s)
 
 -- `"` or `'`
 abbrev pub IsQuote : ℕ → Type 0

@@ -221,7 +221,7 @@ fn named(name: Content<'_>, from: usize, to: usize) -> Item<'_>
     requires room { from < 2 ^ 63 }
     ensures { IsSpelled (named_spelling from (content_bytes name.entry) (to - from)) from result }
 {
-    if is_too_long(name.as_str()) {
+    if name.is_longer_than(LONGEST_NAME) {
         alone(Token::Broken(Like::Name, TermFault::BadToken(from)), from)
     } else {
         Item {
@@ -230,13 +230,6 @@ fn named(name: Content<'_>, from: usize, to: usize) -> Item<'_>
             to,
         }
     }
-}
-
-/// A name has more characters than it may have. Where its bytes aren't more, they aren't counted.
-fn is_too_long(name: &str) -> bool
-    ensures { result ≡ nat_lt 255 (length (chars name.now)) }
-{
-    name.len() > LONGEST_NAME && name.chars().count() > LONGEST_NAME
 }
 
 /// A name between quotes.

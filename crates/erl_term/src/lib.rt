@@ -13,6 +13,7 @@
 //! limits of the reader (specs/Within).
 #![tactic(auto)]
 
+mod character;
 mod class;
 mod clone;
 mod content;

@@ -1,16 +1,17 @@
 //! Tokens into terms, with the open brackets on a stack.
 ghost use Rattle.std.specs.Prelude.{◌≡◌, ◌+◌, ◌++◌, true, false, [], ◌∷◌, length, map, is_some, Some, None, OnOk, IfOk, IfErr};
-ghost use Rattle.std.specs.Str.{chars};
-ghost use Rattle.erl_term.specs.Value.{value_of, values_of};
-ghost use Rattle.erl_term.specs.Grammar.{numbers};
+ghost use Rattle.erl_term.specs.Value.{value_of};
+ghost use Rattle.erl_term.specs.Contents.{content_bytes};
 ghost use Rattle.erl_term.specs.Machine.{step, misplaced, is_left_out, comes, cut_off, put, with_member, begins_term, open_levels, bytes_of, empty, bracket_of, close, enclosed, at_end, nothing_read};
 ghost use Rattle.erl_term.specs.Faults.{for_a_term, for_a_segment};
-ghost use Rattle.erl_term.specs.Views.{token_value, like_value, item_value, members_are, IsAdded, level_of, progress_of, all_levels, Gives, ReadsAs};
+ghost use Rattle.erl_term.specs.Views.{token_value, like_value, item_value, members_are, level_of, progress_of, all_levels, Gives, ReadsAs};
 ghost use Rattle.erl_term.specs.Answers.{reading_of_spanned};
 ghost use Rattle.erl_term.specs.declared.fault.TermFault.TheVariants.{NoMemory};
 ghost use Rattle.erl_term.specs.declared.token.Token.TheVariants.{Open, Close, Comma, Dot, Number};
 ghost use Rattle.erl_term.specs.Lexing.Token.{text as text_token};
 
+use crate::character::{characters, push_characters};
+use crate::content::Content;
 use crate::fault::TermFault;
 use crate::term::{Spanned, Term};
 use crate::token::{Bracket, Item, Like, Token};
@@ -94,7 +95,7 @@ impl Parser {
                 self.put(Spanned { term, from, to })
             }
             Token::Number(n) => self.put_number(*n, &item),
-            Token::Text(text) => self.put_text(alloc, text.as_str(), &item),
+            Token::Text(text) => self.put_text(alloc, text, &item),
             Token::Stray(_) => Err(self.misplaced(&item)),
             Token::Broken(like, fault) => {
                 self.expect(*like, &item)?;
@@ -256,8 +257,13 @@ impl Parser {
     }
 
     /// A text, as the list of its characters or as bytes of a binary.
-    fn put_text(&mut self, alloc: Global, text: &str, item: &Item<'_>) -> Result<(), TermFault>
-        requires { token_value item.now.token ≡ text_token text.now }
+    fn put_text(
+        &mut self,
+        alloc: Global,
+        text: &Content<'_>,
+        item: &Item<'_>,
+    ) -> Result<(), TermFault>
+        requires { token_value item.now.token ≡ text_token (content_bytes text.now) }
         ensures step { Gives result (progress_of self.new) (step self.old.limit (progress_of self.old) (item_value item.now)) }
         ensures limit { self.new.limit ≡ self.old.limit }
     {
@@ -471,28 +477,4 @@ fn no_segment(item: &Item<'_>) -> TermFault
         Token::Number(_) | Token::Text(_) => TermFault::BadNumber(item.from),
         _ => TermFault::BadToken(item.from),
     }
-}
-
-/// A text's characters. It has at most as many as bytes.
-fn characters(alloc: Global, text: &str) -> Result<Vec<Term>, AllocError>
-    ensures { IfOk result (λ v. values_of (map value_of v.items) ≡ numbers (chars text.now)) }
-{
-    let mut members = Vec::with_capacity(alloc, text.len())?;
-    for character in text.chars() {
-        members.push(Term::Int(i64::from(u32::from(character))))?;
-    }
-    Ok(members)
-}
-
-/// Adds a text's characters to bytes, up to the first that is no byte: whether all are.
-fn push_characters(bytes: &mut Vec<u8>, text: &str) -> Result<bool, AllocError>
-    ensures { IfOk result (λ all. IsAdded all (chars text.now) bytes.old.items bytes.new.items) }
-{
-    for character in text.chars() {
-        let Ok(byte) = u8::try_from(u32::from(character)) else {
-            return Ok(false);
-        };
-        bytes.push(byte)?;
-    }
-    Ok(true)
 }
