@@ -1,18 +1,9 @@
-//! The program `consult`: the terms of the text on standard input, one a line, as `print` gives them.
+//! The program `consult`: the terms of the text on standard input, one a line, as `erl_consult` lists them.
 //!
-//! What [`consult`] writes is a stated function of what it reads: `Lists` in `specs/Listing.antt`. A text that is no row
-//! of terms is refused by its fault, on standard error, and nothing is written then.
+//! A text that isn't listed is reported on standard error, by the text of its error.
 #![tactic(auto)]
 
-mod consult;
-mod error;
-mod listing;
-#[cfg(test)]
-mod tests;
-
-use crate::consult::consult;
-use crate::error::ConsultError;
-use erl_term::TermFault;
+use erl_consult::{ConsultError, consult};
 use std::io;
 use std::process::ExitCode;
 
@@ -21,15 +12,5 @@ fn main(rt: HostRuntime) -> ExitCode {
         return ExitCode::SUCCESS;
     };
     let _ = eprintln!(rt; "{error}");
-    ExitCode::from(status_of(error))
-}
-
-/// The exit status for an error.
-fn status_of(error: ConsultError) -> u8 {
-    match error {
-        ConsultError::Fault(TermFault::NoMemory) => 3,
-        ConsultError::Fault(_) => 1,
-        ConsultError::Failed => 2,
-        ConsultError::TooLong => 4,
-    }
+    ExitCode::from(error.exit_status())
 }

@@ -1,0 +1,13 @@
+use Rattle.std.proofs.Common.{◌≡◌, ◌≤◌}
+use Rattle.rel_session.specs.Feed.{Stays}
+use Rattle.rel_session.specs.Input.{left, commands_left}
+use Rattle.rel_session.proofs.input.Input.next_command.Given as goal
+
+abbrev pub invariant-loop-line : goal.invariant-loop-line
+invariant-loop-line g l =
+    Stays (commands_left g.R.Read.remaining l.initial.self) (commands_left g.R.Read.remaining l.self)
+    × (left l.self ≤ left l.initial.self)
+    × (l.self.failures ≡ l.initial.self.failures)
+
+abbrev pub decreases-loop-line : goal.decreases-loop-line
+decreases-loop-line g l = left l.self

@@ -1,0 +1,122 @@
+-- The commands of an input.
+use Rattle.std.specs.Prelude.{◌≡◌, ℕ, ◌<◌, ◌≤◌, Bool, List, [], ◌∷◌, ◌++◌, length, nat_lt, nat_le, ◌==◌, if◌then◌else◌, codes, string_bytes}
+use Rattle.std.specs.List.{list_all, slice_split}
+use Rattle.std.specs.Str.{bytes_eq, is_utf8}
+use Rattle.rel_session.specs.declared.given.GivenFile.{GivenFile}
+use Rattle.rel_session.specs.declared.given.GivenFile.TheVariants as kept
+use Rattle.rel_session.specs.declared.command.Command.{Command as CommandInMemory}
+use Rattle.rel_session.specs.declared.command.Command.TheVariants as memory
+use Rattle.rel_session.specs.Feed.{Feed}
+use Rattle.rel_session.specs.Feed.Feed.{over, cut, next}
+
+-- how long a line of a command and a file are at most
+abbrev pub most_line : ℕ
+most_line = 4096
+
+abbrev pub most_file : ℕ
+most_file = 1048576
+
+-- a given file: its bytes, or that there are too many
+pub data File : Type 0 where
+  bytes : List ℕ → File
+  too_large : File
+
+abbrev pub file_of : List ℕ → File
+file_of bs = if nat_lt most_file (length bs) then too_large else bytes bs
+
+-- A command. Paths are texts.
+pub data Command : Type 0 where
+  file : List ℕ → File → Command
+  create : List ℕ → Command
+  set_unpacked : List ℕ → Command
+  boot : Command
+  releases : Command
+  quit : Command
+  bad : Command
+
+-- what a line says where a command may stand: nothing, that a file begins, or a whole command
+pub data Saying : Type 0 where
+  nothing : Saying
+  opens : List ℕ → Saying
+  tells : Command → Saying
+
+-- what a word says alone
+abbrev pub said_alone : List ℕ → Saying
+said_alone word =
+    if bytes_eq word (codes "boot") then tells boot
+    else if bytes_eq word (codes "releases") then tells releases
+    else if bytes_eq word (codes "quit") then tells quit
+    else tells bad
+
+-- what a word says with a path
+abbrev pub said_with_path : List ℕ → List ℕ → Saying
+said_with_path word path =
+    if bytes_eq word (codes "file") then opens path
+    else if bytes_eq word (codes "create") then tells (create path)
+    else if bytes_eq word (codes "set_unpacked") then tells (set_unpacked path)
+    else tells bad
+
+-- what words say; an empty word is no path
+abbrev pub said_by : List (List ℕ) → Saying
+said_by (word ∷ []) = said_alone word
+said_by (word ∷ [] ∷ []) = tells bad
+said_by (word ∷ path ∷ []) = said_with_path word path
+said_by words = tells bad
+
+-- what stands between single spaces
+abbrev pub words_of : List ℕ → List (List ℕ)
+words_of line = slice_split (λ b. b == 32) line
+
+abbrev pub is_blank : List ℕ → Bool
+is_blank line = list_all (λ b. nat_le b 32) line
+
+-- what a line says
+abbrev pub said_in : List ℕ → Saying
+said_in line =
+    if nat_lt most_line (length line) then tells bad
+    else if is_blank line then nothing
+    else if is_utf8 line then said_by (words_of line)
+    else tells bad
+
+-- the line behind the last line of a file
+abbrev pub is_end : List ℕ → Bool
+is_end line = bytes_eq line (codes ".end")
+
+-- what a line that says this makes of the commands after it, or of the file that begins behind it
+abbrev pub put_saying : Saying → Feed Command → (List ℕ → Feed Command) → Feed Command
+put_saying nothing rest file_at = rest
+put_saying (opens path) rest file_at = file_at path
+put_saying (tells c) rest file_at = next c rest
+
+abbrev mutual
+  -- The commands that lines say. A file that has no end is a bad command.
+  pub commands_of : Feed (List ℕ) → Feed Command
+  commands_of over = over
+  commands_of cut = cut
+  commands_of (next l ls) = put_saying (said_in l) (commands_of ls) (λ path. commands_behind path [] ls)
+
+  -- those behind a file of which these bytes are there already
+  pub commands_behind : List ℕ → List ℕ → Feed (List ℕ) → Feed Command
+  commands_behind path bs over = next bad over
+  commands_behind path bs cut = cut
+  commands_behind path bs (next l ls) =
+      if is_end l then next (file path (file_of bs)) (commands_of ls) else commands_behind path (bs ++ (l ++ 10 ∷ [])) ls
+
+-- a file and a command without where they lie in memory
+abbrev pub given_of : GivenFile → File
+given_of (kept.Bytes v) = bytes v.items
+given_of kept.TooLarge = too_large
+
+abbrev pub command_of : CommandInMemory → Command
+command_of (memory.File p g) = file (string_bytes p) (given_of g)
+command_of (memory.Create p) = create (string_bytes p)
+command_of (memory.SetUnpacked p) = set_unpacked (string_bytes p)
+command_of memory.Boot = boot
+command_of memory.Releases = releases
+command_of memory.Quit = quit
+command_of memory.Bad = bad
+
+-- a file as it is kept while its lines come
+abbrev pub IsGiven : GivenFile → List ℕ → Type 0
+IsGiven (kept.Bytes v) bs = (v.items ≡ bs) × (length bs ≤ most_file)
+IsGiven kept.TooLarge bs = most_file < length bs

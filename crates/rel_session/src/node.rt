@@ -1,0 +1,224 @@
+//! The node of a session.
+ghost use Rattle.std.specs.Prelude.{◌≡◌, ◌≤◌, true, codes, None, Some, Ok, Err, string_bytes, IfOk, IfErr, OnOk, MatchResult};
+ghost use Rattle.rel_session.specs.Commands.{command_of, given_of};
+ghost use Rattle.rel_list.specs.Event.Event.{unpacked};
+ghost use Rattle.rel_session.specs.Commands.Command.{file as file_given, create, set_unpacked, boot};
+ghost use Rattle.rel_session.specs.Given.{files_of};
+ghost use Rattle.rel_session.specs.Kept.{Survives};
+ghost use Rattle.rel_session.specs.Leads.{Brings};
+ghost use Rattle.rel_session.specs.Node.{Follows, IsUnpackedAt, give};
+ghost use Rattle.rel_session.specs.Nodes.{Turns};
+ghost use Rattle.rel_session.specs.Told.{IsAnswered, IsLine, IsText};
+ghost use Rattle.rel_session.specs.declared.place.Place.TheVariants.{Bare, Made};
+ghost use Rattle.rel_handler.specs.State.{IsSound, disk_in, is_dead};
+
+use crate::command::Command;
+use crate::error::SessionError;
+use crate::files::Files;
+use crate::given::GivenFile;
+use crate::place::Place;
+use crate::refusal::Refusal;
+use rel_disk::Disk;
+use rel_handler::Handler;
+use std::alloc::{AllocError, Global};
+
+/// The node of a session: the disk that it is on, and the files that were given.
+pub struct Node<D: Disk> {
+    place: Place<D>,
+    files: Files,
+}
+
+impl<D: Disk> Node<D> {
+    ghost use Rattle.rel_session.specs.Nodes.{disk_of, IsSoundPlace, IsNode, Turns, TurnsNode, step_of};
+
+    /// No node was made or booted on the disk yet, and no file was given.
+    pub fn new(alloc: Global, disk: D) -> Node<D>
+        ensures place { result.place ≡ Bare disk }
+        ensures files { files_of result.files ≡ (λ path. None) }
+    {
+        Node {
+            place: Place::Bare(disk),
+            files: Files::new(alloc),
+        }
+    }
+
+    /// The disk.
+    pub fn into_disk(self) -> D
+        ensures { result ≡ disk_of self }
+    {
+        let Node { place, files: _ } = self;
+        place.into_disk()
+    }
+
+    /// Does what the command says. The answer is its text, or none where the session ends.
+    pub fn follow(
+        self,
+        alloc: Global,
+        command: Command,
+    ) -> (Node<D>, Result<Option<String>, SessionError>)
+        requires { IsSoundPlace D.seen D.may_leave self.place }
+        ensures sound { IsSoundPlace D.seen D.may_leave result.0.place }
+        ensures counted { D.failures (disk_of self) ≤ D.failures (disk_of result.0) }
+        ensures followed { IfOk result.1 (λ text. TurnsNode D.seen D.failures self result.0 (λ n m. Follows true n (command_of command) (step_of m text))) }
+        ensures survives { Survives D.seen D.may_leave D.moment D.left_since (command_of command) result.1 self result.0 }
+        ensures memory { IfErr result.1 (λ e. e ≡ SessionError.NoMemory) }
+    {
+        match command {
+            Command::File(path, file) => self.give(alloc, path, file),
+            Command::Create(path) => self.create(alloc, path.as_str()),
+            Command::SetUnpacked(path) => self.set_unpacked(alloc, path.as_str()),
+            Command::Boot => self.boot(alloc),
+            Command::Releases => {
+                let lines = self.place.releases(alloc);
+                (self, text_of(lines))
+            }
+            Command::Quit => (self, Ok(None)),
+            Command::Bad => (
+                self,
+                text_of(String::from_str(alloc, "error session 1 BadCommand\n")),
+            ),
+        }
+    }
+
+    /// Keeps a file for its path.
+    fn give(
+        self,
+        alloc: Global,
+        path: String,
+        file: GivenFile,
+    ) -> (Node<D>, Result<Option<String>, SessionError>)
+        ensures place { result.0.place ≡ self.place }
+        ensures followed { IfOk result.1 (λ text. TurnsNode D.seen D.failures self result.0 (λ n m. Follows true n (file_given (string_bytes path) (given_of file)) (step_of m text))) }
+        ensures survives { Survives D.seen D.may_leave D.moment D.left_since (file_given (string_bytes path) (given_of file)) result.1 self result.0 }
+        ensures memory { IfErr result.1 (λ e. e ≡ SessionError.NoMemory) }
+    {
+        let Node { place, mut files } = self;
+        let text = keep(alloc, &mut files, path, file);
+        (Node { place, files }, text)
+    }
+
+    /// Makes the node, with the release in the file of this path as its permanent one.
+    fn create(self, alloc: Global, path: &str) -> (Node<D>, Result<Option<String>, SessionError>)
+        requires { IsSoundPlace D.seen D.may_leave self.place }
+        ensures sound { IsSoundPlace D.seen D.may_leave result.0.place }
+        ensures counted { D.failures (disk_of self) ≤ D.failures (disk_of result.0) }
+        ensures followed { IfOk result.1 (λ text. TurnsNode D.seen D.failures self result.0 (λ n m. Follows true n (create path.now) (step_of m text))) }
+        ensures survives { Survives D.seen D.may_leave D.moment D.left_since (create path.now) result.1 self result.0 }
+        ensures memory { IfErr result.1 (λ e. e ≡ SessionError.NoMemory) }
+    {
+        let Node { place, files } = self;
+        match files.release(alloc, path) {
+            Ok(file) => {
+                let (place, created) = place.make(alloc, file);
+                (Node { place, files }, line_of(alloc, created))
+            }
+            Err(refusal) => (Node { place, files }, line_of(alloc, Err(refusal))),
+        }
+    }
+
+    /// Takes in the release in the file of this path as unpacked.
+    fn set_unpacked(
+        self,
+        alloc: Global,
+        path: &str,
+    ) -> (Node<D>, Result<Option<String>, SessionError>)
+        requires { IsSoundPlace D.seen D.may_leave self.place }
+        ensures sound { IsSoundPlace D.seen D.may_leave result.0.place }
+        ensures counted { D.failures (disk_of self) ≤ D.failures (disk_of result.0) }
+        ensures followed { IfOk result.1 (λ text. TurnsNode D.seen D.failures self result.0 (λ n m. Follows true n (set_unpacked path.now) (step_of m text))) }
+        ensures survives { Survives D.seen D.may_leave D.moment D.left_since (set_unpacked path.now) result.1 self result.0 }
+        ensures memory { IfErr result.1 (λ e. e ≡ SessionError.NoMemory) }
+    {
+        let Node { place, files } = self;
+        match place {
+            Place::Bare(disk) => (
+                Node {
+                    place: Place::Bare(disk),
+                    files,
+                },
+                line_of(alloc, Err(Refusal::Dead)),
+            ),
+            Place::Made(mut handler) => {
+                let unpacked = unpack(alloc, &mut handler, &files, path);
+                (
+                    Node {
+                        place: Place::Made(handler),
+                        files,
+                    },
+                    line_of(alloc, unpacked),
+                )
+            }
+        }
+    }
+
+    /// Boots the node.
+    fn boot(self, alloc: Global) -> (Node<D>, Result<Option<String>, SessionError>)
+        requires { IsSoundPlace D.seen D.may_leave self.place }
+        ensures sound { IsSoundPlace D.seen D.may_leave result.0.place }
+        ensures counted { D.failures (disk_of self) ≤ D.failures (disk_of result.0) }
+        ensures followed { IfOk result.1 (λ text. TurnsNode D.seen D.failures self result.0 (λ n m. Follows true n boot (step_of m text))) }
+        ensures survives { Survives D.seen D.may_leave D.moment D.left_since boot result.1 self result.0 }
+        ensures memory { IfErr result.1 (λ e. e ≡ SessionError.NoMemory) }
+    {
+        let Node { place, files } = self;
+        let (place, line) = place.boot(alloc);
+        (Node { place, files }, text_of(line))
+    }
+}
+
+/// Keeps a file for its path.
+fn keep(
+    alloc: Global,
+    files: &mut Files,
+    path: String,
+    file: GivenFile,
+) -> Result<Option<String>, SessionError>
+    ensures kept { OnOk result (files_of files.new ≡ give (files_of files.old) (string_bytes path) (given_of file)) }
+    ensures told { IfOk result (λ text. IsText text (codes "ok\n")) }
+    ensures memory { IfErr result (λ e. e ≡ SessionError.NoMemory) }
+{
+    files.give(path, file)?;
+    Ok(Some(String::from_str(alloc, "ok\n")?))
+}
+
+/// Has a node take in the release in the file of this path as unpacked. The answer is its version.
+fn unpack<D: Disk>(
+    alloc: Global,
+    handler: &mut Handler<D>,
+    files: &Files,
+    path: &str,
+) -> Result<String, Refusal>
+    requires { IsSound D.seen D.may_leave handler.old }
+    ensures sound { IsSound D.seen D.may_leave handler.new }
+    ensures counted { D.failures (disk_in handler.old) ≤ D.failures (disk_in handler.new) }
+    ensures unpacked { Turns D.seen D.failures (Made handler.old) (Made handler.new) (λ p q. IsAnswered result p q (IsUnpackedAt true p (files_of files.now) path.now)) }
+    ensures dead { is_dead handler.old ≡ true → (result ≡ Err Refusal.Dead) × (is_dead handler.new ≡ true) }
+    ensures survives { Brings D.seen D.may_leave D.moment D.left_since unpacked (files_of files.now) path.now result (Made handler.old) (Made handler.new) }
+{
+    if handler.is_dead() {
+        return Err(Refusal::Dead);
+    }
+    let file = files.release(alloc, path)?;
+    let vsn = String::from_str(alloc, file.release.vsn.as_str())?;
+    handler.set_unpacked(alloc, file)?;
+    Ok(vsn)
+}
+
+/// The line that tells what a command has done, or why it was refused.
+fn line_of(alloc: Global, done: Result<String, Refusal>) -> Result<Option<String>, SessionError>
+    ensures line { IfOk result (λ text. IsLine done text) }
+    ensures memory { IfErr result (λ e. e ≡ SessionError.NoMemory) }
+{
+    match done {
+        Ok(vsn) => Ok(Some(format!(in alloc; "ok {vsn}\n")?)),
+        Err(Refusal::NoMemory) => Err(SessionError::NoMemory),
+        Err(refusal) => Ok(Some(refusal.line(alloc)?)),
+    }
+}
+
+/// A line as a text of a session.
+fn text_of(line: Result<String, AllocError>) -> Result<Option<String>, SessionError>
+    ensures same { MatchResult line (λ s. result ≡ Ok (Some s)) (λ _. result ≡ Err SessionError.NoMemory) }
+{
+    Ok(Some(line?))
+}

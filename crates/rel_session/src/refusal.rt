@@ -1,0 +1,138 @@
+//! Why the node refuses a command.
+ghost use Rattle.std.specs.Prelude.{◌≡◌, ◌++◌, codes, string_bytes, IfOk};
+ghost use Rattle.rel_files.specs.Fault.{fault_of};
+ghost use Rattle.rel_session.specs.declared.refusal.Refusal.TheVariants.{NoMemory};
+ghost use Rattle.rel_session.specs.Refusals.{file_fault_text, term_fault_text, refusal_line};
+ghost use Rattle.rel_session.specs.Refusals.Refusal.{bad_file as bad_file_refusal};
+
+use erl_term::TermFault;
+use rel_files::FileFault;
+use rel_handler::HandlerError;
+use std::alloc::{AllocError, AllocFailed, Global};
+use thiserror::Error;
+
+/// Why the node refuses a command. Nothing has changed then, but after `Device`.
+#[derive(Debug, Drop, Error)]
+pub enum Refusal {
+    /// A release of this version is there.
+    #[error("a release of this version is there")]
+    ExistingRelease,
+    /// The file of this path has a fault.
+    #[error("the file {0} has a fault: {1}")]
+    BadFile(String, FileFault),
+    /// No file of this path was given.
+    #[error("no file {0} was given")]
+    MissingFile(String),
+    /// A limit is passed.
+    #[error("a limit is passed")]
+    TooMany,
+    /// The device failed.
+    #[error("the device failed")]
+    Device,
+    /// The store would be longer than it may be.
+    #[error("the store is full")]
+    Full,
+    /// There is no node, or the device has failed it.
+    #[error("there is no node")]
+    Dead,
+    /// No memory was left.
+    #[error("no memory was left")]
+    NoMemory,
+    /// There is a node.
+    #[error("there is a node")]
+    Exists,
+}
+
+impl From<AllocError> for Refusal {
+    ghost from_gives = { λ _ r. r ≡ NoMemory };
+
+    fn from(_: AllocError) -> Refusal {
+        Refusal::NoMemory
+    }
+}
+
+impl<T: Drop> From<AllocFailed<T>> for Refusal {
+    ghost from_gives = { λ _ r. r ≡ NoMemory };
+
+    fn from(_: AllocFailed<T>) -> Refusal {
+        Refusal::NoMemory
+    }
+}
+
+impl From<HandlerError> for Refusal {
+    ghost use Rattle.rel_session.specs.Refusals.{handler_refusal};
+
+    ghost from_gives = { λ e r. r ≡ handler_refusal e };
+
+    fn from(error: HandlerError) -> Refusal {
+        match error {
+            HandlerError::ExistingRelease => Refusal::ExistingRelease,
+            HandlerError::TooMany => Refusal::TooMany,
+            HandlerError::Device => Refusal::Device,
+            HandlerError::Full => Refusal::Full,
+            HandlerError::Dead => Refusal::Dead,
+            HandlerError::NoMemory => Refusal::NoMemory,
+            HandlerError::Exists => Refusal::Exists,
+        }
+    }
+}
+
+impl Refusal {
+    ghost use Rattle.rel_session.specs.Refusals.{refusal_of};
+
+    /// The line that tells it.
+    pub fn line(&self, alloc: Global) -> Result<String, AllocError>
+        ensures { IfOk result (λ s. string_bytes s ≡ refusal_line (refusal_of self.now)) }
+    {
+        match self {
+            Refusal::ExistingRelease => String::from_str(
+                alloc,
+                "error handler 2 ExistingRelease\n",
+            ),
+            Refusal::BadFile(path, fault) => bad_file(alloc, path.as_str(), fault),
+            Refusal::MissingFile(path) => format!(in alloc; "error handler 9 MissingFile {path}\n"),
+            Refusal::TooMany => String::from_str(alloc, "error handler 12 TooMany\n"),
+            Refusal::Device => String::from_str(alloc, "error handler 16 Device\n"),
+            Refusal::Full => String::from_str(alloc, "error handler 17 Full\n"),
+            Refusal::Dead => String::from_str(alloc, "error handler 18 Dead\n"),
+            Refusal::NoMemory => String::from_str(alloc, "error handler 19 NoMemory\n"),
+            Refusal::Exists => String::from_str(alloc, "error handler 20 Exists\n"),
+        }
+    }
+}
+
+/// The line that tells of a file's fault.
+fn bad_file(alloc: Global, path: &str, fault: &FileFault) -> Result<String, AllocError>
+    ensures { IfOk result (λ s. string_bytes s ≡ refusal_line (bad_file_refusal path.now (fault_of fault.now))) }
+{
+    let told = file_fault(alloc, fault)?;
+    format!(in alloc; "error handler 8 BadFile {path} {told}\n")
+}
+
+/// The fault of a file, with its place if it has one.
+fn file_fault(alloc: Global, fault: &FileFault) -> Result<String, AllocError>
+    ensures { IfOk result (λ s. string_bytes s ≡ file_fault_text (fault_of fault.now)) }
+{
+    match fault {
+        FileFault::BadTerm(fault) => term_fault(alloc, *fault),
+        FileFault::BadShape(at) => format!(in alloc; "BadShape {at}"),
+        FileFault::Duplicate(_) => String::from_str(alloc, "Duplicate"),
+        FileFault::BadVersion => String::from_str(alloc, "BadVersion"),
+        FileFault::NoMemory => String::from_str(alloc, "NoMemory"),
+    }
+}
+
+/// The fault of a term, with its place.
+fn term_fault(alloc: Global, fault: TermFault) -> Result<String, AllocError>
+    ensures { IfOk result (λ s. string_bytes s ≡ term_fault_text fault) }
+{
+    match fault {
+        TermFault::BadToken(at) => format!(in alloc; "BadToken {at}"),
+        TermFault::BadNumber(at) => format!(in alloc; "BadNumber {at}"),
+        TermFault::Unclosed(at) => format!(in alloc; "Unclosed {at}"),
+        TermFault::MissingDot(at) => format!(in alloc; "MissingDot {at}"),
+        TermFault::Unsupported(at) => format!(in alloc; "Unsupported {at}"),
+        TermFault::Deep(at) => format!(in alloc; "Deep {at}"),
+        TermFault::NoMemory => String::from_str(alloc, "NoMemory"),
+    }
+}

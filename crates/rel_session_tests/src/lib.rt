@@ -1,0 +1,13 @@
+//! Tests of whole sessions: what they write, what ends them early, and what the next session finds.
+#![tactic(auto)]
+
+#[cfg(test)]
+mod answers;
+#[cfg(test)]
+mod devices;
+#[cfg(test)]
+mod failures;
+#[cfg(test)]
+mod limits;
+#[cfg(test)]
+mod sessions;
