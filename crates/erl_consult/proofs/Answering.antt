@@ -4,8 +4,7 @@ use Rattle.std.proofs.lemmas.List.{length-take, take_all}
 use Rattle.std.specs.Option.{option_map}
 use Rattle.std.specs.Io.KnownBytes.{Appends, Keeps}
 use Rattle.erl_term.specs.Answers.{TellsFault}
-use Rattle.erl_term.specs.declared.fault.TermFault.{TermFault}
-use Rattle.erl_term.specs.declared.reader.TheConstants.{MAX_DEPTH}
+use Rattle.erl_term.specs.TermFault.{TermFault}
 use Rattle.erl_consult.specs.Listing.{Lists, Answers, HasRead, Tells}
 use Rattle.erl_consult.specs.declared.error.ConsultError.TheVariants.{Fault, TooLong}
 
@@ -28,9 +27,9 @@ listed_so None old mid new bytes text read short lists a k = tt
 listed_so (Some all) old mid new bytes text read short lists a k = (text, subst (λ xs. Lists xs text) (all_came all bytes read short) lists, grows old mid new text a k)
 
 -- and so is its fault
-pub refused_so : (known : Option (List ℕ)) (bytes : List ℕ) (f : TermFault) → HasRead known bytes → length bytes ≤ 1048576 → TellsFault MAX_DEPTH bytes f → Tells known (Fault f)
+pub refused_so : (known : Option (List ℕ)) (bytes : List ℕ) (f : TermFault) → HasRead known bytes → length bytes ≤ 1048576 → TellsFault 64 bytes f → Tells known (Fault f)
 refused_so None bytes f read short told = tt
-refused_so (Some all) bytes f read short told = subst (λ xs. TellsFault MAX_DEPTH xs f) (all_came all bytes read short) told
+refused_so (Some all) bytes f read short told = subst (λ xs. TellsFault 64 xs f) (all_came all bytes read short) told
 
 -- what came of the reader, behind nothing
 pub read_so : (known left : Option (List ℕ)) (n : ℕ) (start bytes : List ℕ) → left ≡ known → n ≡ 1048577 → start ≡ []

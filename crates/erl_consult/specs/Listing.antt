@@ -5,8 +5,7 @@ use Rattle.std.specs.Io.KnownBytes.{Appends}
 use Rattle.std.specs.declared.io.ErrorKind.{ErrorKind}
 use Rattle.std.specs.declared.io.ErrorKind.TheVariants.{OutOfMemory}
 use Rattle.erl_term.specs.Answers.{TellsFault}
-use Rattle.erl_term.specs.declared.fault.TermFault.TheVariants.{NoMemory}
-use Rattle.erl_term.specs.declared.reader.TheConstants.{MAX_DEPTH}
+use Rattle.erl_term.specs.TermFault.TheVariants.{NoMemory}
 use Rattle.erl_term.specs.Grammar.{Reading, Reads}
 use Rattle.erl_term.specs.Printing.{text_of}
 use Rattle.erl_consult.specs.declared.error.ConsultError.{ConsultError}
@@ -18,7 +17,7 @@ lines_of rs = flat_map (λ r. text_of r.term ++ codes ".\n") rs
 
 -- the text reads as terms that are listed so
 abbrev pub Lists : List ℕ → List ℕ → Type 0
-Lists bytes text = (rs : List Reading) × Reads MAX_DEPTH bytes rs × (text ≡ lines_of rs)
+Lists bytes text = (rs : List Reading) × Reads 64 bytes rs × (text ≡ lines_of rs)
 
 -- where the bytes of the reader are known, these are they, up to one more than a text may have
 abbrev pub HasRead : Option (List ℕ) → List ℕ → Type 0
@@ -41,6 +40,6 @@ IsRefusal e = Unit {0}
 
 -- where the bytes of the reader are known, the refusal is theirs
 abbrev pub Tells : Option (List ℕ) → ConsultError → Type 0
-Tells known (Fault f) = IfSome known (λ bytes. TellsFault MAX_DEPTH bytes f)
+Tells known (Fault f) = IfSome known (λ bytes. TellsFault 64 bytes f)
 Tells known TooLong = IfSome known (λ bytes. 1048576 < length bytes)
 Tells known Failed = Unit {0}

@@ -11,13 +11,13 @@ use Rattle.std.proofs.lemmas.Bool.{and_parts, and_from}
 use Rattle.std.proofs.lemmas.Bool.Decides.{nat_tests}
 use Rattle.std.proofs.lemmas.Fmt.{digits_is_IsNumeral}
 use Rattle.std.proofs.lemmas.Str.{chars-encodes, encodes-chars, scalars-chars}
-use Rattle.erl_term.specs.Escapes.{front, with_next, scalar, escape}
-use Rattle.erl_term.specs.Escapes.Character.{means, senseless}
-use Rattle.erl_term.specs.Quotes.{Quoted, behind, quoted}
-use Rattle.erl_term.specs.Quotes.Quoted.{closed, faulty}
-use Rattle.erl_term.specs.Lexing.{named, name_in_quotes, text_in_quotes, lex}
-use Rattle.erl_term.specs.Lexing.Token.{name, text}
-use Rattle.erl_term.specs.Lexing.Start.{token_of}
+use Rattle.erl_token.specs.Escapes.{front, with_next, scalar, escape}
+use Rattle.erl_token.specs.Escapes.Character.{means, senseless}
+use Rattle.erl_token.specs.Quotes.{Quoted, behind, quoted}
+use Rattle.erl_token.specs.Quotes.Quoted.{closed, faulty}
+use Rattle.erl_token.specs.Lexing.{named, name_in_quotes, text_in_quotes, lex}
+use Rattle.erl_token.specs.Lexing.Token.{name, text}
+use Rattle.erl_token.specs.Lexing.Start.{token_of}
 use Rattle.erl_term.specs.Within.{IsShortName}
 use Rattle.erl_term.proofs.TokenTexts.{lex_token}
 use Rattle.erl_term.specs.Printing.{atom_character, string_character, is_printable}

@@ -10,13 +10,13 @@ use Rattle.std.proofs.lemmas.Bool.Decides.{nat_tests}
 use Rattle.std.proofs.lemmas.Fmt.{decimal_is_IsNumeral}
 use Rattle.std.proofs.Math.Seq.{drop-append_seam}
 use Rattle.std.proofs.lemmas.Str.Parse.{digit_from_value}
-use Rattle.erl_term.specs.declared.class.Class.TheVariants.{Letter, Digit}
-use Rattle.erl_term.specs.Escapes.{is_in, front}
-use Rattle.erl_term.specs.Numbers.{Numeral, more_digits, digit_row, spelled_by, goes_on_as_float, behind_digits, digits_numeral, numeral}
-use Rattle.erl_term.specs.Numbers.Numeral.{whole}
-use Rattle.erl_term.specs.Lexing.{class_of, Token, start_of, goes_on, is_name_byte, bare, is_int, signed, lex}
-use Rattle.erl_term.specs.Lexing.Token.{name, number}
-use Rattle.erl_term.specs.Lexing.Start.{token_of}
+use Rattle.erl_token.specs.declared.class.Class.TheVariants.{Letter, Digit}
+use Rattle.erl_token.specs.Escapes.{is_in, front}
+use Rattle.erl_token.specs.Numbers.{Numeral, more_digits, digit_row, spelled_by, goes_on_as_float, behind_digits, digits_numeral, numeral}
+use Rattle.erl_token.specs.Numbers.Numeral.{whole}
+use Rattle.erl_token.specs.Lexing.{class_of, Token, start_of, goes_on, is_name_byte, bare, is_int, signed, lex}
+use Rattle.erl_token.specs.Lexing.Token.{name, number}
+use Rattle.erl_token.specs.Lexing.Start.{token_of}
 use Rattle.erl_term.specs.Printing.{has_bare_form, is_bare, reserved_words}
 use Rattle.erl_term.specs.Within.{IsShortName}
 

@@ -1,8 +1,8 @@
 -- What a file says, or its fault, from the terms in it.
 use Rattle.std.proofs.Common.{◌≡◌, ◌≢◌, ℕ, List, [], ◌∷◌, ◌++◌, map, Some, None, slice_get, refl, sym, ap, subst, ◌∙◌}
-use Rattle.erl_term.specs.declared.fault.TermFault.{TermFault}
-use Rattle.erl_term.specs.declared.fault.TermFault.TheVariants as term
-use Rattle.erl_term.specs.declared.term.Spanned.{Spanned}
+use Rattle.erl_term.specs.TermFault.{TermFault}
+use Rattle.erl_term.specs.TermFault.TheVariants as term
+use Rattle.erl_term.specs.Spanned.{Spanned}
 use Rattle.erl_term.specs.Value.{Value, value_of}
 use Rattle.erl_term.specs.Grammar.{Reading, Reads}
 use Rattle.erl_term.specs.Answers.{TellsFault, reading_of_spanned}

@@ -1,6 +1,6 @@
 -- A file says one release or has one fault.
 use Rattle.std.proofs.Common.{◌≡◌, ℕ, List, [], ◌∷◌, Some, ◌⊎◌, inl, inr, string_bytes, refl, sym, ap, subst, ◌∙◌}
-use Rattle.erl_term.specs.declared.fault.TermFault.{TermFault}
+use Rattle.erl_term.specs.TermFault.{TermFault}
 use Rattle.erl_term.specs.Value.{Value}
 use Rattle.erl_term.specs.Grammar.{Reads, Reading}
 use Rattle.erl_term.specs.Faults.{IsFault}

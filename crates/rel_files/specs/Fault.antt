@@ -1,7 +1,7 @@
 -- The fault of a file.
 use Rattle.std.specs.Prelude.{ℕ, List, string_bytes}
-use Rattle.erl_term.specs.declared.fault.TermFault.{TermFault}
-use Rattle.erl_term.specs.declared.fault.TermFault.TheVariants as term
+use Rattle.erl_term.specs.TermFault.{TermFault}
+use Rattle.erl_term.specs.TermFault.TheVariants as term
 use Rattle.rel_files.specs.declared.fault.FileFault.{FileFault}
 use Rattle.rel_files.specs.declared.fault.FileFault.TheVariants.{BadTerm, BadShape, Duplicate, BadVersion, NoMemory}
 

@@ -7,8 +7,8 @@ use Rattle.erl_term.specs.Grammar.{Reads}
 use Rattle.erl_term.specs.OneTerm.{HasTerm}
 use Rattle.erl_term.specs.Value.{Value}
 use Rattle.erl_term.specs.Within.{IsWithin, ReadsAs}
-use Rattle.erl_term.specs.declared.fault.TermFault.{TermFault}
-use Rattle.erl_term.specs.declared.fault.TermFault.TheVariants as term
+use Rattle.erl_term.specs.TermFault.{TermFault}
+use Rattle.erl_term.specs.TermFault.TheVariants as term
 use Rattle.rel_files.specs.File.{IsReleaseTerm}
 use Rattle.rel_files.specs.Release.{Release}
 use Rattle.rel_files.specs.declared.fault.FileFault.{FileFault}

@@ -4,8 +4,8 @@ use Rattle.std.specs.Option.{option_map, option_and_then}
 use Rattle.erl_term.specs.Value.{Value}
 use Rattle.erl_term.specs.Value.Value.{atom, list}
 use Rattle.erl_term.specs.Value.Values.{no_values}
-use Rattle.erl_term.specs.declared.fault.TermFault.{TermFault}
-use Rattle.erl_term.specs.declared.fault.TermFault.TheVariants as term
+use Rattle.erl_term.specs.TermFault.{TermFault}
+use Rattle.erl_term.specs.TermFault.TheVariants as term
 use Rattle.rel_files.specs.Parts.{four_in, is_word}
 use Rattle.rel_files.specs.Release.{release_of}
 use Rattle.rel_files.specs.declared.fault.FileFault.{FileFault}

@@ -3,7 +3,7 @@ use Rattle.std.proofs.Common.{◌≡◌, ℕ, pos, List, [], ◌∷◌, map, ◌
 use Rattle.std.specs.Prelude.{Result, Ok, Err, IfOk}
 use Rattle.std.proofs.lemmas.Grind.{common_steps}
 use Rattle.erl_term.specs.Value.{Value, value_of, values_of}
-use Rattle.erl_term.specs.declared.term.Term.{Term}
+use Rattle.erl_term.specs.Term.{Term}
 use Rattle.rel_files.specs.declared.release.RelApp.{RelApp}
 use Rattle.rel_files.specs.Release.{application_of}
 use Rattle.rel_session.specs.Listing.{application_value}

@@ -1,7 +1,7 @@
 -- Why a command is refused, and how that is told.
 use Rattle.std.specs.Prelude.{ℕ, List, ◌++◌, codes, decimal, string_bytes}
-use Rattle.erl_term.specs.declared.fault.TermFault.{TermFault}
-use Rattle.erl_term.specs.declared.fault.TermFault.TheVariants as term
+use Rattle.erl_term.specs.TermFault.{TermFault}
+use Rattle.erl_term.specs.TermFault.TheVariants as term
 use Rattle.rel_files.specs.Fault.{Fault, fault_of}
 use Rattle.rel_files.specs.Fault.Fault.{bad_term, bad_shape, duplicate, bad_version, no_memory as out_of_memory}
 use Rattle.rel_handler.specs.declared.error.HandlerError.{HandlerError}

@@ -1,7 +1,6 @@
 use Rattle.std.proofs.Common.{◌≤◌, ◌<◌, length, string_bytes, subst, arith, rules}
 use Rattle.std.specs.Io.KnownBytes.{Appends}
 use Rattle.erl_term.specs.Answers.{TellsFault}
-use Rattle.erl_term.specs.declared.reader.TheConstants.{MAX_DEPTH}
 use Rattle.erl_consult.specs.Listing.{Lists, Tells}
 use Rattle.erl_consult.specs.declared.error.ConsultError.TheVariants.{Fault}
 use Rattle.erl_consult.proofs.Answering.{listed_so, refused_so, too_long_so}
@@ -21,7 +20,7 @@ pub returns-in_err-text-clause-refused : goal.returns-in_err-text-clause-refused
 returns-in_err-text-clause-refused g c =
     let fault = c.in_err-text.field-0.0 in
     let short : length c.in_ok-bytes.bytes.items ≤ 1048576 = omega (arith, c.len.ensures, c.if-len-gt-MOST_BYTES.false) in
-    let told : TellsFault MAX_DEPTH c.in_ok-bytes.bytes.items fault = subst (λ bytes. TellsFault MAX_DEPTH bytes fault) c.deref.ensures.value c.in_err-text.ensures.fault in
+    let told : TellsFault 64 c.in_ok-bytes.bytes.items fault = subst (λ bytes. TellsFault 64 bytes fault) c.deref.ensures.value c.in_err-text.ensures.fault in
     let refused : Tells (g.R.Read.remaining c.args.reader) (Fault fault) = refused_so (g.R.Read.remaining c.args.reader) c.in_ok-bytes.bytes.items fault c.in_ok-bytes.ensures.read short told in
     search rules
 

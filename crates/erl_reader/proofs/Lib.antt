@@ -1,0 +1,12 @@
+pub mod Passes
+pub mod Standing
+pub mod Viability
+pub mod Exact
+pub mod Records
+pub mod Parsing
+pub mod TextCharacters
+pub mod Balance
+pub mod Places
+pub mod Innermost
+pub mod Refusals
+pub mod OneFault

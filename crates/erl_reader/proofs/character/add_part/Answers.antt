@@ -1,0 +1,14 @@
+use Rattle.std.proofs.Common.{◌≡◌, ◌++◌, map, sym, ◌∙◌, pos}
+use Rattle.std.proofs.lemmas.List.{map-id}
+use Rattle.std.proofs.lemmas.Iterator.{YieldsList-from_chars}
+use Rattle.std.proofs.lemmas.Iterator.Consumers.{YieldsList-end}
+use Rattle.std.specs.Str.{chars}
+use Rattle.erl_reader.specs.Value.{value_of}
+use Rattle.erl_reader.specs.Value.Value.{int}
+use Rattle.erl_reader.proofs.character.add_part.Goals as goal
+
+pub returns-clause-added : goal.returns-clause-added
+returns-clause-added c =
+    let done = YieldsList-end (YieldsList-from_chars c.args.part.now c.utf8.part cc) c.loop-character.yielded _ c.loop-character.yielded_by _ _ c.in-None.is c.next.ensures.steps in
+    let all : c.loop-character.yielded ≡ chars c.args.part.now = sym (map-id c.loop-character.yielded) ∙ done.0 in
+    c.loop-character.invariant ∙ (λ j. map value_of (c.reserve.ensures.items j) ++ map (λ n. int (pos n)) (all j))

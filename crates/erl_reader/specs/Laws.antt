@@ -1,0 +1,21 @@
+-- Laws of texts, whatever reads them.
+use Rattle.std.specs.Prelude.{◌≡◌, ℕ, ◌⊎◌, List}
+use Rattle.erl_token.specs.declared.fault.TermFault.{TermFault}
+use Rattle.erl_reader.specs.Grammar.{Reading, Reads}
+use Rattle.erl_reader.specs.Faults.{IsFault}
+
+-- No text has two readings.
+abbrev pub HasOneReading : Type 0
+HasOneReading = (limit : ℕ) (bytes : List ℕ) (a b : List Reading) → Reads limit bytes a → Reads limit bytes b → a ≡ b
+
+-- No text both reads and has a fault.
+abbrev pub NeverBoth : Type 0
+NeverBoth = (limit : ℕ) (bytes : List ℕ) (rs : List Reading) (f : TermFault) → Reads limit bytes rs → IsFault limit bytes f → ⊥
+
+-- Each text reads or has a fault.
+abbrev pub ReadsOrFails : Type 0
+ReadsOrFails = (limit : ℕ) (bytes : List ℕ) → ((rs : List Reading) × Reads limit bytes rs) ⊎ ((f : TermFault) × IsFault limit bytes f)
+
+-- No text has two faults.
+abbrev pub HasOneFault : Type 0
+HasOneFault = (limit : ℕ) (bytes : List ℕ) (f g : TermFault) → IsFault limit bytes f → IsFault limit bytes g → f ≡ g

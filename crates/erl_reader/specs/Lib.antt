@@ -1,0 +1,11 @@
+pub use Rattle.erl_token.specs.declared.fault.TermFault
+pub use Rattle.erl_token.specs.Escapes
+pub use Rattle.erl_token.specs.Lexing
+pub mod Value
+pub mod Grammar
+pub mod Faults
+pub mod OneTerm
+pub mod Laws
+pub mod Answers
+pub mod Machine
+pub mod Views

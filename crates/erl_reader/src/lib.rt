@@ -1,0 +1,23 @@
+//! The terms of Erlang texts: the type, the grammar and its reader.
+//!
+//! `read_terms` gives the terms of a text with their places exactly where the text reads as them by the grammar
+//! (specs/Grammar), and else the text's first fault (specs/Faults), or it is out of memory. The reader is one pass over the
+//! tokens, with the open brackets on a stack of its own.
+//! `read_record` gives the one term of a record's body, read with more brackets (specs/OneTerm).
+//! The functions of `laws` say of these definitions that no text has two readings or two faults, that none both reads and
+//! has a fault, and that each has one of the two.
+//! Read are atoms, integers of 64 bits, strings, tuples, lists and binaries.
+#![tactic(auto)]
+
+mod character;
+mod clone;
+pub mod laws;
+mod parser;
+mod reader;
+mod record;
+mod term;
+
+pub use erl_token::TermFault;
+pub use reader::{MAX_DEPTH, read_terms};
+pub use record::{RECORD_DEPTH, read_record};
+pub use term::{Spanned, Term};

@@ -1,6 +1,0 @@
-use Rattle.std.proofs.Common.{rules}
-use Rattle.std.proofs.lemmas.Str.{chars_from_encodes}
-use Rattle.erl_term.proofs.content.count.Goals as goal
-
-pub returns-clause-size : goal.returns-clause-size
-returns-clause-size c = search (rules, chars_from_encodes)

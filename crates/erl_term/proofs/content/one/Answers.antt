@@ -1,5 +1,0 @@
-use Rattle.erl_term.proofs.Pieces.{stands_alone}
-use Rattle.erl_term.proofs.content.one.Goals as goal
-
-pub returns-clause-alone : goal.returns-clause-alone
-returns-clause-alone c = stands_alone c.args.character c.ranges.character.0

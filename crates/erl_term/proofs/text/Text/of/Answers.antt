@@ -1,6 +1,0 @@
-use Rattle.std.proofs.Common.{rules}
-use Rattle.erl_term.proofs.Runs.{sealed-nil}
-use Rattle.erl_term.proofs.text.Text.of.Goals as goal
-
-pub returns-in-None : goal.returns-in-None
-returns-in-None c = sealed-nil c.args.bytes.now (search rules)

@@ -1,0 +1,11 @@
+pub mod Runs
+pub mod Parts
+pub mod TextPlaces
+pub mod DigitRows
+pub mod Escaping
+pub mod Numerals
+pub mod Quoting
+pub mod Joining
+pub mod Naming
+pub mod Pieces
+pub mod Lexemes

@@ -1,0 +1,138 @@
+-- Names, numbers and texts as parts of the bytes that are UTF-8.
+use Rattle.std.proofs.Common.{◌≡◌, ◌≢◌, ℕ, suc, ◌+◌, ◌-◌, ◌<◌, ◌≤◌, Bool, true, false, eqb, if◌then◌else◌, nat_lt, List, [], ◌∷◌, ◌++◌, length, take, drop, get_or, slice_get, Some, None, refl, sym, ◌∙◌, ap, subst, arith, append-nil}
+use Rattle.std.proofs.lemmas.List.{drop_more, drop-append-le, length-drop, length-append, get_or-drop, get_or_append_left, get_or-append_right}
+use Rattle.std.proofs.lemmas.Bool.Decides.{nat_tests}
+use Rattle.std.proofs.lemmas.Str.{IsCharBoundary-before_ascii, IsCharBoundary-after_ascii}
+use Rattle.std.specs.Str.{IsUtf8, IsCharBoundary}
+use Rattle.std.specs.Prelude.{slice_range}
+use Rattle.erl_token.specs.declared.class.Class.TheVariants.{Letter}
+use Rattle.erl_token.specs.declared.run.Run.{Run}
+use Rattle.erl_token.specs.declared.run.Run.TheVariants.{InName, InQuotes, InComment, InDigits, InBlanks, InText}
+use Rattle.erl_token.specs.Lexing.{class_of, is_name_byte, alone, doubled, Spelling, Token, Item}
+use Rattle.erl_token.specs.Lexing.Token.{cut, stray}
+use Rattle.erl_token.specs.Escapes.{front}
+use Rattle.erl_token.specs.Views.{seal}
+use Rattle.erl_token.specs.Scanned.{goes_on_with}
+use Rattle.erl_token.proofs.Runs.{drop_some, drop_none, front-take, front_le, front_passes}
+
+-- no run goes on over the end of the bytes that are UTF-8
+pub stops_at_seal : (run : Run) → goes_on_with run 256 ≡ false
+stops_at_seal InName = refl
+stops_at_seal (InQuotes quote) = grind (arith, nat_tests)
+stops_at_seal InComment = refl
+stops_at_seal InDigits = refl
+stops_at_seal InBlanks = refl
+stops_at_seal InText = refl
+
+front-seal : (p : ℕ → Bool) (b : Bool) → p 256 ≡ false → front p (seal b) ≡ []
+front-seal p true e = rw e refl
+front-seal p false e = refl
+
+front-append_seal : (p : ℕ → Bool) (xs : List ℕ) (b : Bool) → p 256 ≡ false → front p (xs ++ seal b) ≡ front p xs
+front-append_seal p [] b e = front-seal p b e
+front-append_seal p (x ∷ xs) b e = ap (λ ys. if p x then x ∷ ys else []) (front-append_seal p xs b e)
+
+-- a run of a text is one of its bytes that are UTF-8
+pub run_valid : (run : Run) (valid : List ℕ) (b : Bool) (from : ℕ) → from ≤ length valid
+    → front (goes_on_with run) (drop from (valid ++ seal b)) ≡ front (goes_on_with run) (drop from valid)
+run_valid run valid b from l = rw (drop-append-le from valid (seal b) l) (front-append_seal (goes_on_with run) (drop from valid) b (stops_at_seal run))
+
+pub run_within : (run : Run) (valid : List ℕ) (from : ℕ) → from ≤ length valid → from + length (front (goes_on_with run) (drop from valid)) ≤ length valid
+run_within run valid from l = omega (arith, front_le (goes_on_with run) (drop from valid), length-drop from valid)
+
+pub run_part : (run : Run) (valid : List ℕ) (from to : ℕ) → to ≡ from + length (front (goes_on_with run) (drop from valid))
+    → slice_range valid from to ≡ front (goes_on_with run) (drop from valid)
+run_part run valid from to e =
+    let long : to - from ≡ length (front (goes_on_with run) (drop from valid)) = omega arith in
+    ap (λ n. take n (drop from valid)) long ∙ sym (front-take (goes_on_with run) (drop from valid))
+
+-- a byte of the text that is one
+pub byte_valid : (valid : List ℕ) (b : Bool) (at : ℕ) → at < length (valid ++ seal b) → get_or (valid ++ seal b) at 0 < 256
+    → (at < length valid) × (get_or (valid ++ seal b) at 0 ≡ get_or valid at 0)
+byte_valid valid true at l small = go (nat_lt at (length valid)) refl
+  where
+    go : (t : Bool) → nat_lt at (length valid) ≡ t → (at < length valid) × (get_or (valid ++ seal true) at 0 ≡ get_or valid at 0)
+    go true e = let h : at < length valid = grind (arith, nat_tests) in (h, get_or_append_left valid (seal true) 0 at h)
+    go false e =
+        let last : at ≡ length valid = grind (arith, nat_tests, length-append valid (seal true)) in
+        let none : at - length valid ≡ 0 = omega arith in
+        let beyond : get_or (valid ++ seal true) at 0 ≡ 256 = get_or-append_right valid (seal true) (length valid) at 0 refl (omega arith) ∙ ap (λ k. get_or (seal true) k 0) none in
+        absurd (omega arith)
+byte_valid valid false at l small =
+    let same : valid ++ [] ≡ valid = append-nil valid in
+    ((let h : at < length (valid ++ []) = l in rw same at h), ap (λ xs. get_or xs at 0) same)
+
+ascii_in_run : (run : Run) → ((x : ℕ) → goes_on_with run x ≡ true → x < 128) → (valid : List ℕ) (from to : ℕ) → IsUtf8 valid → from < to → to ≤ length valid
+    → to ≡ from + length (front (goes_on_with run) (drop from valid)) → IsCharBoundary valid to
+ascii_in_run run ascii valid from to utf8 some within e =
+    let last : (to - 1) - from < length (front (goes_on_with run) (drop from valid)) = omega arith in
+    let place : from + ((to - 1) - from) ≡ to - 1 = omega arith in
+    let passes : goes_on_with run (get_or valid (to - 1) 0) ≡ true =
+    ap (λ x. goes_on_with run x) (ap (λ k. get_or valid k 0) (sym place) ∙ sym (get_or-drop from valid ((to - 1) - from) 0))
+    ∙ front_passes (goes_on_with run) (drop from valid) ((to - 1) - from) last in
+    let behind : (to - 1) + 1 ≡ to = omega arith in
+    subst (λ k. IsCharBoundary valid k) behind (IsCharBoundary-after_ascii valid (to - 1) utf8 (omega arith) (ascii (get_or valid (to - 1) 0) passes))
+
+pub name_ascii : (x : ℕ) → goes_on_with InName x ≡ true → x < 128
+name_ascii x e = grind (arith, nat_tests)
+
+pub letter_in_name : (x : ℕ) → class_of x ≡ Letter → (x < 128) × (goes_on_with InName x ≡ true)
+letter_in_name x e = ((grind (arith, nat_tests)), (grind (arith, nat_tests)))
+
+-- a run in a text that begins with a byte that it goes on with
+pub record IsRun (run : Run) (valid bytes : List ℕ) (from to : ℕ) : Type 0 where
+  pub some : from < to
+  pub within : to ≤ length valid
+  pub end : to ≡ from + length (front (goes_on_with run) (drop from valid))
+  pub same : front (goes_on_with run) (drop from bytes) ≡ front (goes_on_with run) (drop from valid)
+  pub begins : get_or valid from 0 < 128
+
+is_run : (run : Run) (valid : List ℕ) (b : Bool) (from to : ℕ) → from < length (valid ++ seal b) → get_or (valid ++ seal b) from 0 < 128
+    → goes_on_with run (get_or (valid ++ seal b) from 0) ≡ true → to ≡ from + length (front (goes_on_with run) (drop from (valid ++ seal b)))
+    → IsRun run valid (valid ++ seal b) from to
+is_run run valid b from to l ascii passes e =
+    let (in_valid, byte) = byte_valid valid b from l (omega arith) in
+    let same = run_valid run valid b from (omega arith) in
+    let end : to ≡ from + length (front (goes_on_with run) (drop from valid)) = e ∙ ap (λ ys. from + length ys) same in
+    let first : front (goes_on_with run) (drop from valid) ≡ get_or valid from 0 ∷ front (goes_on_with run) (drop (from + 1) valid) =
+    ap (front (goes_on_with run)) (drop_more valid from 0 in_valid)
+    ∙ ap (λ t. if t then get_or valid from 0 ∷ front (goes_on_with run) (drop (from + 1) valid) else []) (ap (goes_on_with run) (sym byte) ∙ passes) in
+    let long : length (front (goes_on_with run) (drop from valid)) ≡ suc (length (front (goes_on_with run) (drop (from + 1) valid))) = ap length first in
+    record { some = omega arith; within = omega (arith, run_within run valid from (omega arith)); end = end; same = same; begins = omega arith }
+
+pub name_run : (valid : List ℕ) (b : Bool) (from to : ℕ) → from < length (valid ++ seal b) → class_of (get_or (valid ++ seal b) from 0) ≡ Letter
+    → to ≡ from + length (front (goes_on_with InName) (drop from (valid ++ seal b))) → IsRun InName valid (valid ++ seal b) from to
+name_run valid b from to l k e = let (ascii, passes) = letter_in_name (get_or (valid ++ seal b) from 0) k in is_run InName valid b from to l ascii passes e
+
+pub run_begins : {run : Run} {valid bytes : List ℕ} {from to : ℕ} → IsRun run valid bytes from to → IsCharBoundary valid from
+run_begins {valid = valid} {from = from} r = IsCharBoundary-before_ascii valid from (omega (arith, r.some, r.within)) r.begins
+
+pub name_ends : {valid bytes : List ℕ} {from to : ℕ} → IsRun InName valid bytes from to → IsUtf8 valid → IsCharBoundary valid to
+name_ends {valid = valid} {from = from} {to = to} r utf8 = ascii_in_run InName name_ascii valid from to utf8 r.some r.within r.end
+
+-- a name as it is spelled
+abbrev pub item : Token → ℕ → ℕ → Item
+item t from to = record { token = t; from = from; to = to }
+
+abbrev pub spelled_item : Spelling → ℕ → Item
+spelled_item s at = item s.token at (at + s.size)
+
+-- the name between the places, and how many bytes it takes
+pub name_part : {valid bytes : List ℕ} {from to : ℕ} (part : List ℕ) → IsRun InName valid bytes from to → part ≡ slice_range valid from to
+    → part ≡ front is_name_byte (drop from bytes)
+name_part {valid = valid} {from = from} {to = to} part r e = e ∙ (run_part InName valid from to r.end ∙ sym r.same)
+
+pub name_size : {valid bytes : List ℕ} {from to : ℕ} → IsRun InName valid bytes from to → to - from ≡ length (front is_name_byte (drop from bytes))
+name_size {valid = valid} {bytes = bytes} {from = from} {to = to} r =
+    let short : to - from ≡ length (front (goes_on_with InName) (drop from valid)) = omega (arith, r.end) in
+    short ∙ ap length (sym r.same)
+
+-- two bytes in a row, by the second
+pub doubled_cut : (t : Token) (x : ℕ) (bytes : List ℕ) (at : ℕ) → slice_get bytes at ≡ None → doubled t x (drop at bytes) ≡ alone (cut t)
+doubled_cut t x bytes at e = ap (doubled t x) (drop_none bytes at e)
+
+pub doubled_same : (t : Token) (x : ℕ) (bytes : List ℕ) (at y : ℕ) → slice_get bytes at ≡ Some y → y ≡ x → doubled t x (drop at bytes) ≡ record { token = t; size = 2 }
+doubled_same t x bytes at y e same = let is : eqb y x ≡ true = grind (arith, nat_tests) in ap (doubled t x) (drop_some bytes at y e) ∙ rw is refl
+
+pub doubled_other : (t : Token) (x : ℕ) (bytes : List ℕ) (at y : ℕ) → slice_get bytes at ≡ Some y → y ≢ x → doubled t x (drop at bytes) ≡ alone (stray x)
+doubled_other t x bytes at y e other = let is : eqb y x ≡ false = grind (arith, nat_tests) in ap (doubled t x) (drop_some bytes at y e) ∙ rw is refl

@@ -1,0 +1,89 @@
+-- Bytes in a row that a token goes on with.
+use Rattle.std.proofs.Common.{◌≡◌, ℕ, zero, suc, ◌+◌, ◌<◌, ◌≤◌, Bool, true, false, ◌||◌, not, if◌then◌else◌, nat_lt, nat_le, eqb, List, [], ◌∷◌, length, take, drop, get_or, slice_get, Some, None, refl, ◌∙◌, ap, arith}
+use Rattle.std.proofs.lemmas.List.{drop_more}
+use Rattle.std.proofs.lemmas.Option.{slice_get_within, get_or_from_slice_get}
+use Rattle.std.specs.Str.Lossy.{utf8_valid_len}
+use Rattle.std.proofs.lemmas.Str.{utf8_valid_len_le}
+use Rattle.erl_token.specs.declared.run.Run.TheVariants.{InComment}
+use Rattle.erl_token.specs.Lexing.{sealed, comment_size, lex, ends_a_term}
+use Rattle.erl_token.specs.Escapes.{front}
+use Rattle.erl_token.specs.Scanned.{goes_on_with}
+
+pub sealed-nil : (bytes : List ℕ) → length bytes ≡ 0 → [] ≡ sealed bytes
+sealed-nil [] e = let none : utf8_valid_len [] ≡ 0 = omega (arith, utf8_valid_len_le []) in rw none refl
+sealed-nil (x ∷ xs) e = absurd (cc)
+
+-- what stands from a place on
+pub drop_some : (xs : List ℕ) (i b : ℕ) → slice_get xs i ≡ Some b → drop i xs ≡ b ∷ drop (i + 1) xs
+drop_some xs i b e = drop_more xs i 0 (slice_get_within xs i b e) ∙ ap (λ x. x ∷ drop (i + 1) xs) (get_or_from_slice_get xs i b 0 e)
+
+pub drop_none : (xs : List ℕ) (i : ℕ) → slice_get xs i ≡ None → drop i xs ≡ []
+drop_none [] zero e = refl
+drop_none [] (suc i) e = refl
+drop_none (x ∷ xs) zero e = absurd (cc)
+drop_none (x ∷ xs) (suc i) e = drop_none xs i e
+
+-- how far a run goes, from a place on
+pub run_more : (p : ℕ → Bool) (xs : List ℕ) (i b : ℕ) → slice_get xs i ≡ Some b → p b ≡ true
+    → length (front p (drop i xs)) ≡ length (front p (drop (i + 1) xs)) + 1
+run_more p xs i b e h = rw (drop_some xs i b e, h) (omega arith)
+
+pub run_stops : (p : ℕ → Bool) (xs : List ℕ) (i b : ℕ) → slice_get xs i ≡ Some b → p b ≡ false → length (front p (drop i xs)) ≡ 0
+run_stops p xs i b e h = rw (drop_some xs i b e, h) refl
+
+pub run_past : (p : ℕ → Bool) (xs : List ℕ) (i : ℕ) → slice_get xs i ≡ None → length (front p (drop i xs)) ≡ 0
+run_past p xs i e = rw (drop_none xs i e) refl
+
+-- the token's own words for its run
+pub comment_size-front : (xs : List ℕ) → comment_size xs ≡ length (front (goes_on_with InComment) xs)
+comment_size-front [] = refl
+comment_size-front (x ∷ xs) = go (eqb x 10 || nat_lt 255 x) (comment_size-front xs)
+  where
+    go : (b : Bool) → comment_size xs ≡ length (front (goes_on_with InComment) xs)
+        → (if b then 0 else comment_size xs + 1) ≡ length (if not b then x ∷ front (goes_on_with InComment) xs else [])
+    go true e = refl
+    go false e = rw e (omega arith)
+
+pub front-take : (p : ℕ → Bool) (xs : List ℕ) → front p xs ≡ take (length (front p xs)) xs
+front-take p [] = refl
+front-take p (x ∷ xs) = go (p x) (front-take p xs)
+  where
+    go : (b : Bool) → front p xs ≡ take (length (front p xs)) xs → (if b then x ∷ front p xs else []) ≡ take (length (if b then x ∷ front p xs else [])) (x ∷ xs)
+    go true e = ap (λ ys. x ∷ ys) e
+    go false e = refl
+
+pub front_le : (p : ℕ → Bool) (xs : List ℕ) → length (front p xs) ≤ length xs
+front_le p [] = omega arith
+front_le p (x ∷ xs) = go (p x) (front_le p xs)
+  where
+    go : (b : Bool) → length (front p xs) ≤ length xs → length (if b then x ∷ front p xs else []) ≤ length (x ∷ xs)
+    go true e = omega arith
+    go false e = omega arith
+
+-- each byte of a run passes
+pub front_passes : (p : ℕ → Bool) (xs : List ℕ) (k : ℕ) → k < length (front p xs) → p (get_or xs k 0) ≡ true
+front_passes p [] k l = absurd (omega arith)
+front_passes p (x ∷ xs) zero l = go (p x) refl l
+  where
+    go : (b : Bool) → p x ≡ b → 0 < length (if b then x ∷ front p xs else []) → p x ≡ true
+    go true e l = e
+    go false e l = absurd (omega arith)
+front_passes p (x ∷ xs) (suc k) l = go (λ h. front_passes p xs k h) (p x) l
+  where
+    go : (k < length (front p xs) → p (get_or xs k 0) ≡ true) → (b : Bool) → suc k < length (if b then x ∷ front p xs else []) → p (get_or xs k 0) ≡ true
+    go more true l = more (omega arith)
+    go more false l = absurd (omega arith)
+
+-- bytes that belong to what began before them
+pub lex-past : (at n : ℕ) (xs : List ℕ) → lex at n xs ≡ lex (at + n) 0 (drop n xs)
+lex-past at zero [] = refl
+lex-past at zero (x ∷ xs) = let same : at ≡ at + 0 = omega arith in ap (λ a. lex a 0 (x ∷ xs)) same
+lex-past at (suc n) [] = refl
+lex-past at (suc n) (x ∷ xs) = let same : (at + 1) + n ≡ at + suc n = omega arith in lex-past (at + 1) n xs ∙ ap (λ a. lex a 0 (drop n xs)) same
+
+-- the byte in front of which a term may end
+pub ends_some : (xs : List ℕ) (i b : ℕ) → slice_get xs i ≡ Some b → ends_a_term (drop i xs) ≡ (nat_le b 32 || eqb b 37)
+ends_some xs i b e = rw (drop_some xs i b e) refl
+
+pub ends_none : (xs : List ℕ) (i : ℕ) → slice_get xs i ≡ None → ends_a_term (drop i xs) ≡ true
+ends_none xs i e = rw (drop_none xs i e) refl

@@ -1,0 +1,7 @@
+pub mod Escapes
+pub mod Numbers
+pub mod Quotes
+pub mod Lexing
+pub mod Contents
+pub mod Views
+pub mod Scanned

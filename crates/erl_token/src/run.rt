@@ -1,0 +1,62 @@
+//! Bytes in a row.
+ghost use Rattle.std.specs.Prelude.{◌≡◌, ◌+◌, ◌≤◌, ◌^◌, length, drop};
+ghost use Rattle.std.specs.Str.{IsUtf8};
+ghost use Rattle.erl_token.specs.Escapes.{is_in, front};
+ghost use Rattle.erl_token.specs.Views.{text_bytes};
+ghost use Rattle.erl_token.specs.Scanned.{goes_on_with};
+
+use crate::text::Text;
+
+/// Bytes in a row that a token or a comment goes on with.
+#[derive(Clone, Copy, Debug)]
+pub enum Run {
+    InName,
+    /// Between such quotes.
+    InQuotes(u16),
+    InComment,
+    /// Digits of any base, and `_`.
+    InDigits,
+    InBlanks,
+    /// Up to what isn't UTF-8.
+    InText,
+}
+
+impl Run {
+    /// The run goes on with the byte.
+    fn goes_on_with(self, byte: u16) -> bool
+        ensures { result ≡ goes_on_with self byte }
+    {
+        match self {
+            Run::InName => is_small_letter(byte) || matches!(byte, 65..=90 | 48..=57 | 95 | 64),
+            Run::InQuotes(quote) => !(byte == quote || byte == 92 || byte > 255),
+            Run::InComment => !(byte == 10 || byte > 255),
+            Run::InDigits => matches!(byte, 48..=57 | 65..=90 | 97..=122 | 95),
+            Run::InBlanks => byte <= 32,
+            Run::InText => byte <= 255,
+        }
+    }
+}
+
+/// A small letter of ASCII, as most bytes of names are.
+fn is_small_letter(byte: u16) -> bool
+    ensures { result ≡ is_in 97 122 byte }
+{
+    97 <= byte && byte <= 122
+}
+
+/// Where the run from this place on ends.
+pub fn run_end(text: Text<'_>, run: Run, from: usize) -> usize
+    requires { from ≤ 2 ^ 63 }
+    ensures end { result ≡ from + length (front (goes_on_with run) (drop from (text_bytes text.entry))) }
+    ensures within { result ≤ 2 ^ 63 }
+    ensures utf8 { IsUtf8 text.entry.valid.now }
+{
+    let mut at = from;
+    while let Some(byte) = text.at(at) {
+        if !run.goes_on_with(byte) {
+            break;
+        }
+        at += 1;
+    }
+    at
+}
