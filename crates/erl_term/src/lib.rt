@@ -30,8 +30,6 @@ mod reader;
 mod record;
 mod run;
 mod term;
-#[cfg(test)]
-mod tests;
 mod text;
 mod token;
 

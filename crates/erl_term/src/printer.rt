@@ -96,6 +96,3 @@ fn print_members(out: &mut String, items: &[Term]) -> Result<(), AllocError>
     }
     Ok(())
 }
-
-#[cfg(test)]
-mod tests;

@@ -27,6 +27,3 @@ pub fn read_record(alloc: Global, bytes: &[u8]) -> Result<Term, TermFault>
         None => Err(TermFault::MissingDot(bytes.len())),
     }
 }
-
-#[cfg(test)]
-mod tests;
