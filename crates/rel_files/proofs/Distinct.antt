@@ -1,46 +1,79 @@
 -- Names that stand twice, and names that don't.
-use Rattle.std.proofs.Common.{◌≡◌, ◌⊎◌, ℕ, suc, ◌+◌, ◌<◌, Bool, true, false, ◌||◌, List, [], ◌∷◌, ◌++◌, map, length, take, drop, get_or, string_bytes, Contains, Bor, add-one, refl, sym, ap, subst, ◌∙◌, inl, inr, true≢false, if◌then◌else◌, arith}
+use Rattle.std.proofs.Common.{◌≡◌, append-nil, append_assoc, Ordering, Less, Equal, Greater, ℕ, suc, ◌+◌, ◌<◌, ◌⊎◌, inl, inr, Bool, true, false, ◌||◌, List, [], ◌∷◌, ◌++◌, map, length, take, drop, get_or, string_bytes, Contains, Bor, add-one, refl, sym, ap, subst, ◌∙◌, true≢false, arith}
 use Rattle.std.specs.List.{list_any}
 use Rattle.std.specs.Str.{bytes_eq}
+use Rattle.std.specs.Ordering.{is_eq, match_ordering, nat_cmp}
+use Rattle.std.specs.Cmp.Lexicographic.{slice_cmp}
+use Rattle.std.specs.BTreeMap.{is_at}
+use Rattle.std.specs.BTreeSet.{insert_key}
+use Rattle.std.proofs.lemmas.Cmp.{nat_list_eq_equiv}
 use Rattle.std.proofs.lemmas.List.{map_push, map-append, take_more, take-append-drop}
-use Rattle.std.proofs.Math.Seq.{drop-cons}
-use Rattle.std.proofs.lemmas.List.Elements.{Contains-get_or, Contains-append_right, Contains-append_cases, Contains-push_cases}
+use Rattle.std.proofs.lemmas.List.Elements.{Contains-get_or, Contains-append_right, Contains-push_cases}
+use Rattle.std.proofs.lemmas.List.Folds.{list_any-append}
+use Rattle.std.proofs.lemmas.Map.Text.{is_eq-slice_cmp}
+use Rattle.std.proofs.lemmas.Map.Views.{Contains-from_any, list_any-from_Contains}
 use Rattle.std.proofs.lemmas.Slice.Eq.{bytes_eq-Decides}
-use Rattle.indexmap.specs.IndexSet.{insert_key}
-use Rattle.indexmap.proofs.CallerLemmas.{Contains-list_any}
+use Rattle.std.proofs.Math.Seq.{drop-cons}
 use Rattle.rel_files.specs.declared.draft.AppDraft.{AppDraft}
 use Rattle.rel_files.specs.Name.{AreDistinct, IsFirstTwice}
 
--- the texts that these refer to
-abbrev pub texts : List (Bor (List ℕ)) → List (List ℕ)
-texts ks = map (λ (k : Bor (List ℕ)). k.now) ks
+-- the names of applications
+abbrev pub names : List AppDraft → List (List ℕ)
+names as' = map (λ (a : AppDraft). string_bytes a.name) as'
 
-none : (n : List ℕ) → Contains [] n → ⊥
-none n c = absurd (omega (arith, c.1))
+-- whether a name is among these
+abbrev pub is_listed : List ℕ → List (List ℕ) → Bool
+is_listed n ns = list_any (bytes_eq n) ns
 
--- a name that a set of references has
-pub any-texts : (n : List ℕ) (ks : List (Bor (List ℕ))) → list_any (λ (k : Bor (List ℕ)). bytes_eq n k.now) ks ≡ list_any (bytes_eq n) (texts ks)
-any-texts n [] = refl
-any-texts n (k ∷ ks) = ap (λ b. bytes_eq n k.now || b) (any-texts n ks)
+-- whether a set of references has a name, as the set tests it
+abbrev pub is_seen : List ℕ → List (Bor (List ℕ)) → Bool
+is_seen n ks = list_any (is_at (λ (k : Bor (List ℕ)). slice_cmp nat_cmp n k.now)) ks
 
-pub found : (n : List ℕ) (ns : List (List ℕ)) → list_any (bytes_eq n) ns ≡ true → Contains ns n
-found n ns is = Contains-list_any bytes_eq (λ x y e. (bytes_eq-Decides x y).0 e) ns n is
+found : (n : List ℕ) (ns : List (List ℕ)) → is_listed n ns ≡ true → Contains ns n
+found n ns is = Contains-from_any (λ x y e. (bytes_eq-Decides x y).0 e) n ns is
 
-pub not_found : (n : List ℕ) (ns : List (List ℕ)) → list_any (bytes_eq n) ns ≡ false → Contains ns n → ⊥
-not_found n [] is c = none n c
-not_found n (m ∷ ms) is c = go (bytes_eq n m) refl (Contains-append_cases (m ∷ []) ms n c) (not_found n ms)
+not_found : (n : List ℕ) (ns : List (List ℕ)) → is_listed n ns ≡ false → Contains ns n → ⊥
+not_found n ns is c = true≢false (sym (list_any-from_Contains nat_list_eq_equiv n ns c) ∙ is)
+
+or_same : (a b x : Bool) → a ≡ b → (b || x) ≡ (a || (b || x))
+or_same true b x is = ap (λ c. c || x) (sym is)
+or_same false b x is = refl
+
+or_swap : (a b x : Bool) → (a || (b || x)) ≡ (b || (a || x))
+or_swap true true x = refl
+or_swap true false x = refl
+or_swap false b x = refl
+
+or_last : (a x : Bool) → (x || (a || false)) ≡ (a || x)
+or_last true true = refl
+or_last true false = refl
+or_last false true = refl
+or_last false false = refl
+
+-- a set of references has a further name, once it is inserted, and those that it had
+is_seen-insert : (q : List ℕ) (ks : List (Bor (List ℕ))) (n : Bor (List ℕ))
+    → is_seen q (insert_key (λ (x y : Bor (List ℕ)). slice_cmp nat_cmp x.now y.now) ks n) ≡ (bytes_eq q n.now || is_seen q ks)
+is_seen-insert q [] n = ap (λ b. b || false) (is_eq-slice_cmp q n.now)
+is_seen-insert q (k ∷ ks) n = go (slice_cmp nat_cmp n.now k.now) refl (is_seen-insert q ks n)
   where
-    go : (b : Bool) → bytes_eq n m ≡ b → Contains (m ∷ []) n ⊎ Contains ms n → (list_any (bytes_eq n) ms ≡ false → Contains ms n → ⊥) → ⊥
-    go true e cases rest = true≢false (ap (λ x. x || list_any (bytes_eq n) ms) (sym e) ∙ is)
-    go false e (inr later) rest = rest (ap (λ x. x || list_any (bytes_eq n) ms) (sym e) ∙ is) later
-    go false e (inl here) rest = first (Contains-push_cases [] m n here)
-      where
-        first : Contains [] n ⊎ (m ≡ n) → ⊥
-        first (inl nothing) = none n nothing
-        first (inr same) = true≢false (sym ((bytes_eq-Decides n m).1 (sym same)) ∙ e)
+    put : List (Bor (List ℕ))
+    put = insert_key (λ (x y : Bor (List ℕ)). slice_cmp nat_cmp x.now y.now) ks n
+
+    go : (o : Ordering) → slice_cmp nat_cmp n.now k.now ≡ o → is_seen q put ≡ (bytes_eq q n.now || is_seen q ks)
+        → is_seen q (match_ordering o (n ∷ k ∷ ks) (k ∷ ks) (k ∷ put)) ≡ (bytes_eq q n.now || is_seen q (k ∷ ks))
+    go Less is rest = ap (λ b. b || is_seen q (k ∷ ks)) (is_eq-slice_cmp q n.now)
+    go Equal is rest =
+        let same : n.now ≡ k.now = (bytes_eq-Decides n.now k.now).0 (sym (is_eq-slice_cmp n.now k.now) ∙ ap is_eq is) in
+        or_same (bytes_eq q n.now) _ (is_seen q ks) (ap (bytes_eq q) same ∙ sym (is_eq-slice_cmp q k.now))
+    go Greater is rest =
+        ap (λ b. is_eq (slice_cmp nat_cmp q k.now) || b) rest ∙ or_swap (is_eq (slice_cmp nat_cmp q k.now)) (bytes_eq q n.now) (is_seen q ks)
+
+-- names, with one more
+is_listed-push : (q : List ℕ) (ns : List (List ℕ)) (n : List ℕ) → is_listed q (ns ++ n ∷ []) ≡ (bytes_eq q n || is_listed q ns)
+is_listed-push q ns n = list_any-append (bytes_eq q) ns (n ∷ []) ∙ or_last (bytes_eq q n) (is_listed q ns)
 
 -- a further name, that isn't there yet
-pub AreDistinct-push : (ns : List (List ℕ)) (n : List ℕ) → AreDistinct ns → (Contains ns n → ⊥) → AreDistinct (ns ++ n ∷ [])
+AreDistinct-push : (ns : List (List ℕ)) (n : List ℕ) → AreDistinct ns → (Contains ns n → ⊥) → AreDistinct (ns ++ n ∷ [])
 AreDistinct-push [] n distinct new = (new, tt)
 AreDistinct-push (m ∷ ms) n distinct new =
     (λ c. apart (Contains-push_cases ms n m c), AreDistinct-push ms n distinct.1 (λ c. new (Contains-append_right (m ∷ []) ms n c)))
@@ -50,47 +83,63 @@ AreDistinct-push (m ∷ ms) n distinct new =
     apart (inr same) = new (subst (Contains (m ∷ ms)) (sym same) (Contains-get_or (m ∷ ms) 0 m (omega arith)))
 
 -- the names of the first so many applications, and one more
-pub names-more : (as' : List AppDraft) (i : ℕ) (a : AppDraft) → i < length as' → get_or as' i a ≡ a
-    → map (λ (b : AppDraft). string_bytes b.name) (take (i + 1) as') ≡ map (λ (b : AppDraft). string_bytes b.name) (take i as') ++ string_bytes a.name ∷ []
+names-more : (as' : List AppDraft) (i : ℕ) (a : AppDraft) → i < length as' → get_or as' i a ≡ a
+    → names (take (i + 1) as') ≡ names (take i as') ++ string_bytes a.name ∷ []
 names-more as' i a within is =
-    ap (map (λ (b : AppDraft). string_bytes b.name)) (take_more as' i a within ∙ ap (λ b. take i as' ++ b ∷ []) is)
+    ap names (take_more as' i a within ∙ ap (λ b. take i as' ++ b ∷ []) is)
     ∙ map_push (λ (b : AppDraft). string_bytes b.name) (take i as') a
 
 -- the names are those up to the place of one, that one, and those behind it
-pub names-split : (as' : List AppDraft) (i : ℕ) (a : AppDraft) → i < length as' → get_or as' i a ≡ a
-    → map (λ (b : AppDraft). string_bytes b.name) as'
-    ≡ map (λ (b : AppDraft). string_bytes b.name) (take i as') ++ (string_bytes a.name ∷ map (λ (b : AppDraft). string_bytes b.name) (drop (i + 1) as'))
+names-split : (as' : List AppDraft) (i : ℕ) (a : AppDraft) → i < length as' → get_or as' i a ≡ a
+    → names as' ≡ names (take i as') ++ (string_bytes a.name ∷ names (drop (i + 1) as'))
 names-split as' i a within is =
-    ap (map (λ (b : AppDraft). string_bytes b.name)) (sym (take-append-drop i as') ∙ ap (λ l. take i as' ++ l) (drop-cons as' i a within ∙ ap (λ b. b ∷ drop (suc i) as') is))
+    ap names (sym (take-append-drop i as') ∙ ap (λ l. take i as' ++ l) (drop-cons as' i a within ∙ ap (λ b. b ∷ drop (suc i) as') is))
     ∙ map-append (λ (b : AppDraft). string_bytes b.name) (take i as') (a ∷ drop (suc i) as')
-    ∙ ap (λ j. map (λ (b : AppDraft). string_bytes b.name) (take i as') ++ (string_bytes a.name ∷ map (λ (b : AppDraft). string_bytes b.name) (drop j as'))) (sym (add-one i))
+    ∙ ap (λ j. names (take i as') ++ (string_bytes a.name ∷ names (drop j as'))) (sym (add-one i))
 
 -- the first name twice, from what stands before it
-pub twice_at : (as' : List AppDraft) (i : ℕ) (a : AppDraft) (n : List ℕ) (seen : List (List ℕ)) → i < length as' → get_or as' i a ≡ a → n ≡ string_bytes a.name
-    → seen ≡ map (λ (b : AppDraft). string_bytes b.name) (take i as') → AreDistinct seen → list_any (bytes_eq n) seen ≡ true
-    → IsFirstTwice (map (λ (b : AppDraft). string_bytes b.name) as') n
-twice_at as' i a n seen within is named so_far distinct any = record {
-  before = seen;
-  after = map (λ (b : AppDraft). string_bytes b.name) (drop (i + 1) as');
-  is = names-split as' i a within is
-      ∙ ap (λ l. l ++ (string_bytes a.name ∷ map (λ (b : AppDraft). string_bytes b.name) (drop (i + 1) as'))) (sym so_far)
-      ∙ ap (λ m. seen ++ (m ∷ map (λ (b : AppDraft). string_bytes b.name) (drop (i + 1) as'))) (sym named);
+pub twice_at : (as' : List AppDraft) (i : ℕ) (a : AppDraft) (n : List ℕ) → i < length as' → get_or as' i a ≡ a → n ≡ string_bytes a.name
+    → AreDistinct (names (take i as')) → is_listed n (names (take i as')) ≡ true → IsFirstTwice (names as') n
+twice_at as' i a n within is named distinct listed = record {
+  before = names (take i as');
+  after = names (drop (i + 1) as');
+  is = names-split as' i a within is ∙ ap (λ m. names (take i as') ++ (m ∷ names (drop (i + 1) as'))) (sym named);
   distinct = distinct;
-  twice = found n seen any;
+  twice = found n (names (take i as')) listed;
 }
 
--- a set of references, once a new name is inserted
-pub texts-insert : (ks : List (Bor (List ℕ))) (n : Bor (List ℕ)) → list_any (λ (k : Bor (List ℕ)). bytes_eq n.now k.now) ks ≡ false
-    → texts (insert_key (λ (x y : Bor (List ℕ)). bytes_eq x.now y.now) ks n) ≡ texts ks ++ n.now ∷ []
-texts-insert ks n new = ap (λ b. texts (if b then ks else ks ++ n ∷ [])) new ∙ map_push (λ (k : Bor (List ℕ)). k.now) ks n
+-- the names of one application more are seen
+pub seen-more : (as' : List AppDraft) (i : ℕ) (a : AppDraft) (n : Bor (List ℕ)) (ks ks' : List (Bor (List ℕ))) → i < length as' → get_or as' i a ≡ a → n.now ≡ string_bytes a.name
+    → ((q : List ℕ) → is_seen q ks ≡ is_listed q (names (take i as')))
+    → ks' ≡ insert_key (λ (x y : Bor (List ℕ)). slice_cmp nat_cmp x.now y.now) ks n
+    → (q : List ℕ) → is_seen q ks' ≡ is_listed q (names (take (i + 1) as'))
+seen-more as' i a n ks ks' within is named seen put q =
+    ap (is_seen q) put
+    ∙ is_seen-insert q ks n
+    ∙ ap (λ b. bytes_eq q n.now || b) (seen q)
+    ∙ sym (is_listed-push q (names (take i as')) n.now)
+    ∙ ap (λ m. is_listed q (names (take i as') ++ m ∷ [])) named
+    ∙ ap (is_listed q) (sym (names-more as' i a within is))
 
--- the invariant of the names so far, with one more
-pub goes_on : (as' : List AppDraft) (i : ℕ) (a : AppDraft) (n : Bor (List ℕ)) (ks ks' : List (Bor (List ℕ))) → i < length as' → get_or as' i a ≡ a → n.now ≡ string_bytes a.name
-    → texts ks ≡ map (λ (b : AppDraft). string_bytes b.name) (take i as') → AreDistinct (texts ks)
-    → list_any (λ (k : Bor (List ℕ)). bytes_eq n.now k.now) ks ≡ false → ks' ≡ insert_key (λ (x y : Bor (List ℕ)). bytes_eq x.now y.now) ks n
-    → (texts ks' ≡ map (λ (b : AppDraft). string_bytes b.name) (take (i + 1) as')) × AreDistinct (texts ks')
-goes_on as' i a n ks ks' within is named so_far distinct new put =
-    let more : texts ks' ≡ texts ks ++ n.now ∷ [] = ap texts put ∙ texts-insert ks n new in (
-      more ∙ ap (λ l. l ++ n.now ∷ []) so_far ∙ ap (λ m. map (λ (b : AppDraft). string_bytes b.name) (take i as') ++ m ∷ []) named ∙ sym (names-more as' i a within is),
-      subst AreDistinct (sym more) (AreDistinct-push (texts ks) n.now distinct (not_found n.now (texts ks) (sym (any-texts n.now ks) ∙ new))),
-    )
+-- and they are distinct, if the one more is new
+pub distinct-more : (as' : List AppDraft) (i : ℕ) (a : AppDraft) (n : List ℕ) → i < length as' → get_or as' i a ≡ a → n ≡ string_bytes a.name
+    → AreDistinct (names (take i as')) → is_listed n (names (take i as')) ≡ false → AreDistinct (names (take (i + 1) as'))
+distinct-more as' i a n within is named distinct new =
+    subst AreDistinct (ap (λ m. names (take i as') ++ m ∷ []) named ∙ sym (names-more as' i a within is))
+    (AreDistinct-push (names (take i as')) n distinct (not_found n (names (take i as')) new))
+
+-- names behind distinct ones
+distinct_or_twice_behind : (before after : List (List ℕ)) → AreDistinct before → AreDistinct (before ++ after) ⊎ ((n : List ℕ) × IsFirstTwice (before ++ after) n)
+distinct_or_twice_behind before [] distinct = inl (subst AreDistinct (sym (append-nil before)) distinct)
+distinct_or_twice_behind before (n ∷ after) distinct = go (is_listed n before) refl (λ new. distinct_or_twice_behind (before ++ n ∷ []) after new)
+  where
+    Cases : List (List ℕ) → Type 0
+    Cases ns = AreDistinct ns ⊎ ((m : List ℕ) × IsFirstTwice ns m)
+
+    go : (b : Bool) → is_listed n before ≡ b → (AreDistinct (before ++ n ∷ []) → Cases ((before ++ n ∷ []) ++ after)) → Cases (before ++ (n ∷ after))
+    go true is later = inr (n, record { before = before; after = after; is = refl; distinct = distinct; twice = found n before is })
+    go false is later = subst Cases (append_assoc before (n ∷ []) after) (later (AreDistinct-push before n distinct (not_found n before is)))
+
+-- names are distinct, or there is a first that stands a second time
+pub distinct_or_twice : (ns : List (List ℕ)) → AreDistinct ns ⊎ ((n : List ℕ) × IsFirstTwice ns n)
+distinct_or_twice ns = distinct_or_twice_behind [] ns tt

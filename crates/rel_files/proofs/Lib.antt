@@ -9,4 +9,5 @@ mod Versions
 pub mod Outcomes
 mod Files
 pub mod OneFault
+mod Either
 mod Limits

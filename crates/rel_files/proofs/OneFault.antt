@@ -1,5 +1,5 @@
 -- A file says one release or has one fault.
-use Rattle.std.proofs.Common.{◌≡◌, ℕ, List, [], ◌∷◌, Some, ◌⊎◌, inl, inr, string_bytes, refl, sym, ap, subst, ◌∙◌}
+use Rattle.std.proofs.Common.{◌≡◌, ℕ, List, [], ◌∷◌, Some, ◌⊎◌, inl, inr, refl, sym, ap, subst, ◌∙◌}
 use Rattle.erl_term.specs.TermFault.{TermFault}
 use Rattle.erl_term.specs.Value.{Value}
 use Rattle.erl_term.specs.Grammar.{Reads, Reading}
@@ -8,13 +8,12 @@ use Rattle.erl_term.proofs.Exact.{one_reading, never_both as reads_or_fails}
 use Rattle.erl_term.proofs.OneFault.{one_fault as one_term_fault}
 use Rattle.erl_term.proofs.Places.{AreSame, IsBefore, places}
 use Rattle.rel_files.specs.declared.fault.FileFault.{FileFault}
-use Rattle.rel_files.specs.declared.fault.FileFault.TheVariants.{BadTerm, BadShape, Duplicate, BadVersion, NoMemory}
 use Rattle.rel_files.specs.Fault.{Fault, fault_of}
-use Rattle.rel_files.specs.Fault.Fault.{bad_term, bad_shape, duplicate, bad_version}
+use Rattle.rel_files.specs.Fault.Fault.{bad_term, bad_shape, duplicate, bad_version, no_memory}
 use Rattle.rel_files.specs.Name.{AreDistinct, IsFirstTwice}
 use Rattle.rel_files.specs.Release.{Release}
 use Rattle.rel_files.specs.Form.{Form, form_of, names_in, IsRelTerm}
-use Rattle.rel_files.specs.File.{HasVersions, IsReleaseTerm, IsTermFault, SaysRelease, IsFaultOfTerms, IsRelFault}
+use Rattle.rel_files.specs.File.{HasVersions, IsReleaseTerm, HasTermFault, SaysRelease, HaveFault, HasFault, IsRelFault}
 use Rattle.rel_files.specs.Sketch.{Sketch, release_in}
 use Rattle.rel_files.proofs.Shape.{form_sketch, sketch_in-term}
 use Rattle.rel_files.proofs.Versions.{release_in-form, from_release}
@@ -59,12 +58,12 @@ pub record HasNoVersion (v : Value) (f : Fault) : Type 0 where
 abbrev Causes : Value → ℕ → Fault → Type 0
 Causes v at f = IsShapeless v at f ⊎ (HasTwice v f ⊎ HasNoVersion v f)
 
-causes : (v : Value) (at : ℕ) (f : FileFault) → IsTermFault v at f → Causes v at (fault_of f)
-causes v at (BadTerm e) h = absurd h
-causes v at (BadShape place) (none, same) = inl (record { formless = none; told = ap bad_shape same })
-causes v at (Duplicate name) (form, shape, twice) = inr (inl (record { form = form; shape = shape; name = string_bytes name; twice = twice; told = refl }))
-causes v at BadVersion (form, shape, distinct, none) = inr (inr (record { form = form; shape = shape; distinct = distinct; none = none; told = refl }))
-causes v at NoMemory h = absurd h
+causes : (v : Value) (at : ℕ) (f : Fault) → HasTermFault v at f → Causes v at f
+causes v at (bad_term e) h = absurd h
+causes v at (bad_shape place) (none, same) = inl (record { formless = none; told = ap bad_shape same })
+causes v at (duplicate name) (form, shape, twice) = inr (inl (record { form = form; shape = shape; name = name; twice = twice; told = refl }))
+causes v at bad_version (form, shape, distinct, none) = inr (inr (record { form = form; shape = shape; distinct = distinct; none = none; told = refl }))
+causes v at no_memory h = absurd h
 
 never_all : (v : Value) (f g : Fault) → HasTwice v f → HasNoVersion v g → ⊥
 never_all v f g p q = never_both (names_in q.form) p.name q.distinct (subst (λ ns. IsFirstTwice ns p.name) (one_row v p.form q.form p.shape q.shape) p.twice)
@@ -83,29 +82,33 @@ one_cause v at f g (inr (inr p)) (inr (inl q)) = absurd (never_all v g f q p)
 one_cause v at f g (inr (inr p)) (inr (inr q)) = p.told ∙ sym q.told
 
 -- the terms of a file have one fault
-one_of_terms : (rs : List Reading) (f g : FileFault) → IsFaultOfTerms rs f → IsFaultOfTerms rs g → fault_of f ≡ fault_of g
-one_of_terms [] f g d e = ap fault_of (d ∙ sym e)
-one_of_terms (r ∷ []) f g d e = one_cause r.term r.from (fault_of f) (fault_of g) (causes r.term r.from f d) (causes r.term r.from g e)
-one_of_terms (r ∷ s ∷ rs) f g d e = ap fault_of (d ∙ sym e)
+one_of_terms : (rs : List Reading) (f g : Fault) → HaveFault rs f → HaveFault rs g → f ≡ g
+one_of_terms [] f g d e = d ∙ sym e
+one_of_terms (r ∷ []) f g d e = one_cause r.term r.from f g (causes r.term r.from f d) (causes r.term r.from g e)
+one_of_terms (r ∷ s ∷ rs) f g d e = d ∙ sym e
 
 -- the fault is that of the text or that of its terms
-abbrev Parts : List ℕ → FileFault → Type 0
-Parts bytes f = ((e : TermFault) × (f ≡ BadTerm e) × IsFault 64 bytes e) ⊎ ((rs : List Reading) × Reads 64 bytes rs × IsFaultOfTerms rs f)
+abbrev Parts : List ℕ → Fault → Type 0
+Parts bytes f = ((e : TermFault) × (f ≡ bad_term e) × IsFault 64 bytes e) ⊎ ((rs : List Reading) × Reads 64 bytes rs × HaveFault rs f)
 
-parts : (bytes : List ℕ) (f : FileFault) → IsRelFault bytes f → Parts bytes f
-parts bytes (BadTerm e) h = inl (e, refl, h)
+parts : (bytes : List ℕ) (f : Fault) → HasFault bytes f → Parts bytes f
+parts bytes (bad_term e) h = inl (e, refl, h)
 parts bytes f h = inr h
 
-one_part : (bytes : List ℕ) (f g : FileFault) → Parts bytes f → Parts bytes g → fault_of f ≡ fault_of g
-one_part bytes f g (inl (d, is, p)) (inl (e, also, q)) = ap fault_of is ∙ (ap bad_term (one_term_fault 64 bytes d e p q) ∙ sym (ap fault_of also))
+one_part : (bytes : List ℕ) (f g : Fault) → Parts bytes f → Parts bytes g → f ≡ g
+one_part bytes f g (inl (d, is, p)) (inl (e, also, q)) = is ∙ (ap bad_term (one_term_fault 64 bytes d e p q) ∙ sym also)
 one_part bytes f g (inl (d, is, p)) (inr (rs, reads, q)) = absurd (reads_or_fails 64 bytes rs d reads p)
 one_part bytes f g (inr (rs, reads, p)) (inl (e, also, q)) = absurd (reads_or_fails 64 bytes rs e reads q)
 one_part bytes f g (inr (rs, reads, p)) (inr (ss, reads_too, q)) =
-    one_of_terms ss f g (subst (λ ts. IsFaultOfTerms ts f) (one_reading 64 bytes rs ss reads reads_too) p) q
+    one_of_terms ss f g (subst (λ ts. HaveFault ts f) (one_reading 64 bytes rs ss reads reads_too) p) q
 
 -- No file has two faults.
+pub one_file_fault : (bytes : List ℕ) (f g : Fault) → HasFault bytes f → HasFault bytes g → f ≡ g
+one_file_fault bytes f g p q = one_part bytes f g (parts bytes f p) (parts bytes g q)
+
+-- and so two that are reported of it are the same
 pub one_fault : (bytes : List ℕ) (f g : FileFault) → IsRelFault bytes f → IsRelFault bytes g → fault_of f ≡ fault_of g
-one_fault bytes f g p q = one_part bytes f g (parts bytes f p) (parts bytes g q)
+one_fault bytes f g p q = one_file_fault bytes (fault_of f) (fault_of g) p q
 
 -- the one term of a file
 one_term : (bytes : List ℕ) (r s : Reading) → Reads 64 bytes (r ∷ []) → Reads 64 bytes (s ∷ []) → r ≡ s
@@ -128,12 +131,16 @@ never_caused v at r f says (inr (inr p)) =
     p.none r form.0 form.1
 
 -- No file both says a release and has a fault.
-pub says_or_fails : (bytes : List ℕ) (r : Release) (f : FileFault) → SaysRelease bytes r → IsRelFault bytes f → ⊥
-says_or_fails bytes r f (v, (p, reads, is), says) fails = go (parts bytes f fails)
+pub never_says_and_fails : (bytes : List ℕ) (r : Release) (f : Fault) → SaysRelease bytes r → HasFault bytes f → ⊥
+never_says_and_fails bytes r f (v, (p, reads, is), says) fails = go (parts bytes f fails)
   where
-    of_one : IsFaultOfTerms (p ∷ []) f → ⊥
-    of_one h = never_caused v p.from r (fault_of f) says (subst (λ x. Causes x p.from (fault_of f)) is (causes p.term p.from f h))
+    of_one : HaveFault (p ∷ []) f → ⊥
+    of_one h = never_caused v p.from r f says (subst (λ x. Causes x p.from f) is (causes p.term p.from f h))
 
     go : Parts bytes f → ⊥
     go (inl (e, same, h)) = reads_or_fails 64 bytes (p ∷ []) e reads h
-    go (inr (rs, reads_too, h)) = of_one (subst (λ ts. IsFaultOfTerms ts f) (one_reading 64 bytes rs (p ∷ []) reads_too reads) h)
+    go (inr (rs, reads_too, h)) = of_one (subst (λ ts. HaveFault ts f) (one_reading 64 bytes rs (p ∷ []) reads_too reads) h)
+
+-- and so none of which a release is said is reported to have one
+pub says_or_fails : (bytes : List ℕ) (r : Release) (f : FileFault) → SaysRelease bytes r → IsRelFault bytes f → ⊥
+says_or_fails bytes r f says fails = never_says_and_fails bytes r (fault_of f) says fails

@@ -12,12 +12,13 @@ use Rattle.rel_files.specs.Sketch.{AppSketch, Sketch, sketch_in, release_in}
 use Rattle.rel_files.specs.Sketched.{app_sketch_of, sketch_of}
 use Rattle.rel_files.proofs.Shape.{app_form_sketch, form_sketch, sketch_in-term, from_sketch}
 use Rattle.rel_files.proofs.Versions.{release_in-form, from_release}
+use Rattle.rel_files.proofs.Distinct.{names}
 
 -- the names of the applications
 abbrev pub sketch_names : List AppSketch → List (List ℕ)
 sketch_names ks = map (λ (k : AppSketch). k.name) ks
 
-draft_names : (as' : List AppDraft) → sketch_names (map app_sketch_of as') ≡ map (λ (a : AppDraft). string_bytes a.name) as'
+draft_names : (as' : List AppDraft) → sketch_names (map app_sketch_of as') ≡ names as'
 draft_names [] = refl
 draft_names (a ∷ as') = ap (λ (ns : List (List ℕ)). string_bytes a.name ∷ ns) (draft_names as')
 
@@ -48,7 +49,7 @@ never_both ns n distinct twice = clash twice.before twice.after n (subst AreDist
 pub no_form : (v : Value) → None ≡ sketch_in v → (f : Form) → IsRelTerm v f → ⊥
 no_form v none f is = let some = sketch_in-term v f is in absurd cc
 
-duplicate : (v : Value) (k : Sketch) (n : List ℕ) → sketch_in v ≡ Some k → IsFirstTwice (sketch_names k.apps) n → (f : Form) × IsRelTerm v f × IsFirstTwice (names_in f) n
+pub duplicate : (v : Value) (k : Sketch) (n : List ℕ) → sketch_in v ≡ Some k → IsFirstTwice (sketch_names k.apps) n → (f : Form) × IsRelTerm v f × IsFirstTwice (names_in f) n
 duplicate v k n e twice =
     let form = from_sketch v k e in
     (form.0, form.1, subst (λ (ns : List (List ℕ)). IsFirstTwice ns n) (ap (λ (s : Sketch). sketch_names s.apps) form.2 ∙ form_names form.0.apps) twice)
@@ -56,7 +57,7 @@ duplicate v k n e twice =
 distinct_form : (k : Sketch) (f : Form) → k ≡ form_sketch f → AreDistinct (sketch_names k.apps) → AreDistinct (names_in f)
 distinct_form k f e distinct = subst AreDistinct (ap (λ (s : Sketch). sketch_names s.apps) e ∙ form_names f.apps) distinct
 
-bad_version : (v : Value) (k : Sketch) → sketch_in v ≡ Some k → AreDistinct (sketch_names k.apps) → None ≡ release_in k
+pub bad_version : (v : Value) (k : Sketch) → sketch_in v ≡ Some k → AreDistinct (sketch_names k.apps) → None ≡ release_in k
     → (f : Form) × IsRelTerm v f × AreDistinct (names_in f) × ((r : Release) → f ≡ form_of r → HasVersions r → ⊥)
 bad_version v k e distinct none =
     let form = from_sketch v k e in (
@@ -66,7 +67,7 @@ bad_version v k e distinct none =
       λ r same has. let some : release_in k ≡ Some r = ap release_in (form.2 ∙ ap form_sketch same) ∙ release_in-form r has in absurd cc,
     )
 
-says : (v : Value) (k : Sketch) (r : Release) → sketch_in v ≡ Some k → AreDistinct (sketch_names k.apps) → Some r ≡ release_in k → IsReleaseTerm v r
+pub says : (v : Value) (k : Sketch) (r : Release) → sketch_in v ≡ Some k → AreDistinct (sketch_names k.apps) → Some r ≡ release_in k → IsReleaseTerm v r
 says v k r e distinct some =
     let form = from_sketch v k e in
     let is = from_release form.0 r (sym (some ∙ ap release_in form.2)) in
@@ -94,9 +95,6 @@ one_release v r s is also =
     let both = is_release v (form_sketch (form_of r)) s also (sketch_in-term v (form_of r) is.shape) in
     let own = release_in-form r is.versions in
     let same : Some r ≡ Some s = sym own ∙ both in cc
-
-abbrev pub names : List AppDraft → List (List ℕ)
-names as' = map (λ (a : AppDraft). string_bytes a.name) as'
 
 -- from here on of a draft of the term, and its applications
 module _ (v : Value) (d : Draft) (as' : List AppDraft) (drafted : Some (sketch_of d) ≡ sketch_in v) (listed : as' ≡ d.apps.items) where

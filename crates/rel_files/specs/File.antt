@@ -1,12 +1,13 @@
 -- What a `.rel` file says, or which fault it has.
-use Rattle.std.specs.Prelude.{◌≡◌, ℕ, List, [], ◌∷◌, string_bytes}
+use Rattle.std.specs.Prelude.{◌≡◌, ℕ, List, [], ◌∷◌}
 use Rattle.std.specs.List.{AllByRecursion}
 use Rattle.erl_term.specs.Value.{Value}
 use Rattle.erl_term.specs.Grammar.{Reads, Reading}
 use Rattle.erl_term.specs.Faults.{IsFault}
 use Rattle.erl_term.specs.OneTerm
 use Rattle.rel_files.specs.declared.fault.FileFault.{FileFault}
-use Rattle.rel_files.specs.declared.fault.FileFault.TheVariants.{BadTerm, BadShape, Duplicate, BadVersion, NoMemory}
+use Rattle.rel_files.specs.Fault.{Fault, fault_of}
+use Rattle.rel_files.specs.Fault.Fault.{bad_term, bad_shape, duplicate, bad_version, no_memory}
 use Rattle.rel_files.specs.Name.{IsVersion, AreDistinct, IsFirstTwice}
 use Rattle.rel_files.specs.Release.{Release, Application}
 use Rattle.rel_files.specs.Form.{Form, IsRelTerm, names_in, form_of}
@@ -23,13 +24,16 @@ pub record IsReleaseTerm (v : Value) (r : Release) : Type 0 where
   pub distinct : AreDistinct (names_in (form_of r))
   pub versions : HasVersions r
 
--- The fault of a term that begins at this place. Of several the first in the order of their kinds is told.
+-- The fault of a term that begins at this place. Of several the first in the order of their kinds is reported.
+abbrev pub HasTermFault : Value → ℕ → Fault → Type 0
+HasTermFault v at (bad_term e) = ⊥
+HasTermFault v at (bad_shape place) = ((f : Form) → IsRelTerm v f → ⊥) × (place ≡ at)
+HasTermFault v at (duplicate name) = (f : Form) × IsRelTerm v f × IsFirstTwice (names_in f) name
+HasTermFault v at bad_version = (f : Form) × IsRelTerm v f × AreDistinct (names_in f) × ((r : Release) → f ≡ form_of r → HasVersions r → ⊥)
+HasTermFault v at no_memory = ⊥
+
 abbrev pub IsTermFault : Value → ℕ → FileFault → Type 0
-IsTermFault v at (BadTerm e) = ⊥
-IsTermFault v at (BadShape place) = ((f : Form) → IsRelTerm v f → ⊥) × (place ≡ at)
-IsTermFault v at (Duplicate name) = (f : Form) × IsRelTerm v f × IsFirstTwice (names_in f) (string_bytes name)
-IsTermFault v at BadVersion = (f : Form) × IsRelTerm v f × AreDistinct (names_in f) × ((r : Release) → f ≡ form_of r → HasVersions r → ⊥)
-IsTermFault v at NoMemory = ⊥
+IsTermFault v at f = HasTermFault v at (fault_of f)
 
 -- The file has one term, and it is this.
 abbrev pub HasTerm : List ℕ → Value → Type 0
@@ -40,12 +44,15 @@ abbrev pub SaysRelease : List ℕ → Release → Type 0
 SaysRelease bytes r = (v : Value) × HasTerm bytes v × IsReleaseTerm v r
 
 -- the fault of the terms of a file: there is to be one
-abbrev pub IsFaultOfTerms : List Reading → FileFault → Type 0
-IsFaultOfTerms [] f = f ≡ BadShape 0
-IsFaultOfTerms (r ∷ []) f = IsTermFault r.term r.from f
-IsFaultOfTerms (r ∷ s ∷ rs) f = f ≡ BadShape r.from
+abbrev pub HaveFault : List Reading → Fault → Type 0
+HaveFault [] f = f ≡ bad_shape 0
+HaveFault (r ∷ []) f = HasTermFault r.term r.from f
+HaveFault (r ∷ s ∷ rs) f = f ≡ bad_shape r.from
 
 -- The fault of a file.
+abbrev pub HasFault : List ℕ → Fault → Type 0
+HasFault bytes (bad_term e) = IsFault 64 bytes e
+HasFault bytes f = (rs : List Reading) × Reads 64 bytes rs × HaveFault rs f
+
 abbrev pub IsRelFault : List ℕ → FileFault → Type 0
-IsRelFault bytes (BadTerm e) = IsFault 64 bytes e
-IsRelFault bytes f = (rs : List Reading) × Reads 64 bytes rs × IsFaultOfTerms rs f
+IsRelFault bytes f = HasFault bytes (fault_of f)

@@ -3,8 +3,8 @@ ghost use Rattle.std.specs.Prelude.{IfOk, MatchOption, map, string_bytes};
 ghost use Rattle.rel_files.specs.Name.{AreDistinct, IsFirstTwice};
 
 use crate::draft::AppDraft;
-use indexmap::IndexSet;
 use std::alloc::{AllocError, Global};
+use std::collections::BTreeSet;
 
 // The first name of an application that stands a second time.
 pub(crate) fn first_twice<'a>(
@@ -14,7 +14,7 @@ pub(crate) fn first_twice<'a>(
     ensures { IfOk result (λ name. let names = map (λ a. string_bytes a.name) apps.now in
         MatchOption name (AreDistinct names) (λ n. IsFirstTwice names n.now)) }
 {
-    let mut seen: IndexSet<&str> = IndexSet::with_capacity(alloc, apps.len())?;
+    let mut seen: BTreeSet<&str> = BTreeSet::new(alloc);
     for app in apps {
         let name = app.name.as_str();
         if !seen.insert(name)? {

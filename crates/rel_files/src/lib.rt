@@ -21,6 +21,3 @@ mod text;
 pub use fault::FileFault;
 pub use reader::{RelFile, read_rel, read_rel_file, rel_of_term};
 pub use release::{Rel, RelApp, StartType};
-
-#[cfg(test)]
-mod tests;

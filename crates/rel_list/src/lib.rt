@@ -16,6 +16,3 @@ pub use event::Event;
 pub use fault::ListError;
 pub use list::{ListedRelease, ReleaseList};
 pub use status::Status;
-
-#[cfg(test)]
-mod tests;

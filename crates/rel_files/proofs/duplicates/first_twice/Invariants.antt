@@ -1,10 +1,10 @@
-use Rattle.std.proofs.Common.{◌≡◌, ℕ, List, map, take, string_bytes, Bor}
-use Rattle.rel_files.specs.declared.draft.AppDraft.{AppDraft}
+use Rattle.std.proofs.Common.{◌≡◌, ℕ, List, take}
 use Rattle.rel_files.specs.Name.{AreDistinct}
+use Rattle.rel_files.proofs.Distinct.{names, is_listed, is_seen}
 use Rattle.rel_files.proofs.duplicates.first_twice.Given as goal
 
 abbrev pub invariant-loop-app : goal.invariant-loop-app
 invariant-loop-app l = record {
-  seen : map (λ (k : Bor (List ℕ)). k.now) l.seen.keys ≡ map (λ (a : AppDraft). string_bytes a.name) (take l.app-index l.apps);
-  distinct : AreDistinct (map (λ (k : Bor (List ℕ)). k.now) l.seen.keys);
+  seen : (q : List ℕ) → is_seen q l.seen.keys ≡ is_listed q (names (take l.app-index l.apps));
+  distinct : AreDistinct (names (take l.app-index l.apps));
 }

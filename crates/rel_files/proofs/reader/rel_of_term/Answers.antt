@@ -4,7 +4,8 @@ use Rattle.rel_files.specs.Release.{release_of}
 use Rattle.rel_files.specs.Name.{AreDistinct, IsFirstTwice}
 use Rattle.rel_files.specs.Sketch.{sketch_in, release_in}
 use Rattle.rel_files.specs.Sketched.{sketch_of}
-use Rattle.rel_files.proofs.Outcomes.{names, no_form, tells_duplicate, no_duplicate, tells_version, no_bad_version, tells_release, tells_only}
+use Rattle.rel_files.proofs.Distinct.{names}
+use Rattle.rel_files.proofs.Outcomes.{no_form, tells_duplicate, no_duplicate, tells_version, no_bad_version, tells_release, tells_only}
 use Rattle.rel_files.proofs.reader.rel_of_term.Goals as goal
 
 pub returns-in_default-clause-only : goal.returns-in_default-clause-only

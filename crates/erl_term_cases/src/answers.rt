@@ -1,0 +1,88 @@
+//! The answer to a case.
+use erl_term::{TermFault, print, read_record, read_terms};
+use std::alloc::{AllocError, Global};
+
+/// The answer in one of four modes. `terms`: each term of the text, with the places where it begins and ends. `record`:
+/// the one term of a record's body. `print`: that term as it is printed. `prefixes`: how many terms each prefix of the
+/// text has. A text that can't be read is answered by its fault.
+pub fn answer(alloc: Global, mode: &str, text: &[u8]) -> Result<String, AllocError> {
+    match mode {
+        "terms" => terms(alloc, text),
+        "record" => record(alloc, text),
+        "print" => printed(alloc, text),
+        "prefixes" => prefixes(alloc, text),
+        _ => String::from_str(alloc, "no such mode"),
+    }
+}
+
+// Each term with its places, or the fault.
+fn terms(alloc: Global, text: &[u8]) -> Result<String, AllocError> {
+    let terms = match read_terms(alloc, text) {
+        Ok(terms) => terms,
+        Err(fault) => return fault.to_string(alloc),
+    };
+    if terms.is_empty() {
+        return String::from_str(alloc, "no term");
+    }
+    let mut shown = String::new(alloc);
+    for (i, spanned) in terms.iter().enumerate() {
+        let gap = if i == 0 { "" } else { "; " };
+        let (term, from, to) = (&spanned.term, spanned.from, spanned.to);
+        write!(shown, "{gap}{term:?} {from}..{to}")?;
+    }
+    Ok(shown)
+}
+
+// The one term, or the fault.
+fn record(alloc: Global, text: &[u8]) -> Result<String, AllocError> {
+    match read_record(alloc, text) {
+        Ok(term) => format!(in alloc; "{term:?}"),
+        Err(fault) => fault.to_string(alloc),
+    }
+}
+
+// The one term as it is printed, or the fault. A clone of it is the same term.
+fn printed(alloc: Global, text: &[u8]) -> Result<String, AllocError> {
+    match read_record(alloc, text) {
+        Ok(term) if term.clone()? == term => print(alloc, &term),
+        Ok(_) => String::from_str(alloc, "another clone"),
+        Err(fault) => fault.to_string(alloc),
+    }
+}
+
+// How many terms each prefix has, or its fault. Prefixes in a row with the same answer are one entry, with the least and
+// the greatest of their lengths.
+fn prefixes(alloc: Global, text: &[u8]) -> Result<String, AllocError> {
+    let mut shown = String::new(alloc);
+    let mut least = 0;
+    let mut found = count(alloc, &[]);
+    for length in 1..=text.len() {
+        let next = count(alloc, &text[..length]);
+        if next != found {
+            push_entry(&mut shown, least, length - 1, found)?;
+            shown.push_str("; ")?;
+            least = length;
+            found = next;
+        }
+    }
+    push_entry(&mut shown, least, text.len(), found)?;
+    Ok(shown)
+}
+
+// How many terms a text has, or its fault.
+fn count(alloc: Global, text: &[u8]) -> Result<usize, TermFault> {
+    Ok(read_terms(alloc, text)?.len())
+}
+
+// Appends the answer of the prefixes of these lengths.
+fn push_entry(
+    shown: &mut String,
+    least: usize,
+    greatest: usize,
+    found: Result<usize, TermFault>,
+) -> Result<(), AllocError> {
+    match found {
+        Ok(count) => write!(shown, "{least}..{greatest} ok {count}"),
+        Err(fault) => write!(shown, "{least}..{greatest} {fault}"),
+    }
+}

@@ -1,0 +1,5 @@
+//! Tests of `rel_list`.
+#![tactic(auto)]
+
+#[cfg(test)]
+mod tests;
