@@ -31,3 +31,11 @@ module _ {D : Type 0} (moment : D → ℕ) (left_since : D → ℕ → List ℕ 
     each = λ c left. implies c (leaves.each c left);
     before = λ t c le left. ⊎_elim (λ was. inl was) (λ p. inr (implies c p)) (leaves.before t c le left);
   }
+
+  -- two facts that each hold at each moment hold together
+  pub both : (old new : D) (P Q : List ℕ → Type 0) → LeavesOnly moment left_since old new P → LeavesOnly moment left_since old new Q → LeavesOnly moment left_since old new (λ c. P c × Q c)
+  both old new P Q one other = record {
+    later = one.later;
+    each = λ c left. (one.each c left, other.each c left);
+    before = λ t c le left. ⊎_elim (λ was. inl was) (λ p. ⊎_elim (λ was. inl was) (λ q. inr (p, q)) (other.before t c le left)) (one.before t c le left);
+  }

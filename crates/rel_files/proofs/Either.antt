@@ -1,6 +1,6 @@
 -- A file says a release or has a fault.
 use Rattle.std.proofs.Common.{◌≡◌, ℕ, List, [], ◌∷◌, Option, Some, None, ◌⊎◌, inl, inr, refl, sym}
-use Rattle.erl_term.specs.declared.fault.TermFault.{TermFault}
+use Rattle.erl_term.specs.TermFault.{TermFault}
 use Rattle.erl_term.specs.Value.{Value}
 use Rattle.erl_term.specs.Grammar.{Reads, Reading}
 use Rattle.erl_term.specs.Faults.{IsFault}

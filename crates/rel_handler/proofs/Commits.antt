@@ -1,9 +1,9 @@
 -- A handler at rest, and one that commits a release.
-use Rattle.std.proofs.Common.{◌≡◌, ℕ, ◌<◌, true, false, List, [], ◌∷◌, ◌++◌, length, Some, None, Result, Ok, Err, sym, ap, ◌∙◌, subst, arith, length-append}
+use Rattle.std.proofs.Common.{◌≡◌, ℕ, ◌+◌, ◌<◌, true, false, List, [], ◌∷◌, ◌++◌, length, Some, None, Result, Ok, Err, sym, ap, ◌∙◌, subst, arith, length-append}
 use Rattle.std.specs.Prelude.{is_err, is_some, IfErr, OnOk, nat_le, if◌then◌else◌, codes}
 use Rattle.std.proofs.lemmas.Bool.Decides.{nat_tests}
 use Rattle.rel_disk.specs.Moments.{LeavesOnly, HasFailed}
-use Rattle.rel_disk.proofs.Moments.{started, weakened}
+use Rattle.rel_disk.proofs.Moments.{started, weakened, both}
 use Rattle.erl_term.specs.OneTerm.{HasTerm}
 use Rattle.erl_term.specs.Value.{Value}
 use Rattle.rel_files.specs.File.{IsReleaseTerm}
@@ -12,19 +12,20 @@ use Rattle.rel_list.specs.declared.status.Status.TheVariants.{Unpacked}
 use Rattle.rel_list.specs.Releases.{Releases, status_of}
 use Rattle.rel_list.specs.Event.{Event, entry, booted, step, list_after}
 use Rattle.rel_list.specs.Event.Event.{unpacked}
+use Rattle.rel_store.specs.Layout.{KeepsLayout}
 use Rattle.rel_store.specs.Records.{StandsEither}
 use Rattle.rel_store.specs.State as store
 use Rattle.rel_store.specs.declared.error.StoreError.{StoreError}
 use Rattle.rel_store.specs.declared.error.StoreError.TheVariants as fault
 use Rattle.rel_store.specs.declared.store.Store.{Store}
-use Rattle.rel_handler.specs.Events.{Events, doubted, IsOfPrefix}
-use Rattle.rel_handler.specs.Image.{IsImageOf}
+use Rattle.rel_handler.specs.Events.{Events, uncertain, IsStoredAs}
+use Rattle.rel_handler.specs.Image.{IsImageAt}
 use Rattle.rel_handler.specs.Limits.{is_small, most_releases}
 use Rattle.rel_handler.specs.Records.{adds, record_term, Spells, Makes}
-use Rattle.rel_handler.specs.State.{disk_in, list_in, is_dead, IsSound}
+use Rattle.rel_handler.specs.State.{disk_in, list_in, is_dead, end_in, IsSound}
 use Rattle.rel_handler.specs.Taking.{commanded}
 use Rattle.rel_handler.specs.declared.handler.Handler.{Handler}
-use Rattle.rel_handler.proofs.Images.{each_image, as_before, while_unpacking, with_record}
+use Rattle.rel_handler.proofs.Images.{each_image, stored_before, while_unpacking, with_record}
 use Rattle.rel_handler.proofs.Unpacking.{with_it, unpacks}
 
 -- what holds of a call that didn't fail
@@ -67,15 +68,15 @@ module _ {D : Type 0} (moment : D → ℕ) (left_since : D → ℕ → List ℕ 
   settled_store = s.store.settled (s.works alive)
 
   -- each image of its disk stands for its list
-  pub image_now : (c : List ℕ) → may_leave (disk_in h) c → IsImageOf c (list_in h)
+  pub image_now : (c : List ℕ) → may_leave (disk_in h) c → IsImageAt c (list_in h) (end_in h)
   image_now c now = each_image seen may_leave h.store (list_in h) settled_store (s.list alive) c now
 
   -- a command that hasn't touched the disk
   pub resting : (new : D) → new ≡ disk_in h → ((c : List ℕ) → left_since (disk_in h) (moment (disk_in h)) c → may_leave (disk_in h) c)
-      → (e : Event) (events : Events) → list_after events ≡ Some (list_in h) → LeavesOnly moment left_since (disk_in h) new (IsOfPrefix (doubted events e))
-  resting new same only_now e events after =
-      subst (λ d. LeavesOnly moment left_since (disk_in h) d (IsOfPrefix (doubted events e))) (sym same)
-      (started moment left_since (disk_in h) (IsOfPrefix (doubted events e)) (λ c left. as_before events e (list_in h) c after (image_now c (only_now c left))))
+      → (e : Event) (size : ℕ) (events : Events) → list_after events ≡ Some (list_in h) → LeavesOnly moment left_since (disk_in h) new (IsStoredAs (uncertain events (end_in h) e size))
+  resting new same only_now e size events after =
+      subst (λ d. LeavesOnly moment left_since (disk_in h) d (IsStoredAs (uncertain events (end_in h) e size))) (sym same)
+      (started moment left_since (disk_in h) (IsStoredAs (uncertain events (end_in h) e size)) (λ c left. stored_before events (end_in h) e size (list_in h) c after (image_now c (only_now c left))))
 
   -- a record that is being appended behind a reservation
   module _ (reserved : Store D) (same : store.IsSame h.store reserved) (r : Release) (end : Releases) (body : List ℕ) (spelled : Spells body (adds r)) (allows : commanded (unpacked r) (list_in h) ≡ Ok end) where
@@ -83,12 +84,16 @@ module _ {D : Type 0} (moment : D → ℕ) (left_since : D → ℕ → List ℕ 
     reserved_works = same.failed ∙ s.works alive
 
     pub committing : (new : D) (text : List ℕ) → LeavesOnly moment left_since (store.disk_in reserved) new (StandsEither (store.records_in reserved) body text)
-        → (events : Events) → list_after events ≡ Some (list_in h) → LeavesOnly moment left_since (disk_in h) new (IsOfPrefix (doubted events (unpacked r)))
-    committing new text leaves events after =
-        subst (λ d. LeavesOnly moment left_since d new (IsOfPrefix (doubted events (unpacked r)))) same.disk
-        (weakened moment left_since (store.disk_in reserved) new (StandsEither (store.records_in reserved) body text) (IsOfPrefix (doubted events (unpacked r)))
-        (λ c either. while_unpacking r (list_in h) end (store.records_in h.store) body text events (s.list alive) spelled allows after c (subst (λ bodies. StandsEither bodies body text c) same.records either))
-        leaves)
+        → LeavesOnly moment left_since (store.disk_in reserved) new (KeepsLayout (seen (store.disk_in reserved)))
+        → (events : Events) → list_after events ≡ Some (list_in h) → (size : ℕ) → length body ≡ size → LeavesOnly moment left_since (disk_in h) new (IsStoredAs (uncertain events (end_in h) (unpacked r) size))
+    committing new text leaves kept events after size long =
+        subst (λ n. LeavesOnly moment left_since (disk_in h) new (IsStoredAs (uncertain events (end_in h) (unpacked r) n))) long
+        (subst (λ d. LeavesOnly moment left_since d new (IsStoredAs (uncertain events (end_in h) (unpacked r) (length body)))) same.disk
+        (weakened moment left_since (store.disk_in reserved) new _ (IsStoredAs (uncertain events (end_in h) (unpacked r) (length body)))
+        (λ c either. while_unpacking r (list_in h) end (store.records_in h.store) body text events (s.list alive) spelled allows after (seen (disk_in h)) (end_in h) (ap (λ g. g + 1) settled_store.end) c
+        (subst (λ bodies. StandsEither bodies body text c) same.records either.0, subst (λ d. KeepsLayout (seen d) c) same.disk either.1))
+        (both moment left_since (store.disk_in reserved) new _ _ leaves kept)))
+
 
     -- the store then makes the new list
     pub committed : (new : List (List ℕ)) → new ≡ store.records_in reserved ++ body ∷ [] → Makes new (booted end)

@@ -1,5 +1,5 @@
 -- Which lists the images of a disk stand for.
-use Rattle.std.proofs.Common.{◌≡◌, inl, inr, ℕ, Bool, true, false, List, [], ◌∷◌, ◌++◌, Some, Ok, Err, refl, sym, ap, ◌∙◌, subst}
+use Rattle.std.proofs.Common.{◌≡◌, inl, inr, ℕ, ◌+◌, length, arith, Bool, true, false, List, [], ◌∷◌, ◌++◌, Some, Ok, Err, refl, sym, ap, ◌∙◌, subst}
 use Rattle.std.specs.Prelude.{is_some, if◌then◌else◌}
 use Rattle.std.specs.Result.{result_ok}
 use Rattle.std.proofs.lemmas.List.{append-nil}
@@ -9,11 +9,14 @@ use Rattle.rel_list.specs.Releases.{Releases}
 use Rattle.rel_list.specs.Event.{Event, entry, booted, step, list_after}
 use Rattle.rel_list.specs.Event.Event.{made, unpacked, boot}
 use Rattle.rel_store.specs.Creation.{IsNoneOrNew}
-use Rattle.rel_store.specs.Records.{records_of, StandsEither}
-use Rattle.rel_store.specs.State.{records_in, IsSettled}
+use Rattle.rel_store.specs.Records.{records_of, StandsEither, space, records_or_none, end_of}
+use Rattle.rel_store.specs.Layout.{base_of, KeepsLayout}
+use Rattle.rel_store.proofs.Scan.{space-push}
+use Rattle.rel_store.proofs.Whole.{base-same}
+use Rattle.rel_store.specs.State.{records_in, end_in, IsSettled}
 use Rattle.rel_store.specs.declared.store.Store.{Store}
-use Rattle.rel_handler.specs.Events.{Known, doubted, IsPrefix, IsOfPrefix, IsNoneOrOfPrefix}
-use Rattle.rel_handler.specs.Image.{IsImageOf}
+use Rattle.rel_handler.specs.Events.{Known, doubted, IsPrefix, IsOfPrefix, IsNoneOrOfPrefix, uncertain, IsStoredAs}
+use Rattle.rel_handler.specs.Image.{IsImageOf, IsImageAt}
 use Rattle.rel_handler.specs.Limits.{is_small}
 use Rattle.rel_handler.specs.Moments.{BootsTo}
 use Rattle.rel_handler.specs.Records.{makes, adds, Spells, with_one_permanent, assigned, MakesFrom, Makes}
@@ -23,10 +26,21 @@ use Rattle.rel_handler.proofs.Lists.{list_after-push}
 use Rattle.rel_handler.proofs.Making.{makes-push, makes_once}
 use Rattle.rel_handler.proofs.Unpacking.{unpacked_behind_a_boot, steps}
 
+-- where a store ends, by its base and its records
+ends_so : (bytes : List ℕ) (bodies : List (List ℕ)) (base : ℕ) → records_of bytes ≡ Ok bodies → base_of bytes ≡ base → end_of bytes ≡ (base + space bodies) + 1
+ends_so bytes bodies base read at = ap (λ r. (base_of bytes + space (records_or_none r)) + 1) read ∙ ap (λ b. (b + space bodies) + 1) at
+
+-- where a settled store ends
+pub settled_end : {D : Type 0} (seen : D → List ℕ) (may_leave : D → List ℕ → Type 0) (store : Store D) → IsSettled seen may_leave store → end_of (seen store.disk) ≡ end_in store
+settled_end seen may_leave store s = ends_so (seen store.disk) (records_in store) (base_of (seen store.disk)) s.records refl ∙ ap (λ g. g + 1) (sym s.end)
+
 -- each image of a settled store's disk stands for the list that its records make
 pub each_image : {D : Type 0} (seen : D → List ℕ) (may_leave : D → List ℕ → Type 0) (store : Store D) (es : Releases) → IsSettled seen may_leave store → Makes (records_in store) (booted es)
-    → (c : List ℕ) → may_leave store.disk c → IsImageOf c es
-each_image seen may_leave store es s makes_it c now = record { bodies = records_in store; store = ap records_of (s.durable c now) ∙ s.records; list = makes_it }
+    → (c : List ℕ) → may_leave store.disk c → IsImageAt c es (end_in store)
+each_image seen may_leave store es s makes_it c now = record {
+  image_of = record { bodies = records_in store; store = ap records_of (s.durable c now) ∙ s.records; list = makes_it };
+  ends = ap end_of (s.durable c now) ∙ settled_end seen may_leave store s;
+}
 
 -- the acknowledged events are a prefix that lacks the one in doubt
 pub prefix_without : (events : List Event) (e : Event) → IsPrefix (doubted events e) events
@@ -46,9 +60,19 @@ prefix_with events e es after = record { lacks = []; of_accepted = ap (λ o. if 
     none : events ++ e ∷ [] ≡ (events ++ e ∷ []) ++ []
     none = sym (append-nil _)
 
--- an image of the list before a command is one of a prefix
-pub as_before : (events : List Event) (e : Event) (es : Releases) (c : List ℕ) → list_after events ≡ Some es → IsImageOf c es → IsOfPrefix (doubted events e) c
-as_before events e es c after image = record { events = events; prefix = prefix_without events e; list = es; after = after; image_of = image }
+-- A store of the list before a command is one that has the events without the one in doubt.
+pub stored_before : (events : List Event) (end : ℕ) (e : Event) (size : ℕ) (es : Releases) (c : List ℕ) → list_after events ≡ Some es → IsImageAt c es end → IsStoredAs (uncertain events end e size) c
+stored_before events end e size es c after image = record { events = events; has = inl (refl, image.ends); list = es; after = after; image_of = image.image_of }
+
+-- And one of the list after it has them all.
+pub stored_after : (events : List Event) (end : ℕ) (e : Event) (size : ℕ) (es next : Releases) (c : List ℕ) → list_after events ≡ Some es → step e es ≡ Some next → IsImageAt c next (end + (5 + size)) → IsStoredAs (uncertain events end e size) c
+stored_after events end e size es next c after is image = record {
+  events = events ++ e ∷ [];
+  has = inr (refl, image.ends);
+  list = next;
+  after = list_after-push events e es next after is;
+  image_of = image.image_of;
+}
 
 -- and one of the list after it too
 pub as_after : (events : List Event) (e : Event) (es end : Releases) (c : List ℕ) → list_after events ≡ Some es → step e es ≡ Some end → IsImageOf c end → IsOfPrefix (doubted events e) c
@@ -66,11 +90,18 @@ with_record r es end bodies body (so_far, one) spelled allows =
 -- The record of an unpacked release is being appended: the store makes the list from before it or the one with it.
 pub while_unpacking : (r : Release) (es end : Releases) (bodies : List (List ℕ)) (body text : List ℕ) (events : List Event)
     → Makes bodies (booted es) → Spells body (adds r) → commanded (unpacked r) es ≡ Ok end → list_after events ≡ Some es
-    → (c : List ℕ) → StandsEither bodies body text c → IsOfPrefix (doubted events (unpacked r)) c
-while_unpacking r es end bodies body text events makes_it spelled allows after c (inl stands) =
-    as_before events (unpacked r) es c after (record { bodies = bodies; store = stands.records; list = makes_it })
-while_unpacking r es end bodies body text events makes_it spelled allows after c (inr stands) =
-    as_after events (unpacked r) es end c after (steps r es end allows) (record { bodies = bodies ++ body ∷ []; store = stands.records; list = with_record r es end bodies body makes_it spelled allows })
+    → (old : List ℕ) (ends : ℕ) → ends ≡ (base_of old + space bodies) + 1
+    → (c : List ℕ) → StandsEither bodies body text c × KeepsLayout old c → IsStoredAs (uncertain events ends (unpacked r) (length body)) c
+while_unpacking r es end bodies body text events makes_it spelled allows after old ends at c (inl stands, kept) =
+    stored_before events ends (unpacked r) (length body) es c after (record {
+      image_of = record { bodies = bodies; store = stands.records; list = makes_it };
+      ends = ends_so c bodies (base_of old) stands.records (base-same c old kept) ∙ sym at;
+    })
+while_unpacking r es end bodies body text events makes_it spelled allows after old ends at c (inr stands, kept) =
+    stored_after events ends (unpacked r) (length body) es end c after (steps r es end allows) (record {
+      image_of = record { bodies = bodies ++ body ∷ []; store = stands.records; list = with_record r es end bodies body makes_it spelled allows };
+      ends = ends_so c (bodies ++ body ∷ []) (base_of old) stands.records (base-same c old kept) ∙ omega (arith, at, space-push bodies body);
+    })
 
 -- the first record makes the list of its release
 pub first_record : (r : Release) (body : List ℕ) → is_small r ≡ true → Spells body (makes r) → Makes (body ∷ []) (booted (entry r Permanent ∷ []))

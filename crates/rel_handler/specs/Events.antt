@@ -1,8 +1,8 @@
 -- Crash safety: which lists a node may boot to.
-use Rattle.std.specs.Prelude.{◌≡◌, ◌⊎◌, ℕ, List, [], ◌∷◌, ◌++◌, is_some, if◌then◌else◌, Option, None, Some, Err}
+use Rattle.std.specs.Prelude.{◌≡◌, ◌⊎◌, ℕ, ◌+◌, List, [], ◌∷◌, ◌++◌, is_some, if◌then◌else◌, Option, None, Some, Err}
 use Rattle.rel_list.specs.Releases.{Releases}
 use Rattle.rel_list.specs.Event.{Event, list_after}
-use Rattle.rel_store.specs.Records.{records_of}
+use Rattle.rel_store.specs.Records.{records_of, end_of}
 use Rattle.rel_store.specs.declared.error.StoreError.TheVariants.{NotAStore}
 use Rattle.rel_handler.specs.Image.{IsImageOf}
 
@@ -50,3 +50,31 @@ pub record IsOfPrefix (k : Known) (image : List ℕ) : Type 0 where
 -- They are no store, or stand for such a list.
 abbrev pub IsNoneOrOfPrefix : Known → List ℕ → Type 0
 IsNoneOrOfPrefix k image = (records_of image ≡ Err NotAStore) ⊎ IsOfPrefix k image
+
+-- What is known of a node's store: its events, and where it ends behind the acknowledged ones, and with the one in doubt.
+pub record Stored : Type 0 where
+  pub known : Known
+  pub end : ℕ
+  pub end_with_doubt : ℕ
+
+-- a store with these events, none of them in doubt, that ends here
+abbrev pub certain : Events → ℕ → Stored
+certain events end = record { known = settled events; end = end; end_with_doubt = end }
+
+-- Behind these events, where the store ends here, one is in doubt, whose record has a body of so many bytes.
+abbrev pub uncertain : Events → ℕ → Event → ℕ → Stored
+uncertain events end e size = record { known = doubted events e; end = end; end_with_doubt = end + (5 + size) }
+
+-- The store has these events and ends here: the acknowledged ones, or those with the one in doubt.
+abbrev pub MayHave : Stored → Events → ℕ → Type 0
+MayHave s events end =
+    ((events ≡ s.known.acknowledged) × (end ≡ s.end))
+    ⊎ ((events ≡ with_doubt s.known.acknowledged s.known.in_doubt) × (end ≡ s.end_with_doubt))
+
+-- These bytes are a store that has such events, and stand for their list.
+pub record IsStoredAs (s : Stored) (image : List ℕ) : Type 0 where
+  pub events : Events
+  pub has : MayHave s events (end_of image)
+  pub list : Releases
+  pub after : list_after events ≡ Some list
+  pub image_of : IsImageOf image list

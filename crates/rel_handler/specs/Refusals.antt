@@ -35,7 +35,7 @@ CommandRefused failures e size old new ExistingRelease = IsRefused e old Existin
 CommandRefused failures e size old new TooMany = IsRefused e old TooMany × IsSame old new
 CommandRefused failures e size old new Full = IsAllowed e old × (Fits (end_in old) size → ⊥) × IsSame old new
 CommandRefused failures e size old new NoMemory = (is_dead old ≡ false) × IsSame old new
-CommandRefused failures e size old new Device = IsAllowed e old × HasFailed (failures (disk_in old)) (failures (disk_in new)) × (is_dead new ≡ true)
+CommandRefused failures e size old new Device = IsAllowed e old × Fits (end_in old) size × HasFailed (failures (disk_in old)) (failures (disk_in new)) × (is_dead new ≡ true)
 CommandRefused failures e size old new Exists = ⊥
 
 -- Why a node isn't made with this release, on a disk with these bytes, by a record with a body of so many. Nothing has been

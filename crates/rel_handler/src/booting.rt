@@ -4,12 +4,13 @@ ghost use Rattle.rel_disk.specs.Moments.{LeavesOnly};
 ghost use Rattle.rel_list.specs.Releases.{Releases};
 ghost use Rattle.rel_list.specs.Event.{booted};
 ghost use Rattle.rel_store.specs.Contents.{OpenRefused};
+ghost use Rattle.rel_store.specs.Records.{end_of};
 ghost use Rattle.rel_handler.specs.Events.{Known, IsOfPrefix};
-ghost use Rattle.rel_handler.specs.Image.{IsImageOf};
+ghost use Rattle.rel_handler.specs.Image.{IsImageOf, IsImageAt};
 ghost use Rattle.rel_handler.specs.Moments.{BootsTo};
 ghost use Rattle.rel_handler.specs.Records.{Makes, IsBadRecord};
 ghost use Rattle.rel_handler.specs.Refusals.{BootRefused, told_boot, IsOpenError};
-ghost use Rattle.rel_handler.specs.State.{disk_in, disk_of, list_in, is_dead, IsSound};
+ghost use Rattle.rel_handler.specs.State.{disk_in, disk_of, list_in, is_dead, end_in, IsSound};
 
 use crate::records::{RecordFault, take_record};
 use crate::{BootError, Handler};
@@ -28,7 +29,8 @@ pub fn boot<D: Disk>(alloc: Global, disk: D) -> Result<Handler<D>, (BootError, D
     ensures works { IfOk result (λ handler. is_dead handler ≡ false) }
     ensures same { D.seen (disk_of result) ≡ D.seen disk }
     ensures image { IfOk result (λ handler. IsImageOf (D.seen disk) (list_in handler) × (booted (list_in handler) ≡ list_in handler)) }
-    ensures acknowledged { IfOk result (λ handler. (c : List ℕ) → D.may_leave (disk_in handler) c → IsImageOf c (list_in handler)) }
+    ensures acknowledged { IfOk result (λ handler. (c : List ℕ) → D.may_leave (disk_in handler) c → IsImageAt c (list_in handler) (end_in handler)) }
+    ensures end { IfOk result (λ handler. end_in handler ≡ end_of (D.seen disk)) }
 
     // A disk that stands for a list is booted to that list.
     ensures only { (es : Releases) → IsImageOf (D.seen disk) es

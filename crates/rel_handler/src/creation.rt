@@ -10,7 +10,7 @@ ghost use Rattle.rel_store.specs.Layout.{has_magic, slot_with};
 ghost use Rattle.rel_store.specs.State.{Fits};
 ghost use Rattle.rel_handler.specs.Events.{doubted};
 ghost use Rattle.rel_handler.specs.Files.{IsRelFile, start_text};
-ghost use Rattle.rel_handler.specs.Image.{IsImageOf};
+ghost use Rattle.rel_handler.specs.Image.{IsImageAt};
 ghost use Rattle.rel_handler.specs.Limits.{is_small};
 ghost use Rattle.rel_handler.specs.Moments.{Begins, BeginsAt};
 ghost use Rattle.rel_handler.specs.Records.{body_of, record_term, word_of, makes};
@@ -39,7 +39,7 @@ impl<D: Disk> Handler<D> {
         ensures works { IfOk result (λ handler. is_dead handler ≡ false) }
         ensures small { OnOk result (is_small (release_of file.release) ≡ true) }
         ensures list { IfOk result (λ handler. list_in handler ≡ entry (release_of file.release) Permanent ∷ []) }
-        ensures acknowledged { IfOk result (λ handler. (c : List ℕ) → D.may_leave (disk_in handler) c → IsImageOf c (list_in handler)) }
+        ensures acknowledged { IfOk result (λ handler. (c : List ℕ) → D.may_leave (disk_in handler) c → IsImageAt c (list_in handler) (end_in handler)) }
         ensures start { IfOk result (λ handler. start_in D.seen handler ≡ slot_with (start_text (release_of file.release))) }
         ensures fits { OnOk result (Fits 289 (length (body_of (word_of (makes (release_of file.release))) (value_of file.term)))) }
         ensures end { IfOk result (λ handler. end_in handler ≡ 289 + (5 + length (body_of (word_of (makes (release_of file.release))) (value_of file.term)))) }

@@ -6,8 +6,8 @@ ghost use Rattle.rel_files.specs.Release.{release_of};
 ghost use Rattle.rel_list.specs.Event.{list_after};
 ghost use Rattle.rel_list.specs.Event.Event.{unpacked};
 ghost use Rattle.rel_store.specs.State.{Fits};
-ghost use Rattle.rel_handler.specs.Events.{Events, IsOfPrefix, doubted};
-ghost use Rattle.rel_handler.specs.Image.{IsImageOf};
+ghost use Rattle.rel_handler.specs.Events.{Events, IsStoredAs, uncertain};
+ghost use Rattle.rel_handler.specs.Image.{IsImageAt};
 ghost use Rattle.rel_handler.specs.Records.{body_of, word_of, adds};
 ghost use Rattle.rel_handler.specs.Refusals.{CommandRefused};
 ghost use Rattle.rel_handler.specs.State.{disk_in, list_in, is_dead, end_in, start_in, IsSound};
@@ -75,16 +75,17 @@ impl<D: Disk> Handler<D> {
         ensures sound { IsSound D.seen D.may_leave self.new }
         ensures works { OnOk result (is_dead self.new ≡ false) }
         ensures accepted { OnOk result (commanded (unpacked (release_of file.release)) (list_in self.old) ≡ Ok (list_in self.new)) }
-        ensures acknowledged { OnOk result ((c : List ℕ) → D.may_leave (disk_in self.new) c → IsImageOf c (list_in self.new)) }
+        ensures acknowledged { OnOk result ((c : List ℕ) → D.may_leave (disk_in self.new) c → IsImageAt c (list_in self.new) (end_in self.new)) }
         ensures start { OnOk result (start_in D.seen self.new ≡ start_in D.seen self.old) }
         ensures fits { OnOk result (Fits (end_in self.old) (length (body_of (word_of (adds (release_of file.release))) (value_of file.term)))) }
         ensures end { OnOk result (end_in self.new ≡ end_in self.old + (5 + length (body_of (word_of (adds (release_of file.release))) (value_of file.term)))) }
 
-        // Whatever the events so far, a crash at any moment of the call leaves the list of a prefix of them and this one,
-        // which is in doubt.
+        // Whatever the events so far, a crash at any moment of the call leaves the store of their list, or of the list with
+        // this one, which is in doubt.
         ensures any_moment { is_dead self.old ≡ false → (events : Events) → list_after events ≡ Some (list_in self.old)
             → LeavesOnly D.moment D.left_since (disk_in self.old) (disk_in self.new)
-            (IsOfPrefix (doubted events (unpacked (release_of file.release)))) }
+            (IsStoredAs (uncertain events (end_in self.old) (unpacked (release_of file.release))
+            (length (body_of (word_of (adds (release_of file.release))) (value_of file.term))))) }
 
         ensures counted { D.failures (disk_in self.old) ≤ D.failures (disk_in self.new) }
         ensures refused { IfErr result (CommandRefused D.failures (unpacked (release_of file.release))

@@ -41,8 +41,9 @@ events_behind events es [] end after is = (events, after ∙ ap (λ l. Some l) (
 events_behind events es (body ∷ bodies) end after (r, between, spelled, taken, rest) =
     events_behind (events ++ event_in r ∷ []) between bodies end (list_after-push events (event_in r) es between after (stepped r es between taken)) rest
 
--- A list that a disk stands for is one behind events and a boot.
-pub events_of : (image : List ℕ) (es : Releases) → IsImageOf image es → booted es ≡ es → (events : Events) × (list_after (events ++ booting ∷ []) ≡ Some es)
-events_of image es of still =
+-- A list that a disk stands for is one behind events, and behind a boot then.
+pub events_of_image : (image : List ℕ) (es : Releases) → IsImageOf image es → booted es ≡ es → (events : Events) × (list_after events ≡ Some es) × (list_after (events ++ booting ∷ []) ≡ Some es)
+events_of_image image es of still =
     let (events, after) = events_behind [] [] of.bodies (booted es) refl of.list.0 in
-    (events, list_after-push events booting (booted es) es after (ap (λ l. Some (booted l)) still ∙ ap (λ l. Some l) still))
+    let before : list_after events ≡ Some es = after ∙ ap (λ l. Some l) still in
+    (events, before, list_after-push events booting es es before (ap (λ l. Some l) still))

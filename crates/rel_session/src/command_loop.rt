@@ -1,11 +1,9 @@
 //! A session of a node.
-ghost use Rattle.std.specs.Prelude.{◌≡◌, ◌≤◌, List, Option, None, IfSome, IsErrOf, OnOk, OnErr};
-ghost use Rattle.rel_handler.specs.Events.{Known};
-ghost use Rattle.rel_session.specs.Answers.{IsAnswerOrFull, BeginsAnswer, FromDisk, commands_in};
-ghost use Rattle.rel_session.specs.Answers.Ending.{ended, cut_off};
+ghost use Rattle.std.specs.Prelude.{◌≡◌, ◌≤◌, None, IsErrOf, OnOk, OnErr};
+ghost use Rattle.rel_session.specs.Ended.{IsSession};
 ghost use Rattle.rel_session.specs.Input.{IsFresh, reader_of, taken, failed_reads, most_bytes, HasRisen};
-ghost use Rattle.rel_session.specs.Output.{writer_of, failed_writes, Writes};
-ghost use Rattle.rel_session.specs.Runs.{News, TellsAll, IsKept, Runs};
+ghost use Rattle.rel_session.specs.Output.{writer_of, failed_writes};
+ghost use Rattle.rel_session.specs.Run.Ending.{ended, cut_off, early};
 
 use crate::error::SessionError;
 use crate::input::Input;
@@ -25,25 +23,17 @@ pub fn session<D: Disk, R: Read + Drop, W: Write + Drop>(
 ) -> (D, Result<(), SessionError>)
     requires { IsFresh input.old }
 
-    // At the end of the input or at `quit` the answer was written, and nothing else: the one from what the disk stood for,
-    // if the device didn't fail.
-    ensures answered { OnOk result.1 (FromDisk (D.seen disk) (D.failures disk) (D.failures result.0) (λ place. IfSome (R.remaining (reader_of input.old)) (λ bytes.
-        Writes (W.contents (writer_of output.old)) (W.contents (writer_of output.new)) (IsAnswerOrFull place bytes ended)))) }
+    // The session is a run of transitions over the commands of its input, from the disk that it took to the one that it
+    // hands back. What it wrote are the answers: all of them at the end of the input or at `quit`, and where more of the
+    // input was needed than may be taken.
+    ensures ended { OnOk result.1 (IsSession D.Disk ended (R.remaining (reader_of input.old)) disk result.0
+        (W.contents (writer_of output.old)) (W.contents (writer_of output.new))) }
+    ensures cut { IsErrOf result.1 SessionError.Limit → IsSession D.Disk cut_off (R.remaining (reader_of input.old)) disk result.0
+        (W.contents (writer_of output.old)) (W.contents (writer_of output.new)) }
 
-    // So it was where the input was cut off: more of it was needed than may be taken.
-    ensures cut { IsErrOf result.1 SessionError.Limit → FromDisk (D.seen disk) (D.failures disk) (D.failures result.0) (λ place. IfSome (R.remaining (reader_of input.old)) (λ bytes.
-        Writes (W.contents (writer_of output.old)) (W.contents (writer_of output.new)) (IsAnswerOrFull place bytes cut_off))) }
-
-    // After any error a front of it was written.
-    ensures front { OnErr result.1 (FromDisk (D.seen disk) (D.failures disk) (D.failures result.0) (λ place. IfSome (R.remaining (reader_of input.old)) (λ bytes.
-        Writes (W.contents (writer_of output.old)) (W.contents (writer_of output.new)) (BeginsAnswer place bytes)))) }
-
-    // At each moment a crash leaves the list of a prefix of the events so far that holds every acknowledged one, as the
-    // answers tell them, and so does the disk that comes back.
-    ensures survives { (known : Option Known) → IsKept D.seen D.may_leave D.moment D.left_since known disk
-        → (run : List News) × Runs D.seen D.may_leave D.moment D.left_since known run disk result.0
-        × IfSome (R.remaining (reader_of input.old)) (λ bytes. Writes (W.contents (writer_of output.old)) (W.contents (writer_of output.new))
-        (λ text. TellsAll (λ path. None) (commands_in bytes) text run)) }
+    // After any error it is such a run up to some command, whose answer may not be written whole.
+    ensures broken { OnErr result.1 (IsSession D.Disk early (R.remaining (reader_of input.old)) disk result.0
+        (W.contents (writer_of output.old)) (W.contents (writer_of output.new))) }
 
     // Each error but want of memory has its cause in this call.
     ensures read { IsErrOf result.1 SessionError.Read → HasRisen (failed_reads input.old) (failed_reads input.new) }

@@ -2,7 +2,8 @@
 ghost use Rattle.std.specs.Prelude.{◌≡◌, ◌≢◌, true, None, Some, Ok, Err, string_bytes, IfOk, IfErr, OnOk};
 ghost use Rattle.rel_session.specs.Commands.{given_of};
 ghost use Rattle.rel_session.specs.Commands.File.{bytes as kept};
-ghost use Rattle.rel_session.specs.Node.{give, IsIn, usable};
+ghost use Rattle.rel_session.specs.Files.{give, IsFound};
+ghost use Rattle.rel_session.specs.InMemory.{found_of};
 ghost use Rattle.rel_session.specs.Refusals.{refusal_of};
 ghost use Rattle.rel_session.specs.Refusals.Refusal.{bad_file};
 ghost use Rattle.rel_files.specs.Fault.{fault_of};
@@ -24,7 +25,7 @@ pub struct Files {
 }
 
 impl Files {
-    ghost use Rattle.rel_session.specs.Given.{files_of};
+    ghost use Rattle.rel_session.specs.Files.{files_of};
 
     /// No file was given.
     pub fn new(alloc: Global) -> Files
@@ -49,10 +50,10 @@ impl Files {
 
     /// The release in the file of this path.
     pub fn release(&self, alloc: Global, path: &str) -> Result<RelFile, Refusal>
-        ensures found { IfOk result (λ file. IsIn path.now (files_of self.now path.now) (Ok (release_of file.release))) }
+        ensures found { IfOk result (λ file. IsFound path.now (files_of self.now path.now) (Ok (found_of file))) }
         ensures file { IfOk result IsRelFile }
         ensures small { IfOk result (λ file. is_small (release_of file.release) ≡ true) }
-        ensures refused { IfErr result (λ r. r ≢ Refusal.NoMemory → IsIn path.now (files_of self.now path.now) (Err (refusal_of r))) }
+        ensures refused { IfErr result (λ r. r ≢ Refusal.NoMemory → IsFound path.now (files_of self.now path.now) (Err (refusal_of r))) }
     {
         match self.given.get(path) {
             Some(GivenFile::Bytes(bytes)) => release_in(alloc, path, bytes),
@@ -64,10 +65,10 @@ impl Files {
 
 /// The release in the bytes of a `.rel` file.
 fn release_in(alloc: Global, path: &str, bytes: &[u8]) -> Result<RelFile, Refusal>
-    ensures found { IfOk result (λ file. IsIn path.now (Some (kept bytes.now)) (Ok (release_of file.release))) }
+    ensures found { IfOk result (λ file. IsFound path.now (Some (kept bytes.now)) (Ok (found_of file))) }
     ensures file { IfOk result IsRelFile }
     ensures small { IfOk result (λ file. is_small (release_of file.release) ≡ true) }
-    ensures refused { IfErr result (λ r. r ≢ Refusal.NoMemory → IsIn path.now (Some (kept bytes.now)) (Err (refusal_of r))) }
+    ensures refused { IfErr result (λ r. r ≢ Refusal.NoMemory → IsFound path.now (Some (kept bytes.now)) (Err (refusal_of r))) }
 {
     match read_rel_file(alloc, bytes) {
         Ok(file) if file.release.apps.as_slice().len() <= MOST_APPLICATIONS => Ok(file),

@@ -1,16 +1,12 @@
 //! The node of a session.
-ghost use Rattle.std.specs.Prelude.{◌≡◌, ◌≤◌, true, codes, None, Some, Ok, Err, string_bytes, IfOk, IfErr, OnOk, MatchResult};
+ghost use Rattle.std.specs.Prelude.{◌≡◌, codes, None, Some, Ok, Err, string_bytes, IfOk, IfErr, OnOk, MatchResult};
 ghost use Rattle.rel_session.specs.Commands.{command_of, given_of};
-ghost use Rattle.rel_list.specs.Event.Event.{unpacked};
 ghost use Rattle.rel_session.specs.Commands.Command.{file as file_given, create, set_unpacked, boot};
-ghost use Rattle.rel_session.specs.Given.{files_of};
-ghost use Rattle.rel_session.specs.Kept.{Survives};
-ghost use Rattle.rel_session.specs.Leads.{Brings};
-ghost use Rattle.rel_session.specs.Node.{Follows, IsUnpackedAt, give};
-ghost use Rattle.rel_session.specs.Nodes.{Turns};
-ghost use Rattle.rel_session.specs.Told.{IsAnswered, IsLine, IsText};
+ghost use Rattle.rel_session.specs.Files.{files_of, give};
+ghost use Rattle.rel_session.specs.InMemory.{Answers, IsLine, IsText};
+ghost use Rattle.rel_session.specs.Transition.{SetsUnpacked};
 ghost use Rattle.rel_session.specs.declared.place.Place.TheVariants.{Bare, Made};
-ghost use Rattle.rel_handler.specs.State.{IsSound, disk_in, is_dead};
+ghost use Rattle.rel_handler.specs.State.{IsSound};
 
 use crate::command::Command;
 use crate::error::SessionError;
@@ -29,7 +25,7 @@ pub struct Node<D: Disk> {
 }
 
 impl<D: Disk> Node<D> {
-    ghost use Rattle.rel_session.specs.Nodes.{disk_of, IsSoundPlace, IsNode, Turns, TurnsNode, step_of};
+    ghost use Rattle.rel_session.specs.InMemory.{disk_of, IsSoundPlace, Follows};
 
     /// No node was made or booted on the disk yet, and no file was given.
     pub fn new(alloc: Global, disk: D) -> Node<D>
@@ -58,9 +54,7 @@ impl<D: Disk> Node<D> {
     ) -> (Node<D>, Result<Option<String>, SessionError>)
         requires { IsSoundPlace D.seen D.may_leave self.place }
         ensures sound { IsSoundPlace D.seen D.may_leave result.0.place }
-        ensures counted { D.failures (disk_of self) ≤ D.failures (disk_of result.0) }
-        ensures followed { IfOk result.1 (λ text. TurnsNode D.seen D.failures self result.0 (λ n m. Follows true n (command_of command) (step_of m text))) }
-        ensures survives { Survives D.seen D.may_leave D.moment D.left_since (command_of command) result.1 self result.0 }
+        ensures followed { Follows D.Disk (command_of command) result.1 self result.0 }
         ensures memory { IfErr result.1 (λ e. e ≡ SessionError.NoMemory) }
     {
         match command {
@@ -88,8 +82,7 @@ impl<D: Disk> Node<D> {
         file: GivenFile,
     ) -> (Node<D>, Result<Option<String>, SessionError>)
         ensures place { result.0.place ≡ self.place }
-        ensures followed { IfOk result.1 (λ text. TurnsNode D.seen D.failures self result.0 (λ n m. Follows true n (file_given (string_bytes path) (given_of file)) (step_of m text))) }
-        ensures survives { Survives D.seen D.may_leave D.moment D.left_since (file_given (string_bytes path) (given_of file)) result.1 self result.0 }
+        ensures followed { Follows D.Disk (file_given (string_bytes path) (given_of file)) result.1 self result.0 }
         ensures memory { IfErr result.1 (λ e. e ≡ SessionError.NoMemory) }
     {
         let Node { place, mut files } = self;
@@ -101,9 +94,7 @@ impl<D: Disk> Node<D> {
     fn create(self, alloc: Global, path: &str) -> (Node<D>, Result<Option<String>, SessionError>)
         requires { IsSoundPlace D.seen D.may_leave self.place }
         ensures sound { IsSoundPlace D.seen D.may_leave result.0.place }
-        ensures counted { D.failures (disk_of self) ≤ D.failures (disk_of result.0) }
-        ensures followed { IfOk result.1 (λ text. TurnsNode D.seen D.failures self result.0 (λ n m. Follows true n (create path.now) (step_of m text))) }
-        ensures survives { Survives D.seen D.may_leave D.moment D.left_since (create path.now) result.1 self result.0 }
+        ensures followed { Follows D.Disk (create path.now) result.1 self result.0 }
         ensures memory { IfErr result.1 (λ e. e ≡ SessionError.NoMemory) }
     {
         let Node { place, files } = self;
@@ -124,9 +115,7 @@ impl<D: Disk> Node<D> {
     ) -> (Node<D>, Result<Option<String>, SessionError>)
         requires { IsSoundPlace D.seen D.may_leave self.place }
         ensures sound { IsSoundPlace D.seen D.may_leave result.0.place }
-        ensures counted { D.failures (disk_of self) ≤ D.failures (disk_of result.0) }
-        ensures followed { IfOk result.1 (λ text. TurnsNode D.seen D.failures self result.0 (λ n m. Follows true n (set_unpacked path.now) (step_of m text))) }
-        ensures survives { Survives D.seen D.may_leave D.moment D.left_since (set_unpacked path.now) result.1 self result.0 }
+        ensures followed { Follows D.Disk (set_unpacked path.now) result.1 self result.0 }
         ensures memory { IfErr result.1 (λ e. e ≡ SessionError.NoMemory) }
     {
         let Node { place, files } = self;
@@ -155,9 +144,7 @@ impl<D: Disk> Node<D> {
     fn boot(self, alloc: Global) -> (Node<D>, Result<Option<String>, SessionError>)
         requires { IsSoundPlace D.seen D.may_leave self.place }
         ensures sound { IsSoundPlace D.seen D.may_leave result.0.place }
-        ensures counted { D.failures (disk_of self) ≤ D.failures (disk_of result.0) }
-        ensures followed { IfOk result.1 (λ text. TurnsNode D.seen D.failures self result.0 (λ n m. Follows true n boot (step_of m text))) }
-        ensures survives { Survives D.seen D.may_leave D.moment D.left_since boot result.1 self result.0 }
+        ensures followed { Follows D.Disk boot result.1 self result.0 }
         ensures memory { IfErr result.1 (λ e. e ≡ SessionError.NoMemory) }
     {
         let Node { place, files } = self;
@@ -190,10 +177,7 @@ fn unpack<D: Disk>(
 ) -> Result<String, Refusal>
     requires { IsSound D.seen D.may_leave handler.old }
     ensures sound { IsSound D.seen D.may_leave handler.new }
-    ensures counted { D.failures (disk_in handler.old) ≤ D.failures (disk_in handler.new) }
-    ensures unpacked { Turns D.seen D.failures (Made handler.old) (Made handler.new) (λ p q. IsAnswered result p q (IsUnpackedAt true p (files_of files.now) path.now)) }
-    ensures dead { is_dead handler.old ≡ true → (result ≡ Err Refusal.Dead) × (is_dead handler.new ≡ true) }
-    ensures survives { Brings D.seen D.may_leave D.moment D.left_since unpacked (files_of files.now) path.now result (Made handler.old) (Made handler.new) }
+    ensures unpacked { Answers D.Disk (λ p a. SetsUnpacked (files_of files.now) path.now p a) result (Made handler.old) (Made handler.new) }
 {
     if handler.is_dead() {
         return Err(Refusal::Dead);

@@ -1,15 +1,14 @@
 //! Where the node of a session lives.
-ghost use Rattle.std.specs.Prelude.{◌≡◌, ◌≤◌, false, true, Ok, string_bytes, IfOk, IsErr};
+ghost use Rattle.std.specs.Prelude.{◌≡◌, true, false, string_bytes, IfOk, IsErr};
 ghost use Rattle.rel_files.specs.Release.{release_of};
 ghost use Rattle.rel_handler.specs.Files.{IsRelFile};
 ghost use Rattle.rel_handler.specs.Limits.{is_small};
 ghost use Rattle.rel_handler.specs.State.{is_dead, list_in};
-ghost use Rattle.rel_list.specs.Event.Event.{made};
 ghost use Rattle.rel_list.specs.Releases.{running};
-ghost use Rattle.rel_session.specs.Leads.{news_of, Keeps, IsBooted};
-ghost use Rattle.rel_session.specs.Node.{Place as SomePlace, IsTold, created, woken, woken_line, listed, ok_line, vsn_of};
+ghost use Rattle.rel_session.specs.InMemory.{found_of};
+ghost use Rattle.rel_session.specs.Node.{Place as SomePlace};
 ghost use Rattle.rel_session.specs.Refusals.{boot_line};
-ghost use Rattle.rel_session.specs.Told.{IsAnswered};
+ghost use Rattle.rel_session.specs.Transition.{Makes, Boots, listed, ok_line, version_of};
 
 use crate::listing::listing;
 use crate::refusal::Refusal;
@@ -28,7 +27,7 @@ pub enum Place<D: Disk> {
 }
 
 impl<D: Disk> Place<D> {
-    ghost use Rattle.rel_session.specs.Nodes.{disk_at, IsSoundPlace, OfPlace, Turns};
+    ghost use Rattle.rel_session.specs.InMemory.{disk_at, IsSoundPlace, IsAt, Answers, Tells};
 
     /// The disk.
     pub fn into_disk(self) -> D
@@ -46,12 +45,7 @@ impl<D: Disk> Place<D> {
         requires file { IsRelFile file }
         requires small { is_small (release_of file.release) ≡ true }
         ensures sound { IsSoundPlace D.seen D.may_leave result.0 }
-        ensures counted { D.failures (disk_at self) ≤ D.failures (disk_at result.0) }
-        ensures made { Turns D.seen D.failures self result.0 (λ p q. IsAnswered result.1 p q (IsTold true (created p (Ok (release_of file.release))))) }
-        ensures vsn { IfOk result.1 (λ vsn. string_bytes vsn ≡ (release_of file.release).vsn) }
-
-        // Done, it is acknowledged, where the device failed it is in doubt, and else no crash leaves anything new.
-        ensures survives { Keeps D.seen D.may_leave D.moment D.left_since (news_of (made (release_of file.release)) result.1) self result.0 }
+        ensures made { Answers D.Disk (λ p a. Makes p (found_of file) a) result.1 self result.0 }
     {
         let disk = match self {
             Place::Bare(disk) => disk,
@@ -70,9 +64,7 @@ impl<D: Disk> Place<D> {
     pub fn boot(self, alloc: Global) -> (Place<D>, Result<String, AllocError>)
         requires { IsSoundPlace D.seen D.may_leave self }
         ensures sound { IsSoundPlace D.seen D.may_leave result.0 }
-        ensures counted { D.failures (disk_at self) ≤ D.failures (disk_at result.0) }
-        ensures booted { IfOk result.1 (λ text. Turns D.seen D.failures self result.0 (λ p q. (q ≡ woken p) × (string_bytes text ≡ woken_line p))) }
-        ensures survives { IsBooted D.seen D.may_leave D.moment D.left_since result.1 self result.0 }
+        ensures booted { Tells D.Disk Boots result.1 self result.0 }
     {
         match rel_handler::boot(alloc, self.into_disk()) {
             Ok(handler) => {
@@ -85,8 +77,7 @@ impl<D: Disk> Place<D> {
 
     /// The lines that list the releases.
     pub fn releases(&self, alloc: Global) -> Result<String, AllocError>
-        ensures of_place { IfOk result (λ text. OfPlace D.seen self.now (λ p. string_bytes text ≡ listed p)) }
-        ensures some_list { IfOk result (λ text. (p : SomePlace) × (string_bytes text ≡ listed p)) }
+        ensures { IfOk result (λ text. (p : SomePlace) → IsAt D.Disk self.now p → string_bytes text ≡ listed p) }
     {
         let Place::Made(handler) = self else {
             return Refusal::Dead.line(alloc);
@@ -101,7 +92,7 @@ impl<D: Disk> Place<D> {
 /// The line that tells of a node that was booted: the version of the release that runs.
 fn booted_line<D: Disk>(alloc: Global, handler: &Handler<D>) -> Result<String, AllocError>
     requires { is_dead handler.now ≡ false }
-    ensures { IfOk result (λ text. string_bytes text ≡ ok_line (vsn_of (running (list_in handler.now)))) }
+    ensures { IfOk result (λ text. string_bytes text ≡ ok_line (version_of (running (list_in handler.now)))) }
 {
     let Ok(list) = handler.which_releases() else {
         unreachable!();
@@ -111,7 +102,7 @@ fn booted_line<D: Disk>(alloc: Global, handler: &Handler<D>) -> Result<String, A
 
 /// The line of the release that runs.
 fn running_line(alloc: Global, list: &ReleaseList) -> Result<String, AllocError>
-    ensures { IfOk result (λ text. string_bytes text ≡ ok_line (vsn_of (running list.now))) }
+    ensures { IfOk result (λ text. string_bytes text ≡ ok_line (version_of (running list.now))) }
 {
     let vsn = match list.running() {
         Some(release) => release.vsn.as_str(),

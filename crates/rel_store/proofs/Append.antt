@@ -78,6 +78,11 @@ gate_within bodies text old gate here at =
     let s = split bodies text old here in
     omega (arith, gate_at bodies text old gate s at, ap length s.is, length-append s.head (s.gate ∷ s.rest))
 
+pub gate_low : (bodies : List (List ℕ)) (text old : List ℕ) (gate : ℕ) → Stands bodies text old → gate ≡ base_of old + space bodies → 288 ≤ gate
+gate_low bodies text old gate here at =
+    let s = split bodies text old here in
+    omega (arith, gate_at bodies text old gate s at, s.holds.long)
+
 -- at each moment of the first write the records are those from before
 pub first_leaves : (bodies : List (List ℕ)) (text body old : List ℕ) (gate n : ℕ) (images : List ℕ → Type 0) → Stands bodies text old → gate ≡ base_of old + space bodies → Only old images
     → (c : List ℕ) → IsTornFrom images (gate + 1) n c → StandsEither bodies body text c

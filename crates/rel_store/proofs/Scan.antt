@@ -27,7 +27,7 @@ whole_from bytes = facts (told_length bytes) (length bytes)
     facts : (n long : ℕ) → (nat_le n 16777216 && nat_lt (4 + n) long) ≡ true → (n ≤ 16777216) × (4 + n < long)
     facts n long e = (grind (arith, nat_tests), grind (arith, nat_tests))
 
-space-push : (bodies : List (List ℕ)) (body : List ℕ) → space (bodies ++ body ∷ []) ≡ space bodies + (5 + length body)
+pub space-push : (bodies : List (List ℕ)) (body : List ℕ) → space (bodies ++ body ∷ []) ≡ space bodies + (5 + length body)
 space-push [] body = omega arith
 space-push (b ∷ bodies) body = omega (arith, space-push bodies body)
 

@@ -1,5 +1,5 @@
 -- The first 288 bytes of a store: its gate, the magic, the two selectors and the slots that they choose from.
-use Rattle.std.specs.Prelude.{ℕ, ◌-◌, Bool, ◌==◌, if◌then◌else◌, List, [], ◌∷◌, ◌++◌, length, take, drop, replicate, slice_index, bytes_eq}
+use Rattle.std.specs.Prelude.{◌≡◌, ℕ, ◌-◌, Bool, ◌==◌, if◌then◌else◌, List, [], ◌∷◌, ◌++◌, length, take, drop, replicate, slice_index, bytes_eq}
 use Rattle.std.specs.Int.{w64, from_be_bytes, to_be_bytes}
 
 -- `RELSTOR1`
@@ -41,3 +41,7 @@ slot_with text = length text ∷ (text ++ replicate (127 - length text) 0)
 -- the bytes 1 to 287 of a new store: both selectors 0, this text in the first start slot, 288 in the first base slot
 abbrev pub new_layout : List ℕ → List ℕ
 new_layout text = magic ++ (replicate 7 0 ++ (slot_with text ++ (replicate 128 0 ++ (to_be_bytes w64 288 ++ replicate 8 0))))
+
+-- the layout, the bytes below 288, is as it was
+abbrev pub KeepsLayout : List ℕ → List ℕ → Type 0
+KeepsLayout old new = take 288 new ≡ take 288 old

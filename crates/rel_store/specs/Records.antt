@@ -69,3 +69,12 @@ StandsWithEither bodies text other bytes = Stands bodies text bytes ⊎ Stands b
 abbrev pub space : List (List ℕ) → ℕ
 space [] = 0
 space (body ∷ bodies) = (5 + length body) + space bodies
+
+-- the records; none where there is no store
+abbrev pub records_or_none : Result (List (List ℕ)) StoreError → List (List ℕ)
+records_or_none (Ok bodies) = bodies
+records_or_none (Err e) = []
+
+-- where the store in these bytes ends: one past its closed gate
+abbrev pub end_of : List ℕ → ℕ
+end_of bytes = (base_of bytes + space (records_or_none (records_of bytes))) + 1

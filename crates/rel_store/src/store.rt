@@ -1,7 +1,7 @@
 // A record store on a disk, and the calls on an open one.
 ghost use Rattle.std.specs.Prelude.{◌≡◌, ℕ, ◌↔◌, ◌≤◌, ◌+◌, [], ◌∷◌, ◌++◌, map, length, true, false, IsTrue, IsErrOf, IfErr, OnOk};
 ghost use Rattle.rel_disk.specs.Moments.{LeavesOnly};
-ghost use Rattle.rel_store.specs.Layout.{slot_with};
+ghost use Rattle.rel_store.specs.Layout.{slot_with, KeepsLayout};
 ghost use Rattle.rel_store.specs.Records.{Stands, StandsEither, StandsWithEither};
 ghost use Rattle.rel_store.specs.State.{disk_in, records_in, text_in, end_in, has_failed, Fits, HasRoom, IsSettled, IsSound, IsSame, Refused};
 
@@ -94,6 +94,10 @@ impl<D: Disk> Store<D> {
         // A crash at any moment of the call leaves the records from before it, with the new one or without.
         ensures any_moment { has_failed self.old ≡ false → LeavesOnly D.moment D.left_since (disk_in self.old) (disk_in self.new)
             (StandsEither (records_in self.old) body.now (text_in D.seen self.old)) }
+
+        // No crash in it changes the layout, so the records begin where they began.
+        ensures layout { has_failed self.old ≡ false → LeavesOnly D.moment D.left_since (disk_in self.old) (disk_in self.new)
+            (KeepsLayout (D.seen (disk_in self.old))) }
 
         ensures counted { D.failures (disk_in self.old) ≤ D.failures (disk_in self.new) }
         ensures full { IsErrOf result StoreError.Full ↔ ((has_failed self.old ≡ false) × (Fits (end_in self.old) (length body.now) → ⊥)) }

@@ -1,4 +1,4 @@
-use Rattle.std.proofs.Common.{◌≡◌, ◌≤◌, ◌<◌, true, false, rules, refl, sym, subst, length, string_bytes}
+use Rattle.std.proofs.Common.{◌≡◌, ◌∙◌, ap, ◌≤◌, ◌<◌, true, false, rules, refl, sym, subst, length, string_bytes}
 use Rattle.std.specs.Prelude.{is_some}
 use Rattle.erl_term.specs.Value.{value_of}
 use Rattle.rel_disk.specs.Moments.{HasFailed}
@@ -15,27 +15,27 @@ use Rattle.rel_handler.proofs.handler.Handler.set_unpacked.Goals as goal
 
 -- nothing was written yet
 pub returns-then-not-is_small-clause-any_moment : goal.returns-then-not-is_small-clause-any_moment
-returns-then-not-is_small-clause-any_moment g c = λ alive. resting g.D.Disk.moment g.D.Disk.left_since g.D.Disk.seen g.D.Disk.may_leave c.args.self.now c.requires.sound alive _ refl (g.met.D.Disk.only_now _) _
+returns-then-not-is_small-clause-any_moment g c = λ alive. resting g.D.Disk.moment g.D.Disk.left_since g.D.Disk.seen g.D.Disk.may_leave c.args.self.now c.requires.sound alive _ refl (g.met.D.Disk.only_now _) _ _
 
 pub returns-then-is_some-clause-any_moment : goal.returns-then-is_some-clause-any_moment
-returns-then-is_some-clause-any_moment g c = λ alive. resting g.D.Disk.moment g.D.Disk.left_since g.D.Disk.seen g.D.Disk.may_leave c.args.self.now c.requires.sound alive _ refl (g.met.D.Disk.only_now _) _
+returns-then-is_some-clause-any_moment g c = λ alive. resting g.D.Disk.moment g.D.Disk.left_since g.D.Disk.seen g.D.Disk.may_leave c.args.self.now c.requires.sound alive _ refl (g.met.D.Disk.only_now _) _ _
 
 pub returns-then-len-ge-MOST_RELEASES-clause-any_moment : goal.returns-then-len-ge-MOST_RELEASES-clause-any_moment
-returns-then-len-ge-MOST_RELEASES-clause-any_moment g c = λ alive. resting g.D.Disk.moment g.D.Disk.left_since g.D.Disk.seen g.D.Disk.may_leave c.args.self.now c.requires.sound alive _ refl (g.met.D.Disk.only_now _) _
+returns-then-len-ge-MOST_RELEASES-clause-any_moment g c = λ alive. resting g.D.Disk.moment g.D.Disk.left_since g.D.Disk.seen g.D.Disk.may_leave c.args.self.now c.requires.sound alive _ refl (g.met.D.Disk.only_now _) _ _
 
 pub returns-in_err-body-clause-any_moment : goal.returns-in_err-body-clause-any_moment
-returns-in_err-body-clause-any_moment g c = λ alive. resting g.D.Disk.moment g.D.Disk.left_since g.D.Disk.seen g.D.Disk.may_leave c.args.self.now c.requires.sound alive _ refl (g.met.D.Disk.only_now _) _
+returns-in_err-body-clause-any_moment g c = λ alive. resting g.D.Disk.moment g.D.Disk.left_since g.D.Disk.seen g.D.Disk.may_leave c.args.self.now c.requires.sound alive _ refl (g.met.D.Disk.only_now _) _ _
 
 pub returns-then-not-fits-clause-any_moment : goal.returns-then-not-fits-clause-any_moment
-returns-then-not-fits-clause-any_moment g c = λ alive. resting g.D.Disk.moment g.D.Disk.left_since g.D.Disk.seen g.D.Disk.may_leave c.args.self.now c.requires.sound alive _ refl (g.met.D.Disk.only_now _) _
+returns-then-not-fits-clause-any_moment g c = λ alive. resting g.D.Disk.moment g.D.Disk.left_since g.D.Disk.seen g.D.Disk.may_leave c.args.self.now c.requires.sound alive _ refl (g.met.D.Disk.only_now _) _ _
 
 pub returns-then-is_err-clause-any_moment : goal.returns-then-is_err-clause-any_moment
 returns-then-is_err-clause-any_moment g c = λ alive.
-    resting g.D.Disk.moment g.D.Disk.left_since g.D.Disk.seen g.D.Disk.may_leave c.args.self.now c.requires.sound alive _ c.reserve.ensures.kept.disk (g.met.D.Disk.only_now _) _
+    resting g.D.Disk.moment g.D.Disk.left_since g.D.Disk.seen g.D.Disk.may_leave c.args.self.now c.requires.sound alive _ c.reserve.ensures.kept.disk (g.met.D.Disk.only_now _) _ _
 
 pub returns-then-is_err-2-clause-any_moment : goal.returns-then-is_err-2-clause-any_moment
 returns-then-is_err-2-clause-any_moment g c = λ alive.
-    resting g.D.Disk.moment g.D.Disk.left_since g.D.Disk.seen g.D.Disk.may_leave c.args.self.now c.requires.sound alive _ c.reserve.ensures.kept.disk (g.met.D.Disk.only_now _) _
+    resting g.D.Disk.moment g.D.Disk.left_since g.D.Disk.seen g.D.Disk.may_leave c.args.self.now c.requires.sound alive _ c.reserve.ensures.kept.disk (g.met.D.Disk.only_now _) _ _
 
 -- what the list allows
 pub returns-then-not-fits-clause-refused : goal.returns-then-not-fits-clause-refused
@@ -58,21 +58,23 @@ returns-clause-accepted g c =
 
 -- the record is being appended
 pub returns-then-is_err-3-clause-any_moment : goal.returns-then-is_err-3-clause-any_moment
-returns-then-is_err-3-clause-any_moment g c = λ alive.
+returns-then-is_err-3-clause-any_moment g c = λ alive events after.
+    let long = ap length (c.as_bytes.ensures.value ∙ c.in_ok-body.ensures.printed) in
     let small : is_small (release_of c.args.file.release) ≡ true = search rules in
     let fresh : is_some (status_of (string_bytes c.args.file.release.vsn) (list_in c.args.self.now)) ≡ false = search rules in
     let few : length (list_in c.args.self.now) < 32 = search rules in
     let allows = accepted_so (release_of c.args.file.release) (list_in c.args.self.now) c.accept.new.self small fresh few (opened c.accept.result _ c.if-is_err-2.ensures.value c.accept.ensures.accepted) in
     let spelled = spelled_so c.as_bytes.result.now (string_bytes c.in_ok-body.body) (value_of c.args.file.term) (release_of c.args.file.release) c.as_bytes.ensures.value c.in_ok-body.ensures.read_back c.requires.file.says in
     let works = reserved_works g.D.Disk.moment g.D.Disk.left_since g.D.Disk.seen g.D.Disk.may_leave c.args.self.now c.requires.sound alive c.reserve.new.self c.reserve.ensures.kept (release_of c.args.file.release) c.accept.new.self c.as_bytes.result.now spelled allows in
-    committing g.D.Disk.moment g.D.Disk.left_since g.D.Disk.seen g.D.Disk.may_leave c.args.self.now c.requires.sound alive c.reserve.new.self c.reserve.ensures.kept (release_of c.args.file.release) c.accept.new.self c.as_bytes.result.now spelled allows (store.disk_in c.append.new.self) _ (c.append.ensures.any_moment works)
+    committing g.D.Disk.moment g.D.Disk.left_since g.D.Disk.seen g.D.Disk.may_leave c.args.self.now c.requires.sound alive c.reserve.new.self c.reserve.ensures.kept (release_of c.args.file.release) c.accept.new.self c.as_bytes.result.now spelled allows (store.disk_in c.append.new.self) _ (c.append.ensures.any_moment works) (c.append.ensures.layout works) events after _ long
 
 pub returns-clause-any_moment : goal.returns-clause-any_moment
-returns-clause-any_moment g c = λ alive.
+returns-clause-any_moment g c = λ alive events after.
+    let long = ap length (c.as_bytes.ensures.value ∙ c.in_ok-body.ensures.printed) in
     let allows = returns-clause-accepted g c in
     let spelled = spelled_so c.as_bytes.result.now (string_bytes c.in_ok-body.body) (value_of c.args.file.term) (release_of c.args.file.release) c.as_bytes.ensures.value c.in_ok-body.ensures.read_back c.requires.file.says in
     let works = reserved_works g.D.Disk.moment g.D.Disk.left_since g.D.Disk.seen g.D.Disk.may_leave c.args.self.now c.requires.sound alive c.reserve.new.self c.reserve.ensures.kept (release_of c.args.file.release) c.accept.new.self c.as_bytes.result.now spelled allows in
-    committing g.D.Disk.moment g.D.Disk.left_since g.D.Disk.seen g.D.Disk.may_leave c.args.self.now c.requires.sound alive c.reserve.new.self c.reserve.ensures.kept (release_of c.args.file.release) c.accept.new.self c.as_bytes.result.now spelled allows (store.disk_in c.append.new.self) _ (c.append.ensures.any_moment works)
+    committing g.D.Disk.moment g.D.Disk.left_since g.D.Disk.seen g.D.Disk.may_leave c.args.self.now c.requires.sound alive c.reserve.new.self c.reserve.ensures.kept (release_of c.args.file.release) c.accept.new.self c.as_bytes.result.now spelled allows (store.disk_in c.append.new.self) _ (c.append.ensures.any_moment works) (c.append.ensures.layout works) events after _ long
 
 -- the device failed
 pub returns-then-is_err-3-clause-refused : goal.returns-then-is_err-3-clause-refused
@@ -89,6 +91,7 @@ returns-then-is_err-3-clause-refused g c =
     let room = opened c.reserve.result _ c.if-is_err.ensures.value c.reserve.ensures.room (length c.as_bytes.result.now) few_bytes in
     let failed = failed_so g.D.Disk.failures c.reserve.new.self c.append.new.self (length c.as_bytes.result.now) c.append.result c.if-is_err-3.ensures.value c.append.ensures.refused (subst (λ e. store.Fits e (length c.as_bytes.result.now)) (sym c.reserve.ensures.kept.end) fits) room works in (
       (alive, (c.accept.new.self, allows)),
+      subst (λ n. store.Fits (store.end_in c.args.self.now.store) n) (ap length (c.as_bytes.ensures.value ∙ c.in_ok-body.ensures.printed)) fits,
       subst (λ d. HasFailed (g.D.Disk.failures d) (g.D.Disk.failures (store.disk_in c.append.new.self))) c.reserve.ensures.kept.disk failed,
       refl,
     )

@@ -1,20 +1,26 @@
-use Rattle.std.proofs.Common.{rules, sym, subst}
+use Rattle.std.proofs.Common.{rules, refl, sym, subst}
+use Rattle.std.specs.Prelude.{codes}
 use Rattle.rel_session.specs.Commands.{command_of}
-use Rattle.rel_session.specs.Kept.{Survives}
-use Rattle.rel_session.proofs.Keeping.{stays}
-use Rattle.rel_session.proofs.Surviving.{survives_releases, survives_bad}
+use Rattle.rel_session.specs.Commands.Command.{releases, bad}
+use Rattle.rel_session.specs.InMemory.{Follows}
+use Rattle.rel_session.specs.Transition.{listed}
+use Rattle.rel_session.proofs.Following.{follows_still, says_line}
+use Rattle.rel_session.proofs.Replies.{IsDevice}
 use Rattle.rel_session.proofs.node.Node.follow.Goals as goal
 
-pub returns-in-Releases-clause-survives : goal.returns-in-Releases-clause-survives
-returns-in-Releases-clause-survives g c =
+pub returns-in-Releases-clause-followed : goal.returns-in-Releases-clause-followed
+returns-in-Releases-clause-followed g c =
+    let laws : IsDevice g.D.Disk = record { reads_an_image = g.met.D.Disk.reads_an_image; counts_now = g.met.D.Disk.counts_now; only_now = g.met.D.Disk.only_now } in
     let n = c.args.self in
-    subst (λ x. Survives g.D.Disk.seen g.D.Disk.may_leave g.D.Disk.moment g.D.Disk.left_since (command_of x) c.text_of.result n n) (sym c.in-Releases.is)
-    (survives_releases g.D.Disk.seen g.D.Disk.may_leave g.D.Disk.moment g.D.Disk.left_since n (stays g.D.Disk.seen g.D.Disk.may_leave g.D.Disk.moment g.D.Disk.left_since g.met.D.Disk.only_now n.place)
-    c.releases-lines.result c.text_of.result c.releases-lines.ensures.some_list c.text_of.ensures.same)
+    subst (λ x. Follows g.D.Disk (command_of x) c.text_of.result n n) (sym c.in-Releases.is)
+    (follows_still g.D.Disk n n releases refl laws refl listed (λ p. refl) c.text_of.result
+    (says_line g.D.Disk n n releases refl laws refl listed (λ p. refl) c.releases-lines.result c.text_of.result c.text_of.ensures.same c.releases-lines.ensures))
 
-pub returns-in-Bad-clause-survives : goal.returns-in-Bad-clause-survives
-returns-in-Bad-clause-survives g c =
+pub returns-in-Bad-clause-followed : goal.returns-in-Bad-clause-followed
+returns-in-Bad-clause-followed g c =
+    let laws : IsDevice g.D.Disk = record { reads_an_image = g.met.D.Disk.reads_an_image; counts_now = g.met.D.Disk.counts_now; only_now = g.met.D.Disk.only_now } in
     let n = c.args.self in
-    subst (λ x. Survives g.D.Disk.seen g.D.Disk.may_leave g.D.Disk.moment g.D.Disk.left_since (command_of x) c.text_of-in-Bad.result n n) (sym c.in-Bad.is)
-    (survives_bad g.D.Disk.seen g.D.Disk.may_leave g.D.Disk.moment g.D.Disk.left_since n (stays g.D.Disk.seen g.D.Disk.may_leave g.D.Disk.moment g.D.Disk.left_since g.met.D.Disk.only_now n.place)
-    c.from_str.result c.text_of-in-Bad.result (search rules) c.text_of-in-Bad.ensures.same)
+    let line = codes "error session 1 BadCommand\n" in
+    subst (λ x. Follows g.D.Disk (command_of x) c.text_of-in-Bad.result n n) (sym c.in-Bad.is)
+    (follows_still g.D.Disk n n bad refl laws refl (λ p. line) (λ p. refl) c.text_of-in-Bad.result
+    (says_line g.D.Disk n n bad refl laws refl (λ p. line) (λ p. refl) c.from_str.result c.text_of-in-Bad.result c.text_of-in-Bad.ensures.same (search rules)))

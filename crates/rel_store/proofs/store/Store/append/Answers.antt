@@ -4,7 +4,8 @@ use Rattle.std.proofs.lemmas.Grind.{common_steps}
 use Rattle.rel_store.specs.Layout.{base_of}
 use Rattle.rel_store.specs.Records.{record_bytes, space}
 use Rattle.rel_store.specs.State.{records_in}
-use Rattle.rel_store.proofs.Append.{gate_within, staged_within}
+use Rattle.rel_store.proofs.Append.{gate_low, gate_within, staged_within}
+use Rattle.rel_store.proofs.Layouts.{layout_rests, layout_first, layout_second}
 use Rattle.rel_store.proofs.Moments.{stands_now, resting, after_first, staged_now, after_second, appended_now}
 use Rattle.rel_store.proofs.store.Store.append.Goals as goal
 
@@ -74,3 +75,37 @@ returns-clause-settled g c =
 
 pub returns-clause-sound : goal.returns-clause-sound
 returns-clause-sound g c = record { settled = λ works. returns-clause-settled g c }
+
+-- no write reaches the layout
+pub returns-then-not-fits-clause-layout : goal.returns-then-not-fits-clause-layout
+returns-then-not-fits-clause-layout g c = λ works. layout_rests g.D.Disk.moment g.D.Disk.left_since g.D.Disk.seen g.D.Disk.may_leave c.args.self.now (c.requires.settled works) (g.met.D.Disk.only_now c.args.self.now.disk)
+
+pub returns-in_err-reserve-clause-layout : goal.returns-in_err-reserve-clause-layout
+returns-in_err-reserve-clause-layout g c = λ works. layout_rests g.D.Disk.moment g.D.Disk.left_since g.D.Disk.seen g.D.Disk.may_leave c.args.self.now (c.requires.settled works) (g.met.D.Disk.only_now c.args.self.now.disk)
+
+pub returns-in_err-spell_record-clause-layout : goal.returns-in_err-spell_record-clause-layout
+returns-in_err-spell_record-clause-layout g c = λ works. layout_rests g.D.Disk.moment g.D.Disk.left_since g.D.Disk.seen g.D.Disk.may_leave c.args.self.now (c.requires.settled works) (g.met.D.Disk.only_now c.args.self.now.disk)
+
+pub returns-in_err-write_through-clause-layout : goal.returns-in_err-write_through-clause-layout
+returns-in_err-write_through-clause-layout g c = λ works.
+    let s = c.requires.settled works in
+    layout_first g.D.Disk.moment g.D.Disk.left_since g.D.Disk.seen g.D.Disk.may_leave c.args.self.now s (length c.deref.result.now) c.write_through.new.disk (gate_low _ _ _ _ (stands_now g.D.Disk.moment g.D.Disk.left_since g.D.Disk.seen g.D.Disk.may_leave c.args.self.now s) s.end)
+    (gate_within _ _ _ _ (stands_now g.D.Disk.moment g.D.Disk.left_since g.D.Disk.seen g.D.Disk.may_leave c.args.self.now s) s.end) c.write_through.ensures.any_moment
+
+pub returns-in_err-write_through-2-clause-layout : goal.returns-in_err-write_through-2-clause-layout
+returns-in_err-write_through-2-clause-layout g c = λ works.
+    let s = c.requires.settled works in
+    let short : length c.args.body.now ≤ 16777216 = search rules in
+    let spelled : c.deref.result.now ≡ record_bytes c.args.body.now ++ 0 ∷ [] = search rules in
+    layout_second g.D.Disk.moment g.D.Disk.left_since g.D.Disk.seen g.D.Disk.may_leave c.args.self.now s (length c.deref.result.now) c.write_through.new.disk
+    (gate_low _ _ _ _ (stands_now g.D.Disk.moment g.D.Disk.left_since g.D.Disk.seen g.D.Disk.may_leave c.args.self.now s) s.end) (gate_within _ _ _ _ (stands_now g.D.Disk.moment g.D.Disk.left_since g.D.Disk.seen g.D.Disk.may_leave c.args.self.now s) s.end)
+    c.deref.result.now c.write_through-2.new.disk c.write_through.ensures.any_moment c.in_ok-write_through.ensures.written (staged_within _ _ _ _ _ _ (staged_now g.D.Disk.moment g.D.Disk.left_since g.D.Disk.seen g.D.Disk.may_leave c.args.self.now s c.args.body.now c.deref.result.now short spelled c.write_through.new.disk c.in_ok-write_through.ensures.written)) c.in_ok-write_through.ensures.durable c.write_through-2.ensures.any_moment
+
+pub returns-clause-layout : goal.returns-clause-layout
+returns-clause-layout g c = λ works.
+    let s = c.requires.settled works in
+    let short : length c.args.body.now ≤ 16777216 = search rules in
+    let spelled : c.deref.result.now ≡ record_bytes c.args.body.now ++ 0 ∷ [] = search rules in
+    layout_second g.D.Disk.moment g.D.Disk.left_since g.D.Disk.seen g.D.Disk.may_leave c.args.self.now s (length c.deref.result.now) c.write_through.new.disk
+    (gate_low _ _ _ _ (stands_now g.D.Disk.moment g.D.Disk.left_since g.D.Disk.seen g.D.Disk.may_leave c.args.self.now s) s.end) (gate_within _ _ _ _ (stands_now g.D.Disk.moment g.D.Disk.left_since g.D.Disk.seen g.D.Disk.may_leave c.args.self.now s) s.end)
+    c.deref.result.now c.write_through-2.new.disk c.write_through.ensures.any_moment c.in_ok-write_through.ensures.written (staged_within _ _ _ _ _ _ (staged_now g.D.Disk.moment g.D.Disk.left_since g.D.Disk.seen g.D.Disk.may_leave c.args.self.now s c.args.body.now c.deref.result.now short spelled c.write_through.new.disk c.in_ok-write_through.ensures.written)) c.in_ok-write_through.ensures.durable c.write_through-2.ensures.any_moment

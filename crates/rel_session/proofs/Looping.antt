@@ -1,0 +1,239 @@
+-- A session's loop: whatever run the commands that are left have, it completes the run of all.
+use Rattle.std.proofs.Common.{◌≡◌, ◌⊎◌, inl, inr, ℕ, ◌≤◌, List, [], ◌∷◌, ◌++◌, Option, Some, None, Result, Ok, Err, refl, sym, ap, ◌∙◌, subst, append_assoc, append-nil, arith}
+use Rattle.std.specs.Prelude.{IsErrOf, String, string_bytes}
+use Rattle.std.specs.Option.{option_map}
+use Rattle.std.specs.Io.KnownBytes.{Appends, prepend_known}
+use Rattle.std.specs.declared.alloc.Global.{Global}
+use Rattle.rel_session.specs.declared.error.SessionError.{SessionError}
+use Rattle.rel_session.specs.declared.error.SessionError.TheVariants.{Limit}
+use Rattle.rel_session.specs.declared.input.Input.{Input}
+use Rattle.rel_session.specs.declared.node.Node.{Node}
+use Rattle.rel_session.specs.declared.place.Place.{Place as PlaceInMemory}
+use Rattle.rel_session.specs.declared.place.Place.TheVariants as memory
+use Rattle.rel_session.specs.Commands.{Command, commands_of}
+use Rattle.rel_session.specs.Commands.Command.{file, create, set_unpacked, boot, releases, quit, bad}
+use Rattle.rel_session.specs.Device.{Device}
+use Rattle.rel_session.specs.Ended.{AreCommands, IsSession}
+use Rattle.rel_session.specs.Feed.{Feed, Gives, EndsAs, IsNext, bytes_within}
+use Rattle.rel_session.specs.Feed.Feed.{over, cut, next}
+use Rattle.rel_session.specs.Files.{Files, files_of, files_behind}
+use Rattle.rel_session.specs.InMemory.{IsAt, Replied, Lapsed, Follows, disk_at, disk_of}
+use Rattle.rel_session.specs.Input.{IsFresh, commands_left, most_bytes}
+use Rattle.rel_session.specs.Lines.{lines_of}
+use Rattle.rel_session.specs.Node.{Place, Reply}
+use Rattle.rel_session.specs.Node.Place.{raw, closed, running, dead}
+use Rattle.rel_session.specs.Output.{AppendsFront, Writes}
+use Rattle.rel_session.specs.Run.{Starts, Holds, Leads, Replies, Ending, IsWritten, IsRun, answers_of, commands_in}
+use Rattle.rel_session.specs.Run.Ending.{ended, cut_off, early}
+use Rattle.rel_session.specs.Transition.{Transition}
+use Rattle.rel_session.proofs.Replies.{IsDevice, held, still}
+use Rattle.rel_session.proofs.Writing.{Appends-nothing, Appends-twice}
+
+all_left : (known : Option (List ℕ)) → option_map commands_of (option_map lines_of (option_map (bytes_within most_bytes) (prepend_known [] known))) ≡ option_map commands_in known
+all_left None = refl
+all_left (Some bytes) = refl
+
+-- before the first byte was taken all commands are left
+pub fresh_left : {R : Type 0} (remaining : R → Option (List ℕ)) (i : Input R) → IsFresh i → commands_left remaining i ≡ option_map commands_in (remaining i.reader)
+fresh_left remaining i fresh = rw (fresh.0, fresh.1) (all_left (remaining i.reader))
+
+-- these commands are left, where they are known
+abbrev pub AreLeft : Option (Feed Command) → Feed Command → Type 0
+AreLeft None commands = Unit {0}
+AreLeft (Some left) commands = commands ≡ left
+
+-- some are
+abbrev some_left : Option (Feed Command) → Feed Command
+some_left None = over
+some_left (Some left) = left
+
+are_some : (left : Option (Feed Command)) → AreLeft left (some_left left)
+are_some None = tt
+are_some (Some left) = refl
+
+-- one that was taken stood in front of them
+are_next : (now new : Option (Feed Command)) (c : Command) (rest : Feed Command) → Gives now new (λ d. c ≡ d) → AreLeft new rest → AreLeft now (next c rest)
+are_next None new c rest gives left = tt
+are_next (Some now) None c rest gives left = absurd gives
+are_next (Some now) (Some new) c rest (d, was, same) left = ap (λ r. next c r) left ∙ ap (λ e. next e new) same ∙ sym was
+
+are_ended : (now new : Option (Feed Command)) (end : Feed Command) → EndsAs end now new → AreLeft now end
+are_ended None new end ends = tt
+are_ended (Some now) None end ends = absurd ends
+are_ended (Some now) (Some new) end ends = sym ends.0
+
+-- the commands of the input are those that were left before the first of them
+are_all : (known : Option (List ℕ)) (commands : Feed Command) → AreLeft (option_map commands_in known) commands → AreCommands known commands
+are_all None commands left = tt
+are_all (Some input) commands left = left
+
+-- a reply to the first of these commands
+replies_next : (files : Files) (p : Place) (c : Command) (rest : Feed Command) (ending : Ending) (a : Reply) (more : List Reply) → Transition files p c a
+    → Replies (files_behind files c) a.after rest ending more → Replies files p (next c rest) ending (a ∷ more)
+replies_next files p (file path f) rest ended a more is right = (is, right)
+replies_next files p (create path) rest ended a more is right = (is, right)
+replies_next files p (set_unpacked path) rest ended a more is right = (is, right)
+replies_next files p boot rest ended a more is right = (is, right)
+replies_next files p releases rest ended a more is right = (is, right)
+replies_next files p bad rest ended a more is right = (is, right)
+replies_next files p quit rest ending a more is right = absurd is
+replies_next files p (file path f) rest cut_off a more is right = (is, right)
+replies_next files p (create path) rest cut_off a more is right = (is, right)
+replies_next files p (set_unpacked path) rest cut_off a more is right = (is, right)
+replies_next files p boot rest cut_off a more is right = (is, right)
+replies_next files p releases rest cut_off a more is right = (is, right)
+replies_next files p bad rest cut_off a more is right = (is, right)
+replies_next files p (file path f) rest early a more is right = (is, right)
+replies_next files p (create path) rest early a more is right = (is, right)
+replies_next files p (set_unpacked path) rest early a more is right = (is, right)
+replies_next files p boot rest early a more is right = (is, right)
+replies_next files p releases rest early a more is right = (is, right)
+replies_next files p bad rest early a more is right = (is, right)
+
+-- none of them has one
+replies_none : (files : Files) (p : Place) (commands : Feed Command) → Replies files p commands early []
+replies_none files p over = tt
+replies_none files p cut = tt
+replies_none files p (next c rest) = tt
+
+-- the text of one more reply in front
+written_next : (ending : Ending) (a : Reply) (more : List Reply) (text : List ℕ) → IsWritten ending more text → IsWritten ending (a ∷ more) (a.answer ++ text)
+written_next ended a more text is = ap (λ (l : List ℕ). a.answer ++ l) is
+written_next cut_off a more text is = ap (λ (l : List ℕ). a.answer ++ l) is
+written_next early a more text (inl is) = inl (ap (λ (l : List ℕ). a.answer ++ l) is)
+written_next early a more text (inr (first, last, part, left, are, parts, is)) =
+    inr (a ∷ first, last, part, left, ap (λ (l : List Reply). a ∷ l) are, parts, ap (λ (l : List ℕ). a.answer ++ l) is ∙ sym (append_assoc a.answer (answers_of first) part))
+
+module _ {D : Type 0} (v : Device D) where
+  -- Where the node stands, what was written, and how a run of the commands that are left completes that of all.
+  pub record Reached (start : Place) (all left : Option (Feed Command)) (disk : D) (node : Node D) (old now : Option (List ℕ)) : Type 0 where
+    pub here : Place
+    pub at : IsAt v node.place here
+    pub written : List ℕ
+    pub appended : Appends old now written
+    pub completes : (ending : Ending) (rest : Feed Command) (replies : List Reply) (new : D) (text : List ℕ) → AreLeft left rest
+        → Replies (files_of node.files) here rest ending replies → Leads v here replies (disk_of node) new → IsWritten ending replies text
+        → (commands : Feed Command) × AreLeft all commands × IsRun v (λ path. None) start commands ending disk new (written ++ text)
+
+  abbrev pub Goes : Option (Feed Command) → Option (Feed Command) → D → Node D → Option (List ℕ) → Option (List ℕ) → Type 0
+  Goes all left disk node old now = (start : Place) → Starts v start disk → Reached start all left disk node old now
+
+module _ {D : Type 0} (v : Device D) (laws : IsDevice v) where
+  starts_at : (start : Place) (disk : D) → Starts v start disk → IsAt v (memory.Bare disk) start
+  starts_at (raw bytes) disk starts = starts
+  starts_at (closed s) disk starts = starts
+  starts_at (running events end) disk starts = absurd starts
+  starts_at (dead s) disk starts = absurd starts
+
+  -- before the first command
+  pub begins : (all left : Option (Feed Command)) (disk : D) (node : Node D) (old : Option (List ℕ)) → left ≡ all → node.place ≡ memory.Bare disk → files_of node.files ≡ (λ path. None) → Goes v all left disk node old old
+  begins all left disk node old same place files start starts = record {
+    here = start;
+    at = subst (λ q. IsAt v q start) (sym place) (starts_at start disk starts);
+    written = [];
+    appended = Appends-nothing old;
+    completes = λ ending rest replies new text are right leads written. (
+        rest,
+        subst (λ l. AreLeft l rest) same are,
+        record {
+          replies = replies;
+          right = subst (λ fs. Replies fs start rest ending replies) files right;
+          leads = subst (λ d. Leads v start replies d new) (ap disk_at place) leads;
+          written = written;
+        },
+      );
+  }
+
+  -- calls that leave nothing new
+  nothing_more : (p : Place) (node : Node D) → IsAt v node.place p → Leads v p [] (disk_of node) (disk_of node)
+  nothing_more p node at = (still v laws (disk_of node), held v laws node.place p at, omega arith)
+
+  module _ (all now new : Option (Feed Command)) (disk : D) (node : Node D) (old mid : Option (List ℕ)) (goes : Goes v all now disk node old mid) where
+    -- a command was followed, and its answer was written
+    pub goes_on : (c : Command) (text : String Global) (later : Node D) (mid' : Option (List ℕ)) → Gives now new (λ d. c ≡ d) → Follows v c (Ok (Some text)) node later → Appends mid mid' (string_bytes text)
+        → Goes v all new disk later old mid'
+    goes_on c text later mid' gives (files, follows) appended start starts =
+        let r = goes start starts in
+        let a = follows r.here r.at in
+        record {
+          here = a.given.after;
+          at = a.at;
+          written = r.written ++ string_bytes text;
+          appended = Appends-twice old mid mid' r.written (string_bytes text) r.appended appended;
+          completes = λ ending rest replies final more are right leads written.
+              let whole = r.completes ending (next c rest) (a.given ∷ replies) final (a.given.answer ++ more) (are_next now new c rest gives are)
+                  (replies_next (files_of node.files) r.here c rest ending a.given replies a.right.0 (subst (λ fs. Replies fs a.given.after rest ending replies) files right))
+                  (disk_of later, a.happens, leads) (written_next ending a.given replies more written) in
+              let same : r.written ++ (a.given.answer ++ more) ≡ (r.written ++ string_bytes text) ++ more = ap (λ (l : List ℕ). r.written ++ (l ++ more)) a.right.1 ∙ sym (append_assoc r.written (string_bytes text) more) in
+              (whole.0, whole.1, subst (λ t. IsRun v (λ path. None) start whole.0 ending disk final t) same whole.2);
+        }
+
+    -- the session ended there
+    ends_with : (ending : Ending) (rest : Feed Command) (final : D) → AreLeft now rest → final ≡ disk_of node → ((files : Files) (p : Place) → Replies files p rest ending []) → IsWritten ending [] []
+        → (start : Place) → Starts v start disk → (commands : Feed Command) × AreLeft all commands × Writes old mid (λ text. IsRun v (λ path. None) start commands ending disk final text)
+    ends_with ending rest final are is right written start starts =
+        let r = goes start starts in
+        let whole = r.completes ending rest [] (disk_of node) [] are (right (files_of node.files) r.here) (nothing_more r.here node r.at) written in
+        (whole.0, whole.1, (r.written, r.appended, subst (λ t. IsRun v (λ path. None) start whole.0 ending disk final t) (append-nil r.written) (subst (λ d. IsRun v (λ path. None) start whole.0 ending disk d (r.written ++ [])) (sym is) whole.2)))
+
+    pub ends : (final : D) → final ≡ disk_of node → EndsAs over now new → (start : Place) → Starts v start disk
+        → (commands : Feed Command) × AreLeft all commands × Writes old mid (λ text. IsRun v (λ path. None) start commands ended disk final text)
+    ends final is gone = ends_with ended over final (are_ended now new over gone) is (λ files p. refl) refl
+
+    pub ends_cut : (final : D) → final ≡ disk_of node → EndsAs cut now new → (start : Place) → Starts v start disk
+        → (commands : Feed Command) × AreLeft all commands × Writes old mid (λ text. IsRun v (λ path. None) start commands cut_off disk final text)
+    ends_cut final is gone = ends_with cut_off cut final (are_ended now new cut gone) is (λ files p. refl) refl
+
+    pub ends_early : (final : D) → final ≡ disk_of node → (start : Place) → Starts v start disk
+        → (commands : Feed Command) × AreLeft all commands × Writes old mid (λ text. IsRun v (λ path. None) start commands early disk final text)
+    ends_early final is = ends_with early (some_left now) final (are_some now) is (λ files p. replies_none files p (some_left now)) (inl refl)
+
+    -- at `quit`
+    pub quits : (c : Command) (later : Node D) (final : D) → final ≡ disk_of later → Gives now new (λ d. c ≡ d) → Follows v c (Ok None) node later → (start : Place) → Starts v start disk
+        → (commands : Feed Command) × AreLeft all commands × Writes old mid (λ text. IsRun v (λ path. None) start commands ended disk final text)
+    quits c later final is gives (quitting, same) =
+        ends_with ended (next quit (some_left new)) final (subst (λ d. AreLeft now (next d (some_left new))) quitting (are_next now new c (some_left new) gives (are_some new))) (is ∙ ap disk_at same) (λ files p. refl) refl
+
+    -- a command's answer was not written whole
+    pub stops_within : (c : Command) (text : String Global) (later : Node D) (final : D) (mid' : Option (List ℕ)) → final ≡ disk_of later → Gives now new (λ d. c ≡ d) → Follows v c (Ok (Some text)) node later
+        → AppendsFront mid mid' (string_bytes text) → (start : Place) → Starts v start disk
+        → (commands : Feed Command) × AreLeft all commands × Writes old mid' (λ t. IsRun v (λ path. None) start commands early disk final t)
+    stops_within c text later final mid' is gives (files, follows) (part, left, parts, appended) start starts =
+        let r = goes start starts in
+        let a = follows r.here r.at in
+        let whole = r.completes early (next c (some_left new)) (a.given ∷ []) (disk_of later) part (are_next now new c (some_left new) gives (are_some new))
+            (replies_next (files_of node.files) r.here c (some_left new) early a.given [] a.right.0 (replies_none (files_behind (files_of node.files) c) a.given.after (some_left new)))
+            (disk_of later, a.happens, nothing_more a.given.after later a.at) (inr ([], a.given, part, left, refl, parts ∙ sym a.right.1, refl)) in
+        (whole.0, whole.1, (r.written ++ part, Appends-twice old mid mid' r.written part r.appended appended, subst (λ d. IsRun v (λ path. None) start whole.0 early disk d (r.written ++ part)) (sym is) whole.2))
+
+    -- or not at all, since memory was refused
+    pub stops_before : (c : Command) (e : SessionError) (later : Node D) (final : D) → final ≡ disk_of later → Gives now new (λ d. c ≡ d) → Follows v c (Err e) node later → (start : Place) → Starts v start disk
+        → (commands : Feed Command) × AreLeft all commands × Writes old mid (λ t. IsRun v (λ path. None) start commands early disk final t)
+    stops_before c e later final is gives follows start starts = by_outcome (follows r.here r.at)
+      where
+        r : Reached v start all now disk node old mid
+        r = goes start starts
+
+        by_outcome : Replied v r.here (λ a. Transition (files_of node.files) r.here c a) node.place later.place ⊎ Lapsed v r.here node.place later.place
+            → (commands : Feed Command) × AreLeft all commands × Writes old mid (λ t. IsRun v (λ path. None) start commands early disk final t)
+        by_outcome (inl a) =
+            let whole = r.completes early (next c (some_left new)) (a.given ∷ []) (disk_of later) [] (are_next now new c (some_left new) gives (are_some new))
+                (replies_next (files_of node.files) r.here c (some_left new) early a.given [] a.right (replies_none (files_behind (files_of node.files) c) a.given.after (some_left new)))
+                (disk_of later, a.happens, nothing_more a.given.after later a.at) (inr ([], a.given, [], a.given.answer, refl, refl, refl)) in
+            (whole.0, whole.1, (r.written, r.appended, subst (λ t. IsRun v (λ path. None) start whole.0 early disk final t) (append-nil r.written) (subst (λ d. IsRun v (λ path. None) start whole.0 early disk d (r.written ++ [])) (sym is) whole.2)))
+        by_outcome (inr lapsed) =
+            let whole = r.completes early (some_left now) [] (disk_of later) [] (are_some now) (replies_none (files_of node.files) r.here (some_left now)) (lapsed.nothing_new, lapsed.holds, lapsed.counted) (inl refl) in
+            (whole.0, whole.1, (r.written, r.appended, subst (λ t. IsRun v (λ path. None) start whole.0 early disk final t) (append-nil r.written) (subst (λ d. IsRun v (λ path. None) start whole.0 early disk d (r.written ++ [])) (sym is) whole.2)))
+
+  -- of the commands that were left at first, to those of the input
+  pub sessions : (known : Option (List ℕ)) (all : Option (Feed Command)) (ending : Ending) (disk final : D) (old now : Option (List ℕ)) → all ≡ option_map commands_in known
+      → ((start : Place) → Starts v start disk → (commands : Feed Command) × AreLeft all commands × Writes old now (λ text. IsRun v (λ path. None) start commands ending disk final text))
+      → IsSession v ending known disk final old now
+  sessions known all ending disk final old now same run start starts =
+      let (commands, are, text) = run start starts in
+      (commands, are_all known commands (subst (λ l. AreLeft l commands) same are), text)
+
+-- the error that is told was that of the input
+pub cut_told : {V : Type 0} (Shows : V → Command → Type 0) (e : SessionError) (now new : Option (Feed Command))
+    → IsErrOf {T = Unit {0}} (Err e) Limit → IsNext Shows (Err e) now new → EndsAs cut now new
+cut_told {V} Shows e now new is n = subst (λ x. IsNext {V = V} Shows (Err x) now new) (let same : e ≡ Limit = cc in same) n

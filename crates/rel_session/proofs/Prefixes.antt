@@ -1,0 +1,103 @@
+-- What is known of a store, and the prefixes of its events.
+use Rattle.std.proofs.Common.{◌≡◌, ◌⊎◌, inl, inr, ℕ, ◌+◌, Bool, true, false, List, [], ◌∷◌, ◌++◌, Option, Some, None, refl, sym, ap, ◌∙◌, subst}
+use Rattle.std.specs.Prelude.{is_some, if◌then◌else◌}
+use Rattle.std.proofs.lemmas.List.{append-nil}
+use Rattle.rel_list.specs.Releases.{Releases}
+use Rattle.rel_list.specs.Event.{Event, list_after}
+use Rattle.rel_handler.specs.Events.{Known, Events, settled, doubted, with_doubt, accepted, IsPrefix, Stored, certain, uncertain, MayHave, IsStoredAs}
+use Rattle.rel_handler.specs.Image.{IsImageOf, IsImageAt}
+use Rattle.rel_store.specs.Records.{end_of}
+use Rattle.rel_store.specs.Layout.{has_magic}
+use Rattle.rel_store.proofs.Whole.{sound}
+use Rattle.rel_session.specs.Run.{IsReached}
+
+abbrev doubt_of : Option Event → Events
+doubt_of None = []
+doubt_of (Some e) = e ∷ []
+
+with_doubt-append : (events : Events) (doubt : Option Event) → with_doubt events doubt ≡ events ++ doubt_of doubt
+with_doubt-append events None = sym (append-nil events)
+with_doubt-append events (Some e) = refl
+
+-- the events that a store may have are a prefix of the accepted ones
+prefix_so : (known : Events) (doubt : Option Event) (events : Events) (list : Releases) → (events ≡ known) ⊎ (events ≡ with_doubt known doubt) → list_after events ≡ Some list
+    → IsPrefix (record { acknowledged = known; in_doubt = doubt }) events
+prefix_so known doubt events list (inl is) after = go (is_some (list_after (with_doubt known doubt))) refl
+  where
+    go : (b : Bool) → is_some (list_after (with_doubt known doubt)) ≡ b → IsPrefix (record { acknowledged = known; in_doubt = doubt }) events
+    go true allowed = record {
+      lacks = doubt_of doubt;
+      of_accepted = ap (λ b. if b then with_doubt known doubt else known) allowed ∙ with_doubt-append known doubt ∙ ap (λ (l : Events). l ++ doubt_of doubt) (sym is);
+      more = [];
+      holds = is ∙ sym (append-nil known);
+    }
+    go false refused = record {
+      lacks = [];
+      of_accepted = ap (λ b. if b then with_doubt known doubt else known) refused ∙ sym is ∙ sym (append-nil events);
+      more = [];
+      holds = is ∙ sym (append-nil known);
+    }
+prefix_so known doubt events list (inr is) after = record {
+  lacks = [];
+  of_accepted = ap (λ (o : Option Releases). if is_some o then with_doubt known doubt else known) (ap list_after (sym is) ∙ after) ∙ sym is ∙ sym (append-nil events);
+  more = doubt_of doubt;
+  holds = is ∙ with_doubt-append known doubt;
+}
+
+pub prefix_of : (s : Stored) (events : Events) (end : ℕ) (list : Releases) → MayHave s events end → list_after events ≡ Some list → IsPrefix s.known events
+prefix_of s events end list (inl (is, at)) after = prefix_so s.known.acknowledged s.known.in_doubt events list (inl is) after
+prefix_of s events end list (inr (is, at)) after = prefix_so s.known.acknowledged s.known.in_doubt events list (inr is) after
+
+-- an image of a store is reached by each command on it, before it has done anything
+pub reached : (s : Stored) (command : Events) (c : List ℕ) → IsStoredAs s c → IsReached s.known command c
+reached s command c of = record {
+  events = of.events;
+  prefix = prefix_of s of.events _ of.list of.has of.after;
+  more = [];
+  left = command;
+  begins = refl;
+  list = of.list;
+  after = ap list_after (append-nil of.events) ∙ of.after;
+  image_of = of.image_of;
+}
+
+-- and with its event
+pub reached_with : (events : Events) (end : ℕ) (e : Event) (size : ℕ) (c : List ℕ) → IsStoredAs (uncertain events end e size) c → IsReached (settled events) (e ∷ []) c
+reached_with events end e size c of = by_events of.has
+  where
+    settled-accepted : (l : Events) → accepted (settled l) ≡ l ++ []
+    settled-accepted l = go (is_some (list_after l))
+      where
+        go : (b : Bool) → (if b then l else l) ≡ l ++ []
+        go true = sym (append-nil l)
+        go false = sym (append-nil l)
+
+    by_events : MayHave (uncertain events end e size) of.events (end_of c) → IsReached (settled events) (e ∷ []) c
+    by_events (inl (is, at)) = record {
+      events = events;
+      prefix = prefix_so events None events of.list (inl refl) (subst (λ (l : Events). list_after l ≡ Some of.list) is of.after);
+      more = [];
+      left = e ∷ [];
+      begins = refl;
+      list = of.list;
+      after = ap list_after (append-nil events ∙ sym is) ∙ of.after;
+      image_of = of.image_of;
+    }
+    by_events (inr (is, at)) = record {
+      events = events;
+      prefix = record { lacks = []; of_accepted = settled-accepted events; more = []; holds = sym (append-nil events) };
+      more = e ∷ [];
+      left = [];
+      begins = refl;
+      list = of.list;
+      after = ap list_after (sym is) ∙ of.after;
+      image_of = of.image_of;
+    }
+
+-- an image of a handler's list is a store of its events
+pub stored : (events : Events) (end : ℕ) (list : Releases) (c : List ℕ) → list_after events ≡ Some list → IsImageAt c list end → IsStoredAs (certain events end) c
+stored events end list c after image = record { events = events; has = inl (refl, image.ends); list = list; after = after; image_of = image.image_of }
+
+-- a disk that stands for a list has a store
+pub has_a_store : (bytes : List ℕ) (es : Releases) → IsImageOf bytes es → has_magic bytes ≡ true
+has_a_store bytes es image = (sound bytes image.bodies image.store).begins

@@ -1,0 +1,99 @@
+-- A session's node in memory, and what its functions do to it.
+use Rattle.std.specs.Prelude.{◌≡◌, ◌⊎◌, ℕ, ◌≤◌, true, false, List, [], Option, None, Some, Result, Ok, Err, String, string_bytes}
+use Rattle.std.specs.declared.alloc.Global.{Global}
+use Rattle.std.specs.declared.alloc.AllocError.{AllocError}
+use Rattle.erl_term.specs.Value.{value_of}
+use Rattle.rel_files.specs.Release.{release_of}
+use Rattle.rel_files.specs.declared.reader.RelFile.{RelFile}
+use Rattle.rel_list.specs.Event.{list_after}
+use Rattle.rel_handler.specs.State.{disk_in, list_in, is_dead, end_in, IsSound}
+use Rattle.rel_session.specs.declared.error.SessionError.{SessionError}
+use Rattle.rel_session.specs.declared.node.Node.{Node}
+use Rattle.rel_session.specs.declared.place.Place.{Place as PlaceInMemory}
+use Rattle.rel_session.specs.declared.place.Place.TheVariants as memory
+use Rattle.rel_session.specs.declared.refusal.Refusal.{Refusal as RefusalInMemory}
+use Rattle.rel_session.specs.declared.refusal.Refusal.TheVariants as refusal
+use Rattle.rel_session.specs.Commands.{Command}
+use Rattle.rel_session.specs.Commands.Command.{quit}
+use Rattle.rel_session.specs.Device.{Device, LeavesOnly}
+use Rattle.rel_session.specs.Files.{Found, files_of, files_behind}
+use Rattle.rel_session.specs.Node.{Place, Reply}
+use Rattle.rel_session.specs.Node.Place.{raw, closed, running, dead}
+use Rattle.rel_session.specs.Refusals.{refusal_of, refusal_line}
+use Rattle.rel_session.specs.Run.{Holds, Happens}
+use Rattle.rel_session.specs.Transition.{Transition, ok_line}
+
+abbrev pub disk_at : {D : Type 0} → PlaceInMemory D → D
+disk_at (memory.Bare disk) = disk
+disk_at (memory.Made handler) = disk_in handler
+
+-- the handler of a place is sound
+abbrev pub IsSoundPlace : {D : Type 0} → (D → List ℕ) → (D → List ℕ → Type 0) → PlaceInMemory D → Type 0
+IsSoundPlace seen may_leave (memory.Bare disk) = Unit {0}
+IsSoundPlace seen may_leave (memory.Made handler) = IsSound seen may_leave handler
+
+-- what a command finds in a file that was read
+abbrev pub found_of : RelFile → Found
+found_of file = record { release = release_of file.release; term = value_of file.term }
+
+-- This is where the place in memory stands.
+abbrev pub IsAt : {D : Type 0} → Device D → PlaceInMemory D → Place → Type 0
+IsAt v (memory.Bare disk) (raw bytes) = Holds v (raw bytes) disk
+IsAt v (memory.Bare disk) (closed s) = Holds v (closed s) disk
+IsAt v (memory.Bare disk) p = ⊥
+IsAt v (memory.Made handler) (running events end) =
+    Holds v (running events end) (disk_in handler) × (is_dead handler ≡ false)
+    × (list_after events ≡ Some (list_in handler)) × (end_in handler ≡ end)
+IsAt v (memory.Made handler) (dead s) = Holds v (dead s) (disk_in handler) × (is_dead handler ≡ true)
+IsAt v (memory.Made handler) p = ⊥
+
+-- A command with a reply of which P holds led from the one place to the other.
+pub record Replied {D : Type 0} (v : Device D) (p : Place) (P : Reply → Type 0) (old new : PlaceInMemory D) : Type 0 where
+  pub given : Reply
+  pub right : P given
+  pub at : IsAt v new given.after
+  pub happens : Happens v p given (disk_at old) (disk_at new)
+
+-- Memory was refused, and nothing was done.
+pub record Lapsed {D : Type 0} (v : Device D) (p : Place) (old new : PlaceInMemory D) : Type 0 where
+  pub nothing_new : LeavesOnly v (disk_at old) (disk_at new) (v.may_leave (disk_at old))
+  pub holds : Holds v p (disk_at new)
+  pub counted : v.failures (disk_at old) ≤ v.failures (disk_at new)
+
+-- A command gave this result, wherever it began: a version, or why it was refused. P says which replies are right.
+abbrev pub Answers : {D : Type 0} → Device D → (Place → Reply → Type 0) → Result (String Global) RefusalInMemory → PlaceInMemory D → PlaceInMemory D → Type 0
+Answers v P (Ok vsn) old new = (p : Place) → IsAt v old p → Replied v p (λ a. P p a × (a.answer ≡ ok_line (string_bytes vsn))) old new
+Answers v P (Err refusal.NoMemory) old new = (p : Place) → IsAt v old p → Lapsed v p old new
+Answers v P (Err why) old new =
+    (p : Place) → IsAt v old p → Replied v p (λ a. P p a × (a.answer ≡ refusal_line (refusal_of why))) old new
+
+-- A command gave this line; where memory is refused, it may have been done.
+abbrev pub Tells : {D : Type 0} → Device D → (Place → Reply → Type 0) → Result (String Global) AllocError → PlaceInMemory D → PlaceInMemory D → Type 0
+Tells v P (Ok text) old new = (p : Place) → IsAt v old p → Replied v p (λ a. P p a × (a.answer ≡ string_bytes text)) old new
+Tells v P (Err e) old new = (p : Place) → IsAt v old p → Replied v p (P p) old new ⊎ Lapsed v p old new
+
+-- A command was followed. Its text is its answer; there is none where the session ends.
+abbrev pub Follows : {D : Type 0} → Device D → Command → Result (Option (String Global)) SessionError → Node D → Node D → Type 0
+Follows v command (Ok (Some text)) old new =
+    (files_of new.files ≡ files_behind (files_of old.files) command)
+    × ((p : Place) → IsAt v old.place p
+    → Replied v p (λ a. Transition (files_of old.files) p command a × (a.answer ≡ string_bytes text)) old.place new.place)
+Follows v command (Ok None) old new = (command ≡ quit) × (new.place ≡ old.place)
+Follows v command (Err e) old new =
+    (p : Place) → IsAt v old.place p
+    → Replied v p (λ a. Transition (files_of old.files) p command a) old.place new.place ⊎ Lapsed v p old.place new.place
+
+abbrev pub disk_of : {D : Type 0} → Node D → D
+disk_of n = disk_at n.place
+
+-- the line that tells what a command has done, or why it was refused
+abbrev pub IsLine : Result (String Global) RefusalInMemory → Option (String Global) → Type 0
+IsLine done None = ⊥
+IsLine (Ok vsn) (Some text) = string_bytes text ≡ ok_line (string_bytes vsn)
+IsLine (Err refusal.NoMemory) (Some text) = ⊥
+IsLine (Err why) (Some text) = string_bytes text ≡ refusal_line (refusal_of why)
+
+-- it is a text with these bytes
+abbrev pub IsText : Option (String Global) → List ℕ → Type 0
+IsText None bytes = ⊥
+IsText (Some text) bytes = string_bytes text ≡ bytes

@@ -1,0 +1,116 @@
+-- A session as a run: the commands of its input lead its disk, one after another, from one place to the next.
+use Rattle.std.specs.Prelude.{◌≡◌, ◌⊎◌, ℕ, ◌≤◌, Bool, true, List, [], ◌∷◌, ◌++◌, Option, None, Some}
+use Rattle.rel_list.specs.Releases.{Releases}
+use Rattle.rel_list.specs.Event.{Event, list_after}
+use Rattle.rel_list.specs.Event.Event.{made}
+use Rattle.rel_handler.specs.Events.{Known, Events, settled, IsPrefix, with_doubt, IsStoredAs, certain}
+use Rattle.rel_handler.specs.Image.{IsImageOf}
+use Rattle.rel_handler.specs.Moments.{Begins, BeginsAt}
+use Rattle.rel_handler.specs.Events.{doubted}
+use Rattle.rel_session.specs.Commands.{Command, commands_of}
+use Rattle.rel_session.specs.Commands.Command.{quit}
+use Rattle.rel_session.specs.Device.{Device, LeavesOnly, HasFailed}
+use Rattle.rel_session.specs.Feed.{Feed, bytes_within}
+use Rattle.rel_session.specs.Feed.Feed.{over, cut, next}
+use Rattle.rel_session.specs.Files.{Files, files_behind}
+use Rattle.rel_session.specs.Input.{most_bytes}
+use Rattle.rel_session.specs.Lines.{lines_of}
+use Rattle.rel_session.specs.Node.{Place, Outcome, Reply}
+use Rattle.rel_session.specs.Node.Place.{raw, closed, running, dead}
+use Rattle.rel_session.specs.Transition.{Transition}
+
+-- This is so of the disk of a node between two commands: whatever a crash leaves of it is the store that the place tells.
+abbrev pub Holds : {D : Type 0} → Device D → Place → D → Type 0
+Holds v (raw bytes) disk = v.seen disk ≡ bytes
+Holds v (closed s) disk = (c : List ℕ) → v.may_leave disk c → IsStoredAs s c
+Holds v (running events end) disk = (c : List ℕ) → v.may_leave disk c → IsStoredAs (certain events end) c
+Holds v (dead s) disk = (c : List ℕ) → v.may_leave disk c → IsStoredAs s c
+
+-- A session begins on a disk on which no node runs.
+abbrev pub Starts : {D : Type 0} → Device D → Place → D → Type 0
+Starts v (raw bytes) disk = Holds v (raw bytes) disk
+Starts v (closed s) disk = Holds v (closed s) disk
+Starts v p disk = ⊥
+
+-- the events of a command, the one in doubt last
+abbrev pub events_of : Outcome → Events
+events_of o = with_doubt o.acknowledged o.in_doubt
+
+-- These bytes stand for the list of a prefix of the events so far that holds every acknowledged one: of what was known of
+-- the node's events before the command, and, in order, of the command's own.
+pub record IsReached (k : Known) (command : Events) (image : List ℕ) : Type 0 where
+  pub events : Events
+  pub prefix : IsPrefix k events
+  pub more : Events
+  pub left : Events
+  pub begins : more ++ left ≡ command
+  pub list : Releases
+  pub after : list_after (events ++ more) ≡ Some list
+  pub image_of : IsImageOf image list
+
+-- At each moment of a command on a disk on which no node is known: a creation has this from its first sync on, and one in
+-- doubt if there was such a sync. Any other command leaves nothing new.
+abbrev pub MomentsOf : {D : Type 0} → Device D → Events → Option Event → D → D → Type 0
+MomentsOf {D} v (made r ∷ more) doubt old new =
+    (at : D) × BeginsAt v.seen v.may_leave v.moment v.left_since (doubted [] (made r)) old new at
+MomentsOf v [] (Some (made r)) old new = Begins v.seen v.may_leave v.moment v.left_since (doubted [] (made r)) old new
+MomentsOf v acknowledged doubt old new = LeavesOnly v old new (v.may_leave old)
+
+-- At each moment of a command with this outcome.
+abbrev pub Moments : {D : Type 0} → Device D → Place → Outcome → D → D → Type 0
+Moments v (raw bytes) o old new = MomentsOf v o.acknowledged o.in_doubt old new
+Moments v (closed s) o old new = LeavesOnly v old new (IsReached s.known (events_of o))
+Moments v (running events end) o old new = LeavesOnly v old new (IsReached (settled events) (events_of o))
+Moments v (dead s) o old new = LeavesOnly v old new (IsReached s.known (events_of o))
+
+-- A command with this reply led from the one disk to the other.
+pub record Happens {D : Type 0} (v : Device D) (p : Place) (a : Reply) (old new : D) : Type 0 where
+  pub moments : Moments v p a.outcome old new
+  pub holds : Holds v a.after new
+  pub cause : a.outcome.failed ≡ true → HasFailed v old new
+  pub counted : v.failures old ≤ v.failures new
+
+-- Commands with these replies led, one after another, from the one disk to the other. Memory may be refused to a further
+-- one, which then leaves nothing new.
+abbrev pub Leads : {D : Type 0} → Device D → Place → List Reply → D → D → Type 0
+Leads v p [] old new = LeavesOnly v old new (v.may_leave old) × Holds v p new × (v.failures old ≤ v.failures new)
+Leads {D} v p (a ∷ more) old new = (mid : D) × Happens v p a old mid × Leads v a.after more mid new
+
+-- how a session ends: at the end of its input or `quit`, where its input is cut off, or early
+pub data Ending : Type 0 where
+  ended : Ending
+  cut_off : Ending
+  early : Ending
+
+-- These are the replies to the commands, in order: to each up to the end, or to the first of them.
+abbrev pub Replies : Files → Place → Feed Command → Ending → List Reply → Type 0
+Replies files p commands early [] = Unit {0}
+Replies files p over ending [] = ending ≡ ended
+Replies files p cut ending [] = ending ≡ cut_off
+Replies files p (next quit commands) ending [] = ending ≡ ended
+Replies files p (next c commands) ending (a ∷ more) =
+    Transition files p c a × Replies (files_behind files c) a.after commands ending more
+Replies files p commands ending replies = ⊥
+
+-- their answers, one after another
+abbrev pub answers_of : List Reply → List ℕ
+answers_of [] = []
+answers_of (a ∷ more) = a.answer ++ answers_of more
+
+-- What is written for these replies: their answers, one after another. Of a session that ended early the last one may not
+-- be written whole.
+abbrev pub IsWritten : Ending → List Reply → List ℕ → Type 0
+IsWritten early replies text = (text ≡ answers_of replies) ⊎ ((first : List Reply) × (last : Reply) × (part left : List ℕ)
+    × (replies ≡ first ++ last ∷ []) × (part ++ left ≡ last.answer) × (text ≡ answers_of first ++ part))
+IsWritten ending replies text = text ≡ answers_of replies
+
+-- the commands of an input
+abbrev pub commands_in : List ℕ → Feed Command
+commands_in input = commands_of (lines_of (bytes_within most_bytes input))
+
+-- A session with these commands ended so, on this disk, and this was written.
+pub record IsRun {D : Type 0} (v : Device D) (files : Files) (p : Place) (commands : Feed Command) (ending : Ending) (old new : D) (text : List ℕ) : Type 0 where
+  pub replies : List Reply
+  pub right : Replies files p commands ending replies
+  pub leads : Leads v p replies old new
+  pub written : IsWritten ending replies text
