@@ -109,12 +109,15 @@ pub(crate) fn slot_on<D: Disk>(
     match Store::open_disk(alloc, disk) {
         Ok(store) => {
             let mut store = store;
-            let answer = match store.write_slot(b"14.2 B\n") {
-                Ok(()) => store.read_slot(&mut slot),
-                Err(error) => Err(error),
-            };
+            let mut answer = store.write_slot(b"14.2 B\n");
+            if answer.is_ok() {
+                answer = store.read_slot(&mut slot);
+            }
             assert_eq!(rt; store.records().len(), 1);
-            (answer.map(|_| slot), store.into_disk())
+            match answer {
+                Ok(()) => (Ok(slot), store.into_disk()),
+                Err(error) => (Err(error), store.into_disk()),
+            }
         }
         Err((error, disk)) => (Err(error), disk),
     }

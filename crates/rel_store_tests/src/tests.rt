@@ -10,27 +10,38 @@ use std::alloc::Global;
 use std::process::Abort;
 use std::test::Fail;
 
-// The bytes of the store of one record `[].`, from the first record on.
-const ONE_RECORD: [u8; 9] = [1, 0, 0, 0, 3, 0x5b, 0x5d, 0x2e, 0];
+// These bytes stand at this place.
+fn stands_at(rt: &impl Abort, bytes: &[u8], at: usize, wanted: &[u8]) {
+    match bytes.get(at..) {
+        Some(rest) => holds(rt, rest.starts_with(wanted), "the bytes stand there"),
+        None => panic!(rt; "the disk ends before {at}"),
+    }
+}
 
 #[test]
 fn bytes_of_a_new_store(rt: HostRuntime) -> Result<(), Fail> {
     let alloc = rt.alloc();
     let mut disk = new_store(&rt, alloc)?;
     let bytes = bytes_of(alloc, &mut disk)?;
+    let parts: [(usize, &[u8]); 4] = [
+        (0, b"\x01RELSTOR1\0\0\0\0\0\0\0"),
+        (16, b"\x0714.2 A\n\0"),
+        (272, &[0, 0, 0, 0, 0, 0, 1, 0x20]),
+        (288, &[1, 0, 0, 0, 3, 0x5b, 0x5d, 0x2e, 0]),
+    ];
+    for (at, wanted) in parts {
+        stands_at(&rt, &bytes, at, wanted);
+    }
     assert_eq!(rt; bytes.len(), 297);
-    same(&rt, &bytes[288..], &ONE_RECORD);
-    same(&rt, &bytes[..24], b"\x01RELSTOR1\0\0\0\0\0\0\0\x0714.2 A\n");
-    same(&rt, &bytes[272..280], &[0, 0, 0, 0, 0, 0, 1, 0x20]);
     Ok(())
 }
 
 // The records of a store are these two.
-fn holds_two(rt: &impl Abort, store: &Store<MemDisk>, first: &[u8], second: &[u8]) {
-    let records = store.records();
+fn holds_two(rt: &impl Abort, records: &[Vec<u8>], wanted: [&[u8]; 2]) {
     assert_eq!(rt; records.len(), 2);
-    same(rt, &records[0], first);
-    same(rt, &records[1], second);
+    for (record, body) in records.iter().zip(wanted) {
+        same(rt, record, body);
+    }
 }
 
 #[test]
@@ -41,7 +52,8 @@ fn a_record_is_added(rt: HostRuntime) -> Result<(), Fail> {
     store.append(alloc, b"a.")?;
     let mut disk = store.into_disk();
     assert_eq!(rt; disk.len()?, 304);
-    holds_two(&rt, &opened(&rt, alloc, disk), b"[].", b"a.");
+    let store = opened(&rt, alloc, disk);
+    holds_two(&rt, store.records(), [b"[].", b"a."]);
     Ok(())
 }
 
