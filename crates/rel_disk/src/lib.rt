@@ -23,6 +23,3 @@ pub use disk::{DeviceFault, Disk};
 pub use fail_disk::FailDisk;
 pub use laws::{damage_adds_up, damage_by_places, images_by_places, moments_agree};
 pub use mem_disk::MemDisk;
-
-#[cfg(test)]
-mod tests;

@@ -39,7 +39,7 @@ Fits end n = (n ≤ 16777216) × (end + (5 + n) ≤ 67108864)
 
 -- it has the memory for one record more, with a body of n bytes or the longest that there is
 abbrev pub HasRoom : {D : Type 0} → ℕ → Store D → Type 0
-HasRoom n store = (min n 16777216 + 5 ≤ vec_capacity store.spare) × (vec_len store.records < vec_capacity store.records)
+HasRoom n store = (min n 16777216 + 6 ≤ vec_capacity store.spare) × (vec_len store.records < vec_capacity store.records)
 
 -- Its disk is an open store with its records, undamaged, and a crash leaves nothing else.
 pub record IsSettled {D : Type 0} (seen : D → List ℕ) (may_leave : D → List ℕ → Type 0) (store : Store D) : Type 0 where

@@ -24,29 +24,30 @@ pub(crate) fn make_room(
     Ok(())
 }
 
-// Appends a record as it stands behind its gate, and the closed gate behind it.
+// Appends a record with its gate open, and the closed gate behind it.
 fn push_record(buffer: &mut Vec<u8>, body: &[u8]) -> Result<(), AllocError>
     requires { length body.now ≤ 16777216 }
-    ensures ok { OnOk result (buffer.new.items ≡ buffer.old.items ++ (record_bytes body.now ++ 0 ∷ [])) }
-    ensures full { OnErr result (vec_capacity buffer.old < vec_len buffer.old + (length body.now + 5)) }
+    ensures ok { OnOk result (buffer.new.items ≡ buffer.old.items ++ (1 ∷ (record_bytes body.now ++ 0 ∷ []))) }
+    ensures full { OnErr result (vec_capacity buffer.old < vec_len buffer.old + (length body.now + 6)) }
 {
+    buffer.push(OPEN)?;
     buffer.extend_from_slice(&(body.len() as u32).to_be_bytes())?;
     buffer.extend_from_slice(body)?;
     buffer.push(CLOSED)?;
     Ok(())
 }
 
-// Fills the buffer with a record as it stands behind its gate, and the closed gate behind it.
+// Fills the buffer with a record, its gate open, and the closed gate behind it.
 pub(crate) fn spell_record(
     alloc: Global,
     buffer: &mut Vec<u8>,
     body: &[u8],
 ) -> Result<(), AllocError>
     requires { length body.now ≤ 16777216 }
-    ensures ok { OnOk result (buffer.new.items ≡ record_bytes body.now ++ 0 ∷ []) }
-    ensures full { OnErr result (vec_capacity buffer.old < length body.now + 5) }
+    ensures ok { OnOk result (buffer.new.items ≡ 1 ∷ (record_bytes body.now ++ 0 ∷ [])) }
+    ensures full { OnErr result (vec_capacity buffer.old < length body.now + 6) }
 {
-    make_room(alloc, buffer, RECORD_HEAD + body.len())?;
+    make_room(alloc, buffer, RECORD_HEAD + body.len() + 1)?;
     push_record(buffer, body)
 }
 
@@ -63,7 +64,6 @@ pub(crate) fn spell_store(alloc: Global, first: &[u8], start: &[u8]) -> Result<V
     bytes.extend_from_slice(&[0; 128])?;
     bytes.extend_from_slice(&FIRST_RECORD.to_be_bytes())?;
     bytes.extend_from_slice(&[0; 8])?;
-    bytes.push(OPEN)?;
     push_record(&mut bytes, first)?;
     Ok(bytes)
 }
@@ -81,11 +81,11 @@ pub(crate) fn start_slot(text: &[u8]) -> [u8; 128]
 
 // The body of n bytes in such a buffer, in the same memory.
 pub(crate) fn body_of_record(buffer: Vec<u8>, n: usize) -> Vec<u8>
-    requires { 4 + n ≤ vec_len buffer }
-    ensures { result.items ≡ take n (drop 4 buffer.items) }
+    requires { 5 + n ≤ vec_len buffer }
+    ensures { result.items ≡ take n (drop 5 buffer.items) }
 {
     let mut body = buffer;
-    body.copy_within(4..4 + n, 0);
+    body.copy_within(RECORD_HEAD..RECORD_HEAD + n, 0);
     body.truncate(n);
     body
 }

@@ -26,6 +26,3 @@ pub use error::StoreError;
 pub use laws::{nothing_else_is_read, what_is_spelled_is_read};
 pub use layout::{MAX_BODY, MAX_END};
 pub use store::Store;
-
-#[cfg(test)]
-mod tests;

@@ -2,12 +2,11 @@
 ghost use Rattle.std.specs.Prelude.{◌≡◌, ◌≤◌, IfOk, IfErr, OnOk, Ok};
 ghost use Rattle.rel_disk.specs.Damage.{Only};
 ghost use Rattle.rel_disk.specs.Moments.{LeavesOnly};
-ghost use Rattle.rel_store.specs.Contents.{AreContentsOf, OpenRefused};
+ghost use Rattle.rel_store.specs.Contents.{AreContentsOf, DeviceRefused, OpenRefused};
 ghost use Rattle.rel_store.specs.Records.{records_of};
 ghost use Rattle.rel_store.specs.State.{disk_of, records_in, IsSettled, IsSound};
 
 use crate::contents::Contents;
-use crate::device::read_settled;
 use crate::{Store, StoreError};
 use rel_disk::Disk;
 use std::alloc::Global;
@@ -56,4 +55,20 @@ fn read_contents<D: Disk>(alloc: Global, disk: &mut D) -> Result<Contents, Store
 {
     let bytes = read_settled(alloc, disk)?;
     Contents::read(alloc, &bytes)
+}
+
+// Syncs, and reads all the bytes.
+fn read_settled<D: Disk>(alloc: Global, disk: &mut D) -> Result<Vec<u8>, StoreError>
+    ensures read { IfOk result (λ bytes. bytes.items ≡ D.seen disk.old) }
+    ensures durable { OnOk result (Only (D.seen disk.old) (D.may_leave disk.new)) }
+    ensures same { D.seen disk.new ≡ D.seen disk.old }
+    ensures any_moment { LeavesOnly D.moment D.left_since disk.old disk.new (D.may_leave disk.old) }
+    ensures counted { D.failures disk.old ≤ D.failures disk.new }
+    ensures refused { IfErr result (DeviceRefused (D.failures disk.old) (D.failures disk.new)) }
+{
+    disk.sync()?;
+    let len = disk.len()?;
+    let mut bytes = vec![in alloc; 0; len as usize]?;
+    disk.read(0, &mut bytes)?;
+    Ok(bytes)
 }

@@ -75,7 +75,7 @@ impl<D: Disk> Store<D> {
             return Err(StoreError::MustReopen);
         }
         self.records.reserve(1)?;
-        make_room(alloc, &mut self.spare, n.min(MAX_BODY) + RECORD_HEAD)?;
+        make_room(alloc, &mut self.spare, n.min(MAX_BODY) + RECORD_HEAD + 1)?;
         Ok(())
     }
 
@@ -113,7 +113,7 @@ impl<D: Disk> Store<D> {
         self.records.reserve(1)?;
         spell_record(alloc, &mut self.spare, body)?;
         self.must_reopen = true;
-        write_through(&mut self.disk, self.gate + 1, &self.spare)?;
+        write_through(&mut self.disk, self.gate + 1, &self.spare[1..])?;
         write_through(&mut self.disk, self.gate, &[OPEN])?;
         self.must_reopen = false;
         self.gate += (RECORD_HEAD + body.len()) as u64;

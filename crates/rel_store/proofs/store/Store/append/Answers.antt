@@ -1,6 +1,7 @@
-use Rattle.std.proofs.Common.{◌≡◌, ◌+◌, ◌≤◌, [], ◌∷◌, ◌++◌, map, length, inl, refl, sym, ◌∙◌, ap, arith, rules, Ok}
+use Rattle.std.proofs.Common.{◌≡◌, ℕ, ◌+◌, ◌-◌, ◌≤◌, List, [], ◌∷◌, ◌++◌, map, length, take, drop, inl, refl, sym, ◌∙◌, ap, arith, rules, Ok}
 use Rattle.std.specs.Prelude.{◌==◌}
 use Rattle.std.proofs.lemmas.Grind.{common_steps}
+use Rattle.std.proofs.lemmas.List.{take_all}
 use Rattle.rel_store.specs.Layout.{base_of}
 use Rattle.rel_store.specs.Records.{record_bytes, space}
 use Rattle.rel_store.specs.State.{records_in}
@@ -8,6 +9,11 @@ use Rattle.rel_store.proofs.Append.{gate_low, gate_within, staged_within}
 use Rattle.rel_store.proofs.Layouts.{layout_rests, layout_first, layout_second}
 use Rattle.rel_store.proofs.Moments.{stands_now, resting, after_first, staged_now, after_second, appended_now}
 use Rattle.rel_store.proofs.store.Store.append.Goals as goal
+
+-- what stands behind the gate in a record's bytes
+behind_gate : (bytes body : List ℕ) → bytes ≡ 1 ∷ (record_bytes body ++ 0 ∷ []) → take (length bytes - 1) (drop 1 bytes) ≡ record_bytes body ++ 0 ∷ []
+behind_gate bytes body spelled =
+    ap (λ l. take (length l - 1) (drop 1 l)) spelled ∙ take_all (length (1 ∷ (record_bytes body ++ 0 ∷ [])) - 1) (record_bytes body ++ 0 ∷ []) (omega arith)
 
 pub returns-then-not-fits-clause-any_moment : goal.returns-then-not-fits-clause-any_moment
 returns-then-not-fits-clause-any_moment g c = λ works. resting g.D.Disk.moment g.D.Disk.left_since g.D.Disk.seen g.D.Disk.may_leave c.args.self.now (c.requires.settled works) _ (λ f here. inl here) (g.met.D.Disk.only_now c.args.self.now.disk)
@@ -21,49 +27,49 @@ returns-in_err-spell_record-clause-any_moment g c = λ works. resting g.D.Disk.m
 pub write_through-requires : goal.write_through-requires
 write_through-requires g c =
     let s = c.requires.settled c.if-self.false in
-    gate_within _ _ _ _ (stands_now g.D.Disk.moment g.D.Disk.left_since g.D.Disk.seen g.D.Disk.may_leave c.args.self.now s) s.end
+    omega (arith, gate_within _ _ _ _ (stands_now g.D.Disk.moment g.D.Disk.left_since g.D.Disk.seen g.D.Disk.may_leave c.args.self.now s) s.end)
 
 pub returns-in_err-write_through-clause-any_moment : goal.returns-in_err-write_through-clause-any_moment
 returns-in_err-write_through-clause-any_moment g c = λ works.
     let short : length c.args.body.now ≤ 16777216 = search rules in
-    let spelled : c.deref.result.now ≡ record_bytes c.args.body.now ++ 0 ∷ [] = search rules in
-    after_first g.D.Disk.moment g.D.Disk.left_since g.D.Disk.seen g.D.Disk.may_leave c.args.self.now (c.requires.settled works) c.args.body.now c.deref.result.now short spelled c.write_through.new.disk c.write_through.ensures.any_moment
+    let spelled = behind_gate c.deref.result.now c.args.body.now (search rules) in
+    after_first g.D.Disk.moment g.D.Disk.left_since g.D.Disk.seen g.D.Disk.may_leave c.args.self.now (c.requires.settled works) c.args.body.now _ short spelled c.write_through.new.disk c.write_through.ensures.any_moment
 
 pub write_through-requires-2 : goal.write_through-requires-2
 write_through-requires-2 g c =
     let s = c.requires.settled c.if-self.false in
     let short : length c.args.body.now ≤ 16777216 = search rules in
-    let spelled : c.deref.result.now ≡ record_bytes c.args.body.now ++ 0 ∷ [] = search rules in
-    staged_within _ _ _ _ _ _ (staged_now g.D.Disk.moment g.D.Disk.left_since g.D.Disk.seen g.D.Disk.may_leave c.args.self.now s c.args.body.now c.deref.result.now short spelled c.write_through.new.disk c.in_ok-write_through.ensures.written)
+    let spelled = behind_gate c.deref.result.now c.args.body.now (search rules) in
+    staged_within _ _ _ _ _ _ (staged_now g.D.Disk.moment g.D.Disk.left_since g.D.Disk.seen g.D.Disk.may_leave c.args.self.now s c.args.body.now _ short spelled c.write_through.new.disk c.in_ok-write_through.ensures.written)
 
 pub returns-in_err-write_through-2-clause-any_moment : goal.returns-in_err-write_through-2-clause-any_moment
 returns-in_err-write_through-2-clause-any_moment g c = λ works.
     let short : length c.args.body.now ≤ 16777216 = search rules in
-    let spelled : c.deref.result.now ≡ record_bytes c.args.body.now ++ 0 ∷ [] = search rules in
-    after_second g.D.Disk.moment g.D.Disk.left_since g.D.Disk.seen g.D.Disk.may_leave c.args.self.now (c.requires.settled works) c.args.body.now c.deref.result.now short spelled c.write_through.new.disk c.write_through-2.new.disk
+    let spelled = behind_gate c.deref.result.now c.args.body.now (search rules) in
+    after_second g.D.Disk.moment g.D.Disk.left_since g.D.Disk.seen g.D.Disk.may_leave c.args.self.now (c.requires.settled works) c.args.body.now _ short spelled c.write_through.new.disk c.write_through-2.new.disk
     c.write_through.ensures.any_moment c.in_ok-write_through.ensures.written c.in_ok-write_through.ensures.durable c.write_through-2.ensures.any_moment
 
 pub returns-clause-any_moment : goal.returns-clause-any_moment
 returns-clause-any_moment g c = λ works.
     let short : length c.args.body.now ≤ 16777216 = search rules in
-    let spelled : c.deref.result.now ≡ record_bytes c.args.body.now ++ 0 ∷ [] = search rules in
-    after_second g.D.Disk.moment g.D.Disk.left_since g.D.Disk.seen g.D.Disk.may_leave c.args.self.now (c.requires.settled works) c.args.body.now c.deref.result.now short spelled c.write_through.new.disk c.write_through-2.new.disk
+    let spelled = behind_gate c.deref.result.now c.args.body.now (search rules) in
+    after_second g.D.Disk.moment g.D.Disk.left_since g.D.Disk.seen g.D.Disk.may_leave c.args.self.now (c.requires.settled works) c.args.body.now _ short spelled c.write_through.new.disk c.write_through-2.new.disk
     c.write_through.ensures.any_moment c.in_ok-write_through.ensures.written c.in_ok-write_through.ensures.durable c.write_through-2.ensures.any_moment
 
 pub returns-clause-start : goal.returns-clause-start
 returns-clause-start g c =
     let s = c.requires.settled c.if-self.false in
     let short : length c.args.body.now ≤ 16777216 = search rules in
-    let spelled : c.deref.result.now ≡ record_bytes c.args.body.now ++ 0 ∷ [] = search rules in
-    let a = appended_now g.D.Disk.moment g.D.Disk.left_since g.D.Disk.seen g.D.Disk.may_leave c.args.self.now s c.args.body.now c.deref.result.now short spelled c.write_through.new.disk c.write_through-2.new.disk c.in_ok-write_through.ensures.written c.in_ok-write_through-2.ensures.written in
+    let spelled = behind_gate c.deref.result.now c.args.body.now (search rules) in
+    let a = appended_now g.D.Disk.moment g.D.Disk.left_since g.D.Disk.seen g.D.Disk.may_leave c.args.self.now s c.args.body.now _ short spelled c.write_through.new.disk c.write_through-2.new.disk c.in_ok-write_through.ensures.written c.in_ok-write_through-2.ensures.written in
     a.here.start
 
 pub returns-clause-settled : goal.returns-clause-settled
 returns-clause-settled g c =
     let s = c.requires.settled c.if-self.false in
     let short : length c.args.body.now ≤ 16777216 = search rules in
-    let spelled : c.deref.result.now ≡ record_bytes c.args.body.now ++ 0 ∷ [] = search rules in
-    let a = appended_now g.D.Disk.moment g.D.Disk.left_since g.D.Disk.seen g.D.Disk.may_leave c.args.self.now s c.args.body.now c.deref.result.now short spelled c.write_through.new.disk c.write_through-2.new.disk c.in_ok-write_through.ensures.written c.in_ok-write_through-2.ensures.written in
+    let spelled = behind_gate c.deref.result.now c.args.body.now (search rules) in
+    let a = appended_now g.D.Disk.moment g.D.Disk.left_since g.D.Disk.seen g.D.Disk.may_leave c.args.self.now s c.args.body.now _ short spelled c.write_through.new.disk c.write_through-2.new.disk c.in_ok-write_through.ensures.written c.in_ok-write_through-2.ensures.written in
     let added : map (λ v. v.items) c.push.new.self.items ≡ records_in c.args.self.now ++ c.args.body.now ∷ [] = grind (arith, common_steps) in
     record {
       works = refl;

@@ -5,12 +5,12 @@ ghost use Rattle.rel_store.specs.Records.{Stands};
 ghost use Rattle.rel_store.specs.State.{disk_in, records_in, text_in, IsSettled};
 ghost use Rattle.rel_store.specs.declared.error.StoreError.TheVariants.{Device, NoMemory};
 
-use crate::{Store, StoreError};
 use rel_disk::Disk;
+use rel_store::{Store, StoreError};
 use std::alloc::Global;
 
 // Adds two records. A crash at any moment leaves none of them, the first, or both.
-pub(super) fn append_both<D: Disk>(
+pub(crate) fn append_both<D: Disk>(
     store: &mut Store<D>,
     alloc: Global,
     a: &[u8],
@@ -29,7 +29,7 @@ pub(super) fn append_both<D: Disk>(
 }
 
 // Opens a disk on which each crash leaves a store with these records or with those: it has the one or the other.
-pub(super) fn reopen<D: Disk>(alloc: Global, disk: D) -> Result<Store<D>, (StoreError, D)>
+pub(crate) fn reopen<D: Disk>(alloc: Global, disk: D) -> Result<Store<D>, (StoreError, D)>
     ghost known: { List (List ℕ) × List (List ℕ) × List ℕ }
     requires { (c : List ℕ) → D.may_leave disk c → Stands known.0 known.2 c ⊎ Stands known.1 known.2 c }
     ensures settled { IfOk result (IsSettled D.seen D.may_leave) }

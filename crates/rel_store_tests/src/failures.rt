@@ -1,0 +1,141 @@
+// Each call of the device fails in turn.
+ghost use Rattle.rel_store.specs.State.{IsSound};
+
+use crate::disks::{CAPACITY, LOG, finds, new_store};
+use StoreError::{Device, MustReopen, NotAStore};
+use rel_disk::{Disk, FailDisk, MemDisk};
+use rel_store::{Store, StoreError};
+use std::alloc::Global;
+use std::process::Abort;
+use std::test::Fail;
+
+// What each call answers that answers a Result.
+fn answers<D: Disk>(alloc: Global, store: &mut Store<D>) -> [Result<(), StoreError>; 4]
+    requires { IsSound D.seen D.may_leave store.old }
+{
+    let mut slot = [0; 128];
+    [
+        store.reserve(alloc, 1),
+        store.append(alloc, b"b."),
+        store.write_slot(b"x"),
+        store.read_slot(&mut slot),
+    ]
+}
+
+// What an append to the store on a disk answers. After a failure each further call is refused, and the records are those
+// from before.
+fn append_on<D: Disk>(rt: &impl Abort, alloc: Global, disk: D) -> (Result<(), StoreError>, D) {
+    match Store::open_disk(alloc, disk) {
+        Ok(store) => {
+            let mut store = store;
+            let answer = store.append(alloc, b"a.");
+            if answer.is_err() {
+                assert_eq!(rt; answers(alloc, &mut store), [Err(MustReopen); 4]);
+                assert_eq!(rt; store.records().len(), 1);
+            } else {
+                assert_eq!(rt; store.reserve(alloc, 1), Ok(()));
+            }
+            (answer, store.into_disk())
+        }
+        Err((error, disk)) => (Err(error), disk),
+    }
+}
+
+#[test]
+fn each_call_of_an_append_fails(rt: HostRuntime) -> Result<(), Fail> {
+    let alloc = rt.alloc();
+    // An opening has three calls and an append four. Once the gate is written, the new record is read.
+    let rows = [
+        (1, Err(Device), 1, 1),
+        (2, Err(Device), 1, 1),
+        (3, Err(Device), 1, 1),
+        (4, Err(Device), 1, 1),
+        (5, Err(Device), 1, 1),
+        (6, Err(Device), 1, 1),
+        (7, Err(Device), 1, 2),
+        (8, Ok(()), 0, 2),
+    ];
+    for (call, wanted, failures, records) in rows {
+        let disk = FailDisk::new(new_store(&rt, alloc)?, call);
+        let (answer, disk) = append_on(&rt, alloc, disk);
+        assert_eq!(rt;
+            (answer, disk.failures()),
+            (wanted, failures),
+            "call {call}"
+        );
+        finds(&rt, alloc, disk.disk, Ok(records));
+    }
+    Ok(())
+}
+
+// What a creation on a disk answers.
+fn create_on<D: Disk>(alloc: Global, disk: D) -> (Result<(), StoreError>, D) {
+    match Store::create(alloc, disk, b"[].", b"") {
+        Ok(store) => (Ok(()), store.into_disk()),
+        Err((error, disk)) => (Err(error), disk),
+    }
+}
+
+#[test]
+fn each_call_of_a_creation_fails(rt: HostRuntime) -> Result<(), Fail> {
+    let alloc = rt.alloc();
+    // The length, and three writes, each with its sync: an empty disk is not read.
+    let rows = [
+        (1, Err(Device), Err(NotAStore)),
+        (2, Err(Device), Err(NotAStore)),
+        (3, Err(Device), Err(NotAStore)),
+        (4, Err(Device), Err(NotAStore)),
+        (5, Err(Device), Err(NotAStore)),
+        (6, Err(Device), Err(NotAStore)),
+        (7, Err(Device), Ok(1)),
+        (8, Ok(()), Ok(1)),
+    ];
+    for (call, wanted, records) in rows {
+        let disk = FailDisk::new(MemDisk::new(alloc, CAPACITY, LOG)?, call);
+        let (answer, disk) = create_on(alloc, disk);
+        assert_eq!(rt; answer, wanted, "call {call}");
+        finds(&rt, alloc, disk.disk, records);
+    }
+    Ok(())
+}
+
+// What the store on a disk answers to a write of its start slot and a reading of it.
+pub(crate) fn slot_on<D: Disk>(
+    rt: &impl Abort,
+    alloc: Global,
+    disk: D,
+) -> (Result<[u8; 128], StoreError>, D) {
+    let mut slot = [0; 128];
+    match Store::open_disk(alloc, disk) {
+        Ok(store) => {
+            let mut store = store;
+            let mut answer = store.write_slot(b"14.2 B\n");
+            if answer.is_ok() {
+                answer = store.read_slot(&mut slot);
+            }
+            assert_eq!(rt; store.records().len(), 1);
+            match answer {
+                Ok(()) => (Ok(slot), store.into_disk()),
+                Err(error) => (Err(error), store.into_disk()),
+            }
+        }
+        Err((error, disk)) => (Err(error), disk),
+    }
+}
+
+#[test]
+fn each_call_of_a_slot_fails(rt: HostRuntime) -> Result<(), Fail> {
+    let alloc = rt.alloc();
+    // An opening has three calls, a write of the slot four, a reading one.
+    for call in 1..10 {
+        let disk = FailDisk::new(new_store(&rt, alloc)?, call);
+        let (answer, disk) = slot_on(&rt, alloc, disk);
+        assert_eq!(rt;
+            answer.err(),
+            if call == 9 { None } else { Some(Device) },
+            "call {call}"
+        );
+        finds(&rt, alloc, disk.disk, Ok(1));
+    }
+    Ok(())
+}
