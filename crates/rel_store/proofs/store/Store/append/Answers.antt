@@ -95,23 +95,23 @@ returns-in_err-spell_record-clause-layout g c = λ works. layout_rests g.D.Disk.
 pub returns-in_err-write_through-clause-layout : goal.returns-in_err-write_through-clause-layout
 returns-in_err-write_through-clause-layout g c = λ works.
     let s = c.requires.settled works in
-    layout_first g.D.Disk.moment g.D.Disk.left_since g.D.Disk.seen g.D.Disk.may_leave c.args.self.now s (length c.deref.result.now) c.write_through.new.disk (gate_low _ _ _ _ (stands_now g.D.Disk.moment g.D.Disk.left_since g.D.Disk.seen g.D.Disk.may_leave c.args.self.now s) s.end)
+    layout_first g.D.Disk.moment g.D.Disk.left_since g.D.Disk.seen g.D.Disk.may_leave c.args.self.now s _ c.write_through.new.disk (gate_low _ _ _ _ (stands_now g.D.Disk.moment g.D.Disk.left_since g.D.Disk.seen g.D.Disk.may_leave c.args.self.now s) s.end)
     (gate_within _ _ _ _ (stands_now g.D.Disk.moment g.D.Disk.left_since g.D.Disk.seen g.D.Disk.may_leave c.args.self.now s) s.end) c.write_through.ensures.any_moment
 
 pub returns-in_err-write_through-2-clause-layout : goal.returns-in_err-write_through-2-clause-layout
 returns-in_err-write_through-2-clause-layout g c = λ works.
     let s = c.requires.settled works in
     let short : length c.args.body.now ≤ 16777216 = search rules in
-    let spelled : c.deref.result.now ≡ record_bytes c.args.body.now ++ 0 ∷ [] = search rules in
-    layout_second g.D.Disk.moment g.D.Disk.left_since g.D.Disk.seen g.D.Disk.may_leave c.args.self.now s (length c.deref.result.now) c.write_through.new.disk
+    let spelled = behind_gate c.deref.result.now c.args.body.now (search rules) in
+    layout_second g.D.Disk.moment g.D.Disk.left_since g.D.Disk.seen g.D.Disk.may_leave c.args.self.now s _ c.write_through.new.disk
     (gate_low _ _ _ _ (stands_now g.D.Disk.moment g.D.Disk.left_since g.D.Disk.seen g.D.Disk.may_leave c.args.self.now s) s.end) (gate_within _ _ _ _ (stands_now g.D.Disk.moment g.D.Disk.left_since g.D.Disk.seen g.D.Disk.may_leave c.args.self.now s) s.end)
-    c.deref.result.now c.write_through-2.new.disk c.write_through.ensures.any_moment c.in_ok-write_through.ensures.written (staged_within _ _ _ _ _ _ (staged_now g.D.Disk.moment g.D.Disk.left_since g.D.Disk.seen g.D.Disk.may_leave c.args.self.now s c.args.body.now c.deref.result.now short spelled c.write_through.new.disk c.in_ok-write_through.ensures.written)) c.in_ok-write_through.ensures.durable c.write_through-2.ensures.any_moment
+    _ c.write_through-2.new.disk c.write_through.ensures.any_moment c.in_ok-write_through.ensures.written (staged_within _ _ _ _ _ _ (staged_now g.D.Disk.moment g.D.Disk.left_since g.D.Disk.seen g.D.Disk.may_leave c.args.self.now s c.args.body.now _ short spelled c.write_through.new.disk c.in_ok-write_through.ensures.written)) c.in_ok-write_through.ensures.durable c.write_through-2.ensures.any_moment
 
 pub returns-clause-layout : goal.returns-clause-layout
 returns-clause-layout g c = λ works.
     let s = c.requires.settled works in
     let short : length c.args.body.now ≤ 16777216 = search rules in
-    let spelled : c.deref.result.now ≡ record_bytes c.args.body.now ++ 0 ∷ [] = search rules in
-    layout_second g.D.Disk.moment g.D.Disk.left_since g.D.Disk.seen g.D.Disk.may_leave c.args.self.now s (length c.deref.result.now) c.write_through.new.disk
+    let spelled = behind_gate c.deref.result.now c.args.body.now (search rules) in
+    layout_second g.D.Disk.moment g.D.Disk.left_since g.D.Disk.seen g.D.Disk.may_leave c.args.self.now s _ c.write_through.new.disk
     (gate_low _ _ _ _ (stands_now g.D.Disk.moment g.D.Disk.left_since g.D.Disk.seen g.D.Disk.may_leave c.args.self.now s) s.end) (gate_within _ _ _ _ (stands_now g.D.Disk.moment g.D.Disk.left_since g.D.Disk.seen g.D.Disk.may_leave c.args.self.now s) s.end)
-    c.deref.result.now c.write_through-2.new.disk c.write_through.ensures.any_moment c.in_ok-write_through.ensures.written (staged_within _ _ _ _ _ _ (staged_now g.D.Disk.moment g.D.Disk.left_since g.D.Disk.seen g.D.Disk.may_leave c.args.self.now s c.args.body.now c.deref.result.now short spelled c.write_through.new.disk c.in_ok-write_through.ensures.written)) c.in_ok-write_through.ensures.durable c.write_through-2.ensures.any_moment
+    _ c.write_through-2.new.disk c.write_through.ensures.any_moment c.in_ok-write_through.ensures.written (staged_within _ _ _ _ _ _ (staged_now g.D.Disk.moment g.D.Disk.left_since g.D.Disk.seen g.D.Disk.may_leave c.args.self.now s c.args.body.now _ short spelled c.write_through.new.disk c.in_ok-write_through.ensures.written)) c.in_ok-write_through.ensures.durable c.write_through-2.ensures.any_moment
