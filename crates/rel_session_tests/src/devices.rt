@@ -63,3 +63,49 @@ fn creation_in_doubt_and_a_boot(rt: HostRuntime) -> Result<(), Fail> {
     assert_eq!(&rt; found.as_slice(), BOTH.as_bytes());
     Ok(())
 }
+
+/// What is written up to the second creation where this call fails: of the first creation, of the further release, of the
+/// list of releases, and of the second creation.
+fn before_the_boots(call: u64) -> &'static str {
+    match call {
+        1..=6 => {
+            "ok\nok\nerror handler 16 Device\nerror handler 18 Dead\nerror handler 18 Dead\nok A\n"
+        }
+        7 => {
+            "ok\nok\nerror handler 16 Device\nerror handler 18 Dead\nerror handler 18 Dead\nerror handler 20 Exists\n"
+        }
+        8..=11 => {
+            "ok\nok\nok A\nerror handler 16 Device\nerror handler 18 Dead\nerror handler 20 Exists\n"
+        }
+        _ => {
+            "ok\nok\nok A\nok B\n{\"ch_rel\",\"A\",[\"ch_app-1\"],permanent}\n{\"ch_rel\",\"B\",[\"ch_app-2\"],unpacked}\nok 2\nerror handler 20 Exists\n"
+        }
+    }
+}
+
+/// What two boots write then, each with the list of releases. A boot has three calls.
+fn boots(call: u64) -> (&'static str, &'static str) {
+    let failed = "error boot 3 Device\nerror handler 18 Dead\n";
+    match call {
+        1..=10 => (FIRST, FIRST),
+        12..=14 => (failed, BOTH),
+        15..=17 => (BOTH, failed),
+        _ => (BOTH, BOTH),
+    }
+}
+
+/// A session goes on behind a failed device: a dead node answers Dead or Exists, and its boot.
+#[test]
+fn sessions_go_on_behind_a_failed_device(rt: HostRuntime) -> Result<(), Fail> {
+    let alloc = rt.alloc();
+    let input = format!(in alloc; "{TWO_RELEASES}releases\ncreate a.rel\n{BOOTED}{BOOTED}")?;
+    for call in 1..19 {
+        let disk = FailDisk::new(empty_disk(alloc)?, call);
+        let ran = session_on(alloc, disk, input.as_bytes())?;
+        let (first, second) = boots(call);
+        let before = before_the_boots(call);
+        let answer = format!(in alloc; "{before}{first}{second}")?;
+        assert_eq!(&rt; ran.written.as_slice(), answer.as_bytes(), "call {call}");
+    }
+    Ok(())
+}
