@@ -32,12 +32,12 @@ IsTermFault v at BadVersion = (f : Form) × IsRelTerm v f × AreDistinct (names_
 IsTermFault v at NoMemory = ⊥
 
 -- The file has one term, and it is this.
-abbrev pub HasTerm : List ℕ → Value → Type 0
-HasTerm bytes v = OneTerm.HasTerm 64 bytes v
+abbrev pub HasFileTerm : List ℕ → Value → Type 0
+HasFileTerm bytes v = OneTerm.HasTerm 64 bytes v
 
 -- The file says this of a release.
 abbrev pub SaysRelease : List ℕ → Release → Type 0
-SaysRelease bytes r = (v : Value) × HasTerm bytes v × IsReleaseTerm v r
+SaysRelease bytes r = (v : Value) × HasFileTerm bytes v × IsReleaseTerm v r
 
 -- the fault of the terms of a file: there is to be one
 abbrev pub IsFaultOfTerms : List Reading → FileFault → Type 0
