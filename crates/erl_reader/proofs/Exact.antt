@@ -9,7 +9,7 @@ use Rattle.std.specs.Prelude.{IfOk, IfErr, Vec}
 use Rattle.std.specs.declared.alloc.Global.{Global}
 use Rattle.erl_reader.specs.declared.term.Spanned.{Spanned}
 use Rattle.erl_reader.specs.Answers.{readings, IsOnly, TellsFault}
-use Rattle.erl_reader.specs.Views.{ReadsAs}
+use Rattle.erl_reader.specs.Views.{GivesTerms}
 use Rattle.erl_reader.specs.Grammar.{Phrase, tokens, Reading, Reads}
 use Rattle.erl_reader.specs.Faults.{rows, Fit, MayCome, Tells, TellsOwn, TellsCut, TellsPlace, IsMisplaced, TellsEnd, IsFault}
 use Rattle.erl_reader.specs.Machine.{State, Progress, kind_of, next, refusal, misplaced, cut_off, or_refusal, and_then, run, at_kind, at_end, finished, nothing_read, reading_of}
@@ -162,12 +162,12 @@ reads_or_fault limit bytes = go (reading_of limit bytes) refl
     go (Err f) e = inr (f, err_is_fault limit bytes f e)
 
 -- The clauses of a reader, from what the machine reads.
-pub reads_found : (limit : ℕ) (bytes : List ℕ) (r : Result (Vec Spanned Global) TermFault) → ReadsAs r (reading_of limit bytes)
+pub reads_found : (limit : ℕ) (bytes : List ℕ) (r : Result (Vec Spanned Global) TermFault) → GivesTerms r (reading_of limit bytes)
     → IfOk r (λ v. Reads limit bytes (readings v))
 reads_found limit bytes (Ok v) h = ok_reads limit bytes (readings v) h
 reads_found limit bytes (Err f) h = tt
 
-pub reads_only_these : (limit : ℕ) (bytes : List ℕ) (r : Result (Vec Spanned Global) TermFault) → ReadsAs r (reading_of limit bytes)
+pub reads_only_these : (limit : ℕ) (bytes : List ℕ) (r : Result (Vec Spanned Global) TermFault) → GivesTerms r (reading_of limit bytes)
     → (rs : List Reading) → Reads limit bytes rs → IsOnly rs r
 reads_only_these limit bytes (Ok v) h rs reads =
     let same : Ok (readings v) ≡ Ok rs = sym h ∙ reads_ok limit bytes rs reads in
@@ -175,7 +175,7 @@ reads_only_these limit bytes (Ok v) h rs reads =
 reads_only_these limit bytes (Err NoMemory) h rs reads = refl
 reads_only_these limit bytes (Err f) h rs reads = absurd (let never : Ok rs ≡ Err f = sym (reads_ok limit bytes rs reads) ∙ h in cc)
 
-pub reads_fault : (limit : ℕ) (bytes : List ℕ) (r : Result (Vec Spanned Global) TermFault) → ReadsAs r (reading_of limit bytes)
+pub reads_fault : (limit : ℕ) (bytes : List ℕ) (r : Result (Vec Spanned Global) TermFault) → GivesTerms r (reading_of limit bytes)
     → IfErr r (TellsFault limit bytes)
 reads_fault limit bytes (Ok v) h = tt
 reads_fault limit bytes (Err NoMemory) h = tt

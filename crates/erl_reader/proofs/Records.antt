@@ -9,23 +9,23 @@ use Rattle.erl_reader.specs.Grammar.{Reading, Reads}
 use Rattle.erl_reader.specs.Answers.{reading_of_spanned}
 use Rattle.erl_reader.specs.OneTerm.{HasTerm, TellsCount, IsRecordFault, TellsRecordFault}
 use Rattle.erl_reader.specs.Machine.{reading_of}
-use Rattle.erl_reader.specs.Views.{ReadsAs}
+use Rattle.erl_reader.specs.Views.{GivesTerms}
 use Rattle.erl_reader.proofs.Exact.{ok_reads, reads_ok, err_is_fault, one_reading}
 
 -- an error that is passed on
 pub passed_only : (limit : ℕ) (bytes : List ℕ) (f : TermFault) (r : Result Term TermFault) → IsErr r × IsErrAnd r (λ g. g ≡ f)
-    → ReadsAs (Err f) (reading_of limit bytes) → (v : Value) → HasTerm limit bytes v → MatchResult r (λ t. value_of t ≡ v) (λ g. g ≡ NoMemory)
+    → GivesTerms (Err f) (reading_of limit bytes) → (v : Value) → HasTerm limit bytes v → MatchResult r (λ t. value_of t ≡ v) (λ g. g ≡ NoMemory)
 passed_only limit bytes f (Ok t) is read v has = absurd is.1
 passed_only limit bytes NoMemory (Err g) is read v has = is.1
 passed_only limit bytes f (Err g) is read v has =
     let never : Err f ≡ Ok (has.0 ∷ []) = sym read ∙ reads_ok limit bytes (has.0 ∷ []) has.1 in absurd (cc)
 
 pub passed_fault : (limit : ℕ) (bytes : List ℕ) (f : TermFault) (r : Result Term TermFault) → IsErr r × IsErrAnd r (λ g. g ≡ f)
-    → ReadsAs (Err f) (reading_of limit bytes) → IfErr r (TellsRecordFault limit bytes)
+    → GivesTerms (Err f) (reading_of limit bytes) → IfErr r (TellsRecordFault limit bytes)
 passed_fault limit bytes f (Ok t) is read = tt
 passed_fault limit bytes f (Err g) is read = subst (λ h. TellsRecordFault limit bytes h) (sym is.1) (own f read)
   where
-    own : (f : TermFault) → ReadsAs (Err f) (reading_of limit bytes) → TellsRecordFault limit bytes f
+    own : (f : TermFault) → GivesTerms (Err f) (reading_of limit bytes) → TellsRecordFault limit bytes f
     own NoMemory read = tt
     own f read = inl (err_is_fault limit bytes f read)
 

@@ -58,7 +58,7 @@ Gives (Err NoMemory) new step = Unit {0}
 Gives (Err f) new step = step ≡ Err f
 
 -- what the machine reads, want of memory aside
-abbrev pub ReadsAs : Result (Vec Spanned Global) TermFault → Result (List Reading) TermFault → Type 0
-ReadsAs (Ok v) read = read ≡ Ok (readings v)
-ReadsAs (Err NoMemory) read = Unit {0}
-ReadsAs (Err f) read = read ≡ Err f
+abbrev pub GivesTerms : Result (Vec Spanned Global) TermFault → Result (List Reading) TermFault → Type 0
+GivesTerms (Ok v) read = read ≡ Ok (readings v)
+GivesTerms (Err NoMemory) read = Unit {0}
+GivesTerms (Err f) read = read ≡ Err f

@@ -5,7 +5,7 @@ ghost use Rattle.erl_token.specs.Contents.{content_bytes};
 ghost use Rattle.erl_reader.specs.Machine.{step, misplaced, is_left_out, comes, cut_off, put, with_member, begins_term, open_levels, bytes_of, empty, bracket_of, close, enclosed, at_end, nothing_read};
 ghost use Rattle.erl_reader.specs.Faults.{for_a_term, for_a_segment};
 ghost use Rattle.erl_token.specs.Views.{token_value, like_value, item_value};
-ghost use Rattle.erl_reader.specs.Views.{members_are, level_of, progress_of, all_levels, Gives, ReadsAs};
+ghost use Rattle.erl_reader.specs.Views.{members_are, level_of, state_of, progress_of, all_levels, Gives, GivesTerms};
 ghost use Rattle.erl_reader.specs.Answers.{reading_of_spanned};
 ghost use Rattle.erl_token.specs.declared.fault.TermFault.TheVariants.{NoMemory};
 ghost use Rattle.erl_token.specs.declared.token.Token.TheVariants.{Open, Close, Comma, Dot, Number};
@@ -95,7 +95,7 @@ impl Parser {
             }
             Token::Number(n) => self.put_number(*n, &item),
             Token::Text(text) => self.put_text(alloc, text, &item),
-            Token::Stray(_) => Err(self.misplaced(&item)),
+            Token::Stray(_) => Err(self.state.misplaced(&item)),
             Token::Broken(like, fault) => {
                 self.expect(*like, &item)?;
                 Err(*fault)
@@ -109,7 +109,7 @@ impl Parser {
 
     /// The terms, if the text ends here, behind so many bytes.
     pub fn finish(self, size: usize) -> Result<Vec<Spanned>, TermFault>
-        ensures { ReadsAs result (at_end size (progress_of self).done (progress_of self).state) }
+        ensures { GivesTerms result (at_end size (progress_of self).done (progress_of self).state) }
     {
         let Parser { done, state, .. } = self;
         match state {
@@ -128,7 +128,7 @@ impl Parser {
         if self.begins_term() {
             Ok(())
         } else {
-            Err(self.misplaced(item))
+            Err(self.state.misplaced(item))
         }
     }
 
@@ -141,7 +141,7 @@ impl Parser {
         if self.may_come(like) {
             Ok(())
         } else {
-            Err(self.misplaced(item))
+            Err(self.state.misplaced(item))
         }
     }
 
@@ -189,31 +189,6 @@ impl Parser {
         match &self.state {
             State::Inside(_, level, _) => TermFault::Unclosed(level.from),
             _ => TermFault::BadToken(at),
-        }
-    }
-
-    /// The fault of a token that its place alone refuses.
-    fn misplaced(&self, item: &Item<'_>) -> TermFault
-        ensures { result ≡ misplaced (progress_of self.now).state (token_value item.now.token) item.now.from }
-    {
-        match &self.state {
-            State::Begun => no_term(item),
-            State::Whole(_) => match item.token {
-                Token::Stray(_) => TermFault::BadToken(item.from),
-                _ => TermFault::MissingDot(item.from),
-            },
-            State::Inside(slot, level, _) => {
-                let bracket = level.members.bracket();
-                if is_left_out(bracket, item) {
-                    TermFault::Unsupported(item.from)
-                } else if *slot == Slot::Later {
-                    TermFault::BadToken(item.from)
-                } else if bracket == Bracket::Binary {
-                    no_segment(item)
-                } else {
-                    no_term(item)
-                }
-            }
         }
     }
 
@@ -289,7 +264,7 @@ impl Parser {
     {
         self.expect_term(item)?;
         if self.open_brackets() >= self.limit {
-            return Err(self.misplaced(item));
+            return Err(self.state.misplaced(item));
         }
         let level = Level {
             from: item.from,
@@ -324,7 +299,7 @@ impl Parser {
         ensures limit { self.new.limit ≡ self.old.limit }
     {
         if !self.may_close(bracket) {
-            return Err(self.misplaced(item));
+            return Err(self.state.misplaced(item));
         }
         match mem::replace(&mut self.state, State::Begun) {
             State::Inside(_, level, mut outer) => {
@@ -360,7 +335,7 @@ impl Parser {
                 *slot = Slot::Next;
                 Ok(())
             }
-            _ => Err(self.misplaced(item)),
+            _ => Err(self.state.misplaced(item)),
         }
     }
 
@@ -372,9 +347,33 @@ impl Parser {
     {
         match mem::replace(&mut self.state, State::Begun) {
             State::Whole(whole) => Ok(self.done.push(whole)?),
-            state => {
-                self.state = state;
-                Err(self.misplaced(item))
+            state => Err(state.misplaced(item)),
+        }
+    }
+}
+
+impl State {
+    /// The fault of a token that its place alone refuses.
+    fn misplaced(&self, item: &Item<'_>) -> TermFault
+        ensures { result ≡ misplaced (state_of self.now) (token_value item.now.token) item.now.from }
+    {
+        match self {
+            State::Begun => no_term(item),
+            State::Whole(_) => match item.token {
+                Token::Stray(_) => TermFault::BadToken(item.from),
+                _ => TermFault::MissingDot(item.from),
+            },
+            State::Inside(slot, level, _) => {
+                let bracket = level.members.bracket();
+                if is_left_out(bracket, item) {
+                    TermFault::Unsupported(item.from)
+                } else if *slot == Slot::Later {
+                    TermFault::BadToken(item.from)
+                } else if bracket == Bracket::Binary {
+                    no_segment(item)
+                } else {
+                    no_term(item)
+                }
             }
         }
     }

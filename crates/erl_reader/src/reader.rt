@@ -3,7 +3,7 @@ ghost use Rattle.std.specs.Prelude.{◌≡◌, ℕ, List, IfOk, IfErr};
 ghost use Rattle.erl_reader.specs.Grammar.{Reading, Reads};
 ghost use Rattle.erl_reader.specs.Answers.{readings, IsOnly, TellsFault};
 ghost use Rattle.erl_reader.specs.Machine.{reading_of};
-ghost use Rattle.erl_reader.specs.Views.{ReadsAs};
+ghost use Rattle.erl_reader.specs.Views.{GivesTerms};
 
 use crate::parser::Parser;
 use crate::term::Spanned;
@@ -15,16 +15,16 @@ pub const MAX_DEPTH: usize = 64;
 
 /// The terms of a text, each of which ends with a dot. A place counts bytes from 0.
 pub fn read_terms(alloc: Global, bytes: &[u8]) -> Result<Vec<Spanned>, TermFault>
-    ensures found { IfOk result (λ v. Reads MAX_DEPTH bytes.now (readings v)) }
-    ensures only { (rs : List Reading) → Reads MAX_DEPTH bytes.now rs → IsOnly rs result }
-    ensures fault { IfErr result (TellsFault MAX_DEPTH bytes.now) }
+    ensures found { IfOk result (λ v. Reads 64 bytes.now (readings v)) }
+    ensures only { (rs : List Reading) → Reads 64 bytes.now rs → IsOnly rs result }
+    ensures fault { IfErr result (TellsFault 64 bytes.now) }
 {
     read(alloc, bytes, MAX_DEPTH)
 }
 
 /// The terms of a text in which at most so many brackets are open at once.
 pub fn read(alloc: Global, bytes: &[u8], limit: usize) -> Result<Vec<Spanned>, TermFault>
-    ensures { ReadsAs result (reading_of limit bytes.now) }
+    ensures { GivesTerms result (reading_of limit bytes.now) }
 {
     let text = Text::of(bytes);
     let mut parser = Parser::new(alloc, limit);

@@ -14,9 +14,9 @@ pub const RECORD_DEPTH: usize = 72;
 /// The one term of a text, which ends with a dot. Where the text has no term, a dot is missing at its end, and where it
 /// has more than one, at the second.
 pub fn read_record(alloc: Global, bytes: &[u8]) -> Result<Term, TermFault>
-    ensures found { IfOk result (λ term. HasTerm RECORD_DEPTH bytes.now (value_of term)) }
-    ensures only { (v : Value) → HasTerm RECORD_DEPTH bytes.now v → MatchResult result (λ term. value_of term ≡ v) (λ f. f ≡ TermFault.NoMemory) }
-    ensures fault { IfErr result (TellsRecordFault RECORD_DEPTH bytes.now) }
+    ensures found { IfOk result (λ term. HasTerm 72 bytes.now (value_of term)) }
+    ensures only { (v : Value) → HasTerm 72 bytes.now v → MatchResult result (λ term. value_of term ≡ v) (λ f. f ≡ TermFault.NoMemory) }
+    ensures fault { IfErr result (TellsRecordFault 72 bytes.now) }
 {
     let mut terms = read(alloc, bytes, RECORD_DEPTH)?;
     if let Some(second) = terms.get(1) {

@@ -12,7 +12,7 @@ use Rattle.erl_token.specs.Numbers.{Numeral, numeral}
 use Rattle.erl_token.specs.Numbers.Numeral.{whole, faulty as faulty_number, cut_off}
 use Rattle.erl_token.specs.Quotes.{Quoted, quoted}
 use Rattle.erl_token.specs.Quotes.Quoted.{closed, faulty}
-use Rattle.erl_token.specs.Lexing.{Token, Spelling, Item, class_of, is_name_byte, some_name, some_number, some_text, alone, named, bare, name_in_quotes, text_in_quotes, is_int, numbered, sign_of, doubled, ends_a_term, spelling, comment_size, start_of, goes_on, lex, joined, in_front, put_item, join, sealed, items_of}
+use Rattle.erl_token.specs.Lexing.{Token, Spelling, Item, class_of, is_bare_name_byte, some_name, some_number, some_text, alone, name_spelling, bare, name_in_quotes, text_in_quotes, is_int, numbered, sign_of, doubled, ends_a_term, spelling, comment_size, start_of, goes_on, lex, joined, in_front, put_item, join, sealed, items_of}
 use Rattle.erl_token.specs.Lexing.Token.{open_binary, close_binary, name, number, text, dot, stray, broken}
 use Rattle.erl_reader.specs.Grammar.{Phrase, Phrases, numbers, meaning, meanings, tokens_of, members_tokens, rest_tokens, depth, depths, tokens, Reading, AreTerms, Reads}
 use Rattle.erl_reader.specs.Grammar.Phrase.{a_name, a_number, a_text, a_tuple, a_list, a_binary}
@@ -41,7 +41,7 @@ IsShort t = Unit {0}
 abbrev AllShort : List Item → Type 0
 AllShort is = AllByRecursion (λ i. IsShort i.token) is
 
-named_short : (at : ℕ) (s : List ℕ) (size : ℕ) → IsShort (named at s size).token
+named_short : (at : ℕ) (s : List ℕ) (size : ℕ) → IsShort (name_spelling at s size).token
 named_short at s size = go (nat_le (length (chars s)) 255) refl
   where
     go : (b : Bool) → nat_le (length (chars s)) 255 ≡ b → (let t : Spelling = if b then record { token = name s; size = size } else alone (broken some_name (BadToken at)) in IsShort t.token)
@@ -51,7 +51,7 @@ named_short at s size = go (nat_le (length (chars s)) 255) refl
 bare_short : (at : ℕ) (s : List ℕ) → IsShort (bare at s).token
 bare_short at s = go (bytes_eq s (codes "fun"))
   where
-    go : (b : Bool) → (let t : Spelling = if b then alone (broken some_name (Unsupported at)) else named at s (length s) in IsShort t.token)
+    go : (b : Bool) → (let t : Spelling = if b then alone (broken some_name (Unsupported at)) else name_spelling at s (length s) in IsShort t.token)
     go true = tt
     go false = named_short at s (length s)
 
@@ -89,7 +89,7 @@ spelling_short : (at : ℕ) (class : Class) (x : ℕ) (xs : List ℕ) → IsShor
 spelling_short at Less x xs = doubled_short open_binary x xs tt
 spelling_short at Greater x xs = doubled_short close_binary x xs tt
 spelling_short at Dot x xs = dot_short (ends_a_term xs) x
-spelling_short at Letter x xs = bare_short at (x ∷ front is_name_byte xs)
+spelling_short at Letter x xs = bare_short at (x ∷ front is_bare_name_byte xs)
 spelling_short at Digit x xs = numbered_short at pos 0 (numeral at at (x ∷ xs))
 spelling_short at Dollar x xs = numbered_short at pos 0 (numeral at at (x ∷ xs))
 spelling_short at Sign x xs =

@@ -15,7 +15,7 @@ use Rattle.erl_token.specs.Escapes.{front, with_next, scalar, escape}
 use Rattle.erl_token.specs.Escapes.Character.{means, senseless}
 use Rattle.erl_token.specs.Quotes.{Quoted, behind, quoted}
 use Rattle.erl_token.specs.Quotes.Quoted.{closed, faulty}
-use Rattle.erl_token.specs.Lexing.{named, name_in_quotes, text_in_quotes, lex}
+use Rattle.erl_token.specs.Lexing.{name_spelling, name_in_quotes, text_in_quotes, lex}
 use Rattle.erl_token.specs.Lexing.Token.{name, text}
 use Rattle.erl_token.specs.Lexing.Start.{token_of}
 use Rattle.erl_term.specs.Within.{IsShortName}
@@ -242,7 +242,7 @@ pub lex_quoted_name : (bs s rest : List ℕ) (at : ℕ) → StandFor 39 bs s →
 lex_quoted_name bs s rest at h l =
     let size : length bs + 1 + 1 ≡ length (39 ∷ (bs ++ 39 ∷ [])) = omega (arith, length-append bs (39 ∷ [])) in
     let short : nat_le (length (chars s)) 255 ≡ true = grind (arith, nat_tests) in
-    let own : named at s (length bs + 1 + 1) ≡ record { token = name s; size = length (39 ∷ (bs ++ 39 ∷ [])) } = rw (short, size) refl in
+    let own : name_spelling at s (length bs + 1 + 1) ≡ record { token = name s; size = length (39 ∷ (bs ++ 39 ∷ [])) } = rw (short, size) refl in
     lex_token 39 (bs ++ 39 ∷ []) rest at (name s)
     (ap (λ xs. token_of (name_in_quotes at (quoted 39 at (at + 1) 0 xs))) (append_assoc bs (39 ∷ []) rest)
     ∙ (ap (λ q. token_of (name_in_quotes at q)) (quoted-closed 39 at (at + 1) bs s rest h) ∙ ap token_of own))

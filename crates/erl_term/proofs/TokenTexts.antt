@@ -14,7 +14,7 @@ use Rattle.erl_token.specs.declared.class.Class.TheVariants.{Letter, Digit}
 use Rattle.erl_token.specs.Escapes.{is_in, front}
 use Rattle.erl_token.specs.Numbers.{Numeral, more_digits, digit_row, spelled_by, goes_on_as_float, behind_digits, digits_numeral, numeral}
 use Rattle.erl_token.specs.Numbers.Numeral.{whole}
-use Rattle.erl_token.specs.Lexing.{class_of, Token, start_of, goes_on, is_name_byte, bare, is_int, signed, lex}
+use Rattle.erl_token.specs.Lexing.{class_of, Token, start_of, goes_on, is_bare_name_byte, bare, is_int, signed, lex}
 use Rattle.erl_token.specs.Lexing.Token.{name, number}
 use Rattle.erl_token.specs.Lexing.Start.{token_of}
 use Rattle.erl_term.specs.Printing.{has_bare_form, is_bare, reserved_words}
@@ -65,11 +65,11 @@ letter_class : (x : ℕ) → is_in 97 122 x ≡ true → class_of x ≡ Letter
 letter_class x h = grind (arith, nat_tests)
 
 -- a name ends where the term ends
-name_bytes-behind : (s rest : List ℕ) → list_all is_name_byte s ≡ true → IsBehind rest → front is_name_byte (s ++ rest) ≡ s
+name_bytes-behind : (s rest : List ℕ) → list_all is_bare_name_byte s ≡ true → IsBehind rest → front is_bare_name_byte (s ++ rest) ≡ s
 name_bytes-behind [] [] h b = elim b [ ]
-name_bytes-behind [] (x ∷ xs) h b = let stops : is_name_byte x ≡ false = by_stop (λ y. is_name_byte y ≡ false) refl refl refl refl refl x b.0 in rw stops refl
+name_bytes-behind [] (x ∷ xs) h b = let stops : is_bare_name_byte x ≡ false = by_stop (λ y. is_bare_name_byte y ≡ false) refl refl refl refl refl x b.0 in rw stops refl
 name_bytes-behind (x ∷ s) rest h b =
-    let p = and_parts (is_name_byte x) (list_all is_name_byte s) h in
+    let p = and_parts (is_bare_name_byte x) (list_all is_bare_name_byte s) h in
     rw p.0 (ap (λ t. x ∷ t) (name_bytes-behind s rest p.1 b))
 
 -- each fails the test, where none of them passes
@@ -89,7 +89,7 @@ pub lex_name : (s rest : List ℕ) (at : ℕ) → is_bare s ≡ true → IsShort
 lex_name [] rest at h l b = absurd cc
 lex_name (x ∷ xs) rest at h l b =
     let own = and_parts (has_bare_form (x ∷ xs)) (not (list_any (bytes_eq (x ∷ xs)) reserved_words)) h in
-    let p = and_parts (is_in 97 122 x) (list_all is_name_byte xs) own.0 in
+    let p = and_parts (is_in 97 122 x) (list_all is_bare_name_byte xs) own.0 in
     let other : bytes_eq (x ∷ xs) (codes "fun") ≡ false = none_passes (bytes_eq (x ∷ xs)) reserved_words 16 [] (lit< tt) own.1 in
     let short : nat_le (length (chars (x ∷ xs))) 255 ≡ true = grind (arith, nat_tests) in
     let is_name : bare at (x ∷ xs) ≡ record { token = name (x ∷ xs); size = length (x ∷ xs) } = rw (other, short) refl in

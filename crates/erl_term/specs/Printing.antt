@@ -6,7 +6,7 @@ use Rattle.std.specs.Fmt.{decimal, signed_decimal, digits}
 use Rattle.erl_reader.specs.Value.{Value, Values}
 use Rattle.erl_reader.specs.Value.Value.{int, atom, list, tuple, bin}
 use Rattle.erl_reader.specs.Value.Values.{no_values, value}
-use Rattle.erl_token.specs.Lexing.{is_in, is_name_byte}
+use Rattle.erl_token.specs.Lexing.{is_in, is_bare_name_byte}
 
 -- the words that are no atoms without quotes (Erlang Reference Manual, Introduction, Reserved Words)
 abbrev pub reserved_words : List (List ℕ)
@@ -19,7 +19,7 @@ reserved_words =
 -- a small letter, and then what a bare name goes on with
 abbrev pub has_bare_form : List ℕ → Bool
 has_bare_form [] = false
-has_bare_form (x ∷ xs) = is_in 97 122 x && list_all is_name_byte xs
+has_bare_form (x ∷ xs) = is_in 97 122 x && list_all is_bare_name_byte xs
 
 -- an atom that needs no quotes
 abbrev pub is_bare : List ℕ → Bool

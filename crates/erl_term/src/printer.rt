@@ -6,7 +6,6 @@ ghost use Rattle.erl_reader.specs.Value.{FitTerms, FitsTerm, members_of, value_o
 ghost use Rattle.erl_reader.specs.Value.Value.{list, tuple};
 ghost use Rattle.erl_term.specs.Within.{IsWithin, ReadsAs};
 ghost use Rattle.erl_reader.specs.OneTerm.{HasTerm};
-ghost use Rattle.erl_reader.specs.declared.record.TheConstants.{RECORD_DEPTH};
 ghost use Rattle.erl_term.specs.Printing.{text_of, texts_of, with_commas};
 
 mod atoms;
@@ -27,7 +26,7 @@ pub fn print(alloc: Global, term: &Term) -> Result<String, AllocError>
 
     // With a dot and a new line it is the body of a record, and reads as that term.
     ensures is_a_body { IfOk result (λ s.
-        IsWithin RECORD_DEPTH (value_of term.now) → HasTerm RECORD_DEPTH (string_bytes s ++ codes ".\n") (value_of term.now)) }
+        IsWithin 72 (value_of term.now) → HasTerm 72 (string_bytes s ++ codes ".\n") (value_of term.now)) }
 {
     let mut out = String::new(alloc);
     print_term(&mut out, term)?;

@@ -5,7 +5,7 @@ use Rattle.std.specs.Str.Parse.{digits_value}
 use Rattle.std.proofs.lemmas.List.{drop-drop}
 use Rattle.std.proofs.lemmas.Bool.Decides.{nat_tests}
 use Rattle.std.proofs.lemmas.Option.{get_or_from_slice_get}
-use Rattle.erl_token.specs.Escapes.{Character, front, is_in, with_next, scalar, octal, braced, paired, hexadecimal, caret, named, by_name, escape}
+use Rattle.erl_token.specs.Escapes.{Character, front, is_in, with_next, scalar, octal, braced, paired, hexadecimal, caret, letter_character, by_name, escape}
 use Rattle.erl_token.specs.Escapes.Character.{means, senseless, unfinished}
 use Rattle.erl_token.specs.Numbers.{spelled_by}
 use Rattle.erl_token.specs.Scanned.{byte_in, digit_in, digits_here, capped}
@@ -288,7 +288,7 @@ pub escape_caret : (bytes : List ℕ) (at x : ℕ) → byte_in (slice_get bytes 
 escape_caret bytes at x e is = sym (next_some bytes at x _ e ∙ rw is refl)
 
 pub escape_name : (bytes : List ℕ) (at x : ℕ) → byte_in (slice_get bytes at) ≡ Some x → digit_in 8 (slice_get bytes at) ≡ None → (x ≡ 120 → ⊥) → (x ≡ 94 → ⊥)
-    → by_name (named x) x (drop (at + 1) bytes) ≡ escape (drop at bytes)
+    → by_name (letter_character x) x (drop (at + 1) bytes) ≡ escape (drop at bytes)
 escape_name bytes at x e none not_x not_caret =
     let other : eqb x 120 ≡ false = grind (arith, nat_tests) in
     let another : eqb x 94 ≡ false = grind (arith, nat_tests) in
@@ -296,14 +296,14 @@ escape_name bytes at x e none not_x not_caret =
     sym (next_some bytes at x _ e ∙ rw (fails, other, another) refl)
 
 -- a byte that stands for another character is one of its own
-pub named_small : (x c : ℕ) → named x ≡ Some c → x < 128
+pub named_small : (x c : ℕ) → letter_character x ≡ Some c → x < 128
 named_small x c e = go (nat_lt x 128) refl
   where
     go : (b : Bool) → nat_lt x 128 ≡ b → x < 128
     go true t = grind (arith, nat_tests)
     go false t =
         let other : (y : ℕ) → y < 128 → eqb x y ≡ false = λ y l. differs y l in
-        let none : named x ≡ None = rw (
+        let none : letter_character x ≡ None = rw (
           other 98 (omega arith),
           other 100 (omega arith),
           other 101 (omega arith),

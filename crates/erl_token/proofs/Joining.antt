@@ -20,7 +20,7 @@ use Rattle.erl_token.specs.declared.token.Item.{Item as CodeItem}
 use Rattle.erl_token.specs.Views.{token_value, item_value, lexed, items_from}
 use Rattle.erl_token.specs.Scanned.{IsSpelled}
 use Rattle.erl_token.proofs.Lexemes.{takes_spelling, takes_item, begins_token, no_item}
-use Rattle.erl_token.specs.Lexing.{Token, Item, alone, some_name, some_number, some_text, text_in_quotes, class_of, is_name_byte, named, bare, name_in_quotes, is_int, numbered, sign_of, doubled, ends_a_term, spelling, joined, in_front, put_item, join}
+use Rattle.erl_token.specs.Lexing.{Token, Item, alone, some_name, some_number, some_text, text_in_quotes, class_of, is_bare_name_byte, name_spelling, bare, name_in_quotes, is_int, numbered, sign_of, doubled, ends_a_term, spelling, joined, in_front, put_item, join}
 use Rattle.erl_token.specs.Lexing.Token.{open_binary, close_binary, dot, name, number, text, stray, broken}
 
 -- a text, whole or faulty
@@ -89,7 +89,7 @@ text_first-join (i ∷ is) = first-put_item i (join is)
 
 -- no class but that of `"` begins a text
 
-named-no_text : (at size : ℕ) (s : List ℕ) → begins_text (named at s size).token ≡ false
+named-no_text : (at size : ℕ) (s : List ℕ) → begins_text (name_spelling at s size).token ≡ false
 named-no_text at size s = go (nat_le (length (chars s)) 255)
   where
     go : (b : Bool) → begins_text (if b then record { token = name s; size = size } else alone (broken some_name (BadToken at))).token ≡ false
@@ -99,7 +99,7 @@ named-no_text at size s = go (nat_le (length (chars s)) 255)
 bare-no_text : (at : ℕ) (s : List ℕ) → begins_text (bare at s).token ≡ false
 bare-no_text at s = go (bytes_eq s (codes "fun"))
   where
-    go : (b : Bool) → begins_text (if b then alone (broken some_name (Unsupported at)) else named at s (length s)).token ≡ false
+    go : (b : Bool) → begins_text (if b then alone (broken some_name (Unsupported at)) else name_spelling at s (length s)).token ≡ false
     go true = refl
     go false = named-no_text at (length s) s
 
@@ -132,7 +132,7 @@ spelling-no_text : (at : ℕ) (k : Class) (x : ℕ) (xs : List ℕ) → k ≢ Qu
 spelling-no_text at Less x xs h = doubled-no_text open_binary x xs refl
 spelling-no_text at Greater x xs h = doubled-no_text close_binary x xs refl
 spelling-no_text at Dot x xs h = dot-no_text (ends_a_term xs) x
-spelling-no_text at Letter x xs h = bare-no_text at (x ∷ front is_name_byte xs)
+spelling-no_text at Letter x xs h = bare-no_text at (x ∷ front is_bare_name_byte xs)
 spelling-no_text at Digit x xs h = number-no_text at pos 0 (numeral at at (x ∷ xs))
 spelling-no_text at Dollar x xs h = number-no_text at pos 0 (numeral at at (x ∷ xs))
 spelling-no_text at Sign x xs h =

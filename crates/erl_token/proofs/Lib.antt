@@ -9,3 +9,5 @@ pub mod Joining
 pub mod Naming
 pub mod Pieces
 pub mod Lexemes
+pub mod Sizes
+pub mod Tiling

@@ -8,7 +8,7 @@ use Rattle.std.specs.Prelude.{slice_range}
 use Rattle.erl_token.specs.declared.class.Class.TheVariants.{Letter}
 use Rattle.erl_token.specs.declared.run.Run.{Run}
 use Rattle.erl_token.specs.declared.run.Run.TheVariants.{InName, InQuotes, InComment, InDigits, InBlanks, InText}
-use Rattle.erl_token.specs.Lexing.{class_of, is_name_byte, alone, doubled, Spelling, Token, Item}
+use Rattle.erl_token.specs.Lexing.{class_of, is_bare_name_byte, alone, doubled, Spelling, Token, Item}
 use Rattle.erl_token.specs.Lexing.Token.{cut, stray}
 use Rattle.erl_token.specs.Escapes.{front}
 use Rattle.erl_token.specs.Views.{seal}
@@ -119,10 +119,10 @@ spelled_item s at = item s.token at (at + s.size)
 
 -- the name between the places, and how many bytes it takes
 pub name_part : {valid bytes : List ℕ} {from to : ℕ} (part : List ℕ) → IsRun InName valid bytes from to → part ≡ slice_range valid from to
-    → part ≡ front is_name_byte (drop from bytes)
+    → part ≡ front is_bare_name_byte (drop from bytes)
 name_part {valid = valid} {from = from} {to = to} part r e = e ∙ (run_part InName valid from to r.end ∙ sym r.same)
 
-pub name_size : {valid bytes : List ℕ} {from to : ℕ} → IsRun InName valid bytes from to → to - from ≡ length (front is_name_byte (drop from bytes))
+pub name_size : {valid bytes : List ℕ} {from to : ℕ} → IsRun InName valid bytes from to → to - from ≡ length (front is_bare_name_byte (drop from bytes))
 name_size {valid = valid} {bytes = bytes} {from = from} {to = to} r =
     let short : to - from ≡ length (front (goes_on_with InName) (drop from valid)) = omega (arith, r.end) in
     short ∙ ap length (sym r.same)

@@ -60,8 +60,8 @@ abbrev pub caret : List ℕ → Character
 caret xs = with_next xs (λ y ys. if is_in 64 95 y || is_in 97 122 y then means (y % 32) 2 else senseless)
 
 -- the character that a letter behind a backslash stands for, if not for itself
-abbrev pub named : ℕ → Option ℕ
-named x =
+abbrev pub letter_character : ℕ → Option ℕ
+letter_character x =
     if x == 98 then Some 8 else if x == 100 then Some 127 else if x == 101 then Some 27
     else if x == 102 then Some 12 else if x == 110 then Some 10 else if x == 114 then Some 13
     else if x == 115 then Some 32 else if x == 116 then Some 9 else if x == 118 then Some 11 else None
@@ -74,7 +74,7 @@ by_name None x xs = itself x xs
 -- what stands behind a backslash
 abbrev pub escape : List ℕ → Character
 escape bytes =
-    with_next bytes (λ x xs. if is_digit x 8 then octal (x ∷ xs) else if x == 120 then hexadecimal xs else if x == 94 then caret xs else by_name (named x) x xs)
+    with_next bytes (λ x xs. if is_digit x 8 then octal (x ∷ xs) else if x == 120 then hexadecimal xs else if x == 94 then caret xs else by_name (letter_character x) x xs)
 
 -- a character that stands by itself: it, or an escape and its backslash
 abbrev pub behind_backslash : Character → Character

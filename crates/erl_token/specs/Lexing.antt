@@ -59,20 +59,20 @@ abbrev pub alone : Token → Spelling
 alone t = record { token = t; size = 1 }
 
 -- what a bare name goes on with
-abbrev pub is_name_byte : ℕ → Bool
-is_name_byte x = is_in 97 122 x || is_in 65 90 x || is_in 48 57 x || x == 95 || x == 64
+abbrev pub is_bare_name_byte : ℕ → Bool
+is_bare_name_byte x = is_in 97 122 x || is_in 65 90 x || is_in 48 57 x || x == 95 || x == 64
 
 -- a name of at most 255 characters
-abbrev pub named : ℕ → List ℕ → ℕ → Spelling
-named at s size = if nat_le (length (chars s)) 255 then record { token = name s; size = size } else alone (broken some_name (BadToken at))
+abbrev pub name_spelling : ℕ → List ℕ → ℕ → Spelling
+name_spelling at s size = if nat_le (length (chars s)) 255 then record { token = name s; size = size } else alone (broken some_name (BadToken at))
 
 -- a name without quotes: `fun` begins what isn't read
 abbrev pub bare : ℕ → List ℕ → Spelling
-bare at s = if bytes_eq s (codes "fun") then alone (broken some_name (Unsupported at)) else named at s (length s)
+bare at s = if bytes_eq s (codes "fun") then alone (broken some_name (Unsupported at)) else name_spelling at s (length s)
 
 -- what stands between these quotes is a name, or a text
 abbrev pub name_in_quotes : ℕ → Quoted → Spelling
-name_in_quotes at (closed s size) = named at s (size + 1)
+name_in_quotes at (closed s size) = name_spelling at s (size + 1)
 name_in_quotes at (faulty f) = alone (broken some_name f)
 
 abbrev pub text_in_quotes : Quoted → Spelling
@@ -120,7 +120,7 @@ spelling at CloseList x xs = alone close_list
 spelling at Less x xs = doubled open_binary x xs
 spelling at Greater x xs = doubled close_binary x xs
 spelling at Dot x xs = alone (if ends_a_term xs then dot else stray x)
-spelling at Letter x xs = bare at (x ∷ front is_name_byte xs)
+spelling at Letter x xs = bare at (x ∷ front is_bare_name_byte xs)
 spelling at Digit x xs = numbered at pos 0 (numeral at at (x ∷ xs))
 spelling at Dollar x xs = numbered at pos 0 (numeral at at (x ∷ xs))
 spelling at Sign x xs = signed at x xs

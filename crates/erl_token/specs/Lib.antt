@@ -5,3 +5,4 @@ pub mod Lexing
 pub mod Contents
 pub mod Views
 pub mod Scanned
+pub mod Tiling

@@ -16,7 +16,7 @@ use Rattle.erl_token.specs.declared.run.Run.{Run}
 use Rattle.erl_token.specs.declared.run.Run.TheVariants.{InName, InQuotes, InComment, InDigits, InBlanks, InText}
 use Rattle.erl_token.specs.declared.token.Item.{Item as CodeItem}
 use Rattle.erl_token.specs.Numbers.{is_alphanumeric}
-use Rattle.erl_token.specs.Lexing.{Spelling, is_name_byte}
+use Rattle.erl_token.specs.Lexing.{Spelling, is_bare_name_byte}
 use Rattle.erl_token.specs.Views.{item_value}
 
 -- what stands there, if it is a byte
@@ -86,7 +86,7 @@ IsInRange z None = is_int z ≡ false
 
 -- the bytes that a run has
 abbrev pub goes_on_with : Run → ℕ → Bool
-goes_on_with InName x = is_name_byte x
+goes_on_with InName x = is_bare_name_byte x
 goes_on_with (InQuotes quote) x = not (x == quote || (x == 92 || nat_lt 255 x))
 goes_on_with InComment x = not (x == 10 || nat_lt 255 x)
 goes_on_with InDigits x = is_alphanumeric x || x == 95

@@ -49,7 +49,7 @@ fn is_joint(text: Text<'_>, at: usize, byte: u8, base: u8, joined: bool) -> bool
     requires base { base ≤ 36 }
     ensures { result ≡ (joined && (byte == 95 && begins (λ x. is_digit x base) (drop (at + 1) (text_bytes text.entry)))) }
 {
-    joined && byte == 95 && begins_digit(text, at + 1, base)
+    joined && byte == b'_' && begins_digit(text, at + 1, base)
 }
 
 /// A digit of this base, at this place.
@@ -77,9 +77,9 @@ fn digit_value(byte: u8) -> u8
     ensures { result ≡ value_of_digit byte }
 {
     match byte {
-        48..=57 => byte - 48,
-        65..=90 => byte - 55,
-        97..=122 => byte - 87,
+        b'0'..=b'9' => byte - b'0',
+        b'A'..=b'Z' => byte - b'A' + 10,
+        b'a'..=b'z' => byte - b'a' + 10,
         _ => 36,
     }
 }

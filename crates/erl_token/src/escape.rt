@@ -1,7 +1,7 @@
 //! What stands behind a backslash.
 ghost use Rattle.std.specs.Prelude.{◌≡◌, ℕ, ◌+◌, ◌-◌, ◌<◌, ◌^◌, ◌||◌, drop, slice_get, slice_index};
 ghost use Rattle.std.specs.Str.{IsCharBoundary};
-ghost use Rattle.erl_token.specs.Escapes.{is_in, escape, octal as octal_escape, hexadecimal as hexadecimal_escape, braced as braced_escape, paired as paired_escape, caret as caret_escape, by_name as by_name_escape, named as named_character, scalar as scalar_character};
+ghost use Rattle.erl_token.specs.Escapes.{is_in, escape, octal as octal_escape, hexadecimal as hexadecimal_escape, braced as braced_escape, paired as paired_escape, caret as caret_escape, by_name as by_name_escape, letter_character, scalar as scalar_character};
 ghost use Rattle.erl_token.specs.Views.{text_bytes};
 ghost use Rattle.erl_token.specs.Scanned.{byte_in, character_value, digit_in, EndsAt, EndsBehind};
 
@@ -29,8 +29,8 @@ pub fn escape_at(text: Text<'_>, at: usize) -> Escaped
         return octal(text, at, first);
     }
     match text.byte(at) {
-        Some(120) => hexadecimal(text, at),
-        Some(94) => caret(text, at),
+        Some(b'x') => hexadecimal(text, at),
+        Some(b'^') => caret(text, at),
         Some(byte) => by_name(text, at, byte),
         None => Escaped::Unfinished,
     }
@@ -61,7 +61,7 @@ fn hexadecimal(text: Text<'_>, at: usize) -> Escaped
     ensures ends { EndsBehind text.entry at result }
 {
     match text.byte(at + 1) {
-        Some(123) => braced(text, at),
+        Some(b'{') => braced(text, at),
         Some(_) => match digit_at(text, at + 1, 16) {
             Some(first) => paired(text, at, first),
             None => Escaped::Senseless,
@@ -94,7 +94,7 @@ fn braced(text: Text<'_>, at: usize) -> Escaped
 {
     let Digits { number, to } = read_digits(text, at + 2, 16, false);
     match text.byte(to) {
-        Some(125) if to > at + 2 => scalar(number, to + 1),
+        Some(b'}') if to > at + 2 => scalar(number, to + 1),
         Some(_) => Escaped::Senseless,
         None => Escaped::Unfinished,
     }
@@ -120,7 +120,7 @@ fn caret(text: Text<'_>, at: usize) -> Escaped
 fn has_control_character(byte: u8) -> bool
     ensures { result ≡ (is_in 64 95 byte || is_in 97 122 byte) }
 {
-    matches!(byte, 64..=95 | 97..=122)
+    matches!(byte, b'@'..=b'_' | b'a'..=b'z')
 }
 
 /// The character that this byte stands for, or else the one that begins with it.
@@ -129,10 +129,10 @@ fn by_name(text: Text<'_>, at: usize, byte: u8) -> Escaped
     requires room { at < 2 ^ 63 }
     requires cut { byte < 128 → IsCharBoundary text.valid.now (at + 1) }
     requires begins { IsCharBoundary text.valid.now at }
-    ensures is { character_value at result ≡ by_name_escape (named_character byte) byte (drop (at + 1) (text_bytes text.entry)) }
+    ensures is { character_value at result ≡ by_name_escape (letter_character byte) byte (drop (at + 1) (text_bytes text.entry)) }
     ensures ends { EndsBehind text.entry at result }
 {
-    match named(byte) {
+    match letter_character(byte) {
         Some(character) => Escaped::Means(character, at + 1),
         None => {
             let (character, to) = text.character_at(at);
@@ -142,19 +142,19 @@ fn by_name(text: Text<'_>, at: usize, byte: u8) -> Escaped
 }
 
 /// The character that a byte behind a backslash stands for, if not for its own.
-fn named(byte: u8) -> Option<char>
-    ensures { result ≡ named_character byte }
+fn letter_character(byte: u8) -> Option<char>
+    ensures { result ≡ letter_character byte }
 {
     match byte {
-        98 => Some('\u{8}'),
-        100 => Some('\u{7f}'),
-        101 => Some('\u{1b}'),
-        102 => Some('\u{c}'),
-        110 => Some('\n'),
-        114 => Some('\r'),
-        115 => Some(' '),
-        116 => Some('\t'),
-        118 => Some('\u{b}'),
+        b'b' => Some('\u{8}'),
+        b'd' => Some('\u{7f}'),
+        b'e' => Some('\u{1b}'),
+        b'f' => Some('\u{c}'),
+        b'n' => Some('\n'),
+        b'r' => Some('\r'),
+        b's' => Some(' '),
+        b't' => Some('\t'),
+        b'v' => Some('\u{b}'),
         _ => None,
     }
 }

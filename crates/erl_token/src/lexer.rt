@@ -1,7 +1,7 @@
 //! Bytes into tokens.
 ghost use Rattle.std.specs.Prelude.{◌≡◌, ◌≢◌, ℕ, pos, ◌+◌, ◌-◌, ◌<◌, ◌≤◌, ◌^◌, length, drop, slice_index, slice_get, nat_lt, Some, IfSome, IfOk};
 ghost use Rattle.std.specs.Str.{IsUtf8, chars};
-ghost use Rattle.erl_token.specs.Lexing.{class_of, spelling, is_name_byte, alone as alone_spelling, doubled as doubled_spelling, bare, named as named_spelling, name_in_quotes, text_in_quotes, numbered as numbered_spelling, signed as signed_spelling, put_item, ends_a_term};
+ghost use Rattle.erl_token.specs.Lexing.{class_of, spelling, is_bare_name_byte, alone as alone_spelling, doubled as doubled_spelling, bare, name_spelling, name_in_quotes, text_in_quotes, numbered as numbered_spelling, signed as signed_spelling, put_item, ends_a_term};
 ghost use Rattle.erl_token.specs.Lexing.Token.{text as text_token};
 ghost use Rattle.erl_token.specs.Numbers.{Numeral as NumeralSpelling, numeral as numeral_spelling};
 ghost use Rattle.erl_token.specs.Quotes.{quoted};
@@ -203,7 +203,7 @@ fn ends_term(text: Text<'_>, at: usize) -> bool
 fn bare_name(text: Text<'_>, from: usize) -> Item<'_>
     requires within { from < length (text_bytes text) }
     requires class { class_of (slice_index (text_bytes text) from) ≡ Letter }
-    ensures { IsSpelled (bare from (front is_name_byte (drop from (text_bytes text.entry)))) from result }
+    ensures { IsSpelled (bare from (front is_bare_name_byte (drop from (text_bytes text.entry)))) from result }
 {
     let to = run_end(text, Run::InName, from);
     let name = text.part(from, to);
@@ -213,15 +213,15 @@ fn bare_name(text: Text<'_>, from: usize) -> Item<'_>
             from,
         )
     } else {
-        named(Content::Part(name), from, to)
+        name_item(Content::Part(name), from, to)
     }
 }
 
 /// A name between these places, if it isn't too long.
-fn named(name: Content<'_>, from: usize, to: usize) -> Item<'_>
+fn name_item(name: Content<'_>, from: usize, to: usize) -> Item<'_>
     requires onward { from < to }
     requires room { from < 2 ^ 63 }
-    ensures { IsSpelled (named_spelling from (content_bytes name.entry) (to - from)) from result }
+    ensures { IsSpelled (name_spelling from (content_bytes name.entry) (to - from)) from result }
 {
     if name.is_longer_than(LONGEST_NAME) {
         alone(Token::Broken(Like::Name, TermFault::BadToken(from)), from)
@@ -241,7 +241,7 @@ fn quoted_name<'a>(alloc: Global, text: Text<'a>, from: usize) -> Result<Item<'a
     ensures { IfOk result (IsSpelled (name_in_quotes from (quoted 39 from (from + 1) 0 (drop (from + 1) (text_bytes text.entry)))) from) }
 {
     match quoted_from(alloc, text, 39, from)? {
-        Quoted::Closed(content, to) => Ok(named(content, from, to)),
+        Quoted::Closed(content, to) => Ok(name_item(content, from, to)),
         Quoted::Faulty(fault) => Ok(alone(Token::Broken(Like::Name, fault), from)),
     }
 }

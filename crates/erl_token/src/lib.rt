@@ -15,6 +15,7 @@ mod content;
 mod digits;
 mod escape;
 mod fault;
+pub mod laws;
 mod lexer;
 mod number;
 mod quote;

@@ -36,12 +36,12 @@ abbrev pub IsTermFault : Value → ℕ → FileFault → Type 0
 IsTermFault v at f = HasTermFault v at (fault_of f)
 
 -- The file has one term, and it is this.
-abbrev pub HasTerm : List ℕ → Value → Type 0
-HasTerm bytes v = OneTerm.HasTerm 64 bytes v
+abbrev pub HasFileTerm : List ℕ → Value → Type 0
+HasFileTerm bytes v = OneTerm.HasTerm 64 bytes v
 
 -- The file says this of a release.
 abbrev pub SaysRelease : List ℕ → Release → Type 0
-SaysRelease bytes r = (v : Value) × HasTerm bytes v × IsReleaseTerm v r
+SaysRelease bytes r = (v : Value) × HasFileTerm bytes v × IsReleaseTerm v r
 
 -- the fault of the terms of a file: there is to be one
 abbrev pub HaveFault : List Reading → Fault → Type 0

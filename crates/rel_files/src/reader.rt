@@ -3,7 +3,7 @@ ghost use Rattle.std.specs.Prelude.{◌≡◌, ◌≢◌, IfOk, IfErr, MatchResu
 ghost use Rattle.erl_term.specs.Value.{value_of};
 ghost use Rattle.erl_term.specs.Within.{IsWithin};
 ghost use Rattle.rel_files.specs.Release.{Release, release_of};
-ghost use Rattle.rel_files.specs.File.{HasTerm, IsReleaseTerm, IsTermFault, SaysRelease, IsRelFault};
+ghost use Rattle.rel_files.specs.File.{HasFileTerm, IsReleaseTerm, IsTermFault, SaysRelease, IsRelFault};
 
 use crate::draft::Draft;
 use crate::duplicates::first_twice;
@@ -30,7 +30,7 @@ pub fn read_rel(alloc: Global, bytes: &[u8]) -> Result<Rel, FileFault>
 
 /// Reads a `.rel` file, and keeps its term.
 pub fn read_rel_file(alloc: Global, bytes: &[u8]) -> Result<RelFile, FileFault>
-    ensures says { IfOk result (λ file. HasTerm bytes.now (value_of file.term) × IsReleaseTerm (value_of file.term) (release_of file.release)) }
+    ensures says { IfOk result (λ file. HasFileTerm bytes.now (value_of file.term) × IsReleaseTerm (value_of file.term) (release_of file.release)) }
     ensures only { (r : Release) → SaysRelease bytes.now r → MatchResult result (λ file. release_of file.release ≡ r) (λ f. f ≡ FileFault.NoMemory) }
     ensures fault { IfErr result (λ f. f ≢ FileFault.NoMemory → IsRelFault bytes.now f) }
 

@@ -2,7 +2,7 @@
 ghost use Rattle.std.specs.Prelude.{◌≡◌, ◌++◌, OnOk, string_bytes};
 ghost use Rattle.std.specs.List.{list_all, list_any};
 ghost use Rattle.std.specs.Str.{bytes_eq};
-ghost use Rattle.erl_token.specs.Lexing.{is_name_byte};
+ghost use Rattle.erl_token.specs.Lexing.{is_bare_name_byte};
 ghost use Rattle.erl_term.specs.Printing.{atom_character, atom_text, has_bare_form, is_bare, reserved_words};
 
 use std::alloc::AllocError;
@@ -40,14 +40,14 @@ fn has_bare_form(name: &[u8]) -> bool
 
 // Whether a bare name goes on with each of these bytes.
 fn are_name_bytes(bytes: &[u8]) -> bool
-    ensures { result ≡ list_all is_name_byte bytes.now }
+    ensures { result ≡ list_all is_bare_name_byte bytes.now }
 {
-    bytes.iter().all(|byte| is_name_byte(*byte))
+    bytes.iter().all(|byte| is_bare_name_byte(*byte))
 }
 
 // Whether a bare name goes on with a byte.
-fn is_name_byte(byte: u8) -> bool
-    ensures { result ≡ is_name_byte byte }
+fn is_bare_name_byte(byte: u8) -> bool
+    ensures { result ≡ is_bare_name_byte byte }
 {
     matches!(byte, b'a'..=b'z' | b'A'..=b'Z' | b'0'..=b'9' | b'_' | b'@')
 }

@@ -1,6 +1,6 @@
 use Rattle.std.proofs.Common.{◌≡◌, ◌+◌, None, slice_get, get_or, drop, ◌∙◌, sym, arith, rules}
 use Rattle.std.proofs.lemmas.Option.{get_or_from_slice_get}
-use Rattle.erl_token.specs.Escapes.{named, by_name}
+use Rattle.erl_token.specs.Escapes.{letter_character, by_name}
 use Rattle.erl_token.specs.Views.{text_bytes}
 use Rattle.erl_token.proofs.DigitRows.{slice_get_byte}
 use Rattle.erl_token.proofs.Escaping.{named_small}
@@ -13,6 +13,6 @@ pub returns-in-None-clause-is : goal.returns-in-None-clause-is
 returns-in-None-clause-is c =
     let byte : get_or (text_bytes c.args.text) c.args.at 0 ≡ c.args.byte =
     get_or_from_slice_get (text_bytes c.args.text) c.args.at c.args.byte 0 (slice_get_byte (slice_get (text_bytes c.args.text) c.args.at) c.args.byte c.requires.byte) in
-    let none : named c.args.byte ≡ None = search rules in
+    let none : letter_character c.args.byte ≡ None = search rules in
     sym c.character_at-character.ensures.is
     ∙ (λ j. by_name (sym none j) (byte j) (drop (c.args.at + 1) (text_bytes c.args.text)))

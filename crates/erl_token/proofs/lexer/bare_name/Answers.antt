@@ -20,4 +20,4 @@ pub returns-else-eq : goal.returns-else-eq
 returns-else-eq c =
     let run = name_run c.args.text.valid.now c.args.text.is_spoilt c.args.from c.run_end-to.result c.requires.within c.requires.class c.run_end-to.ensures.end in
     let other : bytes_eq c.part-name.result.now (codes "fun") ≡ false = sym c.if-eq.ensures in
-    (c.named.ensures.0 ∙ bare_named c.args.from _ c.part-name.result.now _ (name_part c.part-name.result.now run c.part-name.ensures) other (name_size run), c.named.ensures.1)
+    (c.name_item.ensures.0 ∙ bare_named c.args.from _ c.part-name.result.now _ (name_part c.part-name.result.now run c.part-name.ensures) other (name_size run), c.name_item.ensures.1)

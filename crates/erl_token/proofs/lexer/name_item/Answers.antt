@@ -2,7 +2,7 @@ use Rattle.std.proofs.Common.{◌≡◌, ◌∙◌, nat_lt, true, false, length,
 use Rattle.std.specs.Str.{chars}
 use Rattle.erl_token.specs.Contents.{content_bytes}
 use Rattle.erl_token.proofs.Naming.{named_long, named_short}
-use Rattle.erl_token.proofs.lexer.named.Goals as goal
+use Rattle.erl_token.proofs.lexer.name_item.Goals as goal
 
 pub returns-then-is_longer_than : goal.returns-then-is_longer_than
 returns-then-is_longer_than c =

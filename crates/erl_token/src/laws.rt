@@ -1,0 +1,7 @@
+//! Laws of the tokens themselves, whatever reads them. Each function does nothing: its contract is the law.
+ghost use Rattle.erl_token.specs.Tiling.{ItemsTile};
+
+/// The items of a text lie one behind another, each with bytes of its own, and what they leave is blanks and comments.
+pub fn items_tile_a_text()
+    ensures { ItemsTile }
+{}
