@@ -72,7 +72,7 @@ module _ {D : Type 0} (seen : D → List ℕ) (may_leave : D → List ℕ → Ty
       by_place (awake es) s = (awake (booted es), (alive, (by_list es s).1), (refl, (by_list es s).0))
 
   -- its boot was refused
-  pub sleeps : (disk new : D) (error : BootError) (r : Result (String Global) AllocError) → disk ≡ disk_at old → seen new ≡ seen disk
+  pub sleeps : (disk new : D) (error : BootError) (r : Result (String Global) AllocError) → disk ≡ disk_at old → (error ≡ boot.Device) ⊎ (seen new ≡ seen disk)
       → BootRefused (seen disk) (failures disk) (failures new) error
       → ((es : Releases) → IsImageOf (seen disk) es → (error ≡ boot.Device) ⊎ (error ≡ boot.NoMemory))
       → IfOk r (λ text. string_bytes text ≡ boot_line error) → (error ≡ boot.NoMemory → IsErr r)
@@ -96,7 +96,11 @@ module _ {D : Type 0} (seen : D → List ℕ) (may_leave : D → List ℕ → Ty
           by_error (inr e) = let never = memory e in cc
 
       by_place : (HasFailed (failures disk) (failures new) → ⊥) → (p : Place) → Stands (seen disk) p → (q : Place) × IsDisk (seen new) q × ((q ≡ woken p) × (string_bytes text ≡ woken_line p))
-      by_place calm bare none = (bare, kept ∙ none, (refl, on_none calm none error refl refused))
+      by_place calm bare none = (bare, as_it_was kept ∙ none, (refl, on_none calm none error refl refused))
+        where
+          as_it_was : (error ≡ boot.Device) ⊎ (seen new ≡ seen disk) → seen new ≡ seen disk
+          as_it_was (inl e) = absurd (calm (subst (BootRefused (seen disk) (failures disk) (failures new)) e refused))
+          as_it_was (inr is) = is
       by_place calm (asleep es) s = absurd (never_refused calm es s)
       by_place calm (awake es) s = absurd (never_refused calm es s)
 
