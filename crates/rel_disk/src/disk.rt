@@ -79,10 +79,10 @@ pub trait Disk {
         ensures counted { failures self.old ≤ failures self.new }
         ensures cause { IsErr result → HasFailed (failures self.old) (failures self.new) };
 
-    /// After it, a crash leaves what a read gives.
+    /// After it, a crash leaves what a read gives. One that failed may have left reads with any of the images.
     fn sync(&mut self) -> Result<(), DeviceFault>
         ensures durable { OnOk result (Only (seen self.old) (may_leave self.new)) }
-        ensures same { seen self.new ≡ seen self.old }
+        ensures same { OnOk result (seen self.new ≡ seen self.old) }
         ensures crash { Within (may_leave self.old) (may_leave self.new) }
         ensures time { Elapses (moment self.old) (moment self.new)
             (left_since self.old) (left_since self.new) (may_leave self.new) }

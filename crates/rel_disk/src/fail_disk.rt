@@ -138,7 +138,7 @@ impl<D: Disk> Disk for FailDisk<D> {
 
         // As of every disk.
         ensures durable { OnOk result (Only (D.seen self.old.disk) (D.may_leave self.new.disk)) }
-        ensures same { D.seen self.new.disk ≡ D.seen self.old.disk }
+        ensures same { OnOk result (D.seen self.new.disk ≡ D.seen self.old.disk) }
         ensures crash { Within (D.may_leave self.old.disk) (D.may_leave self.new.disk) }
         ensures time { Elapses (D.moment self.old.disk) (D.moment self.new.disk)
             (D.left_since self.old.disk) (D.left_since self.new.disk) (D.may_leave self.new.disk) }

@@ -27,7 +27,7 @@ use std::alloc::Global;
 pub fn boot<D: Disk>(alloc: Global, disk: D) -> Result<Handler<D>, (BootError, D)>
     ensures sound { IfOk result (IsSound D.seen D.may_leave) }
     ensures works { IfOk result (λ handler. is_dead handler ≡ false) }
-    ensures same { D.seen (disk_of result) ≡ D.seen disk }
+    ensures same { MatchResult result (λ handler. D.seen (disk_in handler) ≡ D.seen disk) (λ e. (e.0 ≡ BootError.Device) ⊎ (D.seen e.1 ≡ D.seen disk)) }
     ensures image { IfOk result (λ handler. IsImageOf (D.seen disk) (list_in handler) × (booted (list_in handler) ≡ list_in handler)) }
     ensures acknowledged { IfOk result (λ handler. (c : List ℕ) → D.may_leave (disk_in handler) c → IsImageAt c (list_in handler) (end_in handler)) }
     ensures end { IfOk result (λ handler. end_in handler ≡ end_of (D.seen disk)) }

@@ -1,6 +1,7 @@
--- What an opening has read of a disk's bytes.
-use Rattle.std.specs.Prelude.{◌≡◌, ℕ, ◌+◌, ◌==◌, List, map, Ok, Err, slice_index}
-use Rattle.rel_disk.specs.Moments.{HasFailed}
+-- What an opening has read of a disk's bytes, and what it makes of the disk.
+use Rattle.std.specs.Prelude.{◌≡◌, ℕ, ◌+◌, ◌==◌, List, map, Result, Ok, Err, slice_index}
+use Rattle.rel_disk.specs.Damage.{Only}
+use Rattle.rel_disk.specs.Moments.{LeavesOnly, HasFailed}
 use Rattle.rel_store.specs.Layout.{base_of}
 use Rattle.rel_store.specs.Records.{records_of, space}
 use Rattle.rel_store.specs.declared.contents.Contents.{Contents}
@@ -20,6 +21,19 @@ OpenRefused bytes before now (Damaged at) = records_of bytes ≡ Err (Damaged at
 OpenRefused bytes before now Device = HasFailed before now
 OpenRefused bytes before now NoMemory = Unit {0}
 OpenRefused bytes before now _ = ⊥
+
+-- The disk was synced at this moment. Up to it a crash leaves nothing that none before would have left; from then on it
+-- leaves what a read gives, which is what it gave before.
+pub record IsSyncedAt {D : Type 0} (seen : D → List ℕ) (may_leave : D → List ℕ → Type 0) (moment : D → ℕ) (left_since : D → ℕ → List ℕ → Type 0) (old new at : D) : Type 0 where
+  pub until : LeavesOnly moment left_since old at (may_leave old)
+  pub from : LeavesOnly moment left_since at new (λ c. c ≡ seen old)
+  pub durable : Only (seen old) (may_leave new)
+  pub same : seen new ≡ seen old
+
+-- the refusal of an opening whose sync may have failed
+abbrev pub RefusedByDevice : {A D : Type 0} → Result A (StoreError × D) → Type 0
+RefusedByDevice (Ok store) = ⊥
+RefusedByDevice (Err refusal) = refusal.0 ≡ Device
 
 -- Why a call that reads the disk refuses: a failure of the device, or want of memory.
 abbrev pub DeviceRefused : ℕ → ℕ → StoreError → Type 0

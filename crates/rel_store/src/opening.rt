@@ -1,8 +1,8 @@
 // A store is opened.
-ghost use Rattle.std.specs.Prelude.{◌≡◌, ◌≤◌, IfOk, IfErr, OnOk, Ok};
-ghost use Rattle.rel_disk.specs.Damage.{Only};
+ghost use Rattle.std.specs.Prelude.{◌≡◌, ◌⊎◌, ◌≤◌, IfOk, IfErr, IsErrOf, Ok};
+ghost use Rattle.rel_disk.specs.Damage.{Within};
 ghost use Rattle.rel_disk.specs.Moments.{LeavesOnly};
-ghost use Rattle.rel_store.specs.Contents.{AreContentsOf, DeviceRefused, OpenRefused};
+ghost use Rattle.rel_store.specs.Contents.{AreContentsOf, DeviceRefused, IsSyncedAt, OpenRefused, RefusedByDevice};
 ghost use Rattle.rel_store.specs.Records.{records_of};
 ghost use Rattle.rel_store.specs.State.{disk_of, records_in, IsSettled, IsSound};
 
@@ -21,10 +21,11 @@ impl<D: Disk> Store<D> {
         ensures settled { IfOk result (IsSettled D.seen D.may_leave) }
         ensures sound { IfOk result (IsSound D.seen D.may_leave) }
         ensures records { IfOk result (λ store. records_of (D.seen disk) ≡ Ok (records_in store)) }
-        ensures same { D.seen (disk_of result) ≡ D.seen disk }
 
-        // No crash in the call leaves anything that none before it would have left.
+        // No crash in the call leaves anything that none before it would have left; from its sync on a crash leaves what a
+        // read gives, whatever the opening answers then.
         ensures any_moment { LeavesOnly D.moment D.left_since disk (disk_of result) (D.may_leave disk) }
+        ensures synced { RefusedByDevice result ⊎ ((at : D) × IsSyncedAt D.seen D.may_leave D.moment D.left_since disk (disk_of result) at) }
 
         ensures counted { D.failures disk ≤ D.failures (disk_of result) }
         ensures refused { IfErr result (λ e. OpenRefused (D.seen disk) (D.failures disk) (D.failures e.1) e.0) }
@@ -47,26 +48,25 @@ impl<D: Disk> Store<D> {
 // Syncs, and reads what the disk holds.
 fn read_contents<D: Disk>(alloc: Global, disk: &mut D) -> Result<Contents, StoreError>
     ensures ok { IfOk result (AreContentsOf (D.seen disk.old)) }
-    ensures durable { OnOk result (Only (D.seen disk.old) (D.may_leave disk.new)) }
-    ensures same { D.seen disk.new ≡ D.seen disk.old }
     ensures any_moment { LeavesOnly D.moment D.left_since disk.old disk.new (D.may_leave disk.old) }
+    ensures synced { IsErrOf result StoreError.Device ⊎ ((at : D) × IsSyncedAt D.seen D.may_leave D.moment D.left_since disk.old disk.new at) }
     ensures counted { D.failures disk.old ≤ D.failures disk.new }
     ensures refused { IfErr result (OpenRefused (D.seen disk.old) (D.failures disk.old) (D.failures disk.new)) }
 {
-    let bytes = read_settled(alloc, disk)?;
+    disk.sync()?;
+    let bytes = read_all(alloc, disk)?;
     Contents::read(alloc, &bytes)
 }
 
-// Syncs, and reads all the bytes.
-fn read_settled<D: Disk>(alloc: Global, disk: &mut D) -> Result<Vec<u8>, StoreError>
+// Reads all the bytes.
+fn read_all<D: Disk>(alloc: Global, disk: &mut D) -> Result<Vec<u8>, StoreError>
     ensures read { IfOk result (λ bytes. bytes.items ≡ D.seen disk.old) }
-    ensures durable { OnOk result (Only (D.seen disk.old) (D.may_leave disk.new)) }
     ensures same { D.seen disk.new ≡ D.seen disk.old }
+    ensures crash { Within (D.may_leave disk.old) (D.may_leave disk.new) }
     ensures any_moment { LeavesOnly D.moment D.left_since disk.old disk.new (D.may_leave disk.old) }
     ensures counted { D.failures disk.old ≤ D.failures disk.new }
     ensures refused { IfErr result (DeviceRefused (D.failures disk.old) (D.failures disk.new)) }
 {
-    disk.sync()?;
     let len = disk.len()?;
     let mut bytes = vec![in alloc; 0; len as usize]?;
     disk.read(0, &mut bytes)?;

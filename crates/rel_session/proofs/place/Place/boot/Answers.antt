@@ -1,3 +1,4 @@
+use Rattle.std.proofs.Common.{⊎_elim}
 use Rattle.rel_session.specs.Device.{Device}
 use Rattle.rel_session.proofs.Replies.{IsDevice, boots, boot_lapses}
 use Rattle.rel_session.proofs.place.Place.boot.Goals as goal
@@ -12,4 +13,4 @@ pub returns-in-Err-clause-booted : goal.returns-in-Err-clause-booted
 returns-in-Err-clause-booted g c =
     let laws : IsDevice g.D.Disk = record { reads_an_image = g.met.D.Disk.reads_an_image; counts_now = g.met.D.Disk.counts_now; only_now = g.met.D.Disk.only_now } in
     boot_lapses g.D.Disk laws c.args.self c.into_disk.result c.in-Err.disk c.into_disk.ensures c.in-Err.ensures.any_moment c.in-Err.ensures.counted c.in-Err.error c.in-Err.ensures.refused
-    (λ other. c.in-Err.ensures.same) c.in-Err.ensures.only c.refused_line.result c.refused_line.ensures.told c.refused_line.ensures.memory
+    (λ other. ⊎_elim (λ failed. absurd (other failed)) (λ same. same) c.in-Err.ensures.same) c.in-Err.ensures.only c.refused_line.result c.refused_line.ensures.told c.refused_line.ensures.memory
