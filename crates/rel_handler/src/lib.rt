@@ -24,6 +24,3 @@ pub use booting::boot;
 pub use error::{BootError, HandlerError};
 pub use handler::Handler;
 pub use limits::{MOST_APPLICATIONS, MOST_RELEASES};
-
-#[cfg(test)]
-mod tests;
