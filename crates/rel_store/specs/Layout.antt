@@ -22,6 +22,13 @@ selected selector first second = if selector == 1 then second else first
 abbrev pub start_slot : List ℕ → ℕ
 start_slot bytes = selected (slice_index bytes 9) 16 144
 
+-- the place of the other, and the selector that chooses it
+abbrev pub other_slot : List ℕ → ℕ
+other_slot bytes = selected (slice_index bytes 9) 144 16
+
+abbrev pub other_selector : List ℕ → ℕ
+other_selector bytes = selected (slice_index bytes 9) 1 0
+
 -- the start slot that counts: its 128 bytes
 abbrev pub text_of : List ℕ → List ℕ
 text_of bytes = part (start_slot bytes) 128 bytes
