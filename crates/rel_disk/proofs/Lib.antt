@@ -3,4 +3,4 @@ mod ImageLemmas
 mod ImagePlaces
 mod LogEntries
 pub mod Moments
-mod PlaceLemmas
+pub mod PlaceLemmas

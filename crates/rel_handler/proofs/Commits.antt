@@ -12,7 +12,9 @@ use Rattle.rel_list.specs.declared.status.Status.TheVariants.{Unpacked}
 use Rattle.rel_list.specs.Releases.{Releases, status_of}
 use Rattle.rel_list.specs.Event.{Event, entry, booted, step, list_after}
 use Rattle.rel_list.specs.Event.Event.{unpacked}
-use Rattle.rel_store.specs.Layout.{KeepsLayout}
+use Rattle.rel_store.specs.Changed.{LeavesOthers, IsInRecord}
+use Rattle.rel_store.specs.Layout.{base_of}
+use Rattle.rel_store.proofs.Moments as stores
 use Rattle.rel_store.specs.Records.{StandsEither}
 use Rattle.rel_store.specs.State as store
 use Rattle.rel_store.specs.declared.error.StoreError.{StoreError}
@@ -83,15 +85,21 @@ module _ {D : Type 0} (moment : D → ℕ) (left_since : D → ℕ → List ℕ 
     pub reserved_works : store.has_failed reserved ≡ false
     reserved_works = same.failed ∙ s.works alive
 
+    -- the records begin where they began
+    base_there : (c : List ℕ) → LeavesOthers (IsInRecord (store.gate_in reserved) (length body)) (seen (disk_in h)) c → base_of c ≡ base_of (seen (disk_in h))
+    base_there c leaves =
+        let same_gate : store.gate_in reserved ≡ store.gate_in h.store = omega (arith, same.end) in
+        stores.base_kept moment left_since seen may_leave h.store settled_store (length body) c (subst (λ g. LeavesOthers (IsInRecord g (length body)) (seen (disk_in h)) c) same_gate leaves)
+
     pub committing : (new : D) (text : List ℕ) → LeavesOnly moment left_since (store.disk_in reserved) new (StandsEither (store.records_in reserved) body text)
-        → LeavesOnly moment left_since (store.disk_in reserved) new (KeepsLayout (seen (store.disk_in reserved)))
+        → LeavesOnly moment left_since (store.disk_in reserved) new (LeavesOthers (IsInRecord (store.gate_in reserved) (length body)) (seen (store.disk_in reserved)))
         → (events : Events) → list_after events ≡ Some (list_in h) → (size : ℕ) → length body ≡ size → LeavesOnly moment left_since (disk_in h) new (IsStoredAs (uncertain events (end_in h) (unpacked r) size))
     committing new text leaves kept events after size long =
         subst (λ n. LeavesOnly moment left_since (disk_in h) new (IsStoredAs (uncertain events (end_in h) (unpacked r) n))) long
         (subst (λ d. LeavesOnly moment left_since d new (IsStoredAs (uncertain events (end_in h) (unpacked r) (length body)))) same.disk
         (weakened moment left_since (store.disk_in reserved) new _ (IsStoredAs (uncertain events (end_in h) (unpacked r) (length body)))
-        (λ c either. while_unpacking r (list_in h) end (store.records_in h.store) body text events (s.list alive) spelled allows after (seen (disk_in h)) (end_in h) (ap (λ g. g + 1) settled_store.end) c
-        (subst (λ bodies. StandsEither bodies body text c) same.records either.0, subst (λ d. KeepsLayout (seen d) c) same.disk either.1))
+        (λ c either. while_unpacking r (list_in h) end (store.records_in h.store) body text events (s.list alive) spelled allows after (base_of (seen (disk_in h))) (end_in h) (ap (λ g. g + 1) settled_store.end) c
+        (subst (λ bodies. StandsEither bodies body text c) same.records either.0, base_there c (subst (λ d. LeavesOthers (IsInRecord (store.gate_in reserved) (length body)) (seen d) c) same.disk either.1)))
         (both moment left_since (store.disk_in reserved) new _ _ leaves kept)))
 
 

@@ -10,9 +10,8 @@ use Rattle.rel_list.specs.Event.{Event, entry, booted, step, list_after}
 use Rattle.rel_list.specs.Event.Event.{made, unpacked, boot}
 use Rattle.rel_store.specs.Creation.{IsNoneOrNew}
 use Rattle.rel_store.specs.Records.{records_of, StandsEither, space, records_or_none, end_of}
-use Rattle.rel_store.specs.Layout.{base_of, KeepsLayout}
+use Rattle.rel_store.specs.Layout.{base_of}
 use Rattle.rel_store.proofs.Scan.{space-push}
-use Rattle.rel_store.proofs.Whole.{base-same}
 use Rattle.rel_store.specs.State.{records_in, end_in, IsSettled}
 use Rattle.rel_store.specs.declared.store.Store.{Store}
 use Rattle.rel_handler.specs.Events.{Known, doubted, IsPrefix, IsOfPrefix, IsNoneOrOfPrefix, uncertain, IsStoredAs}
@@ -90,17 +89,17 @@ with_record r es end bodies body (so_far, one) spelled allows =
 -- The record of an unpacked release is being appended: the store makes the list from before it or the one with it.
 pub while_unpacking : (r : Release) (es end : Releases) (bodies : List (List ℕ)) (body text : List ℕ) (events : List Event)
     → Makes bodies (booted es) → Spells body (adds r) → commanded (unpacked r) es ≡ Ok end → list_after events ≡ Some es
-    → (old : List ℕ) (ends : ℕ) → ends ≡ (base_of old + space bodies) + 1
-    → (c : List ℕ) → StandsEither bodies body text c × KeepsLayout old c → IsStoredAs (uncertain events ends (unpacked r) (length body)) c
-while_unpacking r es end bodies body text events makes_it spelled allows after old ends at c (inl stands, kept) =
+    → (base ends : ℕ) → ends ≡ (base + space bodies) + 1
+    → (c : List ℕ) → StandsEither bodies body text c × (base_of c ≡ base) → IsStoredAs (uncertain events ends (unpacked r) (length body)) c
+while_unpacking r es end bodies body text events makes_it spelled allows after base ends at c (inl stands, kept) =
     stored_before events ends (unpacked r) (length body) es c after (record {
       image_of = record { bodies = bodies; store = stands.records; list = makes_it };
-      ends = ends_so c bodies (base_of old) stands.records (base-same c old kept) ∙ sym at;
+      ends = ends_so c bodies base stands.records kept ∙ sym at;
     })
-while_unpacking r es end bodies body text events makes_it spelled allows after old ends at c (inr stands, kept) =
+while_unpacking r es end bodies body text events makes_it spelled allows after base ends at c (inr stands, kept) =
     stored_after events ends (unpacked r) (length body) es end c after (steps r es end allows) (record {
       image_of = record { bodies = bodies ++ body ∷ []; store = stands.records; list = with_record r es end bodies body makes_it spelled allows };
-      ends = ends_so c (bodies ++ body ∷ []) (base_of old) stands.records (base-same c old kept) ∙ omega (arith, at, space-push bodies body);
+      ends = ends_so c (bodies ++ body ∷ []) base stands.records kept ∙ omega (arith, at, space-push bodies body);
     })
 
 -- the first record makes the list of its release

@@ -1,7 +1,7 @@
 pub mod Append
-pub mod Layouts
 pub mod Moments
 pub mod NewStore
+pub mod Ownership
 pub mod Reading
 pub mod Scan
 pub mod Slots

@@ -1,21 +1,45 @@
 -- What a settled store leaves at each moment of a call.
-use Rattle.std.proofs.Common.{◌≡◌, inl, inr, ℕ, ◌+◌, ◌≤◌, Bool, true, false, not, ◌-◌, List, [], ◌∷◌, ◌++◌, length, length-append, replicate, refl, sym, ◌∙◌, ap, subst, arith}
-use Rattle.std.proofs.lemmas.List.{length-replicate}
+use Rattle.std.proofs.Common.{◌≡◌, inl, inr, ℕ, ◌+◌, ◌<◌, ◌≤◌, take, get_or, Bool, true, false, not, ◌-◌, List, [], ◌∷◌, ◌++◌, length, length-append, replicate, refl, sym, ◌∙◌, ap, subst, arith}
+use Rattle.std.proofs.lemmas.List.{length-replicate, length-take-le, get_or-take}
 use Rattle.rel_disk.specs.Damage.{overwritten, Only, Within}
 use Rattle.rel_disk.specs.Moments.{Elapses, LeavesOnly}
 use Rattle.rel_disk.proofs.Moments.{started, goes_on, joined, weakened}
-use Rattle.rel_store.specs.Layout.{slot_with}
+use Rattle.std.proofs.lemmas.Grind.{same_number_lists}
+use Rattle.rel_store.specs.Changed.{LeavesOthers, IsInRecord}
+use Rattle.rel_store.specs.Layout.{slot_with, base_of}
+use Rattle.rel_store.proofs.Whole.{base-same}
 use Rattle.rel_store.specs.Moments.{IsTornFrom}
 use Rattle.rel_store.specs.Records.{record_bytes, Stands, StandsEither, StandsWithEither}
 use Rattle.rel_store.specs.State.{records_in, text_in, IsSettled}
 use Rattle.rel_store.specs.declared.store.Store.{Store}
-use Rattle.rel_store.proofs.Append.{first_leaves, second_leaves, Staged, staged, Appended, appended}
+use Rattle.rel_store.proofs.Append.{gate_low, gate_within, first_leaves, second_leaves, Staged, staged, Appended, appended}
 use Rattle.rel_store.proofs.Slots.{slot_place, slot_leaves, Slotted, slotted, selector_leaves, Selected, selected_now}
 use Rattle.std.specs.Prelude.{◌==◌, if◌then◌else◌, slice_index}
 
 module _ {D : Type 0} (moment : D → ℕ) (left_since : D → ℕ → List ℕ → Type 0) (seen : D → List ℕ) (may_leave : D → List ℕ → Type 0) (store : Store D) (s : IsSettled seen may_leave store) where
   pub stands_now : Stands (records_in store) (text_in seen store) (seen store.disk)
   stands_now = record { records = s.records; start = refl }
+
+  -- bytes in which an append may have changed its own alone have their first record where it was
+  pub base_kept : (n : ℕ) (c : List ℕ) → LeavesOthers (IsInRecord store.gate n) (seen store.disk) c → base_of c ≡ base_of (seen store.disk)
+  base_kept n c leaves = base-same c (seen store.disk) (same_number_lists (take 288 c) (take 288 (seen store.disk)) (long_new ∙ sym long_old) each)
+    where
+      low : 288 ≤ store.gate
+      low = gate_low (records_in store) (text_in seen store) (seen store.disk) store.gate stands_now s.end
+
+      within : store.gate + 1 ≤ length (seen store.disk)
+      within = gate_within (records_in store) (text_in seen store) (seen store.disk) store.gate stands_now s.end
+
+      long_old : length (take 288 (seen store.disk)) ≡ 288
+      long_old = length-take-le 288 (seen store.disk) (omega (arith, low, within))
+
+      long_new : length (take 288 c) ≡ 288
+      long_new = length-take-le 288 c (omega (arith, leaves.long, low, within))
+
+      each : (k : ℕ) → k < length (take 288 c) → get_or (take 288 c) k 0 ≡ get_or (take 288 (seen store.disk)) k 0
+      each k lt =
+          let few : k < 288 = omega (arith, lt, long_new) in
+          get_or-take 288 c k 0 few ∙ leaves.kept k (omega (arith, few, low, within)) (λ own. absurd (omega (arith, own.0, few, low))) ∙ sym (get_or-take 288 (seen store.disk) k 0 few)
 
   -- each image of its disk now is a store that stands
   pub each_now : (c : List ℕ) → may_leave store.disk c → Stands (records_in store) (text_in seen store) c

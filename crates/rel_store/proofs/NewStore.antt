@@ -1,19 +1,22 @@
 -- What stands, and what a crash may leave, after each write of a creation.
 use Rattle.std.proofs.Common.{◌≡◌, ◌≢◌, inl, inr, ℕ, ◌+◌, ◌-◌, ◌≤◌, Bool, true, false, ◌||◌, ◌&&◌, not, List, [], ◌∷◌, ◌++◌, length, take, drop, replicate, Err, refl, sym, ◌∙◌, ap, subst, arith, append_assoc, length-append}
-use Rattle.std.specs.Prelude.{if◌then◌else◌, nat_eq, nat_lt, nat_le, slice_index, bytes_eq}
+use Rattle.std.specs.Prelude.{suc, if◌then◌else◌, nat_eq, nat_lt, nat_le, slice_index, bytes_eq}
 use Rattle.std.specs.Int.{w64, from_be_bytes, to_be_bytes}
 use Rattle.std.proofs.lemmas.Bool.{cases_eq}
 use Rattle.std.proofs.lemmas.Bool.Decides.{nat_tests}
-use Rattle.std.proofs.lemmas.List.{take_at, drop_at, length-replicate}
+use Rattle.std.proofs.lemmas.List.{take_at, drop_at, drop-drop, length-replicate}
 use Rattle.rel_disk.specs.Damage.{overwritten, Torn, Only}
 use Rattle.rel_disk.specs.Moments.{LeavesOnly}
 use Rattle.rel_disk.proofs.Moments.{joined, weakened}
-use Rattle.rel_store.specs.Creation.{IsNew, IsNoneOrNew, IsBegunAt}
+use Rattle.rel_store.specs.Creation.{IsNoneOrNew, IsBegunAt, new_store}
 use Rattle.rel_store.specs.Layout.{magic, has_magic, base_slot, base_of, text_of, slot_with, new_layout}
 use Rattle.rel_store.specs.Moments.{IsTornFrom}
 use Rattle.rel_store.specs.Records.{record_bytes, records_from, records_of, Stands}
 use Rattle.rel_store.specs.declared.error.StoreError.TheVariants.{NotAStore, Damaged}
+use Rattle.rel_store.specs.Changed.{IsInNewStore}
 use Rattle.rel_store.proofs.Append.{one}
+use Rattle.rel_store.proofs.Ownership.{Owns, one_write, two_writes}
+use Rattle.rel_store.proofs.Reading.{length-record}
 use Rattle.rel_store.proofs.Whole.{Head, readable, stands, grown}
 
 -- bytes that begin with a closed gate are no store
@@ -31,6 +34,11 @@ none gate bytes shut = refused (nat_lt (length (gate ∷ bytes)) 289) (has_magic
     refused true b is = refl
     refused false true is = absurd cc
     refused false false is = refl
+
+-- the bytes of a new store, and anything behind its closed gate
+record IsNew (first start bytes : List ℕ) : Type 0 where
+  rest : List ℕ
+  is : bytes ≡ 1 ∷ (new_layout start ++ (1 ∷ (record_bytes first ++ 0 ∷ rest)))
 
 module _ (start : List ℕ) (few : length start ≤ 127) where
   abbrev beginning : List ℕ
@@ -83,29 +91,38 @@ module _ (start : List ℕ) (few : length start ≤ 127) where
     together : (rest : List ℕ) → 1 ∷ (new_layout start ++ (1 ∷ (record_bytes first ++ 0 ∷ rest))) ≡ (head ++ 1 ∷ record_bytes first) ++ 0 ∷ rest
     together rest = sym (append_assoc head (1 ∷ record_bytes first) (0 ∷ rest))
 
-    -- a new store stands, with its one record
-    pub new_stands : (bytes : List ℕ) → IsNew first start bytes → Stands (first ∷ []) slot bytes
-    new_stands bytes new = subst (Stands (first ∷ []) slot) (sym (new.is ∙ together new.rest)) (stands (first ∷ []) slot (head ++ 1 ∷ record_bytes first) 0 new.rest (grown [] slot head first new_head short) (omega arith))
-
-    pub new_base : (bytes : List ℕ) → IsNew first start bytes → base_of bytes ≡ 288
-    new_base bytes new = ap base_of new.is ∙ base (1 ∷ (record_bytes first ++ 0 ∷ new.rest))
-
-    pub new_selector : (bytes : List ℕ) → IsNew first start bytes → slice_index bytes 9 ≡ 0
-    new_selector bytes new = ap (λ l. slice_index l 9) new.is
-
-    -- with its gate in any state
-    any_gate : (gate : ℕ) (layout rest : List ℕ) → layout ≡ new_layout start ++ (1 ∷ (record_bytes first ++ 0 ∷ rest)) → IsNoneOrNew first start (gate ∷ layout)
-    any_gate gate layout rest is = elim (cases_eq gate 1) [
-      | inl is_open ↦ inr (new_stands (gate ∷ layout) (record { rest = rest; is = λ i. is_open i ∷ is i }))
-      | inr shut ↦ inl (none gate layout shut)
-    ]
-
     -- The bytes behind the gate, as they are written and whatever follows them.
     behind : (bytes rest : List ℕ) → bytes ≡ new_layout start ++ (1 ∷ (record_bytes first ++ 0 ∷ [])) → bytes ++ rest ≡ new_layout start ++ (1 ∷ (record_bytes first ++ 0 ∷ rest))
     behind bytes rest spelled =
         ap (λ (l : List ℕ). l ++ rest) spelled
         ∙ append_assoc (new_layout start) (1 ∷ (record_bytes first ++ 0 ∷ [])) rest
         ∙ ap (λ (l : List ℕ). new_layout start ++ (1 ∷ l)) (append_assoc (record_bytes first) (0 ∷ []) rest)
+
+    -- a new store stands, with its one record
+    stands_new : (bytes : List ℕ) → IsNew first start bytes → Stands (first ∷ []) slot bytes
+    stands_new bytes new = subst (Stands (first ∷ []) slot) (sym (new.is ∙ together new.rest)) (stands (first ∷ []) slot (head ++ 1 ∷ record_bytes first) 0 new.rest (grown [] slot head first new_head short) (omega arith))
+
+    module _ (bytes old : List ℕ) (over : bytes ≡ overwritten 0 (new_store first start) old) where
+      is_new : IsNew first start bytes
+      is_new =
+          let rest = drop (0 + length (new_store first start)) old in
+          record { rest = rest; is = over ∙ ap (λ (l : List ℕ). 1 ∷ l) (behind (new_layout start ++ (1 ∷ (record_bytes first ++ 0 ∷ []))) rest refl) }
+
+      pub new_stands : Stands (first ∷ []) slot bytes
+      new_stands = stands_new bytes is_new
+
+      pub new_base : base_of bytes ≡ 288
+      new_base = ap base_of is_new.is ∙ base (1 ∷ (record_bytes first ++ 0 ∷ is_new.rest))
+
+      pub new_selector : slice_index bytes 9 ≡ 0
+      new_selector = ap (λ l. slice_index l 9) is_new.is
+
+    -- with its gate in any state
+    any_gate : (gate : ℕ) (layout rest : List ℕ) → layout ≡ new_layout start ++ (1 ∷ (record_bytes first ++ 0 ∷ rest)) → IsNoneOrNew first start (gate ∷ layout)
+    any_gate gate layout rest is = elim (cases_eq gate 1) [
+      | inl is_open ↦ inr (stands_new (gate ∷ layout) (record { rest = rest; is = λ i. is_open i ∷ is i }))
+      | inr shut ↦ inl (none gate layout shut)
+    ]
 
     -- while the bytes behind the closed gate are written, there is no store
     pub behind_leaves : (closed old : List ℕ) (n : ℕ) (images : List ℕ → Type 0) → closed ≡ overwritten 0 (0 ∷ []) old → Only closed images → (c : List ℕ) → IsTornFrom images 1 n c → IsNoneOrNew first start c
@@ -129,31 +146,54 @@ module _ (start : List ℕ) (few : length start ≤ 127) where
         let whole : c ≡ byte.0 ∷ ((bytes ++ is.0) ++ from.tail) = from.is ∙ ap (λ (l : List ℕ). l ++ ((bytes ++ is.0) ++ from.tail)) byte.1 in
         subst (IsNoneOrNew first start) (sym whole) (any_gate byte.0 ((bytes ++ is.0) ++ from.tail) (is.0 ++ from.tail) (append_assoc bytes is.0 from.tail ∙ behind bytes (is.0 ++ from.tail) spelled))
 
-    pub opened_is_new : (laid bytes opened : List ℕ) → bytes ≡ new_layout start ++ (1 ∷ (record_bytes first ++ 0 ∷ [])) → Laid bytes laid → opened ≡ overwritten 0 (1 ∷ []) laid → IsNew first start opened
-    opened_is_new laid bytes opened spelled is written = record {
-      rest = is.0;
-      is = written ∙ ap (overwritten 0 (1 ∷ [])) is.1 ∙ ap (λ (l : List ℕ). 1 ∷ l) (behind bytes is.0 spelled);
-    }
+    -- once it is opened, the new store stands over what there was
+    pub opened_over : (old closed laid bytes opened : List ℕ) → bytes ≡ new_layout start ++ (1 ∷ (record_bytes first ++ 0 ∷ [])) → closed ≡ overwritten 0 (0 ∷ []) old → laid ≡ overwritten 1 bytes closed
+        → opened ≡ overwritten 0 (1 ∷ []) laid → opened ≡ overwritten 0 (new_store first start) old
+    opened_over old closed laid bytes opened spelled is written opens =
+        let here : laid ≡ 0 ∷ (bytes ++ drop (1 + length bytes) (0 ∷ drop 1 old)) = written ∙ ap (overwritten 1 bytes) is in
+        opens
+        ∙ ap (overwritten 0 (1 ∷ [])) here
+        ∙ ap (λ (l : List ℕ). 1 ∷ (bytes ++ l)) rest
+        ∙ ap (λ (l : List ℕ). overwritten 0 (1 ∷ l) old) spelled
+      where
+        rest : drop (1 + length bytes) (0 ∷ drop 1 old) ≡ drop (0 + length (1 ∷ bytes)) old
+        rest =
+            let first : 1 + length bytes ≡ suc (length bytes) = omega arith in
+            let whole : 1 + length bytes ≡ 0 + length (1 ∷ bytes) = omega arith in
+            ap (λ n. drop n (0 ∷ drop 1 old)) first ∙ drop-drop (length bytes) 1 old ∙ ap (λ n. drop n old) whole
 
     -- A creation whose first write is done: where it stands in the second write, and in the third.
     module _ {D : Type 0} (moment : D → ℕ) (left_since : D → ℕ → List ℕ → Type 0) (seen : D → List ℕ) (may_leave : D → List ℕ → Type 0) (old at : D)
         (until : LeavesOnly moment left_since old at (IsTornFrom (may_leave old) 0 1)) (closed : seen at ≡ overwritten 0 (0 ∷ []) (seen old)) (synced : Only (seen at) (may_leave at)) where
-      pub begun_second : (laid : D) (n : ℕ) → LeavesOnly moment left_since at laid (IsTornFrom (may_leave at) 1 n) → IsBegunAt seen may_leave moment left_since first start old laid at
-      begun_second laid n second = record {
+      own_bytes : (bytes : List ℕ) → bytes ≡ new_layout start ++ (1 ∷ (record_bytes first ++ 0 ∷ [])) → Owns (IsInNewStore (length first)) 1 (length bytes)
+      own_bytes bytes spelled = λ i from within. omega (
+        arith,
+        within,
+        length-head,
+        length-record first,
+        ap length spelled,
+        length-append (new_layout start) (1 ∷ (record_bytes first ++ 0 ∷ [])),
+        length-append (record_bytes first) (0 ∷ []),
+      )
+
+      pub begun_second : (laid : D) (bytes : List ℕ) → bytes ≡ new_layout start ++ (1 ∷ (record_bytes first ++ 0 ∷ [])) → LeavesOnly moment left_since at laid (IsTornFrom (may_leave at) 1 (length bytes)) → IsBegunAt seen may_leave moment left_since first start old laid at
+      begun_second laid bytes spelled second = record {
         until = until;
         closed = closed;
         synced = synced;
-        from = weakened moment left_since at laid _ _ (behind_leaves (seen at) (seen old) n (may_leave at) closed synced) second;
+        from = weakened moment left_since at laid _ _ (behind_leaves (seen at) (seen old) (length bytes) (may_leave at) closed synced) second;
+        others = one_write moment left_since seen may_leave (IsInNewStore (length first)) at laid synced 1 (length bytes) (own_bytes bytes spelled) second;
       }
 
       pub begun_third : (laid new : D) (bytes : List ℕ) → bytes ≡ new_layout start ++ (1 ∷ (record_bytes first ++ 0 ∷ [])) → LeavesOnly moment left_since at laid (IsTornFrom (may_leave at) 1 (length bytes))
           → seen laid ≡ overwritten 1 bytes (seen at) → Only (seen laid) (may_leave laid) → LeavesOnly moment left_since laid new (IsTornFrom (may_leave laid) 0 1) → IsBegunAt seen may_leave moment left_since first start old new at
       begun_third laid new bytes spelled second written durable third =
-          let before = begun_second laid (length bytes) second in
+          let before = begun_second laid bytes spelled second in
           record {
             until = until;
             closed = closed;
             synced = synced;
             from = joined moment left_since at laid new _ before.from
                 (weakened moment left_since laid new _ _ (gate_leaves (seen laid) bytes (may_leave laid) spelled (laid_out (seen at) (seen old) (seen laid) bytes closed written) durable) third);
+            others = two_writes moment left_since seen may_leave (IsInNewStore (length first)) at laid synced 1 (length bytes) (own_bytes bytes spelled) second bytes refl written durable new 0 1 (λ i from within. omega (arith, within)) third;
           }

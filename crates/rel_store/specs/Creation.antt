@@ -2,6 +2,7 @@
 use Rattle.std.specs.Prelude.{◌≡◌, ◌⊎◌, ℕ, true, false, List, [], ◌∷◌, ◌++◌, length, Err}
 use Rattle.rel_disk.specs.Damage.{overwritten, Only}
 use Rattle.rel_disk.specs.Moments.{LeavesOnly, HasFailed}
+use Rattle.rel_store.specs.Changed.{LeavesOthers, IsInNewStore}
 use Rattle.rel_store.specs.Layout.{has_magic, slot_with, new_layout}
 use Rattle.rel_store.specs.Moments.{IsTornFrom}
 use Rattle.rel_store.specs.Records.{record_bytes, records_of, Stands}
@@ -13,10 +14,9 @@ use Rattle.rel_store.specs.declared.error.StoreError.TheVariants.{NotAStore, Exi
 abbrev pub IsNoneOrNew : List ℕ → List ℕ → List ℕ → Type 0
 IsNoneOrNew first start bytes = (records_of bytes ≡ Err NotAStore) ⊎ Stands (first ∷ []) (slot_with start) bytes
 
--- These bytes are a new store: its layout, its record behind an open gate, a closed gate, and anything behind it.
-pub record IsNew (first start bytes : List ℕ) : Type 0 where
-  pub rest : List ℕ
-  pub is : bytes ≡ 1 ∷ (new_layout start ++ (1 ∷ (record_bytes first ++ 0 ∷ rest)))
+-- the bytes of a new store: its layout, its record behind an open gate, and a closed gate
+abbrev pub new_store : List ℕ → List ℕ → List ℕ
+new_store first start = 1 ∷ (new_layout start ++ (1 ∷ (record_bytes first ++ 0 ∷ [])))
 
 -- Nothing has been written: the bytes are as they were, and no crash leaves anything that none before would have left.
 pub record IsUnwritten {D : Type 0} (seen : D → List ℕ) (may_leave : D → List ℕ → Type 0) (moment : D → ℕ) (left_since : D → ℕ → List ℕ → Type 0) (old new : D) : Type 0 where
@@ -24,12 +24,13 @@ pub record IsUnwritten {D : Type 0} (seen : D → List ℕ) (may_leave : D → L
   pub any_moment : LeavesOnly moment left_since old new (may_leave old)
 
 -- Up to this moment nothing but the gate of a store has been written, and it is closed and synced; from then on each
--- image is no store or the new one.
+-- image is no store or the new one, and all bytes are as they were but those of the new store.
 pub record IsBegunAt {D : Type 0} (seen : D → List ℕ) (may_leave : D → List ℕ → Type 0) (moment : D → ℕ) (left_since : D → ℕ → List ℕ → Type 0) (first start : List ℕ) (old new at : D) : Type 0 where
   pub until : LeavesOnly moment left_since old at (IsTornFrom (may_leave old) 0 1)
   pub closed : seen at ≡ overwritten 0 (0 ∷ []) (seen old)
   pub synced : Only (seen at) (may_leave at)
   pub from : LeavesOnly moment left_since at new (IsNoneOrNew first start)
+  pub others : LeavesOnly moment left_since at new (LeavesOthers (IsInNewStore (length first)) (seen at))
 
 -- At each moment of a creation: before its first sync the images are those from before it, but for a gate that is torn;
 -- from its first sync on each is no store or the new one.

@@ -1,5 +1,5 @@
 -- The first 288 bytes of a store: its gate, the magic, the two selectors and the slots that they choose from.
-use Rattle.std.specs.Prelude.{◌≡◌, ℕ, ◌-◌, Bool, ◌==◌, if◌then◌else◌, List, [], ◌∷◌, ◌++◌, length, take, drop, replicate, slice_index, bytes_eq}
+use Rattle.std.specs.Prelude.{ℕ, ◌-◌, Bool, ◌==◌, if◌then◌else◌, List, [], ◌∷◌, ◌++◌, length, take, drop, replicate, slice_index, bytes_eq}
 use Rattle.std.specs.Int.{w64, from_be_bytes, to_be_bytes}
 
 -- `RELSTOR1`
@@ -22,6 +22,13 @@ selected selector first second = if selector == 1 then second else first
 abbrev pub start_slot : List ℕ → ℕ
 start_slot bytes = selected (slice_index bytes 9) 16 144
 
+-- the place of the other, and the selector that chooses it
+abbrev pub other_slot : List ℕ → ℕ
+other_slot bytes = selected (slice_index bytes 9) 144 16
+
+abbrev pub other_selector : List ℕ → ℕ
+other_selector bytes = selected (slice_index bytes 9) 1 0
+
 -- the start slot that counts: its 128 bytes
 abbrev pub text_of : List ℕ → List ℕ
 text_of bytes = part (start_slot bytes) 128 bytes
@@ -41,7 +48,3 @@ slot_with text = length text ∷ (text ++ replicate (127 - length text) 0)
 -- the bytes 1 to 287 of a new store: both selectors 0, this text in the first start slot, 288 in the first base slot
 abbrev pub new_layout : List ℕ → List ℕ
 new_layout text = magic ++ (replicate 7 0 ++ (slot_with text ++ (replicate 128 0 ++ (to_be_bytes w64 288 ++ replicate 8 0))))
-
--- the layout, the bytes below 288, is as it was
-abbrev pub KeepsLayout : List ℕ → List ℕ → Type 0
-KeepsLayout old new = take 288 new ≡ take 288 old

@@ -1,3 +1,4 @@
+pub mod Changed
 pub mod Contents
 pub mod Creation
 pub mod Layout

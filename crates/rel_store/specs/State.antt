@@ -25,6 +25,10 @@ records_in store = map (λ v. v.items) store.records.items
 abbrev pub text_in : {D : Type 0} → (D → List ℕ) → Store D → List ℕ
 text_in seen store = text_of (seen store.disk)
 
+-- the place of its closed gate
+abbrev pub gate_in : {D : Type 0} → Store D → ℕ
+gate_in store = store.gate
+
 -- where it ends: one past its closed gate
 abbrev pub end_in : {D : Type 0} → Store D → ℕ
 end_in store = store.gate + 1

@@ -1,8 +1,8 @@
 // A store is made.
 ghost use Rattle.std.specs.Prelude.{◌≡◌, ◌+◌, ◌≤◌, [], ◌∷◌, map, true, length, IfOk, IfErr, OnOk, IsErr};
-ghost use Rattle.rel_disk.specs.Damage.{Only, Within};
+ghost use Rattle.rel_disk.specs.Damage.{overwritten, Only, Within};
 ghost use Rattle.rel_disk.specs.Moments.{LeavesOnly, HasFailed};
-ghost use Rattle.rel_store.specs.Creation.{IsNew, IsBegunAt, Creates, IsUnwritten, CreateRefused};
+ghost use Rattle.rel_store.specs.Creation.{new_store, IsBegunAt, Creates, IsUnwritten, CreateRefused};
 ghost use Rattle.rel_store.specs.Layout.{has_magic, slot_with};
 ghost use Rattle.rel_store.specs.State.{disk_in, disk_of, end_in, records_in, text_in, Fits, IsSettled, IsSound};
 
@@ -30,7 +30,7 @@ impl<D: Disk> Store<D> {
         ensures sound { IfOk result (IsSound D.seen D.may_leave) }
         ensures records { IfOk result (λ store. records_in store ≡ first.now ∷ []) }
         ensures start { IfOk result (λ store. text_in D.seen store ≡ slot_with start.now) }
-        ensures bytes { IfOk result (λ store. IsNew first.now start.now (D.seen (disk_in store))) }
+        ensures bytes { IfOk result (λ store. D.seen (disk_in store) ≡ overwritten 0 (new_store first.now start.now) (D.seen disk)) }
         ensures fits { OnOk result (Fits 289 (length first.now)) }
         ensures end { IfOk result (λ store. end_in store ≡ 289 + (5 + length first.now)) }
 
@@ -68,7 +68,7 @@ fn lay_out<D: Disk>(
     requires { length start.now ≤ 127 }
     ensures records { IfOk result (λ records. map (λ v. v.items) records.items ≡ first.now ∷ []) }
     ensures short { OnOk result (length first.now ≤ 16777216) }
-    ensures written { OnOk result (IsNew first.now start.now (D.seen disk.new)) }
+    ensures written { OnOk result (D.seen disk.new ≡ overwritten 0 (new_store first.now start.now) (D.seen disk.old)) }
     ensures durable { OnOk result (Only (D.seen disk.new) (D.may_leave disk.new)) }
     ensures any_moment { Creates D.seen D.may_leave D.moment D.left_since first.now start.now disk.old disk.new }
     ensures begun { OnOk result ((at : D) × IsBegunAt D.seen D.may_leave D.moment D.left_since first.now start.now disk.old disk.new at) }

@@ -1,9 +1,10 @@
 // A record store on a disk, and the calls on an open one.
 ghost use Rattle.std.specs.Prelude.{◌≡◌, ℕ, ◌↔◌, ◌≤◌, ◌+◌, [], ◌∷◌, ◌++◌, map, length, true, false, IsTrue, IsErrOf, IfErr, OnOk};
 ghost use Rattle.rel_disk.specs.Moments.{LeavesOnly};
-ghost use Rattle.rel_store.specs.Layout.{slot_with, KeepsLayout};
+ghost use Rattle.rel_store.specs.Changed.{LeavesOthers, IsInRecord, IsInOtherSlot, with_record, with_start};
+ghost use Rattle.rel_store.specs.Layout.{slot_with};
 ghost use Rattle.rel_store.specs.Records.{Stands, StandsEither, StandsWithEither};
-ghost use Rattle.rel_store.specs.State.{disk_in, records_in, text_in, end_in, has_failed, Fits, HasRoom, IsSettled, IsSound, IsSame, Refused};
+ghost use Rattle.rel_store.specs.State.{disk_in, records_in, text_in, gate_in, end_in, has_failed, Fits, HasRoom, IsSettled, IsSound, IsSame, Refused};
 
 use crate::StoreError;
 use crate::bytes::{body_of_record, make_room, spell_record, start_slot};
@@ -90,14 +91,14 @@ impl<D: Disk> Store<D> {
         ensures added { OnOk result (records_in self.new ≡ records_in self.old ++ body.now ∷ []) }
         ensures start { OnOk result (text_in D.seen self.new ≡ text_in D.seen self.old) }
         ensures end { OnOk result (end_in self.new ≡ end_in self.old + (5 + length body.now)) }
+        ensures bytes { OnOk result (D.seen (disk_in self.new) ≡ with_record (gate_in self.old) body.now (D.seen (disk_in self.old))) }
 
-        // A crash at any moment of the call leaves the records from before it, with the new one or without.
+        // A crash at any moment of the call leaves the records from before it, with the new one or without, and all bytes
+        // as they were but those of the record.
         ensures any_moment { has_failed self.old ≡ false → LeavesOnly D.moment D.left_since (disk_in self.old) (disk_in self.new)
             (StandsEither (records_in self.old) body.now (text_in D.seen self.old)) }
-
-        // No crash in it changes the layout, so the records begin where they began.
-        ensures layout { has_failed self.old ≡ false → LeavesOnly D.moment D.left_since (disk_in self.old) (disk_in self.new)
-            (KeepsLayout (D.seen (disk_in self.old))) }
+        ensures others { has_failed self.old ≡ false → LeavesOnly D.moment D.left_since (disk_in self.old) (disk_in self.new)
+            (LeavesOthers (IsInRecord (gate_in self.old) (length body.now)) (D.seen (disk_in self.old))) }
 
         ensures counted { D.failures (disk_in self.old) ≤ D.failures (disk_in self.new) }
         ensures full { IsErrOf result StoreError.Full ↔ ((has_failed self.old ≡ false) × (Fits (end_in self.old) (length body.now) → ⊥)) }
@@ -134,6 +135,7 @@ impl<D: Disk> Store<D> {
         ensures read { OnOk result (slot.new ≡ text_in D.seen self.old) }
         ensures records { records_in self.new ≡ records_in self.old }
         ensures start { text_in D.seen self.new ≡ text_in D.seen self.old }
+        ensures bytes { D.seen (disk_in self.new) ≡ D.seen (disk_in self.old) }
         ensures end { end_in self.new ≡ end_in self.old }
         ensures room { (n : ℕ) → HasRoom n self.old → HasRoom n self.new }
         ensures any_moment { has_failed self.old ≡ false → LeavesOnly D.moment D.left_since (disk_in self.old) (disk_in self.new)
@@ -163,10 +165,14 @@ impl<D: Disk> Store<D> {
         ensures records { records_in self.new ≡ records_in self.old }
         ensures end { end_in self.new ≡ end_in self.old }
         ensures room { (n : ℕ) → HasRoom n self.old → HasRoom n self.new }
+        ensures bytes { OnOk result (D.seen (disk_in self.new) ≡ with_start text.now (D.seen (disk_in self.old))) }
 
-        // A crash at any moment of the call leaves the old text or the new one, and the records.
+        // A crash at any moment of the call leaves the old text or the new one, and the records, and all bytes as they were
+        // but those of the slot that doesn't count and of its selector.
         ensures any_moment { has_failed self.old ≡ false → LeavesOnly D.moment D.left_since (disk_in self.old) (disk_in self.new)
             (StandsWithEither (records_in self.old) (text_in D.seen self.old) (slot_with text.now)) }
+        ensures others { has_failed self.old ≡ false → LeavesOnly D.moment D.left_since (disk_in self.old) (disk_in self.new)
+            (LeavesOthers (IsInOtherSlot (D.seen (disk_in self.old))) (D.seen (disk_in self.old))) }
 
         ensures counted { D.failures (disk_in self.old) ≤ D.failures (disk_in self.new) }
         ensures reopened { IsErrOf result StoreError.MustReopen ↔ (has_failed self.old ≡ true) }

@@ -3,7 +3,7 @@ use Rattle.rel_disk.specs.Damage.{overwritten}
 use Rattle.rel_store.specs.Layout.{new_layout}
 use Rattle.rel_store.specs.Records.{record_bytes}
 use Rattle.rel_store.proofs.Moments.{touched}
-use Rattle.rel_store.proofs.NewStore.{laid_out, opened_is_new, begun_second, begun_third}
+use Rattle.rel_store.proofs.NewStore.{opened_over, begun_second, begun_third}
 use Rattle.rel_store.proofs.creation.lay_out.Goals as goal
 
 -- the store's gate is closed first
@@ -17,10 +17,11 @@ returns-in_err-write_through-2-clause-any_moment g c =
     let short : length c.args.first.now ≤ 16777216 = search rules in
     let until = touched g.D.Disk.moment g.D.Disk.left_since g.D.Disk.may_leave c.args.disk.now c.is_taken.new.disk c.write_through.new.disk c.is_taken.ensures.any_moment c.is_taken.ensures.crash c.write_through.ensures.any_moment in
     let closed : g.D.Disk.seen c.write_through.new.disk ≡ overwritten 0 (0 ∷ []) (g.D.Disk.seen c.args.disk.now) = c.in_ok-write_through.ensures.written ∙ ap (overwritten 0 (0 ∷ [])) c.is_taken.ensures.same in
+    let spelled : c.deref.result.now ≡ new_layout c.args.start.now ++ (1 ∷ (record_bytes c.args.first.now ++ 0 ∷ [])) = search rules in
     inr (
       c.write_through.new.disk,
       begun_second c.args.start.now c.requires c.args.first.now short g.D.Disk.moment g.D.Disk.left_since g.D.Disk.seen g.D.Disk.may_leave c.args.disk.now c.write_through.new.disk until closed c.in_ok-write_through.ensures.durable
-          c.write_through-2.new.disk _ c.write_through-2.ensures.any_moment,
+          c.write_through-2.new.disk c.deref.result.now spelled c.write_through-2.ensures.any_moment,
     )
 
 -- then the gate is opened
@@ -55,5 +56,5 @@ returns-clause-written g c =
     let short : length c.args.first.now ≤ 16777216 = search rules in
     let closed : g.D.Disk.seen c.write_through.new.disk ≡ overwritten 0 (0 ∷ []) (g.D.Disk.seen c.args.disk.now) = c.in_ok-write_through.ensures.written ∙ ap (overwritten 0 (0 ∷ [])) c.is_taken.ensures.same in
     let spelled : c.deref.result.now ≡ new_layout c.args.start.now ++ (1 ∷ (record_bytes c.args.first.now ++ 0 ∷ [])) = search rules in
-    let laid = laid_out c.args.start.now c.requires c.args.first.now short (g.D.Disk.seen c.write_through.new.disk) (g.D.Disk.seen c.args.disk.now) (g.D.Disk.seen c.write_through-2.new.disk) c.deref.result.now closed c.in_ok-write_through-2.ensures.written in
-    opened_is_new c.args.start.now c.requires c.args.first.now short (g.D.Disk.seen c.write_through-2.new.disk) c.deref.result.now (g.D.Disk.seen c.write_through-3.new.disk) spelled laid c.in_ok-write_through-3.ensures.written
+    opened_over c.args.start.now c.requires c.args.first.now short (g.D.Disk.seen c.args.disk.now) (g.D.Disk.seen c.write_through.new.disk) (g.D.Disk.seen c.write_through-2.new.disk) c.deref.result.now (g.D.Disk.seen c.write_through-3.new.disk) spelled closed
+    c.in_ok-write_through-2.ensures.written c.in_ok-write_through-3.ensures.written

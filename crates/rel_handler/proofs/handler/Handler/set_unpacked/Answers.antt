@@ -66,7 +66,7 @@ returns-then-is_err-3-clause-any_moment g c = λ alive events after.
     let allows = accepted_so (release_of c.args.file.release) (list_in c.args.self.now) c.accept.new.self small fresh few (opened c.accept.result _ c.if-is_err-2.ensures.value c.accept.ensures.accepted) in
     let spelled = spelled_so c.as_bytes.result.now (string_bytes c.in_ok-body.body) (value_of c.args.file.term) (release_of c.args.file.release) c.as_bytes.ensures.value c.in_ok-body.ensures.read_back c.requires.file.says in
     let works = reserved_works g.D.Disk.moment g.D.Disk.left_since g.D.Disk.seen g.D.Disk.may_leave c.args.self.now c.requires.sound alive c.reserve.new.self c.reserve.ensures.kept (release_of c.args.file.release) c.accept.new.self c.as_bytes.result.now spelled allows in
-    committing g.D.Disk.moment g.D.Disk.left_since g.D.Disk.seen g.D.Disk.may_leave c.args.self.now c.requires.sound alive c.reserve.new.self c.reserve.ensures.kept (release_of c.args.file.release) c.accept.new.self c.as_bytes.result.now spelled allows (store.disk_in c.append.new.self) _ (c.append.ensures.any_moment works) (c.append.ensures.layout works) events after _ long
+    committing g.D.Disk.moment g.D.Disk.left_since g.D.Disk.seen g.D.Disk.may_leave c.args.self.now c.requires.sound alive c.reserve.new.self c.reserve.ensures.kept (release_of c.args.file.release) c.accept.new.self c.as_bytes.result.now spelled allows (store.disk_in c.append.new.self) _ (c.append.ensures.any_moment works) (c.append.ensures.others works) events after _ long
 
 pub returns-clause-any_moment : goal.returns-clause-any_moment
 returns-clause-any_moment g c = λ alive events after.
@@ -74,7 +74,7 @@ returns-clause-any_moment g c = λ alive events after.
     let allows = returns-clause-accepted g c in
     let spelled = spelled_so c.as_bytes.result.now (string_bytes c.in_ok-body.body) (value_of c.args.file.term) (release_of c.args.file.release) c.as_bytes.ensures.value c.in_ok-body.ensures.read_back c.requires.file.says in
     let works = reserved_works g.D.Disk.moment g.D.Disk.left_since g.D.Disk.seen g.D.Disk.may_leave c.args.self.now c.requires.sound alive c.reserve.new.self c.reserve.ensures.kept (release_of c.args.file.release) c.accept.new.self c.as_bytes.result.now spelled allows in
-    committing g.D.Disk.moment g.D.Disk.left_since g.D.Disk.seen g.D.Disk.may_leave c.args.self.now c.requires.sound alive c.reserve.new.self c.reserve.ensures.kept (release_of c.args.file.release) c.accept.new.self c.as_bytes.result.now spelled allows (store.disk_in c.append.new.self) _ (c.append.ensures.any_moment works) (c.append.ensures.layout works) events after _ long
+    committing g.D.Disk.moment g.D.Disk.left_since g.D.Disk.seen g.D.Disk.may_leave c.args.self.now c.requires.sound alive c.reserve.new.self c.reserve.ensures.kept (release_of c.args.file.release) c.accept.new.self c.as_bytes.result.now spelled allows (store.disk_in c.append.new.self) _ (c.append.ensures.any_moment works) (c.append.ensures.others works) events after _ long
 
 -- the device failed
 pub returns-then-is_err-3-clause-refused : goal.returns-then-is_err-3-clause-refused

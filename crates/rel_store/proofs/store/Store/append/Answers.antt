@@ -1,19 +1,29 @@
-use Rattle.std.proofs.Common.{◌≡◌, ℕ, ◌+◌, ◌-◌, ◌≤◌, List, [], ◌∷◌, ◌++◌, map, length, take, drop, inl, refl, sym, ◌∙◌, ap, arith, rules, Ok}
+use Rattle.std.proofs.Common.{◌≡◌, ℕ, ◌+◌, ◌-◌, ◌≤◌, List, [], ◌∷◌, ◌++◌, map, length, length-append, take, drop, inl, refl, sym, ◌∙◌, ap, arith, rules, Ok}
 use Rattle.std.specs.Prelude.{◌==◌}
 use Rattle.std.proofs.lemmas.Grind.{common_steps}
 use Rattle.std.proofs.lemmas.List.{take_all}
+use Rattle.rel_disk.specs.Damage.{overwritten}
+use Rattle.rel_store.specs.Changed.{IsInRecord}
 use Rattle.rel_store.specs.Layout.{base_of}
 use Rattle.rel_store.specs.Records.{record_bytes, space}
 use Rattle.rel_store.specs.State.{records_in}
-use Rattle.rel_store.proofs.Append.{gate_low, gate_within, staged_within}
-use Rattle.rel_store.proofs.Layouts.{layout_rests, layout_first, layout_second}
+use Rattle.rel_store.proofs.Append.{gate_within, staged_within}
 use Rattle.rel_store.proofs.Moments.{stands_now, resting, after_first, staged_now, after_second, appended_now}
+use Rattle.rel_store.proofs.Ownership.{Owns, at_rest, one_write, two_writes, overwritten_in_two}
+use Rattle.rel_store.proofs.Reading.{length-record}
 use Rattle.rel_store.proofs.store.Store.append.Goals as goal
 
 -- what stands behind the gate in a record's bytes
 behind_gate : (bytes body : List ℕ) → bytes ≡ 1 ∷ (record_bytes body ++ 0 ∷ []) → take (length bytes - 1) (drop 1 bytes) ≡ record_bytes body ++ 0 ∷ []
 behind_gate bytes body spelled =
     ap (λ l. take (length l - 1) (drop 1 l)) spelled ∙ take_all (length (1 ∷ (record_bytes body ++ 0 ∷ [])) - 1) (record_bytes body ++ 0 ∷ []) (omega arith)
+
+-- a record's bytes behind its gate, and the gate, are an append's own
+in_record : (bytes : List ℕ) (gate : ℕ) (body : List ℕ) → bytes ≡ record_bytes body ++ 0 ∷ [] → Owns (IsInRecord gate (length body)) (gate + 1) (length bytes)
+in_record bytes gate body spelled = λ i from within. (omega (arith, from), omega (arith, within, ap length spelled, length-append (record_bytes body) (0 ∷ []), length-record body))
+
+is_gate : (gate n : ℕ) → Owns (IsInRecord gate n) gate 1
+is_gate gate n = λ i from within. (from, omega (arith, within))
 
 pub returns-then-not-fits-clause-any_moment : goal.returns-then-not-fits-clause-any_moment
 returns-then-not-fits-clause-any_moment g c = λ works. resting g.D.Disk.moment g.D.Disk.left_since g.D.Disk.seen g.D.Disk.may_leave c.args.self.now (c.requires.settled works) _ (λ f here. inl here) (g.met.D.Disk.only_now c.args.self.now.disk)
@@ -82,36 +92,38 @@ returns-clause-settled g c =
 pub returns-clause-sound : goal.returns-clause-sound
 returns-clause-sound g c = record { settled = λ works. returns-clause-settled g c }
 
--- no write reaches the layout
-pub returns-then-not-fits-clause-layout : goal.returns-then-not-fits-clause-layout
-returns-then-not-fits-clause-layout g c = λ works. layout_rests g.D.Disk.moment g.D.Disk.left_since g.D.Disk.seen g.D.Disk.may_leave c.args.self.now (c.requires.settled works) (g.met.D.Disk.only_now c.args.self.now.disk)
+pub returns-then-not-fits-clause-others : goal.returns-then-not-fits-clause-others
+returns-then-not-fits-clause-others g c = λ works. at_rest g.D.Disk.moment g.D.Disk.left_since g.D.Disk.seen g.D.Disk.may_leave _ c.args.self.now.disk (c.requires.settled works).durable (g.met.D.Disk.only_now c.args.self.now.disk)
 
-pub returns-in_err-reserve-clause-layout : goal.returns-in_err-reserve-clause-layout
-returns-in_err-reserve-clause-layout g c = λ works. layout_rests g.D.Disk.moment g.D.Disk.left_since g.D.Disk.seen g.D.Disk.may_leave c.args.self.now (c.requires.settled works) (g.met.D.Disk.only_now c.args.self.now.disk)
+pub returns-in_err-reserve-clause-others : goal.returns-in_err-reserve-clause-others
+returns-in_err-reserve-clause-others g c = λ works. at_rest g.D.Disk.moment g.D.Disk.left_since g.D.Disk.seen g.D.Disk.may_leave _ c.args.self.now.disk (c.requires.settled works).durable (g.met.D.Disk.only_now c.args.self.now.disk)
 
-pub returns-in_err-spell_record-clause-layout : goal.returns-in_err-spell_record-clause-layout
-returns-in_err-spell_record-clause-layout g c = λ works. layout_rests g.D.Disk.moment g.D.Disk.left_since g.D.Disk.seen g.D.Disk.may_leave c.args.self.now (c.requires.settled works) (g.met.D.Disk.only_now c.args.self.now.disk)
+pub returns-in_err-spell_record-clause-others : goal.returns-in_err-spell_record-clause-others
+returns-in_err-spell_record-clause-others g c = λ works. at_rest g.D.Disk.moment g.D.Disk.left_since g.D.Disk.seen g.D.Disk.may_leave _ c.args.self.now.disk (c.requires.settled works).durable (g.met.D.Disk.only_now c.args.self.now.disk)
 
-pub returns-in_err-write_through-clause-layout : goal.returns-in_err-write_through-clause-layout
-returns-in_err-write_through-clause-layout g c = λ works.
-    let s = c.requires.settled works in
-    layout_first g.D.Disk.moment g.D.Disk.left_since g.D.Disk.seen g.D.Disk.may_leave c.args.self.now s _ c.write_through.new.disk (gate_low _ _ _ _ (stands_now g.D.Disk.moment g.D.Disk.left_since g.D.Disk.seen g.D.Disk.may_leave c.args.self.now s) s.end)
-    (gate_within _ _ _ _ (stands_now g.D.Disk.moment g.D.Disk.left_since g.D.Disk.seen g.D.Disk.may_leave c.args.self.now s) s.end) c.write_through.ensures.any_moment
-
-pub returns-in_err-write_through-2-clause-layout : goal.returns-in_err-write_through-2-clause-layout
-returns-in_err-write_through-2-clause-layout g c = λ works.
-    let s = c.requires.settled works in
-    let short : length c.args.body.now ≤ 16777216 = search rules in
+pub returns-in_err-write_through-clause-others : goal.returns-in_err-write_through-clause-others
+returns-in_err-write_through-clause-others g c = λ works.
     let spelled = behind_gate c.deref.result.now c.args.body.now (search rules) in
-    layout_second g.D.Disk.moment g.D.Disk.left_since g.D.Disk.seen g.D.Disk.may_leave c.args.self.now s _ c.write_through.new.disk
-    (gate_low _ _ _ _ (stands_now g.D.Disk.moment g.D.Disk.left_since g.D.Disk.seen g.D.Disk.may_leave c.args.self.now s) s.end) (gate_within _ _ _ _ (stands_now g.D.Disk.moment g.D.Disk.left_since g.D.Disk.seen g.D.Disk.may_leave c.args.self.now s) s.end)
-    _ c.write_through-2.new.disk c.write_through.ensures.any_moment c.in_ok-write_through.ensures.written (staged_within _ _ _ _ _ _ (staged_now g.D.Disk.moment g.D.Disk.left_since g.D.Disk.seen g.D.Disk.may_leave c.args.self.now s c.args.body.now _ short spelled c.write_through.new.disk c.in_ok-write_through.ensures.written)) c.in_ok-write_through.ensures.durable c.write_through-2.ensures.any_moment
+    one_write g.D.Disk.moment g.D.Disk.left_since g.D.Disk.seen g.D.Disk.may_leave _ c.args.self.now.disk c.write_through.new.disk (c.requires.settled works).durable _ _ (in_record _ c.args.self.now.gate c.args.body.now spelled) c.write_through.ensures.any_moment
 
-pub returns-clause-layout : goal.returns-clause-layout
-returns-clause-layout g c = λ works.
-    let s = c.requires.settled works in
-    let short : length c.args.body.now ≤ 16777216 = search rules in
+pub returns-in_err-write_through-2-clause-others : goal.returns-in_err-write_through-2-clause-others
+returns-in_err-write_through-2-clause-others g c = λ works.
     let spelled = behind_gate c.deref.result.now c.args.body.now (search rules) in
-    layout_second g.D.Disk.moment g.D.Disk.left_since g.D.Disk.seen g.D.Disk.may_leave c.args.self.now s _ c.write_through.new.disk
-    (gate_low _ _ _ _ (stands_now g.D.Disk.moment g.D.Disk.left_since g.D.Disk.seen g.D.Disk.may_leave c.args.self.now s) s.end) (gate_within _ _ _ _ (stands_now g.D.Disk.moment g.D.Disk.left_since g.D.Disk.seen g.D.Disk.may_leave c.args.self.now s) s.end)
-    _ c.write_through-2.new.disk c.write_through.ensures.any_moment c.in_ok-write_through.ensures.written (staged_within _ _ _ _ _ _ (staged_now g.D.Disk.moment g.D.Disk.left_since g.D.Disk.seen g.D.Disk.may_leave c.args.self.now s c.args.body.now _ short spelled c.write_through.new.disk c.in_ok-write_through.ensures.written)) c.in_ok-write_through.ensures.durable c.write_through-2.ensures.any_moment
+    two_writes g.D.Disk.moment g.D.Disk.left_since g.D.Disk.seen g.D.Disk.may_leave _ c.args.self.now.disk c.write_through.new.disk (c.requires.settled works).durable _ _ (in_record _ c.args.self.now.gate c.args.body.now spelled) c.write_through.ensures.any_moment
+    _ refl c.in_ok-write_through.ensures.written c.in_ok-write_through.ensures.durable c.write_through-2.new.disk _ _ (is_gate c.args.self.now.gate (length c.args.body.now)) c.write_through-2.ensures.any_moment
+
+pub returns-clause-others : goal.returns-clause-others
+returns-clause-others g c = λ works.
+    let spelled = behind_gate c.deref.result.now c.args.body.now (search rules) in
+    two_writes g.D.Disk.moment g.D.Disk.left_since g.D.Disk.seen g.D.Disk.may_leave _ c.args.self.now.disk c.write_through.new.disk (c.requires.settled works).durable _ _ (in_record _ c.args.self.now.gate c.args.body.now spelled) c.write_through.ensures.any_moment
+    _ refl c.in_ok-write_through.ensures.written c.in_ok-write_through.ensures.durable c.write_through-2.new.disk _ _ (is_gate c.args.self.now.gate (length c.args.body.now)) c.write_through-2.ensures.any_moment
+
+pub returns-clause-bytes : goal.returns-clause-bytes
+returns-clause-bytes g c =
+    let s = c.requires.settled c.if-self.false in
+    let old = g.D.Disk.seen c.args.self.now.disk in
+    let spelled = behind_gate c.deref.result.now c.args.body.now (search rules) in
+    let within = gate_within _ _ _ _ (stands_now g.D.Disk.moment g.D.Disk.left_since g.D.Disk.seen g.D.Disk.may_leave c.args.self.now s) s.end in
+    c.in_ok-write_through-2.ensures.written
+    ∙ ap (overwritten c.args.self.now.gate (1 ∷ [])) (c.in_ok-write_through.ensures.written ∙ ap (λ l. overwritten (c.args.self.now.gate + 1) l old) spelled)
+    ∙ overwritten_in_two c.args.self.now.gate 1 (record_bytes c.args.body.now ++ 0 ∷ []) old within
