@@ -5,7 +5,7 @@ use Rattle.std.specs.Option.{option_map}
 use Rattle.std.specs.Str.{bytes_eq}
 use Rattle.erl_term.specs.Value.{Value}
 use Rattle.rel_files.specs.Fault.{fault_of}
-use Rattle.rel_files.specs.File.{HasTerm, IsReleaseTerm, IsRelFault}
+use Rattle.rel_files.specs.File.{HasFileTerm, IsReleaseTerm, IsRelFault}
 use Rattle.rel_files.specs.Release.{Release}
 use Rattle.rel_files.specs.declared.fault.FileFault.{FileFault}
 use Rattle.rel_handler.specs.Limits.{is_small}
@@ -35,7 +35,7 @@ pub record Found : Type 0 where
 
 -- what the bytes of a `.rel` file say
 abbrev pub Says : List ℕ → Result Found FileFault → Type 0
-Says bs (Ok found) = HasTerm bs found.term × IsReleaseTerm found.term found.release
+Says bs (Ok found) = HasFileTerm bs found.term × IsReleaseTerm found.term found.release
 Says bs (Err fault) = IsRelFault bs fault
 
 -- what a command makes of that
