@@ -102,7 +102,6 @@ module _ {D : Type 0} (moment : D → ℕ) (left_since : D → ℕ → List ℕ 
         (subst (λ bodies. StandsEither bodies body text c) same.records either.0, base_there c (subst (λ d. LeavesOthers (IsInRecord (store.gate_in reserved) (length body)) (seen d) c) same.disk either.1)))
         (both moment left_since (store.disk_in reserved) new _ _ leaves kept)))
 
-
     -- the store then makes the new list
     pub committed : (new : List (List ℕ)) → new ≡ store.records_in reserved ++ body ∷ [] → Makes new (booted end)
     committed new is =
