@@ -18,10 +18,11 @@ use Rattle.rel_session.specs.Given.{files_of}
 use Rattle.rel_session.specs.declared.node.Node.{Node as NodeInMemory}
 use Rattle.rel_session.specs.declared.place.Place.TheVariants as memory
 use Rattle.rel_session.specs.Nodes.{disk_of, IsDisk, IsPlace, IsNode, TurnsNode}
-use Rattle.rel_session.specs.Output.{AppendsFront, Writes}
+use Rattle.counted_io.specs.Prefixes.{AppendsPrefix}
+use Rattle.rel_session.specs.Written.{Writes}
 use Rattle.rel_session.specs.Answers.{Ending, Answers, Begins, begun, commands_in, IsAnswerOrFull, BeginsAnswer, FromDisk}
 use Rattle.rel_session.specs.Answers.Ending.{ended, cut_off}
-use Rattle.rel_session.proofs.Writing.{Appends-nothing, Appends-twice}
+use Rattle.counted_io.proofs.WriteLemmas.{Appends-nothing, Appends-twice}
 
 -- What was written so far: whatever answers the commands that are left completes the answer to all, and a front of it a front.
 pub record SoFar (p : Place) (input : List ℕ) (left : Feed Command) (old now : Option (List ℕ)) (n : Node) : Type 0 where
@@ -43,8 +44,8 @@ all_left : (known : Option (List ℕ)) → option_map commands_of (option_map li
 all_left None = refl
 all_left (Some bytes) = refl
 
-pub fresh_left : {R : Type 0} (remaining : R → Option (List ℕ)) (i : Input R) → IsFresh i → commands_left remaining i ≡ option_map commands_in (remaining i.reader)
-fresh_left remaining i fresh = rw (fresh.0, fresh.1) (all_left (remaining i.reader))
+pub fresh_left : {R : Type 0} (remaining : R → Option (List ℕ)) (i : Input R) → IsFresh i → commands_left remaining i ≡ option_map commands_in (remaining i.reader.reader)
+fresh_left remaining i fresh = rw (fresh.0, fresh.1) (all_left (remaining i.reader.reader))
 
 -- a step is done
 pub goes_on : (p : Place) (known : Option (List ℕ)) (now new : Option (Feed Command)) (old mid mid' : Option (List ℕ)) (n m : Node) (c : Command) (xs : List ℕ)
@@ -114,7 +115,7 @@ stopped_between p (Some input) (Some now) old mid n s =
 
 -- within an answer
 pub stopped_within : (p : Place) (known : Option (List ℕ)) (now new : Option (Feed Command)) (old mid mid' : Option (List ℕ)) (n m : Node) (c : Command) (xs : List ℕ)
-    → IsGoing p known now old mid n → Gives now new (λ d. c ≡ d) → Follows true n c (go m xs) → AppendsFront mid mid' xs
+    → IsGoing p known now old mid n → Gives now new (λ d. c ≡ d) → Follows true n c (go m xs) → AppendsPrefix mid mid' xs
     → IfSome known (λ input. Writes old mid' (BeginsAnswer p input))
 stopped_within p None now new old mid mid' n m c xs s g f a = tt
 stopped_within p (Some input) None new old mid mid' n m c xs s g f a = absurd s
@@ -149,11 +150,11 @@ module _ {D : Type 0} (seen : D → List ℕ) (failures : D → ℕ) (disk : D) 
       (p : Place) → IsDisk (seen disk) p → (HasFailed (failures disk) (failures (disk_of node)) → ⊥) → (n : Node) × IsNode seen node n × IsGoing p known left old now n
 
   pub starts : {R : Type 0} (remaining : R → Option (List ℕ)) (i : Input R) (old : Option (List ℕ)) (node : NodeInMemory D)
-      → IsFresh i → node.place ≡ memory.Bare disk → files_of node.files ≡ (λ path. None) → Goes (remaining i.reader) (commands_left remaining i) old old node
+      → IsFresh i → node.place ≡ memory.Bare disk → files_of node.files ≡ (λ path. None) → Goes (remaining i.reader.reader) (commands_left remaining i) old old node
   starts remaining i old node fresh is none = λ p at calm. (
     begun p,
     record { place = subst (λ place. IsPlace seen place p) (sym is) at; files = none },
-    rw (fresh_left remaining i fresh) (begins_known p (remaining i.reader) old),
+    rw (fresh_left remaining i fresh) (begins_known p (remaining i.reader.reader) old),
   )
 
   module _ (known : Option (List ℕ)) (now new : Option (Feed Command)) (old mid : Option (List ℕ)) (node : NodeInMemory D)
@@ -185,7 +186,7 @@ module _ {D : Type 0} (seen : D → List ℕ) (failures : D → ℕ) (disk : D) 
         stopped_between p known now old mid n going
 
     pub gives_up_within : (mid' : Option (List ℕ)) (later : NodeInMemory D) (final : D) (c : Command) (xs : List ℕ) → final ≡ disk_of later → failures (disk_of node) ≤ failures (disk_of later)
-        → Gives now new (λ d. c ≡ d) → TurnsNode seen failures node later (λ n m. Follows true n c (go m xs)) → AppendsFront mid mid' xs
+        → Gives now new (λ d. c ≡ d) → TurnsNode seen failures node later (λ n m. Follows true n c (go m xs)) → AppendsPrefix mid mid' xs
         → FromDisk (seen disk) (failures disk) (failures final) (λ p. IfSome known (λ input. Writes old mid' (BeginsAnswer p input)))
     gives_up_within mid' later final c xs is more g turns a = λ p at calm.
         let still = subst (λ d. HasFailed (failures disk) (failures d) → ⊥) is calm in

@@ -20,11 +20,12 @@ use Rattle.rel_session.specs.Input.{IsFresh, commands_left}
 use Rattle.rel_session.specs.Kept.{IsKeptPlace, Went, Survives}
 use Rattle.rel_session.specs.Node.{Files}
 use Rattle.rel_session.specs.Nodes.{disk_at, disk_of}
-use Rattle.rel_session.specs.Output.{AppendsFront, Writes}
+use Rattle.counted_io.specs.Prefixes.{AppendsPrefix}
+use Rattle.rel_session.specs.Written.{Writes}
 use Rattle.rel_session.specs.Runs.{News, Tells, TellsAll, IsCut, cut_short, files_behind, IsKept, Goes, Runs}
 use Rattle.rel_session.specs.Runs.News.{nothing, acknowledged, in_doubt}
 use Rattle.rel_session.proofs.Going.{fresh_left}
-use Rattle.rel_session.proofs.Writing.{Appends-nothing, Appends-twice}
+use Rattle.counted_io.proofs.WriteLemmas.{Appends-nothing, Appends-twice}
 
 -- What was written so far tells this: what is told of the commands that are left completes what is told of all.
 pub record HasTold (input : List ℕ) (left : Feed Command) (old now : Option (List ℕ)) (files : Files) (so_far : List News) : Type 0 where
@@ -146,13 +147,13 @@ module _ {D : Type 0} (seen : D → List ℕ) (may_leave : D → List ℕ → Ty
         → (run : List News) × Runs seen may_leave moment left_since before run disk final × HasToldAll input old now run
 
     pub sets_out : {R : Type 0} (remaining : R → Option (List ℕ)) (i : Input R) (old : Option (List ℕ)) (node : NodeInMemory D)
-        → IsFresh i → node.place ≡ memory.Bare disk → files_of node.files ≡ (λ path. None) → IsSurviving (remaining i.reader) (commands_left remaining i) old old node
+        → IsFresh i → node.place ≡ memory.Bare disk → files_of node.files ≡ (λ path. None) → IsSurviving (remaining i.reader.reader) (commands_left remaining i) old old node
     sets_out remaining i old node fresh is none = λ before kept. record {
       so_far = [];
       known = before;
       kept = subst (λ place. IsKeptPlace seen may_leave moment left_since before place) (sym is) (bare before kept);
       runs = λ more final r. subst (λ place. Runs seen may_leave moment left_since before more (disk_at place) final) is r;
-      telling = subst (λ files. IsTelling (remaining i.reader) (commands_left remaining i) old old files []) (sym none) (rw (fresh_left remaining i fresh) (begins_telling (remaining i.reader) old));
+      telling = subst (λ files. IsTelling (remaining i.reader.reader) (commands_left remaining i) old old files []) (sym none) (rw (fresh_left remaining i fresh) (begins_telling (remaining i.reader.reader) old));
     }
       where
         bare : (before : Option Known) → IsKept seen may_leave moment left_since before disk → IsKeptPlace seen may_leave moment left_since before (memory.Bare disk)
@@ -209,7 +210,7 @@ module _ {D : Type 0} (seen : D → List ℕ) (may_leave : D → List ℕ → Ty
             )
 
         -- a front of the answer was written
-        pub stops_within : (mid' : Option (List ℕ)) (text : String Global) → Survives seen may_leave moment left_since c (Ok (Some text)) node later → AppendsFront mid mid' (string_bytes text)
+        pub stops_within : (mid' : Option (List ℕ)) (text : String Global) → Survives seen may_leave moment left_since c (Ok (Some text)) node later → AppendsPrefix mid mid' (string_bytes text)
             → HasSurvived input old mid' final
         stops_within mid' text survives (front, [], whole, a) =
             stops input new old mid' later (answers mid' text survives (subst (λ bytes. Appends mid mid' bytes) (sym (append-nil front) ∙ whole) a)) final is

@@ -1,7 +1,7 @@
 pub mod Feed
 pub mod Lines
 pub mod Input
-pub mod Output
+pub mod Written
 pub mod Ahead
 pub mod AheadView
 pub mod Commands

@@ -22,7 +22,7 @@ pub loop-command-preserved : goal.loop-command-preserved
 loop-command-preserved g c =
     let counted = c.loop-command.invariant.2 in
     let more = c.follow-next.ensures.counted in (
-      steps g.D.Disk.seen g.D.Disk.failures c.args.disk (g.R.Read.remaining c.args.input.now.reader) (commands_left g.R.Read.remaining c.loop-command.input)
+      steps g.D.Disk.seen g.D.Disk.failures c.args.disk (g.R.Read.remaining c.args.input.now.reader.reader) (commands_left g.R.Read.remaining c.loop-command.input)
           (commands_left g.R.Read.remaining c.next_command.new.self) (g.W.Write.contents c.args.output.now.writer) (g.W.Write.contents c.loop-command.output.writer)
           c.loop-command.node c.loop-command.invariant.0 counted (g.W.Write.contents c.write.new.self.writer) c.follow-next.result.0 (command_of c.in-Ok-Some.command)
           (string_bytes c.in-Ok-Some-text.text) more (rw c.in-Ok-Some.field-0-is at c.in-Ok-Some.ensures.command)
@@ -30,8 +30,8 @@ loop-command-preserved g c =
       c.follow-next.ensures.sound,
       (omega (arith, counted, more)),
       c.in-Ok-Some.ensures.cause ∙ c.loop-command.invariant.3,
-      c.in_default.ensures.same ∙ c.loop-command.invariant.4,
-      answers g.D.Disk.seen g.D.Disk.may_leave g.D.Disk.moment g.D.Disk.left_since c.args.disk (g.R.Read.remaining c.args.input.now.reader)
+      c.in_default.ensures.counted ∙ c.loop-command.invariant.4,
+      answers g.D.Disk.seen g.D.Disk.may_leave g.D.Disk.moment g.D.Disk.left_since c.args.disk (g.R.Read.remaining c.args.input.now.reader.reader)
           (commands_left g.R.Read.remaining c.loop-command.input) (commands_left g.R.Read.remaining c.next_command.new.self) (g.W.Write.contents c.args.output.now.writer) (g.W.Write.contents c.loop-command.output.writer)
           c.loop-command.node c.loop-command.invariant.5 (command_of c.in-Ok-Some.command) (rw c.in-Ok-Some.field-0-is at c.in-Ok-Some.ensures.command) c.follow-next.result.0
           (g.W.Write.contents c.write.new.self.writer) c.in-Ok-Some-text.text (rw (c.in-Ok-Some-text.is, c.in-Ok-Some-text.field-0-is) at c.follow-next.ensures.survives)
@@ -40,13 +40,13 @@ loop-command-preserved g c =
 
 pub returns-in-Ok-None-clause-answered : goal.returns-in-Ok-None-clause-answered
 returns-in-Ok-None-clause-answered g c =
-    ends g.D.Disk.seen g.D.Disk.failures c.args.disk (g.R.Read.remaining c.args.input.now.reader) (commands_left g.R.Read.remaining c.loop-command.input)
+    ends g.D.Disk.seen g.D.Disk.failures c.args.disk (g.R.Read.remaining c.args.input.now.reader.reader) (commands_left g.R.Read.remaining c.loop-command.input)
     (commands_left g.R.Read.remaining c.next_command.new.self) (g.W.Write.contents c.args.output.now.writer) (g.W.Write.contents c.loop-command.output.writer)
     c.loop-command.node c.loop-command.invariant.0 c.loop-command.invariant.2 c.into_disk.result c.into_disk.ensures (rw c.in-Ok-None.field-0-is at c.in-Ok-None.ensures.command)
 
 pub returns-in-Err-clause-cut : goal.returns-in-Err-clause-cut
 returns-in-Err-clause-cut g c = λ is.
-    ends_cut g.D.Disk.seen g.D.Disk.failures c.args.disk (g.R.Read.remaining c.args.input.now.reader) (commands_left g.R.Read.remaining c.loop-command.input)
+    ends_cut g.D.Disk.seen g.D.Disk.failures c.args.disk (g.R.Read.remaining c.args.input.now.reader.reader) (commands_left g.R.Read.remaining c.loop-command.input)
     (commands_left g.R.Read.remaining c.next_command.new.self) (g.W.Write.contents c.args.output.now.writer) (g.W.Write.contents c.loop-command.output.writer)
     c.loop-command.node c.loop-command.invariant.0 c.loop-command.invariant.2 c.into_disk-in-Err.result c.into_disk-in-Err.ensures
     (cut_told (λ (known : CommandInMemory) d. command_of known ≡ d) c.in-Err.error (commands_left g.R.Read.remaining c.loop-command.input)
@@ -54,22 +54,22 @@ returns-in-Err-clause-cut g c = λ is.
 
 pub returns-in-Err-clause-front : goal.returns-in-Err-clause-front
 returns-in-Err-clause-front g c =
-    gives_up g.D.Disk.seen g.D.Disk.failures c.args.disk (g.R.Read.remaining c.args.input.now.reader) (commands_left g.R.Read.remaining c.loop-command.input)
+    gives_up g.D.Disk.seen g.D.Disk.failures c.args.disk (g.R.Read.remaining c.args.input.now.reader.reader) (commands_left g.R.Read.remaining c.loop-command.input)
     (commands_left g.R.Read.remaining c.next_command.new.self) (g.W.Write.contents c.args.output.now.writer) (g.W.Write.contents c.loop-command.output.writer)
     c.loop-command.node c.loop-command.invariant.0 c.loop-command.invariant.2 c.loop-command.node c.into_disk-in-Err.result c.into_disk-in-Err.ensures (omega arith)
 
 pub returns-in-Err-write-clause-front : goal.returns-in-Err-write-clause-front
 returns-in-Err-write-clause-front g c =
-    gives_up_within g.D.Disk.seen g.D.Disk.failures c.args.disk (g.R.Read.remaining c.args.input.now.reader) (commands_left g.R.Read.remaining c.loop-command.input)
+    gives_up_within g.D.Disk.seen g.D.Disk.failures c.args.disk (g.R.Read.remaining c.args.input.now.reader.reader) (commands_left g.R.Read.remaining c.loop-command.input)
     (commands_left g.R.Read.remaining c.next_command.new.self) (g.W.Write.contents c.args.output.now.writer) (g.W.Write.contents c.loop-command.output.writer)
     c.loop-command.node c.loop-command.invariant.0 c.loop-command.invariant.2 (g.W.Write.contents c.write.new.self.writer) c.follow-next.result.0 c.into_disk-in-Err-write.result
     (command_of c.in-Ok-Some.command) (string_bytes c.in-Ok-Some-text.text) c.into_disk-in-Err-write.ensures c.follow-next.ensures.counted
     (rw c.in-Ok-Some.field-0-is at c.in-Ok-Some.ensures.command) (rw (c.in-Ok-Some-text.is, c.in-Ok-Some-text.field-0-is) at c.follow-next.ensures.followed)
-    (rw c.as_bytes.ensures.value at c.in-Err-write.ensures.front)
+    (rw c.as_bytes.ensures.value at c.in-Err-write.ensures.prefix)
 
 pub returns-in-Ok-None-text-clause-answered : goal.returns-in-Ok-None-text-clause-answered
 returns-in-Ok-None-text-clause-answered g c =
-    quits g.D.Disk.seen g.D.Disk.failures c.args.disk (g.R.Read.remaining c.args.input.now.reader) (commands_left g.R.Read.remaining c.loop-command.input)
+    quits g.D.Disk.seen g.D.Disk.failures c.args.disk (g.R.Read.remaining c.args.input.now.reader.reader) (commands_left g.R.Read.remaining c.loop-command.input)
     (commands_left g.R.Read.remaining c.next_command.new.self) (g.W.Write.contents c.args.output.now.writer) (g.W.Write.contents c.loop-command.output.writer)
     c.loop-command.node c.loop-command.invariant.0 c.loop-command.invariant.2 c.follow-next.result.0 c.into_disk-in-Ok-None-text.result (command_of c.in-Ok-Some.command)
     c.into_disk-in-Ok-None-text.ensures c.follow-next.ensures.counted (rw c.in-Ok-Some.field-0-is at c.in-Ok-Some.ensures.command)
@@ -77,39 +77,39 @@ returns-in-Ok-None-text-clause-answered g c =
 
 pub returns-in-Err-text-clause-front : goal.returns-in-Err-text-clause-front
 returns-in-Err-text-clause-front g c =
-    gives_up g.D.Disk.seen g.D.Disk.failures c.args.disk (g.R.Read.remaining c.args.input.now.reader) (commands_left g.R.Read.remaining c.loop-command.input)
+    gives_up g.D.Disk.seen g.D.Disk.failures c.args.disk (g.R.Read.remaining c.args.input.now.reader.reader) (commands_left g.R.Read.remaining c.loop-command.input)
     (commands_left g.R.Read.remaining c.next_command.new.self) (g.W.Write.contents c.args.output.now.writer) (g.W.Write.contents c.loop-command.output.writer)
     c.loop-command.node c.loop-command.invariant.0 c.loop-command.invariant.2 c.follow-next.result.0 c.into_disk-in-Err-text.result c.into_disk-in-Err-text.ensures
     c.follow-next.ensures.counted
 
 pub returns-in-Ok-None-clause-survives : goal.returns-in-Ok-None-clause-survives
 returns-in-Ok-None-clause-survives g c =
-    stops g.D.Disk.seen g.D.Disk.may_leave g.D.Disk.moment g.D.Disk.left_since c.args.disk (g.R.Read.remaining c.args.input.now.reader) (commands_left g.R.Read.remaining c.loop-command.input)
+    stops g.D.Disk.seen g.D.Disk.may_leave g.D.Disk.moment g.D.Disk.left_since c.args.disk (g.R.Read.remaining c.args.input.now.reader.reader) (commands_left g.R.Read.remaining c.loop-command.input)
     (g.W.Write.contents c.args.output.now.writer) (g.W.Write.contents c.loop-command.output.writer) c.loop-command.node c.loop-command.invariant.5 c.into_disk.result c.into_disk.ensures
 
 pub returns-in-Err-clause-survives : goal.returns-in-Err-clause-survives
 returns-in-Err-clause-survives g c =
-    stops g.D.Disk.seen g.D.Disk.may_leave g.D.Disk.moment g.D.Disk.left_since c.args.disk (g.R.Read.remaining c.args.input.now.reader) (commands_left g.R.Read.remaining c.loop-command.input)
+    stops g.D.Disk.seen g.D.Disk.may_leave g.D.Disk.moment g.D.Disk.left_since c.args.disk (g.R.Read.remaining c.args.input.now.reader.reader) (commands_left g.R.Read.remaining c.loop-command.input)
     (g.W.Write.contents c.args.output.now.writer) (g.W.Write.contents c.loop-command.output.writer) c.loop-command.node c.loop-command.invariant.5 c.into_disk-in-Err.result c.into_disk-in-Err.ensures
 
 pub returns-in-Err-write-clause-survives : goal.returns-in-Err-write-clause-survives
 returns-in-Err-write-clause-survives g c =
-    stops_within g.D.Disk.seen g.D.Disk.may_leave g.D.Disk.moment g.D.Disk.left_since c.args.disk (g.R.Read.remaining c.args.input.now.reader) (commands_left g.R.Read.remaining c.loop-command.input)
+    stops_within g.D.Disk.seen g.D.Disk.may_leave g.D.Disk.moment g.D.Disk.left_since c.args.disk (g.R.Read.remaining c.args.input.now.reader.reader) (commands_left g.R.Read.remaining c.loop-command.input)
     (commands_left g.R.Read.remaining c.next_command.new.self) (g.W.Write.contents c.args.output.now.writer) (g.W.Write.contents c.loop-command.output.writer) c.loop-command.node c.loop-command.invariant.5
     (command_of c.in-Ok-Some.command) (rw c.in-Ok-Some.field-0-is at c.in-Ok-Some.ensures.command) c.follow-next.result.0 g.met.D.Disk.counts_now
     c.into_disk-in-Err-write.result c.into_disk-in-Err-write.ensures (g.W.Write.contents c.write.new.self.writer) c.in-Ok-Some-text.text
-    (rw (c.in-Ok-Some-text.is, c.in-Ok-Some-text.field-0-is) at c.follow-next.ensures.survives) (rw c.as_bytes.ensures.value at c.in-Err-write.ensures.front)
+    (rw (c.in-Ok-Some-text.is, c.in-Ok-Some-text.field-0-is) at c.follow-next.ensures.survives) (rw c.as_bytes.ensures.value at c.in-Err-write.ensures.prefix)
 
 pub returns-in-Ok-None-text-clause-survives : goal.returns-in-Ok-None-text-clause-survives
 returns-in-Ok-None-text-clause-survives g c =
-    quits_then g.D.Disk.seen g.D.Disk.may_leave g.D.Disk.moment g.D.Disk.left_since c.args.disk (g.R.Read.remaining c.args.input.now.reader) (commands_left g.R.Read.remaining c.loop-command.input)
+    quits_then g.D.Disk.seen g.D.Disk.may_leave g.D.Disk.moment g.D.Disk.left_since c.args.disk (g.R.Read.remaining c.args.input.now.reader.reader) (commands_left g.R.Read.remaining c.loop-command.input)
     (commands_left g.R.Read.remaining c.next_command.new.self) (g.W.Write.contents c.args.output.now.writer) (g.W.Write.contents c.loop-command.output.writer) c.loop-command.node c.loop-command.invariant.5
     (command_of c.in-Ok-Some.command) (rw c.in-Ok-Some.field-0-is at c.in-Ok-Some.ensures.command) c.follow-next.result.0
     c.into_disk-in-Ok-None-text.result c.into_disk-in-Ok-None-text.ensures (rw (c.in-Ok-None-text.is, c.in-Ok-None-text.field-0-is) at c.follow-next.ensures.survives)
 
 pub returns-in-Err-text-clause-survives : goal.returns-in-Err-text-clause-survives
 returns-in-Err-text-clause-survives g c =
-    stops_before g.D.Disk.seen g.D.Disk.may_leave g.D.Disk.moment g.D.Disk.left_since c.args.disk (g.R.Read.remaining c.args.input.now.reader) (commands_left g.R.Read.remaining c.loop-command.input)
+    stops_before g.D.Disk.seen g.D.Disk.may_leave g.D.Disk.moment g.D.Disk.left_since c.args.disk (g.R.Read.remaining c.args.input.now.reader.reader) (commands_left g.R.Read.remaining c.loop-command.input)
     (commands_left g.R.Read.remaining c.next_command.new.self) (g.W.Write.contents c.args.output.now.writer) (g.W.Write.contents c.loop-command.output.writer) c.loop-command.node c.loop-command.invariant.5
     (command_of c.in-Ok-Some.command) (rw c.in-Ok-Some.field-0-is at c.in-Ok-Some.ensures.command) c.follow-next.result.0 g.met.D.Disk.counts_now
     c.into_disk-in-Err-text.result c.into_disk-in-Err-text.ensures _ c.follow-next.result.1 c.in-Err-text.is c.follow-next.ensures.survives

@@ -7,13 +7,13 @@ use Rattle.rel_session.proofs.command_loop.session.Given as goal
 
 abbrev pub invariant-loop-command : goal.invariant-loop-command
 invariant-loop-command g l =
-    Goes g.D.Disk.seen g.D.Disk.failures l.fn.disk (g.R.Read.remaining l.initial.input.reader) (commands_left g.R.Read.remaining l.input)
+    Goes g.D.Disk.seen g.D.Disk.failures l.fn.disk (g.R.Read.remaining l.initial.input.reader.reader) (commands_left g.R.Read.remaining l.input)
     (g.W.Write.contents l.initial.output.writer) (g.W.Write.contents l.output.writer) l.node
     × IsSoundPlace g.D.Disk.seen g.D.Disk.may_leave l.node.place
     × (g.D.Disk.failures l.fn.disk ≤ g.D.Disk.failures (disk_of l.node))
-    × (l.input.failures ≡ l.initial.input.failures)
+    × (l.input.reader.failures ≡ l.initial.input.reader.failures)
     × (l.output.failures ≡ l.initial.output.failures)
-    × IsSurviving g.D.Disk.seen g.D.Disk.may_leave g.D.Disk.moment g.D.Disk.left_since l.fn.disk (g.R.Read.remaining l.initial.input.reader) (commands_left g.R.Read.remaining l.input)
+    × IsSurviving g.D.Disk.seen g.D.Disk.may_leave g.D.Disk.moment g.D.Disk.left_since l.fn.disk (g.R.Read.remaining l.initial.input.reader.reader) (commands_left g.R.Read.remaining l.input)
     (g.W.Write.contents l.initial.output.writer) (g.W.Write.contents l.output.writer) l.node
 
 abbrev pub decreases-loop-command : goal.decreases-loop-command
