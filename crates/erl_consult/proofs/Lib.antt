@@ -1,1 +1,2 @@
-pub mod Answering
+mod ReadLemmas
+mod ListLemmas

@@ -1,11 +1,12 @@
 //! Why a text was not listed.
 ghost use Rattle.std.specs.Prelude.{◌≡◌};
-ghost use Rattle.std.specs.IoError.{error_kind};
-ghost use Rattle.erl_consult.specs.Listing.{told_of_a_read};
-ghost use Rattle.erl_consult.specs.declared.error.ConsultError.TheVariants.{Fault, Failed};
+ghost use Rattle.erl_consult.specs.Exits.{exit_status};
+ghost use Rattle.erl_consult.specs.declared.error.ConsultError.TheVariants.{Fault, Read, Write};
+ghost use Rattle.erl_term.specs.TermFault.TheVariants.{NoMemory};
 
+use counted_io::{ReadFailed, WriteFailed};
 use erl_term::TermFault;
-use std::io;
+use std::alloc::{AllocError, AllocFailed};
 use thiserror::Error;
 
 /// Why a text was not listed.
@@ -14,12 +15,29 @@ pub enum ConsultError {
     /// It is no row of terms, or no memory was left.
     #[error("{0}")]
     Fault(TermFault),
-    /// A read or a write failed.
+    /// A read failed. It isn't tried again.
     #[error("input or output failed")]
-    Failed,
+    Read,
+    /// A write failed, or took nothing. It isn't tried again.
+    #[error("input or output failed")]
+    Write,
     /// It has more bytes than a text may have.
     #[error("input too long")]
     TooLong,
+}
+
+impl ConsultError {
+    /// The exit status of a program that answers so.
+    pub fn exit_status(self) -> u8
+        ensures { result ≡ exit_status self }
+    {
+        match self {
+            ConsultError::Fault(TermFault::NoMemory) => 3,
+            ConsultError::Fault(_) => 1,
+            ConsultError::Read | ConsultError::Write => 2,
+            ConsultError::TooLong => 4,
+        }
+    }
 }
 
 impl From<TermFault> for ConsultError {
@@ -30,32 +48,34 @@ impl From<TermFault> for ConsultError {
     }
 }
 
-impl ConsultError {
-    /// The exit status of a program that answers so.
-    pub fn exit_status(self) -> u8 {
-        match self {
-            ConsultError::Fault(TermFault::NoMemory) => 3,
-            ConsultError::Fault(_) => 1,
-            ConsultError::Failed => 2,
-            ConsultError::TooLong => 4,
-        }
-    }
+impl From<AllocError> for ConsultError {
+    ghost from_gives = { λ _ e. e ≡ Fault NoMemory };
 
-    /// What is told of a read that failed: it asks for memory too.
-    pub fn of_a_read(error: io::Error) -> ConsultError
-        ensures { result ≡ told_of_a_read (error_kind error) }
-    {
-        match error.kind() {
-            io::ErrorKind::OutOfMemory => ConsultError::Fault(TermFault::NoMemory),
-            _ => ConsultError::Failed,
-        }
+    fn from(_: AllocError) -> ConsultError {
+        ConsultError::Fault(TermFault::NoMemory)
     }
 }
 
-impl From<io::Error> for ConsultError {
-    ghost from_gives = { λ _ e. e ≡ Failed };
+impl<T: Drop> From<AllocFailed<T>> for ConsultError {
+    ghost from_gives = { λ _ e. e ≡ Fault NoMemory };
 
-    fn from(_: io::Error) -> ConsultError {
-        ConsultError::Failed
+    fn from(_: AllocFailed<T>) -> ConsultError {
+        ConsultError::Fault(TermFault::NoMemory)
+    }
+}
+
+impl From<ReadFailed> for ConsultError {
+    ghost from_gives = { λ _ e. e ≡ Read };
+
+    fn from(_: ReadFailed) -> ConsultError {
+        ConsultError::Read
+    }
+}
+
+impl From<WriteFailed> for ConsultError {
+    ghost from_gives = { λ _ e. e ≡ Write };
+
+    fn from(_: WriteFailed) -> ConsultError {
+        ConsultError::Write
     }
 }

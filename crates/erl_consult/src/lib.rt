@@ -1,7 +1,10 @@
 //! The terms of a text, one a line, as `erl_term` prints them.
 //!
-//! What [`consult`] writes is a stated function of what it reads: `Lists` in `specs/Listing.antt`. A text that is no row
-//! of terms is refused by its fault, and one that is too long by its length; then nothing is written.
+//! What [`consult`] writes is a stated function of what it reads: `Lists` in `specs/Listing.antt`. A text that is too
+//! long is refused by its length, and one that is no row of terms by its fault; then nothing is written. A failed read
+//! and a failed write are reported only where one was, and where a write fails a prefix of the listing was written.
+//!
+//! [`ConsultError::exit_status`] is the exit status of the program `consult`.
 #![tactic(auto)]
 
 mod error;

@@ -1,42 +1,94 @@
 //! From a reader to a writer.
-ghost use Rattle.std.specs.Prelude.{◌≡◌, OnOk, IfOk, IfErr};
-ghost use Rattle.erl_consult.specs.Listing.{Answers, IsRefusal, Tells, HasRead};
+ghost use Rattle.std.specs.Prelude.{◌≡◌, ◌≢◌, ◌⊎◌, ◌<◌, ◌≤◌, length, OnOk, IfOk, IfErr, IsErrOf};
+ghost use Rattle.std.specs.Io.KnownBytes.{IsAtEnd};
+ghost use Rattle.counted_io.specs.Counted.{left_in, failed_reads, held_by, failed_writes};
+ghost use Rattle.counted_io.specs.Failures.{HasRisen};
+ghost use Rattle.erl_consult.specs.Listing.{HasTaken, HasRead, HasListed, HasBegun, IsReported};
 
 use crate::error::ConsultError;
 use crate::listing::listing;
+use counted_io::{CountedReader, CountedWriter};
+use erl_term::TermFault;
 use std::alloc::Global;
 use std::io::{Read, Write};
 
 /// How many bytes a text has at most.
 const MOST_BYTES: usize = 1_048_576;
 
-/// Writes the listing of all that the reader gives. Where the text has a fault or is too long, nothing is written.
-pub fn consult<R: Read + Drop, W: Write>(
+/// How many bytes are asked for at once.
+const ROOM: usize = 8_192;
+
+/// Writes the listing of all that the reader gives.
+pub fn consult<R: Read, W: Write>(
     alloc: Global,
-    reader: R,
-    writer: &mut W,
+    reader: &mut CountedReader<R>,
+    writer: &mut CountedWriter<W>,
 ) -> Result<(), ConsultError>
-    ensures listed { OnOk result (Answers (R.remaining reader) (W.contents writer.old) (W.contents writer.new)) }
-    ensures refused { IfErr result (Tells (R.remaining reader)) }
-    ensures unwritten { IfErr result (λ e. IsRefusal e → writer.new ≡ writer.old) }
+    // The listing of the text was written, and nothing else.
+    ensures listed { OnOk result (HasListed (left_in R.remaining reader.old)
+        (held_by W.contents writer.old) (held_by W.contents writer.new)) }
+
+    // A text is refused for its own length or fault.
+    ensures refused { IfErr result (IsReported (left_in R.remaining reader.old)) }
+
+    // Nothing was written then, and no write has failed.
+    ensures unwritten { IfErr result (λ e. e ≢ ConsultError.Write → writer.new ≡ writer.old) }
+
+    // Where a write failed, a prefix of the listing was written.
+    ensures prefix { IsErrOf result ConsultError.Write → HasBegun (left_in R.remaining reader.old)
+        (held_by W.contents writer.old) (held_by W.contents writer.new) }
+
+    // A failure is reported only where one was.
+    ensures read { IsErrOf result ConsultError.Read
+        → HasRisen (failed_reads reader.old) (failed_reads reader.new) }
+    ensures write { IsErrOf result ConsultError.Write
+        → HasRisen (failed_writes writer.old) (failed_writes writer.new) }
 {
     let bytes = read_text(alloc, reader)?;
-    if bytes.len() > MOST_BYTES {
-        return Err(ConsultError::TooLong);
-    }
     let text = listing(alloc, &bytes)?;
-    writer.write_all(text.as_bytes())?;
-    Ok(writer.flush()?)
+    Ok(writer.write(text.as_bytes())?)
 }
 
-// All that the reader gives, up to one byte more than a text may have.
-fn read_text<R: Read + Drop>(alloc: Global, reader: R) -> Result<Vec<u8>, ConsultError>
-    ensures read { IfOk result (λ bytes. HasRead (R.remaining reader) bytes.items) }
-    ensures failed { IfErr result (Tells (R.remaining reader)) }
+/// All that the reader gives, of which at most one byte more is taken than a text may have.
+fn read_text<R: Read>(alloc: Global, reader: &mut CountedReader<R>) -> Result<Vec<u8>, ConsultError>
+    ensures read { IfOk result (λ bytes. HasRead (left_in R.remaining reader.old) bytes.items) }
+    ensures refused { IfErr result (IsReported (left_in R.remaining reader.old)) }
+    ensures cause { IsErrOf result ConsultError.Read
+        → HasRisen (failed_reads reader.old) (failed_reads reader.new) }
+    ensures unwritten { IfErr result (λ e. e ≢ ConsultError.Write) }
 {
     let mut bytes = Vec::new(alloc);
-    match reader.take(MOST_BYTES as u64 + 1).read_to_end(&mut bytes) {
-        Ok(_) => Ok(bytes),
-        Err(error) => Err(ConsultError::of_a_read(error)),
+    let mut room = vec![in alloc; 0u8; ROOM]?;
+    while bytes.len() <= MOST_BYTES {
+        let most = room.len().min(MOST_BYTES + 1 - bytes.len());
+        match read_some(reader, &mut bytes, &mut room, most) {
+            Ok(0) => return Ok(bytes),
+            Ok(_) => {}
+            Err(error) => return Err(error),
+        }
     }
+    Err(ConsultError::TooLong)
+}
+
+/// Puts what one read gives at the end, at most so many bytes, and says how many came.
+fn read_some<R: Read>(
+    reader: &mut CountedReader<R>,
+    bytes: &mut Vec<u8>,
+    room: &mut [u8],
+    most: usize,
+) -> Result<usize, ConsultError>
+    requires some { 0 < most }
+    requires room { most ≤ length room.old }
+    ensures read { IfOk result (λ count. HasTaken count (left_in R.remaining reader.old)
+        (left_in R.remaining reader.new) bytes.old.items bytes.new.items) }
+    ensures end { IfOk result (λ count. count ≡ 0 → IsAtEnd (left_in R.remaining reader.new)) }
+    ensures bound { IfOk result (λ count. count ≤ most) }
+    ensures same { OnOk result (failed_reads reader.new ≡ failed_reads reader.old) }
+    ensures error { IfErr result (λ e. (e ≡ ConsultError.Read) ⊎ (e ≡ ConsultError.Fault TermFault.NoMemory)) }
+    ensures cause { IfErr result (λ e. e ≡ ConsultError.Read
+        → HasRisen (failed_reads reader.old) (failed_reads reader.new)) }
+{
+    let count = reader.read(room, most)?;
+    bytes.extend_from_slice(&room[..count])?;
+    Ok(count)
 }

@@ -1,4 +1,3 @@
-pub mod Writing
 pub mod Bytes
 pub mod Lining
 pub mod Splitting

@@ -22,20 +22,21 @@ use Rattle.rel_session.specs.Input.{IsFresh, commands_left, most_bytes}
 use Rattle.rel_session.specs.Lines.{lines_of}
 use Rattle.rel_session.specs.Node.{Place, Reply}
 use Rattle.rel_session.specs.Node.Place.{raw, closed, running, dead}
-use Rattle.rel_session.specs.Output.{AppendsFront, Writes}
+use Rattle.counted_io.specs.Prefixes.{AppendsPrefix}
+use Rattle.counted_io.proofs.WriteLemmas.{Appends-nothing, Appends-twice}
+use Rattle.rel_session.specs.Written.{Writes}
 use Rattle.rel_session.specs.Run.{Starts, Holds, Leads, Replies, Ending, IsWritten, IsRun, answers_of, commands_in}
 use Rattle.rel_session.specs.Run.Ending.{ended, cut_off, early}
 use Rattle.rel_session.specs.Transition.{Transition}
 use Rattle.rel_session.proofs.Replies.{IsDevice, held, still}
-use Rattle.rel_session.proofs.Writing.{Appends-nothing, Appends-twice}
 
 all_left : (known : Option (List ℕ)) → option_map commands_of (option_map lines_of (option_map (bytes_within most_bytes) (prepend_known [] known))) ≡ option_map commands_in known
 all_left None = refl
 all_left (Some bytes) = refl
 
 -- before the first byte was taken all commands are left
-pub fresh_left : {R : Type 0} (remaining : R → Option (List ℕ)) (i : Input R) → IsFresh i → commands_left remaining i ≡ option_map commands_in (remaining i.reader)
-fresh_left remaining i fresh = rw (fresh.0, fresh.1) (all_left (remaining i.reader))
+pub fresh_left : {R : Type 0} (remaining : R → Option (List ℕ)) (i : Input R) → IsFresh i → commands_left remaining i ≡ option_map commands_in (remaining i.reader.reader)
+fresh_left remaining i fresh = rw (fresh.0, fresh.1) (all_left (remaining i.reader.reader))
 
 -- these commands are left, where they are known
 abbrev pub AreLeft : Option (Feed Command) → Feed Command → Type 0
@@ -196,7 +197,7 @@ module _ {D : Type 0} (v : Device D) (laws : IsDevice v) where
 
     -- a command's answer was not written whole
     pub stops_within : (c : Command) (text : String Global) (later : Node D) (final : D) (mid' : Option (List ℕ)) → final ≡ disk_of later → Gives now new (λ d. c ≡ d) → Follows v c (Ok (Some text)) node later
-        → AppendsFront mid mid' (string_bytes text) → (start : Place) → Starts v start disk
+        → AppendsPrefix mid mid' (string_bytes text) → (start : Place) → Starts v start disk
         → (commands : Feed Command) × AreLeft all commands × Writes old mid' (λ t. IsRun v (λ path. None) start commands early disk final t)
     stops_within c text later final mid' is gives (files, follows) (part, left, parts, appended) start starts =
         let r = goes start starts in

@@ -11,8 +11,8 @@ pub mod Input
 pub mod Lines
 pub mod Listing
 pub mod Node
-pub mod Output
 pub mod Refusals
 pub mod Run
 pub mod Saying
 pub mod Transition
+pub mod Written

@@ -1,9 +1,9 @@
 //! Bytes that were read ahead.
-ghost use Rattle.std.specs.Prelude.{◌≡◌, ◌+◌, ◌<◌, ◌≤◌, [], ◌∷◌, length, take, IsTrue, ◌↔◌, IfOk, OnOk, MatchOption};
+ghost use Rattle.std.specs.Prelude.{◌≡◌, ◌+◌, ◌<◌, ◌≤◌, [], ◌∷◌, length, IsTrue, ◌↔◌, IfOk, OnOk, MatchOption};
 ghost use Rattle.std.specs.Io.KnownBytes.{Consumes, IsAtEnd};
 
+use counted_io::{CountedReader, ReadFailed};
 use std::alloc::{AllocError, Global};
-use std::io;
 use std::io::Read;
 use std::marker::Model;
 
@@ -35,6 +35,8 @@ impl Model for Ahead {
 }
 
 impl Ahead {
+    ghost use Rattle.counted_io.specs.Counted.{left_in, failed_reads};
+    ghost use Rattle.counted_io.specs.Failures.{Counts};
     ghost use Rattle.rel_session.specs.Input.{most_bytes};
 
     /// Nothing was taken yet.
@@ -73,30 +75,21 @@ impl Ahead {
     }
 
     /// Takes what one read gives, and never more than may still be taken.
-    pub fn fill<R: Read>(&mut self, reader: &mut R) -> io::Result<()>
+    pub fn fill<R: Read>(&mut self, reader: &mut CountedReader<R>) -> Result<(), ReadFailed>
         requires used { self.old.bytes ≡ [] }
         requires unspent { self.old.taken < most_bytes }
-        ensures read { OnOk result (Consumes (R.remaining reader.old) (R.remaining reader.new) self.new.bytes) }
-        ensures end { OnOk result (self.new.bytes ≡ [] → IsAtEnd (R.remaining reader.new)) }
+        ensures read { OnOk result (Consumes (left_in R.remaining reader.old)
+            (left_in R.remaining reader.new) self.new.bytes) }
+        ensures end { OnOk result (self.new.bytes ≡ [] → IsAtEnd (left_in R.remaining reader.new)) }
         ensures taken { OnOk result (self.new.taken ≡ self.old.taken + length self.new.bytes) }
         ensures bounded { self.new.taken ≤ most_bytes }
+        ensures counted { Counts result (failed_reads reader.old) (failed_reads reader.new) }
     {
         let most = self.room.len().min(MOST_BYTES - self.taken);
-        let count = read_some(reader, &mut self.room, most)?;
+        let count = reader.read(&mut self.room, most)?;
         self.start = 0;
         self.end = count;
         self.taken += count;
         Ok(())
     }
-}
-
-/// One read of at most so many bytes.
-fn read_some<R: Read>(reader: &mut R, room: &mut [u8], most: usize) -> io::Result<usize>
-    requires some { 0 < most }
-    requires room { most ≤ length room.old }
-    ensures read { IfOk result (λ count. Consumes (R.remaining reader.old) (R.remaining reader.new) (take count room.new)) }
-    ensures end { IfOk result (λ count. count ≡ 0 → IsAtEnd (R.remaining reader.new)) }
-    ensures bound { IfOk result (λ count. count ≤ most) }
-{
-    reader.read(&mut room[..most])
 }

@@ -1,14 +1,15 @@
 //! A session of a node.
 ghost use Rattle.std.specs.Prelude.{◌≡◌, ◌≤◌, None, IsErrOf, OnOk, OnErr};
+ghost use Rattle.counted_io.specs.Counted.{held_by, failed_writes};
+ghost use Rattle.counted_io.specs.Failures.{HasRisen};
 ghost use Rattle.rel_session.specs.Ended.{IsSession};
-ghost use Rattle.rel_session.specs.Input.{IsFresh, reader_of, taken, failed_reads, most_bytes, HasRisen};
-ghost use Rattle.rel_session.specs.Output.{writer_of, failed_writes};
+ghost use Rattle.rel_session.specs.Input.{IsFresh, left_in, taken, failed_reads, most_bytes};
 ghost use Rattle.rel_session.specs.Run.Ending.{ended, cut_off, early};
 
 use crate::error::SessionError;
 use crate::input::Input;
 use crate::node::Node;
-use crate::output::Output;
+use counted_io::CountedWriter;
 use rel_disk::Disk;
 use std::alloc::Global;
 use std::io::{Read, Write};
@@ -19,21 +20,21 @@ pub fn session<D: Disk, R: Read + Drop, W: Write + Drop>(
     alloc: Global,
     disk: D,
     input: &mut Input<R>,
-    output: &mut Output<W>,
+    output: &mut CountedWriter<W>,
 ) -> (D, Result<(), SessionError>)
     requires { IsFresh input.old }
 
     // The session is a run of transitions over the commands of its input, from the disk that it took to the one that it
     // hands back. What it wrote are the answers: all of them at the end of the input or at `quit`, and where more of the
     // input was needed than may be taken.
-    ensures ended { OnOk result.1 (IsSession D.Disk ended (R.remaining (reader_of input.old)) disk result.0
-        (W.contents (writer_of output.old)) (W.contents (writer_of output.new))) }
-    ensures cut { IsErrOf result.1 SessionError.Limit → IsSession D.Disk cut_off (R.remaining (reader_of input.old)) disk result.0
-        (W.contents (writer_of output.old)) (W.contents (writer_of output.new)) }
+    ensures ended { OnOk result.1 (IsSession D.Disk ended (left_in R.remaining input.old) disk result.0
+        (held_by W.contents output.old) (held_by W.contents output.new)) }
+    ensures cut { IsErrOf result.1 SessionError.Limit → IsSession D.Disk cut_off (left_in R.remaining input.old) disk result.0
+        (held_by W.contents output.old) (held_by W.contents output.new) }
 
     // After any error it is such a run up to some command, whose answer may not be written whole.
-    ensures broken { OnErr result.1 (IsSession D.Disk early (R.remaining (reader_of input.old)) disk result.0
-        (W.contents (writer_of output.old)) (W.contents (writer_of output.new))) }
+    ensures broken { OnErr result.1 (IsSession D.Disk early (left_in R.remaining input.old) disk result.0
+        (held_by W.contents output.old) (held_by W.contents output.new)) }
 
     // Each error but want of memory has its cause in this call.
     ensures read { IsErrOf result.1 SessionError.Read → HasRisen (failed_reads input.old) (failed_reads input.new) }
@@ -55,7 +56,7 @@ pub fn session<D: Disk, R: Read + Drop, W: Write + Drop>(
         match text {
             Ok(Some(text)) => {
                 if let Err(error) = output.write(text.as_bytes()) {
-                    return (node.into_disk(), Err(error));
+                    return (node.into_disk(), Err(SessionError::from(error)));
                 }
             }
             Ok(None) => return (node.into_disk(), Ok(())),

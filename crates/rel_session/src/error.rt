@@ -1,7 +1,8 @@
 //! Why a session ended before its input did.
 ghost use Rattle.std.specs.Prelude.{◌≡◌};
-ghost use Rattle.rel_session.specs.declared.error.SessionError.TheVariants.{NoMemory};
+ghost use Rattle.rel_session.specs.declared.error.SessionError.TheVariants.{Read, Write, NoMemory};
 
+use counted_io::{ReadFailed, WriteFailed};
 use std::alloc::{AllocError, AllocFailed};
 use thiserror::Error;
 
@@ -61,5 +62,21 @@ impl<T: Drop> From<AllocFailed<T>> for SessionError {
 
     fn from(_e: AllocFailed<T>) -> SessionError {
         SessionError::NoMemory
+    }
+}
+
+impl From<ReadFailed> for SessionError {
+    ghost from_gives = { λ _ e. e ≡ Read };
+
+    fn from(_e: ReadFailed) -> SessionError {
+        SessionError::Read
+    }
+}
+
+impl From<WriteFailed> for SessionError {
+    ghost from_gives = { λ _ e. e ≡ Write };
+
+    fn from(_e: WriteFailed) -> SessionError {
+        SessionError::Write
     }
 }

@@ -7,15 +7,15 @@ use crate::error::SessionError;
 use crate::given::{GivenFile, MOST_FILE};
 use crate::line::Line;
 use crate::saying::{MOST_LINE, Saying};
+use counted_io::CountedReader;
 use std::alloc::Global;
 use std::io::Read;
 
 /// The input of a session: a reader, of which at most 16,777,216 bytes are taken.
 #[derive(Debug, Drop)]
 pub struct Input<R> {
-    reader: R,
+    reader: CountedReader<R>,
     ahead: Ahead,
-    failures: u64,
 }
 
 impl<R: Read + Drop> Input<R> {
@@ -31,9 +31,8 @@ impl<R: Read + Drop> Input<R> {
         ensures memory { IfErr result (λ e. e ≡ SessionError.NoMemory) }
     {
         Ok(Input {
-            reader,
+            reader: CountedReader::new(reader),
             ahead: Ahead::new(alloc)?,
-            failures: 0,
         })
     }
 
@@ -126,12 +125,6 @@ impl<R: Read + Drop> Input<R> {
         ensures cause { HasCause result self.old self.new }
         ensures bounded { taken self.new ≤ most_bytes }
     {
-        match self.ahead.fill(&mut self.reader) {
-            Ok(()) => Ok(()),
-            Err(_) => {
-                self.failures = self.failures.saturating_add(1);
-                Err(SessionError::Read)
-            }
-        }
+        Ok(self.ahead.fill(&mut self.reader)?)
     }
 }

@@ -1,7 +1,8 @@
 //! Readers and writers that fail, and what was written then.
 use crate::sessions::{BOOTED, BOTH, FIRST, NO_NODE, Ran, TWO_RELEASES, empty_disk, session_on};
+use counted_io::CountedWriter;
 use rel_disk::MemDisk;
-use rel_session::{Input, Output, SessionError, session};
+use rel_session::{Input, SessionError, session};
 use std::alloc::Global;
 use std::io;
 use std::io::{Read, Write};
@@ -144,7 +145,7 @@ fn wide(writes: u64, flushes: u64) -> Room {
 fn session_into(alloc: Global, input: &[u8], room: Room) -> Result<Ran<MemDisk>, SessionError> {
     let mut written = Vec::new(alloc);
     let mut input = Input::new(alloc, input)?;
-    let mut output = Output::new(Bounded {
+    let mut output = CountedWriter::new(Bounded {
         room,
         written: &mut written,
     });

@@ -1,6 +1,7 @@
 //! Sessions on disks in memory.
+use counted_io::CountedWriter;
 use rel_disk::{Disk, MemDisk};
-use rel_session::{Input, Output, SessionError, session};
+use rel_session::{Input, SessionError, session};
 use std::alloc::{AllocError, Global};
 use std::io::Read;
 use std::process::Abort;
@@ -44,7 +45,7 @@ pub fn session_on<D: Disk + Drop, R: Read + Drop>(
 ) -> Result<Ran<D>, SessionError> {
     let mut written = Vec::new(alloc);
     let mut input = Input::new(alloc, reader)?;
-    let mut output = Output::new(&mut written);
+    let mut output = CountedWriter::new(&mut written);
     let (disk, ended) = session(alloc, disk, &mut input, &mut output);
     drop(output);
     Ok(Ran {

@@ -4,8 +4,9 @@
 //! standard error, with the text and the exit status of its error (`exit_text`, `exit_status`).
 #![tactic(auto)]
 
+use counted_io::CountedWriter;
 use rel_disk::MemDisk;
-use rel_session::{Input, Output, SessionError, session};
+use rel_session::{Input, SessionError, session};
 use std::alloc::Global;
 use std::io;
 use std::process::ExitCode;
@@ -29,7 +30,7 @@ fn main(rt: HostRuntime) -> ExitCode {
 fn run(rt: &HostRuntime, alloc: Global) -> Result<(), SessionError> {
     let disk = MemDisk::new(alloc, DISK, LOG)?;
     let mut input = Input::new(alloc, rt.reader())?;
-    let mut output = Output::new(io::writer(rt));
+    let mut output = CountedWriter::new(io::writer(rt));
     let (_disk, ended) = session(alloc, disk, &mut input, &mut output);
     ended
 }

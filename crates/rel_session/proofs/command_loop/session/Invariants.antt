@@ -8,10 +8,10 @@ use Rattle.rel_session.proofs.command_loop.session.Given as goal
 
 abbrev pub invariant-loop-command : goal.invariant-loop-command
 invariant-loop-command g l =
-    Goes g.D.Disk (option_map commands_in (g.R.Read.remaining l.initial.input.reader)) (commands_left g.R.Read.remaining l.input) l.fn.disk l.node
+    Goes g.D.Disk (option_map commands_in (g.R.Read.remaining l.initial.input.reader.reader)) (commands_left g.R.Read.remaining l.input) l.fn.disk l.node
     (g.W.Write.contents l.initial.output.writer) (g.W.Write.contents l.output.writer)
     × IsSoundPlace g.D.Disk.seen g.D.Disk.may_leave l.node.place
-    × (l.input.failures ≡ l.initial.input.failures)
+    × (l.input.reader.failures ≡ l.initial.input.reader.failures)
     × (l.output.failures ≡ l.initial.output.failures)
 
 abbrev pub decreases-loop-command : goal.decreases-loop-command

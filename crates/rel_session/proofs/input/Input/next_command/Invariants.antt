@@ -7,7 +7,7 @@ abbrev pub invariant-loop-line : goal.invariant-loop-line
 invariant-loop-line g l =
     Stays (commands_left g.R.Read.remaining l.initial.self) (commands_left g.R.Read.remaining l.self)
     × (left l.self ≤ left l.initial.self)
-    × (l.self.failures ≡ l.initial.self.failures)
+    × (l.self.reader.failures ≡ l.initial.self.reader.failures)
 
 abbrev pub decreases-loop-line : goal.decreases-loop-line
 decreases-loop-line g l = left l.self

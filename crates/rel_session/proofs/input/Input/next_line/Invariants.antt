@@ -8,7 +8,7 @@ invariant-loop-line g l =
     IsSoFar l.most l.is_begun l.line (lines_left g.R.Read.remaining l.initial.self) (lines_left g.R.Read.remaining l.self)
     × (left l.self ≤ left l.initial.self)
     × (l.is_begun ≡ true → left l.self < left l.initial.self)
-    × (l.self.failures ≡ l.initial.self.failures)
+    × (l.self.reader.failures ≡ l.initial.self.reader.failures)
 
 abbrev pub decreases-loop-line : goal.decreases-loop-line
 decreases-loop-line g l = left l.self

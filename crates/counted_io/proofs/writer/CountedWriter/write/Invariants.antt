@@ -1,6 +1,6 @@
 use Rattle.std.proofs.Common.{◌≡◌, length}
-use Rattle.rel_session.proofs.Writing.{Written}
-use Rattle.rel_session.proofs.output.Output.write.Given as goal
+use Rattle.counted_io.proofs.WriteLemmas.{Written}
+use Rattle.counted_io.proofs.writer.CountedWriter.write.Given as goal
 
 abbrev pub invariant-loop-rest : goal.invariant-loop-rest
 invariant-loop-rest g l =

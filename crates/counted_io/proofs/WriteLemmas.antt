@@ -3,13 +3,13 @@ use Rattle.std.proofs.Common.{◌≡◌, ℕ, ◌-◌, arith, List, [], ◌++◌
 use Rattle.std.specs.Io.KnownBytes.{Appends, Keeps}
 use Rattle.std.proofs.lemmas.List.{take-append-drop}
 use Rattle.std.proofs.lemmas.Grind.{common_steps}
-use Rattle.rel_session.specs.Output.{AppendsFront}
+use Rattle.counted_io.specs.Prefixes.{AppendsPrefix}
 
 -- of all these bytes those but the rest were written
 pub record Written (old new : Option (List ℕ)) (all rest : List ℕ) : Type 0 where
-  pub front : List ℕ
-  pub whole : front ++ rest ≡ all
-  pub appended : Appends old new front
+  pub prefix : List ℕ
+  pub whole : prefix ++ rest ≡ all
+  pub appended : Appends old new prefix
 
 pub Appends-nothing : (old : Option (List ℕ)) → Appends old old []
 Appends-nothing None = tt
@@ -28,7 +28,7 @@ Appends-kept (Some o) (Some m) None xs a k = absurd k
 Appends-kept (Some o) (Some m) (Some n) xs a k = k ∙ a
 
 pub begun : (old : Option (List ℕ)) (all : List ℕ) → Written old old all all
-begun old all = record { front = []; whole = refl; appended = Appends-nothing old }
+begun old all = record { prefix = []; whole = refl; appended = Appends-nothing old }
 
 -- all that stands behind the first n
 rest_of-drop : (xs : List ℕ) (n : ℕ) → take (length xs - n) (drop n xs) ≡ drop n xs
@@ -36,17 +36,17 @@ rest_of-drop xs n = grind (arith, common_steps)
 
 moves : (old mid new : Option (List ℕ)) (all rest : List ℕ) (n : ℕ) → Written old mid all rest → Appends mid new (take n rest) → Written old new all (drop n rest)
 moves old mid new all rest n w a = record {
-  front = w.front ++ take n rest;
-  whole = append_assoc w.front (take n rest) (drop n rest) ∙ ap (λ k. w.front ++ k) (take-append-drop n rest) ∙ w.whole;
-  appended = Appends-twice old mid new w.front (take n rest) w.appended a;
+  prefix = w.prefix ++ take n rest;
+  whole = append_assoc w.prefix (take n rest) (drop n rest) ∙ ap (λ k. w.prefix ++ k) (take-append-drop n rest) ∙ w.whole;
+  appended = Appends-twice old mid new w.prefix (take n rest) w.appended a;
 }
 
 pub goes_on : (old mid new : Option (List ℕ)) (all rest : List ℕ) (n : ℕ) → Written old mid all rest → Appends mid new (take n rest) → Written old new all (take (length rest - n) (drop n rest))
 goes_on old mid new all rest n w a = rw (rest_of-drop rest n) (moves old mid new all rest n w a)
 
-pub stopped : (old mid new : Option (List ℕ)) (all rest : List ℕ) → Written old mid all rest → Keeps mid new → AppendsFront old new all
-stopped old mid new all rest w k = (w.front, rest, w.whole, Appends-kept old mid new w.front w.appended k)
+pub stopped : (old mid new : Option (List ℕ)) (all rest : List ℕ) → Written old mid all rest → Keeps mid new → AppendsPrefix old new all
+stopped old mid new all rest w k = (w.prefix, rest, w.whole, Appends-kept old mid new w.prefix w.appended k)
 
 pub all_written : (old mid new : Option (List ℕ)) (all rest : List ℕ) → rest ≡ [] → Written old mid all rest → Keeps mid new → Appends old new all
 all_written old mid new all rest e w k =
-    subst (λ xs. Appends old new xs) (sym (append-nil w.front) ∙ ap (λ r. w.front ++ r) (sym e) ∙ w.whole) (Appends-kept old mid new w.front w.appended k)
+    subst (λ xs. Appends old new xs) (sym (append-nil w.prefix) ∙ ap (λ r. w.prefix ++ r) (sym e) ∙ w.whole) (Appends-kept old mid new w.prefix w.appended k)

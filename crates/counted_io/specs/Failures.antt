@@ -1,0 +1,11 @@
+-- How failures are counted.
+use Rattle.std.specs.Prelude.{◌≡◌, ◌⊎◌, ℕ, ◌-◌, ◌^◌, ◌<◌, Result, Ok, Err}
+
+-- a count has risen, or can't
+abbrev pub HasRisen : ℕ → ℕ → Type 0
+HasRisen old new = (old < new) ⊎ (old ≡ 2 ^ 64 - 1)
+
+-- a call that failed has raised the count, and one that didn't has left it
+abbrev pub Counts : {V E : Type 0} → Result V E → ℕ → ℕ → Type 0
+Counts (Ok v) old new = new ≡ old
+Counts (Err e) old new = HasRisen old new

@@ -1,0 +1,3 @@
+pub mod Failures
+pub mod Counted
+pub mod Prefixes
