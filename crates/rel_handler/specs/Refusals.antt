@@ -27,6 +27,10 @@ IsRefused e old refusal = (is_dead old ≡ false) × (commanded e (list_in old) 
 abbrev pub IsAllowed : {D : Type 0} → Event → Handler D → Type 0
 IsAllowed e old = (is_dead old ≡ false) × ((es : Releases) × (commanded e (list_in old) ≡ Ok es))
 
+-- the list allows the event, and the store has room for a record with a body of so many bytes
+abbrev pub IsPossible : {D : Type 0} → Event → ℕ → Handler D → Type 0
+IsPossible e size old = (is_dead old ≡ false) × ((es : Releases) × (commanded e (list_in old) ≡ Ok es)) × Fits (end_in old) size
+
 -- Why a command is refused that brings a release with this event, and a record with a body of so many bytes. Nothing has
 -- changed then, unless the device failed: then the handler is dead.
 abbrev pub CommandRefused : {D : Type 0} → (D → ℕ) → Event → ℕ → Handler D → Handler D → HandlerError → Type 0
@@ -35,7 +39,7 @@ CommandRefused failures e size old new ExistingRelease = IsRefused e old Existin
 CommandRefused failures e size old new TooMany = IsRefused e old TooMany × IsSame old new
 CommandRefused failures e size old new Full = IsAllowed e old × (Fits (end_in old) size → ⊥) × IsSame old new
 CommandRefused failures e size old new NoMemory = (is_dead old ≡ false) × IsSame old new
-CommandRefused failures e size old new Device = IsAllowed e old × Fits (end_in old) size × HasFailed (failures (disk_in old)) (failures (disk_in new)) × (is_dead new ≡ true)
+CommandRefused failures e size old new Device = IsPossible e size old × HasFailed (failures (disk_in old)) (failures (disk_in new)) × (is_dead new ≡ true)
 CommandRefused failures e size old new Exists = ⊥
 
 -- Why a node isn't made with this release, on a disk with these bytes, by a record with a body of so many. Nothing has been

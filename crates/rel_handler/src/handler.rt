@@ -67,8 +67,9 @@ impl<D: Disk> Handler<D> {
     /// stands for the list with it.
     ///
     /// Told in this order: `Dead`, `TooMany` for its applications, `ExistingRelease`, `TooMany` for the node's releases,
-    /// `Full`; `NoMemory` may come in place of each but the first. Nothing has changed then. After `Device` the handler is
-    /// dead, and the disk stands for its list with the release or without.
+    /// `Full`; `NoMemory` may come in place of each but the first. Nothing has changed then. `Device` comes only where the
+    /// list allows the release and its record fits; then the handler is dead, and the disk stands for its list with the
+    /// release or without.
     pub fn set_unpacked(&mut self, alloc: Global, file: RelFile) -> Result<(), HandlerError>
         requires sound { IsSound D.seen D.may_leave self.old }
         requires file { IsRelFile file }

@@ -501,7 +501,7 @@ module _ {D : Type 0} (v : Device D) (laws : IsDevice v) where
           by_error handler_error.Full ((living, (list, allowed)), over, same) =
               same_reply full (Ok list) allowed same (λ events end at. inr (subst (λ n. Fits n length_of → ⊥) at over, refl))
           by_error handler_error.NoMemory (living, same) = λ p at. lapses p (memory.Made h) (memory.Made new) same.disk (same_at h new p same at)
-          by_error handler_error.Device ((living, (list, allowed)), fits, cause, gone) = device_failed list allowed fits cause gone
+          by_error handler_error.Device ((living, (list, allowed), fits), cause, gone) = device_failed list allowed fits cause gone
           by_error handler_error.Exists gone = absurd gone
 
   -- nor on a disk without a node

@@ -90,8 +90,7 @@ returns-then-is_err-3-clause-refused g c =
     let few_bytes : length c.as_bytes.result.now ≤ c.len-3.result = search rules in
     let room = opened c.reserve.result _ c.if-is_err.ensures.value c.reserve.ensures.room (length c.as_bytes.result.now) few_bytes in
     let failed = failed_so g.D.Disk.failures c.reserve.new.self c.append.new.self (length c.as_bytes.result.now) c.append.result c.if-is_err-3.ensures.value c.append.ensures.refused (subst (λ e. store.Fits e (length c.as_bytes.result.now)) (sym c.reserve.ensures.kept.end) fits) room works in (
-      (alive, (c.accept.new.self, allows)),
-      subst (λ n. store.Fits (store.end_in c.args.self.now.store) n) (ap length (c.as_bytes.ensures.value ∙ c.in_ok-body.ensures.printed)) fits,
+      (alive, (c.accept.new.self, allows), subst (λ bs. store.Fits (store.end_in c.args.self.now.store) (length bs)) c.in_ok-body.ensures.printed (search rules)),
       subst (λ d. HasFailed (g.D.Disk.failures d) (g.D.Disk.failures (store.disk_in c.append.new.self))) c.reserve.ensures.kept.disk failed,
       refl,
     )
