@@ -12,3 +12,5 @@ pub mod Following
 pub mod Looping
 pub mod Giving
 pub mod Histories
+pub mod Transitions
+pub mod Lasting

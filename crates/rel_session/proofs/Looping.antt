@@ -133,15 +133,15 @@ module _ {D : Type 0} (v : Device D) (laws : IsDevice v) where
     written = [];
     appended = Appends-nothing old;
     completes = λ ending rest replies new text are right leads written. (
-        rest,
-        subst (λ l. AreLeft l rest) same are,
-        record {
-          replies = replies;
-          right = subst (λ fs. Replies fs start rest ending replies) files right;
-          leads = subst (λ d. Leads v start replies d new) (ap disk_at place) leads;
-          written = written;
-        },
-      );
+      rest,
+      subst (λ l. AreLeft l rest) same are,
+      record {
+        replies = replies;
+        right = subst (λ fs. Replies fs start rest ending replies) files right;
+        leads = subst (λ d. Leads v start replies d new) (ap disk_at place) leads;
+        written = written;
+      },
+    );
   }
 
   -- calls that leave nothing new
@@ -162,8 +162,8 @@ module _ {D : Type 0} (v : Device D) (laws : IsDevice v) where
           appended = Appends-twice old mid mid' r.written (string_bytes text) r.appended appended;
           completes = λ ending rest replies final more are right leads written.
               let whole = r.completes ending (next c rest) (a.given ∷ replies) final (a.given.answer ++ more) (are_next now new c rest gives are)
-                  (replies_next (files_of node.files) r.here c rest ending a.given replies a.right.0 (subst (λ fs. Replies fs a.given.after rest ending replies) files right))
-                  (disk_of later, a.happens, leads) (written_next ending a.given replies more written) in
+              (replies_next (files_of node.files) r.here c rest ending a.given replies a.right.0 (subst (λ fs. Replies fs a.given.after rest ending replies) files right))
+              (disk_of later, a.happens, leads) (written_next ending a.given replies more written) in
               let same : r.written ++ (a.given.answer ++ more) ≡ (r.written ++ string_bytes text) ++ more = ap (λ (l : List ℕ). r.written ++ (l ++ more)) a.right.1 ∙ sym (append_assoc r.written (string_bytes text) more) in
               (whole.0, whole.1, subst (λ t. IsRun v (λ path. None) start whole.0 ending disk final t) same whole.2);
         }
@@ -202,8 +202,8 @@ module _ {D : Type 0} (v : Device D) (laws : IsDevice v) where
         let r = goes start starts in
         let a = follows r.here r.at in
         let whole = r.completes early (next c (some_left new)) (a.given ∷ []) (disk_of later) part (are_next now new c (some_left new) gives (are_some new))
-            (replies_next (files_of node.files) r.here c (some_left new) early a.given [] a.right.0 (replies_none (files_behind (files_of node.files) c) a.given.after (some_left new)))
-            (disk_of later, a.happens, nothing_more a.given.after later a.at) (inr ([], a.given, part, left, refl, parts ∙ sym a.right.1, refl)) in
+        (replies_next (files_of node.files) r.here c (some_left new) early a.given [] a.right.0 (replies_none (files_behind (files_of node.files) c) a.given.after (some_left new)))
+        (disk_of later, a.happens, nothing_more a.given.after later a.at) (inr ([], a.given, part, left, refl, parts ∙ sym a.right.1, refl)) in
         (whole.0, whole.1, (r.written ++ part, Appends-twice old mid mid' r.written part r.appended appended, subst (λ d. IsRun v (λ path. None) start whole.0 early disk d (r.written ++ part)) (sym is) whole.2))
 
     -- or not at all, since memory was refused
@@ -218,8 +218,8 @@ module _ {D : Type 0} (v : Device D) (laws : IsDevice v) where
             → (commands : Feed Command) × AreLeft all commands × Writes old mid (λ t. IsRun v (λ path. None) start commands early disk final t)
         by_outcome (inl a) =
             let whole = r.completes early (next c (some_left new)) (a.given ∷ []) (disk_of later) [] (are_next now new c (some_left new) gives (are_some new))
-                (replies_next (files_of node.files) r.here c (some_left new) early a.given [] a.right (replies_none (files_behind (files_of node.files) c) a.given.after (some_left new)))
-                (disk_of later, a.happens, nothing_more a.given.after later a.at) (inr ([], a.given, [], a.given.answer, refl, refl, refl)) in
+            (replies_next (files_of node.files) r.here c (some_left new) early a.given [] a.right (replies_none (files_behind (files_of node.files) c) a.given.after (some_left new)))
+            (disk_of later, a.happens, nothing_more a.given.after later a.at) (inr ([], a.given, [], a.given.answer, refl, refl, refl)) in
             (whole.0, whole.1, (r.written, r.appended, subst (λ t. IsRun v (λ path. None) start whole.0 early disk final t) (append-nil r.written) (subst (λ d. IsRun v (λ path. None) start whole.0 early disk d (r.written ++ [])) (sym is) whole.2)))
         by_outcome (inr lapsed) =
             let whole = r.completes early (some_left now) [] (disk_of later) [] (are_some now) (replies_none (files_of node.files) r.here (some_left now)) (lapsed.nothing_new, lapsed.holds, lapsed.counted) (inl refl) in

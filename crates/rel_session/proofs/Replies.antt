@@ -429,7 +429,7 @@ module _ {D : Type 0} (v : Device D) (laws : IsDevice v) where
 
     module _ (alive : is_dead h ≡ false) (found : Found) (there : IsFound path (files path) (Ok found)) (new : Handler D) (counted : v.failures (disk_in h) ≤ v.failures (disk_in new))
         (moments : is_dead h ≡ false → (events : Events) → list_after events ≡ Some (list_in h) → LeavesOnly v (disk_in h) (disk_in new)
-            (IsStoredAs (uncertain events (end_in h) (unpacked found.release) (length (body_of (codes "unpacked") found.term))))) where
+        (IsStoredAs (uncertain events (end_in h) (unpacked found.release) (length (body_of (codes "unpacked") found.term))))) where
       abbrev length_of : ℕ
       length_of = length (body_of (codes "unpacked") found.term)
 

@@ -14,5 +14,6 @@ pub mod Node
 pub mod Output
 pub mod Refusals
 pub mod Run
+pub mod RunLaws
 pub mod Saying
 pub mod Transition

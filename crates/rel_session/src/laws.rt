@@ -1,1 +1,20 @@
 //! Laws of sessions. Each function does nothing: its contract is the law.
+ghost use Rattle.rel_session.specs.RunLaws.{EachKeeps, IsOfAccepted, LosesNothing, BeginsWhereOneEnded, BeginsBehindACrash, LosesNothingEver};
+
+use rel_disk::Disk;
+
+/// Each reply keeps the acknowledged events. At each moment of a session, ended or broken off, a crash leaves the list
+/// of events that begin with all those acknowledged before. Where nothing is in doubt they are all that it has.
+pub fn a_crash_loses_nothing_acknowledged<D: Disk>()
+    ensures replies { EachKeeps }
+    ensures accepted { IsOfAccepted }
+    ensures moments { LosesNothing D.Disk }
+{}
+
+/// A session may begin on the disk that another handed back, and on what a crash left of it. So no number of sessions
+/// and crashes loses an acknowledged event.
+pub fn a_session_begins_where_another_ended<D: Disk>()
+    ensures ended { BeginsWhereOneEnded D.Disk }
+    ensures crashed { BeginsBehindACrash D.Disk }
+    ensures ever { LosesNothingEver D.Disk }
+{}

@@ -22,10 +22,9 @@ loop-command-init g c =
 
 pub loop-command-preserved : goal.loop-command-preserved
 loop-command-preserved g c =
-    let laws : IsDevice g.D.Disk = record { reads_an_image = g.met.D.Disk.reads_an_image; counts_now = g.met.D.Disk.counts_now; only_now = g.met.D.Disk.only_now } in
-    (
+    let laws : IsDevice g.D.Disk = record { reads_an_image = g.met.D.Disk.reads_an_image; counts_now = g.met.D.Disk.counts_now; only_now = g.met.D.Disk.only_now } in (
       goes_on g.D.Disk laws (option_map commands_in (g.R.Read.remaining c.args.input.now.reader)) (commands_left g.R.Read.remaining c.loop-command.input) (commands_left g.R.Read.remaining c.next_command.new.self) c.args.disk c.loop-command.node
-    (g.W.Write.contents c.args.output.now.writer) (g.W.Write.contents c.loop-command.output.writer) c.loop-command.invariant.0
+          (g.W.Write.contents c.args.output.now.writer) (g.W.Write.contents c.loop-command.output.writer) c.loop-command.invariant.0
           (command_of c.in-Ok-Some.command) c.in-Ok-Some-text.text c.follow-next.result.0 (g.W.Write.contents c.write.new.self.writer) (rw c.in-Ok-Some.field-0-is at c.in-Ok-Some.ensures.command)
           (rw (c.in-Ok-Some-text.is, c.in-Ok-Some-text.field-0-is) at c.follow-next.ensures.followed) (rw c.as_bytes.ensures.value at c.in_default.ensures.written),
       c.follow-next.ensures.sound,
