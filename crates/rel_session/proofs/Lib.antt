@@ -14,3 +14,4 @@ pub mod Giving
 pub mod Histories
 pub mod Transitions
 pub mod Lasting
+pub mod Failures

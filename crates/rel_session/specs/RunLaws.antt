@@ -1,17 +1,19 @@
 -- What is so of whole sessions, over all their moments.
-use Rattle.std.specs.Prelude.{◌≡◌, ◌≢◌, ◌⊎◌, ℕ, zero, suc, List, [], ◌∷◌, ◌++◌, Option, None, Some}
+use Rattle.std.specs.Prelude.{◌≡◌, ◌≢◌, ◌⊎◌, ℕ, zero, suc, true, false, List, [], ◌∷◌, ◌++◌, Option, None, Some}
 use Rattle.rel_disk.specs.Damage.{Only}
 use Rattle.rel_list.specs.Releases.{Releases}
-use Rattle.rel_list.specs.Event.{list_after}
+use Rattle.rel_list.specs.Event.{Event, list_after}
 use Rattle.rel_handler.specs.Events.{Events, Stored, with_doubt, certain, IsStoredAs, IsOfPrefix}
 use Rattle.rel_handler.specs.Image.{IsImageOf}
 use Rattle.rel_store.specs.Records.{end_of}
 use Rattle.rel_session.specs.Commands.{Command}
-use Rattle.rel_session.specs.Device.{Device, LeavesOnly}
+use Rattle.rel_session.specs.Device.{Device, LeavesOnly, HasFailed}
 use Rattle.rel_session.specs.Feed.{Feed}
 use Rattle.rel_session.specs.Files.{Files}
 use Rattle.rel_session.specs.Node.{Place, Reply}
 use Rattle.rel_session.specs.Node.Place.{raw, closed, running, dead}
+use Rattle.rel_session.specs.Refusals.{refusal_line}
+use Rattle.rel_session.specs.Refusals.Refusal.{device}
 use Rattle.rel_session.specs.Run.{Starts, Holds, Leads, Replies, Ending}
 use Rattle.rel_session.specs.Transition.{Transition}
 
@@ -126,3 +128,26 @@ Lasts {D} v (suc n) events disk =
 abbrev pub LosesNothingEver : {D : Type 0} → Device D → Type 0
 LosesNothingEver {D} v =
     (n : ℕ) (s : Stored) (disk : D) → Starts v (closed s) disk → Lasts v n s.known.acknowledged disk
+
+-- the device fails in none of the replies
+abbrev pub NoneFails : List Reply → Type 0
+NoneFails [] = Unit {0}
+NoneFails (a ∷ more) = (a.outcome.failed ≡ false) × NoneFails more
+
+-- none of them leaves an event in doubt
+abbrev pub NoneInDoubt : List Reply → Type 0
+NoneInDoubt [] = Unit {0}
+NoneInDoubt (a ∷ more) = (a.outcome.in_doubt ≡ None) × NoneInDoubt more
+
+-- Where the disk's count of failures did not rise, none of the replies is a failure, and nothing is in doubt.
+abbrev pub FailsOnlyWithTheDevice : {D : Type 0} → Device D → Type 0
+FailsOnlyWithTheDevice {D} v =
+    (files : Files) (p : Place) (commands : Feed Command) (ending : Ending) (replies : List Reply) (old new : D)
+    → Replies files p commands ending replies → Leads v p replies old new → (HasFailed v old new → ⊥)
+    → NoneFails replies × NoneInDoubt replies
+
+-- The answer of a reply with an event in doubt tells that the device failed.
+abbrev pub TellsDoubt : Type 0
+TellsDoubt =
+    (files : Files) (p : Place) (c : Command) (a : Reply) (e : Event) → Transition files p c a → a.outcome.in_doubt ≡ Some e
+    → (a.outcome.failed ≡ true) × (a.answer ≡ refusal_line device)

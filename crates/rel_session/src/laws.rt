@@ -1,5 +1,5 @@
 //! Laws of sessions. Each function does nothing: its contract is the law.
-ghost use Rattle.rel_session.specs.RunLaws.{EachKeeps, IsOfAccepted, LosesNothing, BeginsWhereOneEnded, BeginsBehindACrash, LosesNothingEver};
+ghost use Rattle.rel_session.specs.RunLaws.{EachKeeps, IsOfAccepted, LosesNothing, BeginsWhereOneEnded, BeginsBehindACrash, LosesNothingEver, FailsOnlyWithTheDevice, TellsDoubt};
 
 use rel_disk::Disk;
 
@@ -17,4 +17,14 @@ pub fn a_session_begins_where_another_ended<D: Disk>()
     ensures ended { BeginsWhereOneEnded D.Disk }
     ensures crashed { BeginsBehindACrash D.Disk }
     ensures ever { LosesNothingEver D.Disk }
+{}
+
+/// Where the device's count of failures does not rise in a session, no command fails by it and no event is in doubt.
+pub fn no_failure_leaves_no_doubt<D: Disk>()
+    ensures { FailsOnlyWithTheDevice D.Disk }
+{}
+
+/// An event that is in doubt is told as a failure of the device, never as done.
+pub fn a_doubt_is_told_as_a_failure()
+    ensures { TellsDoubt }
 {}
