@@ -22,7 +22,42 @@ use Rattle.rel_session.proofs.Prefixes.{prefix_of, reached}
 use Rattle.rel_session.proofs.Replies.{IsDevice}
 use Rattle.rel_session.proofs.Transitions.{each_keeps}
 
--- the first of some replies is that to a command, and the others are those behind it
+-- the first of some replies is that to the first command, and the others are those to the commands behind it
+pub next_answered : (files : Files) (p : Place) (c : Command) (rest : Feed Command) (ending : Ending) (a : Reply) (more : List Reply) → Replies files p (next c rest) ending (a ∷ more)
+    → Transition files p c a × Replies (files_behind files c) a.after rest ending more
+next_answered files p (file path f) rest ended a more right = right
+next_answered files p (create path) rest ended a more right = right
+next_answered files p (set_unpacked path) rest ended a more right = right
+next_answered files p boot rest ended a more right = right
+next_answered files p releases rest ended a more right = right
+next_answered files p bad rest ended a more right = right
+next_answered files p quit rest ended a more right = right
+next_answered files p (file path f) rest cut_off a more right = right
+next_answered files p (create path) rest cut_off a more right = right
+next_answered files p (set_unpacked path) rest cut_off a more right = right
+next_answered files p boot rest cut_off a more right = right
+next_answered files p releases rest cut_off a more right = right
+next_answered files p bad rest cut_off a more right = right
+next_answered files p quit rest cut_off a more right = right
+next_answered files p (file path f) rest early a more right = right
+next_answered files p (create path) rest early a more right = right
+next_answered files p (set_unpacked path) rest early a more right = right
+next_answered files p boot rest early a more right = right
+next_answered files p releases rest early a more right = right
+next_answered files p bad rest early a more right = right
+next_answered files p quit rest early a more right = right
+
+-- where no command is left there is none
+pub none_left : (files : Files) (p : Place) (commands : Feed Command) (ending : Ending) (a : Reply) (more : List Reply) → (commands ≡ over) ⊎ (commands ≡ cut) → Replies files p commands ending (a ∷ more) → ⊥
+none_left files p over ended a more none right = right
+none_left files p over cut_off a more none right = right
+none_left files p over early a more none right = right
+none_left files p cut ended a more none right = right
+none_left files p cut cut_off a more none right = right
+none_left files p cut early a more none right = right
+none_left files p (next c rest) ending a more (inl none) right = cc none
+none_left files p (next c rest) ending a more (inr none) right = cc none
+
 pub record Answered (files : Files) (p : Place) (a : Reply) (ending : Ending) (more : List Reply) : Type 0 where
   pub command : Command
   pub rest : Feed Command
@@ -30,33 +65,11 @@ pub record Answered (files : Files) (p : Place) (a : Reply) (ending : Ending) (m
   pub right : Replies (files_behind files command) a.after rest ending more
 
 pub first_answered : (files : Files) (p : Place) (commands : Feed Command) (ending : Ending) (a : Reply) (more : List Reply) → Replies files p commands ending (a ∷ more) → Answered files p a ending more
-first_answered files p over ended a more right = absurd right
-first_answered files p cut ended a more right = absurd right
-first_answered files p (next (file path f) rest) ended a more (is, right) = record { command = file path f; rest = rest; is = is; right = right }
-first_answered files p (next (create path) rest) ended a more (is, right) = record { command = create path; rest = rest; is = is; right = right }
-first_answered files p (next (set_unpacked path) rest) ended a more (is, right) = record { command = set_unpacked path; rest = rest; is = is; right = right }
-first_answered files p (next boot rest) ended a more (is, right) = record { command = boot; rest = rest; is = is; right = right }
-first_answered files p (next releases rest) ended a more (is, right) = record { command = releases; rest = rest; is = is; right = right }
-first_answered files p (next bad rest) ended a more (is, right) = record { command = bad; rest = rest; is = is; right = right }
-first_answered files p (next quit rest) ended a more right = absurd right.0
-first_answered files p over cut_off a more right = absurd right
-first_answered files p cut cut_off a more right = absurd right
-first_answered files p (next (file path f) rest) cut_off a more (is, right) = record { command = file path f; rest = rest; is = is; right = right }
-first_answered files p (next (create path) rest) cut_off a more (is, right) = record { command = create path; rest = rest; is = is; right = right }
-first_answered files p (next (set_unpacked path) rest) cut_off a more (is, right) = record { command = set_unpacked path; rest = rest; is = is; right = right }
-first_answered files p (next boot rest) cut_off a more (is, right) = record { command = boot; rest = rest; is = is; right = right }
-first_answered files p (next releases rest) cut_off a more (is, right) = record { command = releases; rest = rest; is = is; right = right }
-first_answered files p (next bad rest) cut_off a more (is, right) = record { command = bad; rest = rest; is = is; right = right }
-first_answered files p (next quit rest) cut_off a more right = absurd right.0
-first_answered files p over early a more right = absurd right
-first_answered files p cut early a more right = absurd right
-first_answered files p (next (file path f) rest) early a more (is, right) = record { command = file path f; rest = rest; is = is; right = right }
-first_answered files p (next (create path) rest) early a more (is, right) = record { command = create path; rest = rest; is = is; right = right }
-first_answered files p (next (set_unpacked path) rest) early a more (is, right) = record { command = set_unpacked path; rest = rest; is = is; right = right }
-first_answered files p (next boot rest) early a more (is, right) = record { command = boot; rest = rest; is = is; right = right }
-first_answered files p (next releases rest) early a more (is, right) = record { command = releases; rest = rest; is = is; right = right }
-first_answered files p (next bad rest) early a more (is, right) = record { command = bad; rest = rest; is = is; right = right }
-first_answered files p (next quit rest) early a more right = absurd right.0
+first_answered files p over ending a more right = absurd (none_left files p over ending a more (inl refl) right)
+first_answered files p cut ending a more right = absurd (none_left files p cut ending a more (inr refl) right)
+first_answered files p (next c rest) ending a more right =
+    let (is, behind) = next_answered files p c rest ending a more right in
+    record { command = c; rest = rest; is = is; right = behind }
 
 -- with the one in doubt or without, the events begin with the acknowledged ones
 doubt_more : (events : Events) (doubt : Option Event) (found : Events) → (found ≡ events) ⊎ (found ≡ with_doubt events doubt) → (more : Events) × (found ≡ events ++ more)

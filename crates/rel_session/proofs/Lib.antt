@@ -15,3 +15,4 @@ pub mod Histories
 pub mod Transitions
 pub mod Lasting
 pub mod Failures
+pub mod OneAnswer

@@ -15,6 +15,7 @@ use Rattle.rel_session.specs.Node.Place.{raw, closed, running, dead}
 use Rattle.rel_session.specs.Refusals.{refusal_line}
 use Rattle.rel_session.specs.Refusals.Refusal.{device}
 use Rattle.rel_session.specs.Run.{Starts, Holds, Leads, Replies, Ending}
+use Rattle.rel_session.specs.Run.Ending.{early}
 use Rattle.rel_session.specs.Transition.{Transition}
 
 -- the acknowledged events where the disk stands; of bytes that are no known store there are none
@@ -151,3 +152,23 @@ abbrev pub TellsDoubt : Type 0
 TellsDoubt =
     (files : Files) (p : Place) (c : Command) (a : Reply) (e : Event) → Transition files p c a → a.outcome.in_doubt ≡ Some e
     → (a.outcome.failed ≡ true) × (a.answer ≡ refusal_line device)
+
+-- A device that does not fail leaves no choice there: bytes, or a store with nothing in doubt.
+abbrev pub IsCertain : Place → Type 0
+IsCertain (raw bytes) = Unit {0}
+IsCertain (closed s) = s ≡ certain s.known.acknowledged s.end
+IsCertain (running events end) = Unit {0}
+IsCertain (dead s) = ⊥
+
+-- the same answers, and the same events
+abbrev pub AreSame : List Reply → List Reply → Type 0
+AreSame [] [] = Unit {0}
+AreSame (a ∷ first) (b ∷ second) = (a.answer ≡ b.answer) × (a.outcome ≡ b.outcome) × AreSame first second
+AreSame first second = ⊥
+
+-- Where the device does not fail, the commands of an input have one answer each, and one ending.
+abbrev pub HaveOneAnswer : Type 0
+HaveOneAnswer =
+    (files : Files) (p : Place) (commands : Feed Command) (a b : Ending) (first second : List Reply)
+    → IsCertain p → a ≢ early → b ≢ early → NoneFails first → NoneFails second
+    → Replies files p commands a first → Replies files p commands b second → (a ≡ b) × AreSame first second

@@ -1,5 +1,5 @@
 //! Laws of sessions. Each function does nothing: its contract is the law.
-ghost use Rattle.rel_session.specs.RunLaws.{EachKeeps, IsOfAccepted, LosesNothing, BeginsWhereOneEnded, BeginsBehindACrash, LosesNothingEver, FailsOnlyWithTheDevice, TellsDoubt};
+ghost use Rattle.rel_session.specs.RunLaws.{EachKeeps, IsOfAccepted, LosesNothing, BeginsWhereOneEnded, BeginsBehindACrash, LosesNothingEver, FailsOnlyWithTheDevice, TellsDoubt, HaveOneAnswer};
 
 use rel_disk::Disk;
 
@@ -27,4 +27,9 @@ pub fn no_failure_leaves_no_doubt<D: Disk>()
 /// An event that is in doubt is told as a failure of the device, never as done.
 pub fn a_doubt_is_told_as_a_failure()
     ensures { TellsDoubt }
+{}
+
+/// Where the device does not fail, an input has one answer from each place with nothing in doubt.
+pub fn an_input_has_one_answer()
+    ensures one { HaveOneAnswer }
 {}
