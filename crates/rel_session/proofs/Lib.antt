@@ -16,3 +16,4 @@ pub mod Transitions
 pub mod Lasting
 pub mod Failures
 pub mod OneAnswer
+pub mod Beginning

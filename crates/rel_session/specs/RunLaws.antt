@@ -3,6 +3,8 @@ use Rattle.std.specs.Prelude.{◌≡◌, ◌≢◌, ◌⊎◌, ℕ, zero, suc, t
 use Rattle.rel_disk.specs.Damage.{Only}
 use Rattle.rel_list.specs.Releases.{Releases}
 use Rattle.rel_list.specs.Event.{Event, list_after}
+use Rattle.rel_list.specs.Event.Event.{made, boot as booting}
+use Rattle.rel_files.specs.Release.{Release}
 use Rattle.rel_handler.specs.Events.{Events, Stored, with_doubt, certain, IsStoredAs, IsOfPrefix}
 use Rattle.rel_handler.specs.Image.{IsImageOf}
 use Rattle.rel_store.specs.Records.{end_of}
@@ -172,3 +174,18 @@ HaveOneAnswer =
     (files : Files) (p : Place) (commands : Feed Command) (a b : Ending) (first second : List Reply)
     → IsCertain p → a ≢ early → b ≢ early → NoneFails first → NoneFails second
     → Replies files p commands a first → Replies files p commands b second → (a ≡ b) × AreSame first second
+
+-- none of the replies acknowledges an event
+abbrev pub NoneAcknowledged : List Reply → Type 0
+NoneAcknowledged [] = Unit {0}
+NoneAcknowledged (a ∷ more) = (a.outcome.acknowledged ≡ []) × NoneAcknowledged more
+
+-- On an empty disk the first acknowledged event is that a release was made, where the device did not fail before, and from
+-- that reply on no moment loses an acknowledged event.
+abbrev pub BeginsWithAMaking : {D : Type 0} → Device D → Type 0
+BeginsWithAMaking {D} v =
+    (files : Files) (commands : Feed Command) (ending : Ending) (first : List Reply) (a : Reply) (rest : List Reply) (old new : D)
+    → Replies files (raw []) commands ending (first ++ a ∷ rest) → v.seen old ≡ [] → Leads v (raw []) (first ++ a ∷ rest) old new
+    → NoneFails first → NoneAcknowledged first → a.outcome.acknowledged ≢ []
+    → (r : Release) × (a.outcome.acknowledged ≡ made r ∷ booting ∷ []) × (acknowledged_at a.after ≡ made r ∷ booting ∷ [])
+      × KeepsAll v (raw []) (first ++ a ∷ []) rest old new

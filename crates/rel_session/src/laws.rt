@@ -1,5 +1,5 @@
 //! Laws of sessions. Each function does nothing: its contract is the law.
-ghost use Rattle.rel_session.specs.RunLaws.{EachKeeps, IsOfAccepted, LosesNothing, BeginsWhereOneEnded, BeginsBehindACrash, LosesNothingEver, FailsOnlyWithTheDevice, TellsDoubt, HaveOneAnswer};
+ghost use Rattle.rel_session.specs.RunLaws.{EachKeeps, IsOfAccepted, LosesNothing, BeginsWhereOneEnded, BeginsBehindACrash, LosesNothingEver, FailsOnlyWithTheDevice, TellsDoubt, HaveOneAnswer, BeginsWithAMaking};
 
 use rel_disk::Disk;
 
@@ -32,4 +32,9 @@ pub fn a_doubt_is_told_as_a_failure()
 /// Where the device does not fail, an input has one answer from each place with nothing in doubt.
 pub fn an_input_has_one_answer()
     ensures one { HaveOneAnswer }
+{}
+
+/// On an empty disk the first event that is acknowledged is that a release was made, and from then on none is lost.
+pub fn an_empty_disk_begins_with_a_making<D: Disk>()
+    ensures { BeginsWithAMaking D.Disk }
 {}
