@@ -11,3 +11,8 @@ pub mod Following
 pub mod Looping
 pub mod Giving
 pub mod Histories
+pub mod Transitions
+pub mod Lasting
+pub mod Failures
+pub mod OneAnswer
+pub mod Beginning

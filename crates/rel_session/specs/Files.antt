@@ -4,10 +4,9 @@ use Rattle.std.specs.HashMap.{get_by_text}
 use Rattle.std.specs.Option.{option_map}
 use Rattle.std.specs.Str.{bytes_eq}
 use Rattle.erl_term.specs.Value.{Value}
-use Rattle.rel_files.specs.Fault.{fault_of}
-use Rattle.rel_files.specs.File.{HasFileTerm, IsReleaseTerm, IsRelFault}
+use Rattle.rel_files.specs.Fault.{Fault}
+use Rattle.rel_files.specs.File.{HasFileTerm, IsReleaseTerm, HasFault}
 use Rattle.rel_files.specs.Release.{Release}
-use Rattle.rel_files.specs.declared.fault.FileFault.{FileFault}
 use Rattle.rel_handler.specs.Limits.{is_small}
 use Rattle.rel_session.specs.declared.files.Files.{Files as FilesInMemory}
 use Rattle.rel_session.specs.Commands.{Command, File, given_of}
@@ -34,20 +33,20 @@ pub record Found : Type 0 where
   pub term : Value
 
 -- what the bytes of a `.rel` file say
-abbrev pub Says : List ℕ → Result Found FileFault → Type 0
+abbrev pub Says : List ℕ → Result Found Fault → Type 0
 Says bs (Ok found) = HasFileTerm bs found.term × IsReleaseTerm found.term found.release
-Says bs (Err fault) = IsRelFault bs fault
+Says bs (Err fault) = HasFault bs fault
 
 -- what a command makes of that
-abbrev pub usable : List ℕ → Result Found FileFault → Result Found Refusal
+abbrev pub usable : List ℕ → Result Found Fault → Result Found Refusal
 usable path (Ok found) = if is_small found.release then Ok found else Err too_many
-usable path (Err fault) = Err (bad_file path (fault_of fault))
+usable path (Err fault) = Err (bad_file path fault)
 
 -- the release in the file of this path, or why there is none
 abbrev pub IsFound : List ℕ → Option File → Result Found Refusal → Type 0
 IsFound path None found = found ≡ Err (missing_file path)
 IsFound path (Some too_large) found = found ≡ Err too_many
-IsFound path (Some (bytes bs)) found = (said : Result Found FileFault) × Says bs said × (found ≡ usable path said)
+IsFound path (Some (bytes bs)) found = (said : Result Found Fault) × Says bs said × (found ≡ usable path said)
 
 -- the files in memory
 abbrev pub files_of : FilesInMemory → Files

@@ -13,6 +13,7 @@ pub mod Listing
 pub mod Node
 pub mod Refusals
 pub mod Run
+pub mod RunLaws
 pub mod Saying
 pub mod Transition
 pub mod Written

@@ -1,1 +1,40 @@
 //! Laws of sessions. Each function does nothing: its contract is the law.
+ghost use Rattle.rel_session.specs.RunLaws.{EachKeeps, IsOfAccepted, LosesNothing, BeginsWhereOneEnded, BeginsBehindACrash, LosesNothingEver, FailsOnlyWithTheDevice, TellsDoubt, HaveOneAnswer, BeginsWithAMaking};
+
+use rel_disk::Disk;
+
+/// Each reply keeps the acknowledged events. At each moment of a session, ended or broken off, a crash leaves the list
+/// of events that begin with all those acknowledged before. Where nothing is in doubt they are all that it has.
+pub fn a_crash_loses_nothing_acknowledged<D: Disk>()
+    ensures replies { EachKeeps }
+    ensures accepted { IsOfAccepted }
+    ensures moments { LosesNothing D.Disk }
+{}
+
+/// A session may begin on the disk that another handed back, and on what a crash left of it. So no number of sessions
+/// and crashes loses an acknowledged event.
+pub fn a_session_begins_where_another_ended<D: Disk>()
+    ensures ended { BeginsWhereOneEnded D.Disk }
+    ensures crashed { BeginsBehindACrash D.Disk }
+    ensures ever { LosesNothingEver D.Disk }
+{}
+
+/// Where the device's count of failures does not rise in a session, no command fails by it and no event is in doubt.
+pub fn no_failure_leaves_no_doubt<D: Disk>()
+    ensures { FailsOnlyWithTheDevice D.Disk }
+{}
+
+/// An event that is in doubt is told as a failure of the device, never as done.
+pub fn a_doubt_is_told_as_a_failure()
+    ensures { TellsDoubt }
+{}
+
+/// Where the device does not fail, an input has one answer from each place with nothing in doubt.
+pub fn an_input_has_one_answer()
+    ensures one { HaveOneAnswer }
+{}
+
+/// On an empty disk the first event that is acknowledged is that a release was made, and from then on none is lost.
+pub fn an_empty_disk_begins_with_a_making<D: Disk>()
+    ensures { BeginsWithAMaking D.Disk }
+{}

@@ -1,5 +1,6 @@
 use Rattle.std.proofs.Common.{ap, length}
 use Rattle.std.specs.Prelude.{Ok, Err}
+use Rattle.rel_files.specs.Fault.{fault_of}
 use Rattle.rel_session.specs.InMemory.{found_of}
 use Rattle.rel_session.proofs.Handling.{usable_release, unusable_release, small_release, rel_file}
 use Rattle.rel_session.proofs.files.release_in.Goals as goal
@@ -27,4 +28,4 @@ returns-in-Ok-2-clause-refused c = λ _. (
 pub returns-in-Err-clause-refused : goal.returns-in-Err-clause-refused
 returns-in-Err-clause-refused c = λ n.
     let told = c.refusal_for.ensures n in
-    (Err c.in-Err.fault, c.in-Err.ensures.fault told.0, ap Err told.1)
+    (Err (fault_of c.in-Err.fault), c.in-Err.ensures.fault told.0, ap Err told.1)

@@ -1,0 +1,89 @@
+-- A session on an empty disk.
+use Rattle.std.proofs.Common.{◌≡◌, ◌≢◌, ◌⊎◌, inl, inr, ⊎_elim, ℕ, ◌+◌, Bool, true, false, List, [], ◌∷◌, ◌++◌, length, codes, Option, Some, None, Result, Ok, Err, refl, sym, ap, ◌∙◌, subst, append_assoc}
+use Rattle.rel_files.specs.Release.{Release}
+use Rattle.rel_list.specs.Event.{Event}
+use Rattle.rel_list.specs.Event.Event.{made, unpacked, boot as booting}
+use Rattle.rel_store.specs.Layout.{has_magic}
+use Rattle.rel_handler.specs.Events.{Events}
+use Rattle.rel_handler.specs.Records.{body_of}
+use Rattle.rel_session.specs.Commands.{Command}
+use Rattle.rel_session.specs.Commands.Command.{file, create, set_unpacked, boot, releases, quit, bad}
+use Rattle.rel_session.specs.Device.{Device}
+use Rattle.rel_session.specs.Feed.{Feed}
+use Rattle.rel_session.specs.Files.{Files, files_behind, Found}
+use Rattle.rel_session.specs.Node.{Place, Outcome, Reply, reply}
+use Rattle.rel_session.specs.Node.Place.{raw, closed, running, dead}
+use Rattle.rel_session.specs.Refusals.{Refusal}
+use Rattle.rel_session.specs.Run.{Holds, Leads, Replies, Ending}
+use Rattle.rel_session.specs.RunLaws.{acknowledged_at, IsKnown, BecomesKnown, NoneFails, NoneAcknowledged, BeginsWithAMaking}
+use Rattle.rel_session.specs.Transition
+use Rattle.rel_session.proofs.Lasting.{first_answered, loses_nothing}
+use Rattle.rel_session.proofs.Replies.{IsDevice}
+
+-- A reply on an empty disk leaves it empty, or the device failed, or a release was made.
+pub record IsMade (a : Reply) : Type 0 where
+  pub release : Release
+  pub acknowledged : a.outcome.acknowledged ≡ made release ∷ booting ∷ []
+  pub after : acknowledged_at a.after ≡ made release ∷ booting ∷ []
+
+abbrev OnEmpty : Reply → Type 0
+OnEmpty a = ((a.outcome.acknowledged ≡ []) × ((a.after ≡ raw []) ⊎ (a.outcome.failed ≡ true))) ⊎ IsMade a
+
+on_empty_as : (a b : Reply) → a ≡ b → OnEmpty b → OnEmpty a
+on_empty_as a b is of = subst OnEmpty (sym is) of
+
+makes_found : (found : Result Found Refusal) (a : Reply) → Transition.MakesFound (raw []) found a → OnEmpty a
+makes_found (Err why) a is = on_empty_as a _ is (inl (refl, inl refl))
+makes_found (Ok found) a (inl (inl (fits, is))) = on_empty_as a _ is (inr (record { release = found.release; acknowledged = refl; after = refl }))
+makes_found (Ok found) a (inl (inr (over_it, is))) = on_empty_as a _ is (inl (refl, inl refl))
+makes_found (Ok found) a (inr (torn, is)) = on_empty_as a _ is (inl (refl, inr refl))
+
+boots : (a : Reply) → Transition.BootsBytes [] a → OnEmpty a
+boots a (inl (events, list, after, image, is)) = cc image.store
+boots a (inr (inl (why, told, is))) = on_empty_as a _ is (inl (refl, inl refl))
+boots a (inr (inr (torn, is))) = on_empty_as a _ is (inl (refl, inr refl))
+
+on_empty : (files : Files) (c : Command) (a : Reply) → Transition.Transition files (raw []) c a → OnEmpty a
+on_empty files (file path f) a is = on_empty_as a _ is (inl (refl, inl refl))
+on_empty files (create path) a (found, there, is) = makes_found found a is
+on_empty files (set_unpacked path) a is = on_empty_as a _ is (inl (refl, inl refl))
+on_empty files boot a is = boots a is
+on_empty files releases a is = on_empty_as a _ is (inl (refl, inl refl))
+on_empty files quit a is = absurd is
+on_empty files bad a is = on_empty_as a _ is (inl (refl, inl refl))
+
+-- where it was left empty
+still_empty : (a : Reply) → OnEmpty a → a.outcome.failed ≡ false → a.outcome.acknowledged ≡ [] → a.after ≡ raw []
+still_empty a (inl (none, inl there)) works nothing = there
+still_empty a (inl (none, inr failed)) works nothing = let lost : true ≡ false = sym failed ∙ works in absurd cc
+still_empty a (inr of) works nothing = let lost : made of.release ∷ booting ∷ [] ≡ [] = sym of.acknowledged ∙ nothing in absurd cc
+
+-- the first reply that acknowledges an event
+first_event : (files : Files) (p : Place) (commands : Feed Command) (ending : Ending) (first : List Reply) (a : Reply) (rest : List Reply) → p ≡ raw []
+    → Replies files p commands ending (first ++ a ∷ rest) → NoneFails first → NoneAcknowledged first → a.outcome.acknowledged ≢ [] → IsMade a
+first_event files p commands ending [] a rest empty right works none some =
+    let n = first_answered files p commands ending a rest right in
+    ⊎_elim (λ (nothing : (a.outcome.acknowledged ≡ []) × ((a.after ≡ raw []) ⊎ (a.outcome.failed ≡ true))). absurd (some nothing.0)) (λ (of : IsMade a). of)
+    (on_empty files n.command a (subst (λ q. Transition.Transition files q n.command a) empty n.is))
+first_event files p commands ending (b ∷ first) a rest empty right (worked, works) (nothing, none) some =
+    let n = first_answered files p commands ending b (first ++ a ∷ rest) right in
+    let there = still_empty b (on_empty files n.command b (subst (λ q. Transition.Transition files q n.command b) empty n.is)) worked nothing in
+    first_event (files_behind files n.command) b.after n.rest ending first a rest there n.right works none some
+
+-- the store is known behind such a reply
+becomes_known : (p : Place) (first : List Reply) (a : Reply) → a.outcome.acknowledged ≢ [] → BecomesKnown p (first ++ a ∷ [])
+becomes_known p [] a some = inl (inr some)
+becomes_known p (b ∷ first) a some = inr (becomes_known b.after first a some)
+
+module _ {D : Type 0} (v : Device D) (laws : IsDevice v) where
+  pub begins_with_a_making : BeginsWithAMaking v
+  begins_with_a_making files commands ending first a rest old new right empty leads works none some =
+      let of = first_event files (raw []) commands ending first a rest refl right works none some in
+      let same : first ++ a ∷ rest ≡ (first ++ a ∷ []) ++ rest = sym (append_assoc first (a ∷ []) rest) in
+      (
+        of.release,
+        of.acknowledged,
+        of.after,
+        loses_nothing v laws files (raw []) commands ending (first ++ a ∷ []) rest old new (subst (Replies files (raw []) commands ending) same right) empty
+        (subst (λ l. Leads v (raw []) l old new) same leads) (becomes_known (raw []) first a some),
+      )

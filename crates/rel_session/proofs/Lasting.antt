@@ -1,0 +1,278 @@
+-- No moment of a session loses an acknowledged event.
+use Rattle.std.proofs.Common.{◌≡◌, ◌≢◌, ◌⊎◌, inl, inr, ⊎_elim, ℕ, zero, suc, List, [], ◌∷◌, ◌++◌, Option, Some, None, refl, sym, ap, ◌∙◌, subst, append-nil, append_assoc, arith}
+use Rattle.rel_disk.proofs.Moments.{started, weakened, joined}
+use Rattle.rel_disk.specs.Damage.{Only}
+use Rattle.rel_list.specs.Event.{Event, list_after}
+use Rattle.rel_store.specs.Records.{end_of}
+use Rattle.rel_handler.specs.Events.{Known, Events, Stored, settled, certain, with_doubt, MayHave, IsStoredAs, IsOfPrefix}
+use Rattle.rel_handler.specs.Image.{IsImageOf}
+use Rattle.rel_session.specs.Commands.{Command}
+use Rattle.rel_session.specs.Commands.Command.{file, create, set_unpacked, boot, releases, quit, bad}
+use Rattle.rel_session.specs.Device.{Device, LeavesOnly}
+use Rattle.rel_session.specs.Feed.{Feed}
+use Rattle.rel_session.specs.Feed.Feed.{over, cut, next}
+use Rattle.rel_session.specs.Files.{Files, files_behind}
+use Rattle.rel_session.specs.Node.{Place, Outcome, Reply}
+use Rattle.rel_session.specs.Node.Place.{raw, closed, running, dead}
+use Rattle.rel_session.specs.Run.{Starts, Holds, Happens, Moments, Leads, Replies, Ending, IsReached, events_of}
+use Rattle.rel_session.specs.Run.Ending.{ended, cut_off, early}
+use Rattle.rel_session.specs.RunLaws.{acknowledged_at, IsKnown, Finds, Keeps, place_after, HaveAll, StandsForAll, BecomesKnown, KeepsAll, LosesNothing, IsOfAccepted, at_rest, BeginsWhereOneEnded, BeginsBehindACrash, IsNextDisk, Lasts, LosesNothingEver}
+use Rattle.rel_session.specs.Transition.{Transition}
+use Rattle.rel_session.proofs.Prefixes.{prefix_of, reached}
+use Rattle.rel_session.proofs.Replies.{IsDevice}
+use Rattle.rel_session.proofs.Transitions.{each_keeps}
+
+-- the first of some replies is that to the first command, and the others are those to the commands behind it
+pub next_answered : (files : Files) (p : Place) (c : Command) (rest : Feed Command) (ending : Ending) (a : Reply) (more : List Reply) → Replies files p (next c rest) ending (a ∷ more)
+    → Transition files p c a × Replies (files_behind files c) a.after rest ending more
+next_answered files p (file path f) rest ended a more right = right
+next_answered files p (create path) rest ended a more right = right
+next_answered files p (set_unpacked path) rest ended a more right = right
+next_answered files p boot rest ended a more right = right
+next_answered files p releases rest ended a more right = right
+next_answered files p bad rest ended a more right = right
+next_answered files p quit rest ended a more right = right
+next_answered files p (file path f) rest cut_off a more right = right
+next_answered files p (create path) rest cut_off a more right = right
+next_answered files p (set_unpacked path) rest cut_off a more right = right
+next_answered files p boot rest cut_off a more right = right
+next_answered files p releases rest cut_off a more right = right
+next_answered files p bad rest cut_off a more right = right
+next_answered files p quit rest cut_off a more right = right
+next_answered files p (file path f) rest early a more right = right
+next_answered files p (create path) rest early a more right = right
+next_answered files p (set_unpacked path) rest early a more right = right
+next_answered files p boot rest early a more right = right
+next_answered files p releases rest early a more right = right
+next_answered files p bad rest early a more right = right
+next_answered files p quit rest early a more right = right
+
+-- where no command is left there is none
+pub none_left : (files : Files) (p : Place) (commands : Feed Command) (ending : Ending) (a : Reply) (more : List Reply) → (commands ≡ over) ⊎ (commands ≡ cut) → Replies files p commands ending (a ∷ more) → ⊥
+none_left files p over ended a more none right = right
+none_left files p over cut_off a more none right = right
+none_left files p over early a more none right = right
+none_left files p cut ended a more none right = right
+none_left files p cut cut_off a more none right = right
+none_left files p cut early a more none right = right
+none_left files p (next c rest) ending a more (inl none) right = cc none
+none_left files p (next c rest) ending a more (inr none) right = cc none
+
+pub record Answered (files : Files) (p : Place) (a : Reply) (ending : Ending) (more : List Reply) : Type 0 where
+  pub command : Command
+  pub rest : Feed Command
+  pub is : Transition files p command a
+  pub right : Replies (files_behind files command) a.after rest ending more
+
+pub first_answered : (files : Files) (p : Place) (commands : Feed Command) (ending : Ending) (a : Reply) (more : List Reply) → Replies files p commands ending (a ∷ more) → Answered files p a ending more
+first_answered files p over ending a more right = absurd (none_left files p over ending a more (inl refl) right)
+first_answered files p cut ending a more right = absurd (none_left files p cut ending a more (inr refl) right)
+first_answered files p (next c rest) ending a more right =
+    let (is, behind) = next_answered files p c rest ending a more right in
+    record { command = c; rest = rest; is = is; right = behind }
+
+-- with the one in doubt or without, the events begin with the acknowledged ones
+doubt_more : (events : Events) (doubt : Option Event) (found : Events) → (found ≡ events) ⊎ (found ≡ with_doubt events doubt) → (more : Events) × (found ≡ events ++ more)
+doubt_more events doubt found (inl is) = ([], is ∙ sym (append-nil events))
+doubt_more events None found (inr is) = ([], is ∙ sym (append-nil events))
+doubt_more events (Some e) found (inr is) = (e ∷ [], is)
+
+finds_more : (p : Place) (found : Events) → Finds p found → (more : Events) × (found ≡ acknowledged_at p ++ more)
+finds_more (raw bytes) found finds = (found, refl)
+finds_more (closed s) found finds = doubt_more s.known.acknowledged s.known.in_doubt found finds
+finds_more (running events end) found finds = ([], finds ∙ sym (append-nil events))
+finds_more (dead s) found finds = doubt_more s.known.acknowledged s.known.in_doubt found finds
+
+-- so do those behind a reply
+keeps_more : (p : Place) (a : Reply) → Keeps p a → (between : Events) × (acknowledged_at a.after ≡ acknowledged_at p ++ (between ++ a.outcome.acknowledged))
+keeps_more p a keeps =
+    let (more, is) = finds_more p keeps.found keeps.finds in
+    (more, keeps.are ∙ ap (λ (l : Events). l ++ a.outcome.acknowledged) is ∙ append_assoc (acknowledged_at p) more a.outcome.acknowledged)
+
+stands_for_more : (events more all : Events) (image : List ℕ) → all ≡ events ++ more → StandsForAll all image → StandsForAll events image
+stands_for_more events more all image is of = record {
+  more = more ++ of.more;
+  list = of.list;
+  after = ap list_after (sym (append_assoc events more of.more) ∙ ap (λ (l : Events). l ++ of.more) (sym is)) ∙ of.after;
+  image_of = of.image_of;
+}
+
+-- the events of all the replies
+have_all : (files : Files) (p : Place) (commands : Feed Command) (ending : Ending) (first rest : List Reply) → Replies files p commands ending (first ++ rest)
+    → HaveAll (acknowledged_at p) first (acknowledged_at (place_after p first))
+have_all files p commands ending [] rest right = refl
+have_all files p commands ending (a ∷ first) rest right =
+    let n = first_answered files p commands ending a (first ++ rest) right in
+    let (between, is) = keeps_more p a (each_keeps files p n.command a n.is) in
+    (between, subst (λ events. HaveAll events first (acknowledged_at (place_after a.after first))) is (have_all (files_behind files n.command) a.after n.rest ending first rest n.right))
+
+known_first : (p : Place) (replies : List Reply) → IsKnown p → BecomesKnown p replies
+known_first p [] known = known
+known_first p (a ∷ more) known = inl (inl known)
+
+-- a store that is known stays known, and one that becomes known is so
+becomes_known : (files : Files) (p : Place) (commands : Feed Command) (ending : Ending) (first rest : List Reply) → Replies files p commands ending (first ++ rest)
+    → BecomesKnown p first → IsKnown (place_after p first)
+becomes_known files p commands ending [] rest right known = known
+becomes_known files p commands ending (a ∷ first) rest right known =
+    let n = first_answered files p commands ending a (first ++ rest) right in
+    let keeps = each_keeps files p n.command a n.is in
+    becomes_known (files_behind files n.command) a.after n.rest ending first rest n.right (go keeps known)
+  where
+    go : Keeps p a → (IsKnown p ⊎ (a.outcome.acknowledged ≢ [])) ⊎ BecomesKnown a.after first → BecomesKnown a.after first
+    go keeps (inl here) = known_first a.after first (keeps.known here)
+    go keeps (inr later) = later
+
+-- the replies that are left
+rest_right : (files : Files) (p : Place) (commands : Feed Command) (ending : Ending) (first rest : List Reply) → Replies files p commands ending (first ++ rest)
+    → (behind : Files) × (left : Feed Command) × Replies behind (place_after p first) left ending rest
+rest_right files p commands ending [] rest right = (files, commands, right)
+rest_right files p commands ending (a ∷ first) rest right =
+    let n = first_answered files p commands ending a (first ++ rest) right in
+    rest_right (files_behind files n.command) a.after n.rest ending first rest n.right
+
+-- behind replies from a known store it is known, and its events begin with those before
+abbrev IsStill : Place → List Reply → Type 0
+IsStill p replies = IsKnown (place_after p replies) × (more : Events) × (acknowledged_at (place_after p replies) ≡ acknowledged_at p ++ more)
+
+stays_known : (files : Files) (p : Place) (commands : Feed Command) (ending : Ending) (replies : List Reply) → Replies files p commands ending replies → IsKnown p → IsStill p replies
+stays_known files p commands ending [] right known = (known, [], sym (append-nil (acknowledged_at p)))
+stays_known files p commands ending (a ∷ more) right known =
+    let n = first_answered files p commands ending a more right in
+    let keeps = each_keeps files p n.command a n.is in
+    let (between, is) = keeps_more p a keeps in
+    let (then, others, are) = stays_known (files_behind files n.command) a.after n.rest ending more n.right (keeps.known (inl known)) in (
+      then,
+      (between ++ a.outcome.acknowledged) ++ others,
+      are ∙ ap (λ (l : Events). l ++ others) is ∙ append_assoc (acknowledged_at p) (between ++ a.outcome.acknowledged) others,
+    )
+
+pub of_accepted : IsOfAccepted
+of_accepted s image of = record { events = of.events; prefix = prefix_of s of.events (end_of image) of.list of.has of.after; list = of.list; after = of.after; image_of = of.image_of }
+
+stands_for : (s : Stored) (image : List ℕ) → IsStoredAs s image → StandsForAll s.known.acknowledged image
+stands_for s image of =
+    let prefix = prefix_of s of.events (end_of image) of.list of.has of.after in
+    record { more = prefix.more; list = of.list; after = ap list_after (sym prefix.holds) ∙ of.after; image_of = of.image_of }
+
+stands_for_reached : (k : Known) (command : Events) (image : List ℕ) → IsReached k command image → StandsForAll k.acknowledged image
+stands_for_reached k command image of = record {
+  more = of.prefix.more ++ of.more;
+  list = of.list;
+  after = ap list_after (sym (append_assoc k.acknowledged of.prefix.more of.more) ∙ ap (λ (l : Events). l ++ of.more) (sym of.prefix.holds)) ∙ of.after;
+  image_of = of.image_of;
+}
+
+module _ {D : Type 0} (v : Device D) (laws : IsDevice v) where
+  -- each image where the disk stands
+  held_images : (p : Place) (disk : D) → IsKnown p → Holds v p disk → (c : List ℕ) → v.may_leave disk c → StandsForAll (acknowledged_at p) c
+  held_images (raw bytes) disk known holds c now = absurd known
+  held_images (closed s) disk known holds c now = stands_for s c (holds c now)
+  held_images (running events end) disk known holds c now = stands_for (certain events end) c (holds c now)
+  held_images (dead s) disk known holds c now = stands_for s c (holds c now)
+
+  -- and at each moment of a command
+  command_images : (p : Place) (o : Outcome) (old new : D) → IsKnown p → Moments v p o old new → LeavesOnly v old new (StandsForAll (acknowledged_at p))
+  command_images (raw bytes) o old new known moments = absurd known
+  command_images (closed s) o old new known moments = weakened v.moment v.left_since old new _ _ (stands_for_reached s.known (events_of o)) moments
+  command_images (running events end) o old new known moments = weakened v.moment v.left_since old new _ _ (stands_for_reached (settled events) (events_of o)) moments
+  command_images (dead s) o old new known moments = weakened v.moment v.left_since old new _ _ (stands_for_reached s.known (events_of o)) moments
+
+  -- and so at each moment of a session
+  pub session_images : (files : Files) (p : Place) (commands : Feed Command) (ending : Ending) (replies : List Reply) (old new : D) → Replies files p commands ending replies
+      → IsKnown p → Holds v p old → Leads v p replies old new → LeavesOnly v old new (StandsForAll (acknowledged_at p))
+  session_images files p commands ending [] old new right known holds (leaves, then, counted) =
+      weakened v.moment v.left_since old new (v.may_leave old) (StandsForAll (acknowledged_at p)) (held_images p old known holds) leaves
+  session_images files p commands ending (a ∷ more) old new right known holds (mid, happens, leads) =
+      let n = first_answered files p commands ending a more right in
+      let keeps = each_keeps files p n.command a n.is in
+      let (between, is) = keeps_more p a keeps in
+      joined v.moment v.left_since old mid new (StandsForAll (acknowledged_at p)) (command_images p a.outcome old mid known happens.moments)
+      (weakened v.moment v.left_since mid new (StandsForAll (acknowledged_at a.after)) (StandsForAll (acknowledged_at p))
+      (λ c. stands_for_more (acknowledged_at p) (between ++ a.outcome.acknowledged) (acknowledged_at a.after) c is)
+      (session_images (files_behind files n.command) a.after n.rest ending more mid new n.right (keeps.known (inl known)) happens.holds leads))
+
+  -- a session in two parts
+  parts : (p : Place) (first rest : List Reply) (old new : D) → Holds v p old → Leads v p (first ++ rest) old new
+      → (mid : D) × Leads v p first old mid × Leads v (place_after p first) rest mid new × Holds v (place_after p first) mid
+  parts p [] rest old new holds leads = (old, (started v.moment v.left_since old (v.may_leave old) (laws.only_now old), holds, omega arith), leads, holds)
+  parts p (a ∷ first) rest old new holds (here, happens, leads) =
+      let (mid, before, behind, then) = parts a.after first rest here new happens.holds leads in
+      (mid, (here, happens, before), behind, then)
+
+  pub loses_nothing : LosesNothing v
+  loses_nothing files p commands ending first rest old new right holds leads known =
+      let (mid, before, behind, then) = parts p first rest old new holds leads in
+      let (fs, left, right_then) = rest_right files p commands ending first rest right in
+      let known_then = becomes_known files p commands ending first rest right known in
+      record {
+        mid = mid;
+        before = before;
+        behind = behind;
+        known = known_then;
+        have_all = have_all files p commands ending first rest right;
+        moments = session_images fs (place_after p first) left ending rest mid new right_then known_then then behind;
+      }
+
+  -- the disk behind a session
+  pub handed_back : (p : Place) (replies : List Reply) (old new : D) → Leads v p replies old new → Holds v (place_after p replies) new
+  handed_back p [] old new (leaves, then, counted) = then
+  handed_back p (a ∷ more) old new (mid, happens, leads) = handed_back a.after more mid new leads
+
+  starts_at_rest : (p : Place) (disk : D) → Holds v p disk → Starts v (at_rest p) disk
+  starts_at_rest (raw bytes) disk holds = holds
+  starts_at_rest (closed s) disk holds = holds
+  starts_at_rest (running events end) disk holds = holds
+  starts_at_rest (dead s) disk holds = holds
+
+  pub begins_where_one_ended : BeginsWhereOneEnded v
+  begins_where_one_ended p replies old new leads = starts_at_rest (place_after p replies) new (handed_back p replies old new leads)
+
+  pub begins_behind_a_crash : BeginsBehindACrash v
+  begins_behind_a_crash events image disk of only = (
+    of.more,
+    λ c now. subst (IsStoredAs (certain (events ++ of.more) (end_of image))) (sym (only c now))
+        (record { events = events ++ of.more; has = inl (refl, refl); list = of.list; after = of.after; image_of = of.image_of }),
+  )
+
+  known_at_rest : (p : Place) → IsKnown p → (s : Stored) × (at_rest p ≡ closed s) × (s.known.acknowledged ≡ acknowledged_at p)
+  known_at_rest (raw bytes) known = absurd known
+  known_at_rest (closed s) known = (s, refl, refl)
+  known_at_rest (running events end) known = (certain events end, refl, refl)
+  known_at_rest (dead s) known = (s, refl, refl)
+
+  -- where all these events are acknowledged, with others behind them
+  abbrev IsOn : Events → D → Type 0
+  IsOn events disk = (s : Stored) × (more : Events) × Starts v (closed s) disk × (s.known.acknowledged ≡ events ++ more)
+
+  next_disk : (p : Place) (replies : List Reply) (mid new later : D) → LeavesOnly v mid new (StandsForAll (acknowledged_at p)) → IsStill p replies
+      → Holds v (place_after p replies) new → IsNextDisk v mid new later → IsOn (acknowledged_at p) later
+  next_disk p replies mid new later moments (known, more, is) holds (inl same) =
+      let (s, rests, are) = known_at_rest (place_after p replies) known in
+      let starts = subst (λ d. Starts v (at_rest (place_after p replies)) d) (sym same) (starts_at_rest (place_after p replies) new holds) in
+      (s, more, subst (λ q. Starts v q later) rests starts, are ∙ is)
+  next_disk p replies mid new later moments still holds (inr (image, left, only)) =
+      let (more, starts) = begins_behind_a_crash (acknowledged_at p) image later (moments.each image left) only in
+      (certain (acknowledged_at p ++ more) (end_of image), more, starts, refl)
+
+  lasts : (n : ℕ) (events : Events) (disk : D) → IsOn events disk → Lasts v n events disk
+  lasts zero events disk on = on
+  lasts (suc n) events disk (s, more, starts, is) = (
+    s,
+    more,
+    starts,
+    is,
+    λ files commands ending first rest mid new later right before behind next.
+        let (fs, left, right_then) = rest_right files (closed s) commands ending first rest right in
+        let known = becomes_known files (closed s) commands ending first rest right (known_first (closed s) first tt) in
+        let then = place_after (closed s) first in
+        let moments = session_images fs then left ending rest mid new right_then known (handed_back (closed s) first disk mid before) behind in
+        let on = next_disk then rest mid new later moments (stays_known fs then left ending rest right_then known) (handed_back then rest mid new behind) next in (
+          acknowledged_at then,
+          subst (λ es. HaveAll es first (acknowledged_at then)) is (have_all files (closed s) commands ending first rest right),
+          lasts n (acknowledged_at then) later on,
+        ),
+  )
+
+  pub loses_nothing_ever : LosesNothingEver v
+  loses_nothing_ever n s disk starts = lasts n s.known.acknowledged disk (s, [], starts, sym (append-nil s.known.acknowledged))
