@@ -31,7 +31,8 @@ pub(crate) struct AppDraft {
 impl AppDraft {
     // Nothing for a term of another shape.
     fn read(alloc: Global, term: &Term) -> Result<Option<AppDraft>, AllocError>
-        ensures { IfOk result (λ a. option_map app_sketch_of a ≡ app_sketch_in (value_of term.now)) }
+        ensures { IfOk result (λ a.
+            option_map app_sketch_of a ≡ app_sketch_in (value_of term.now)) }
     {
         let Some(parts) = app_parts(term) else {
             return Ok(None);
@@ -127,7 +128,8 @@ impl Draft {
 }
 
 fn app_drafts(alloc: Global, terms: &[Term]) -> Result<Option<Vec<AppDraft>>, AllocError>
-    ensures { IfOk result (λ o. option_map (λ v. map app_sketch_of v.items) o ≡ app_sketches_in (members_of terms.now)) }
+    ensures { IfOk result (λ o.
+        option_map (λ v. map app_sketch_of v.items) o ≡ app_sketches_in (members_of terms.now)) }
 {
     let mut apps = Vec::with_capacity(alloc, terms.len())?;
     for term in terms {
@@ -140,7 +142,8 @@ fn app_drafts(alloc: Global, terms: &[Term]) -> Result<Option<Vec<AppDraft>>, Al
 }
 
 fn rel_apps(alloc: Global, drafts: Vec<AppDraft>) -> Result<Option<Vec<RelApp>>, AllocError>
-    ensures { IfOk result (λ o. option_map (λ v. map application_of v.items) o ≡ apps_in (map app_sketch_of drafts.items)) }
+    ensures { IfOk result (λ o.
+        option_map (λ v. map application_of v.items) o ≡ apps_in (map app_sketch_of drafts.items)) }
 {
     let mut apps = Vec::with_capacity(alloc, drafts.len())?;
     for draft in drafts {

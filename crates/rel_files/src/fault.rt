@@ -7,7 +7,7 @@ use erl_term::TermFault;
 use std::alloc::{AllocError, AllocFailed};
 use thiserror::Error;
 
-/// What is wrong with a file. Of several faults the one that stands first here is told.
+/// What is wrong with a file. Of several faults the one that stands first here is reported.
 #[derive(Debug, PartialEq, Drop, Error)]
 pub enum FileFault {
     /// It is no row of terms.

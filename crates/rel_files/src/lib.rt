@@ -1,11 +1,10 @@
 //! The files that describe a release, from their bytes to their values.
 //!
 //! [`read_rel`] reads a `.rel` file. It gives a release exactly where the file says one, and then that
-//! one; a refusal is the file's fault, the first in the order of [`FileFault`]'s cases. Want of memory may
+//! one; a refusal is the file's fault, the first in the order of [`FileFault`]'s cases. Out of memory may
 //! come in place of any answer and says nothing of the file.
 //!
-//! The functions of `laws` say of these definitions that no file says two releases, that none has two faults,
-//! and that none has both.
+//! The functions of `laws` say of these definitions that each file says one release or has one fault, and not both.
 #![tactic(auto)]
 
 mod draft;

@@ -39,7 +39,8 @@ fn list_in(term: &Term) -> Option<&[Term]>
 }
 
 fn pair_in(term: &Term) -> Option<(&Term, &Term)>
-    ensures { option_map (λ p. (value_of p.0.now, value_of p.1.now)) result ≡ pair_in (value_of term.now) }
+    ensures { option_map (λ p. (value_of p.0.now, value_of p.1.now)) result
+        ≡ pair_in (value_of term.now) }
 {
     let Term::Tuple(members) = term else {
         return None;
@@ -53,7 +54,9 @@ fn pair_in(term: &Term) -> Option<(&Term, &Term)>
 }
 
 fn four_in(term: &Term) -> Option<(&Term, &Term, &Term, &Term)>
-    ensures { option_map (λ p. (value_of p.0.now, value_of p.1.now, value_of p.2.now, value_of p.3.now)) result ≡ four_in (value_of term.now) }
+    ensures { option_map (λ p.
+        (value_of p.0.now, value_of p.1.now, value_of p.2.now, value_of p.3.now)) result
+        ≡ four_in (value_of term.now) }
 {
     let Term::Tuple(members) = term else {
         return None;
@@ -78,8 +81,9 @@ fn is_word(term: &Term, word: &str) -> bool
 }
 
 pub(crate) fn app_parts(term: &Term) -> Option<AppParts<'_>>
-    ensures { option_map (λ p. record { name = p.name.now; vsn = members_of p.vsn.now; ending = members_of p.ending.now }) result
-        ≡ app_parts (value_of term.now) }
+    ensures { option_map (λ p.
+        record { name = p.name.now; vsn = members_of p.vsn.now; ending = members_of p.ending.now })
+        result ≡ app_parts (value_of term.now) }
 {
     let Term::Tuple(members) = term else {
         return None;
@@ -97,7 +101,9 @@ pub(crate) fn app_parts(term: &Term) -> Option<AppParts<'_>>
 }
 
 fn title_in(term: &Term) -> Option<Title<'_>>
-    ensures { option_map (λ t. record { name = members_of t.name.now; vsn = members_of t.vsn.now }) result ≡ title_in (value_of term.now) }
+    ensures { option_map (λ t.
+        record { name = members_of t.name.now; vsn = members_of t.vsn.now }) result
+        ≡ title_in (value_of term.now) }
 {
     let (name, vsn) = pair_in(term)?;
     Some(Title {

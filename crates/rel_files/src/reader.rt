@@ -21,7 +21,8 @@ pub struct RelFile {
 /// Reads a `.rel` file.
 pub fn read_rel(alloc: Global, bytes: &[u8]) -> Result<Rel, FileFault>
     ensures says { IfOk result (λ rel. SaysRelease bytes.now (release_of rel)) }
-    ensures only { (r : Release) → SaysRelease bytes.now r → MatchResult result (λ rel. release_of rel ≡ r) (λ f. f ≡ FileFault.NoMemory) }
+    ensures only { (r : Release) → SaysRelease bytes.now r →
+        MatchResult result (λ rel. release_of rel ≡ r) (λ f. f ≡ FileFault.NoMemory) }
     ensures fault { IfErr result (λ f. f ≢ FileFault.NoMemory → IsRelFault bytes.now f) }
 {
     let file = read_rel_file(alloc, bytes)?;
@@ -30,8 +31,10 @@ pub fn read_rel(alloc: Global, bytes: &[u8]) -> Result<Rel, FileFault>
 
 /// Reads a `.rel` file, and keeps its term.
 pub fn read_rel_file(alloc: Global, bytes: &[u8]) -> Result<RelFile, FileFault>
-    ensures says { IfOk result (λ file. HasFileTerm bytes.now (value_of file.term) × IsReleaseTerm (value_of file.term) (release_of file.release)) }
-    ensures only { (r : Release) → SaysRelease bytes.now r → MatchResult result (λ file. release_of file.release ≡ r) (λ f. f ≡ FileFault.NoMemory) }
+    ensures says { IfOk result (λ file. HasFileTerm bytes.now (value_of file.term)
+        × IsReleaseTerm (value_of file.term) (release_of file.release)) }
+    ensures only { (r : Release) → SaysRelease bytes.now r →
+        MatchResult result (λ file. release_of file.release ≡ r) (λ f. f ≡ FileFault.NoMemory) }
     ensures fault { IfErr result (λ f. f ≢ FileFault.NoMemory → IsRelFault bytes.now f) }
 
     // The term has short atoms, and few brackets are open at once when it is printed.
@@ -51,11 +54,13 @@ pub fn read_rel_file(alloc: Global, bytes: &[u8]) -> Result<RelFile, FileFault>
     })
 }
 
-/// The release that a term describes. `at` is where the term begins: a term of another shape is told so.
+/// The release that a term describes. `at` is where the term begins, and so the place of a BadShape.
 pub fn rel_of_term(alloc: Global, term: &Term, at: usize) -> Result<Rel, FileFault>
     ensures says { IfOk result (λ rel. IsReleaseTerm (value_of term.now) (release_of rel)) }
-    ensures only { (r : Release) → IsReleaseTerm (value_of term.now) r → MatchResult result (λ rel. release_of rel ≡ r) (λ f. f ≡ FileFault.NoMemory) }
-    ensures fault { IfErr result (λ f. f ≢ FileFault.NoMemory → IsTermFault (value_of term.now) at f) }
+    ensures only { (r : Release) → IsReleaseTerm (value_of term.now) r →
+        MatchResult result (λ rel. release_of rel ≡ r) (λ f. f ≡ FileFault.NoMemory) }
+    ensures fault { IfErr result (λ f.
+        f ≢ FileFault.NoMemory → IsTermFault (value_of term.now) at f) }
 {
     let Some(draft) = Draft::read(alloc, term)? else {
         return Err(FileFault::BadShape(at));

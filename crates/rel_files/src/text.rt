@@ -63,7 +63,8 @@ pub(crate) fn text_in(
     lowest: u8,
     items: &[Term],
 ) -> Result<Option<String>, AllocError>
-    ensures { IfOk result (λ text. option_map string_bytes text ≡ text_in lowest (members_of items.now)) }
+    ensures { IfOk result (λ text.
+        option_map string_bytes text ≡ text_in lowest (members_of items.now)) }
 {
     if is_text_length(items) {
         characters_in(alloc, lowest, items)
@@ -80,7 +81,8 @@ fn is_text_length(items: &[Term]) -> bool
 
 // The text of these numbers, if each is such a character.
 fn characters_in(alloc: Global, lowest: u8, items: &[Term]) -> Result<Option<String>, AllocError>
-    ensures { IfOk result (λ text. option_map string_bytes text ≡ characters_in lowest (members_of items.now)) }
+    ensures { IfOk result (λ text.
+        option_map string_bytes text ≡ characters_in lowest (members_of items.now)) }
 {
     let mut text = String::with_capacity(alloc, items.len())?;
     for item in items {
@@ -104,7 +106,8 @@ fn character_in(lowest: u8, term: &Term) -> Option<char>
 
 // The names, if each is one.
 pub(crate) fn names_of(alloc: Global, items: &[Term]) -> Result<Option<Vec<String>>, AllocError>
-    ensures { IfOk result (λ names. option_map (λ v. map string_bytes v.items) names ≡ names_of (members_of items.now)) }
+    ensures { IfOk result (λ names.
+        option_map (λ v. map string_bytes v.items) names ≡ names_of (members_of items.now)) }
 {
     let mut names = Vec::with_capacity(alloc, items.len())?;
     for item in items {

@@ -52,7 +52,8 @@ impl ReleaseList {
     /// Changes the list as the event says.
     pub fn accept(&mut self, alloc: Global, event: Event) -> Result<(), ListError>
         ensures accepted { OnOk result (step (event_of event) self.old ≡ Some self.new) }
-        ensures existing { IsErrOf result ListError.ExistingRelease ↔ (step (event_of event) self.old ≡ None) }
+        ensures existing { IsErrOf result ListError.ExistingRelease
+            ↔ (step (event_of event) self.old ≡ None) }
         ensures refused { OnErr result (self.new ≡ self.old) }
     {
         match event {
@@ -74,7 +75,8 @@ impl ReleaseList {
     // Puts a release of a new version last.
     fn put(&mut self, alloc: Global, release: Rel, status: Status) -> Result<(), ListError>
         requires { status_of (string_bytes release.vsn) self.old ≡ None }
-        ensures added { OnOk result (self.new ≡ self.old ++ entry (release_of release) status ∷ []) }
+        ensures added { OnOk result
+            (self.new ≡ self.old ++ entry (release_of release) status ∷ []) }
         ensures memory { IfErr result (λ e. e ≡ ListError.NoMemory) }
         ensures refused { OnErr result (self.new ≡ self.old) }
     {
