@@ -10,3 +10,4 @@ pub mod Places
 pub mod Innermost
 pub mod Refusals
 pub mod OneFault
+pub mod AloneTerms

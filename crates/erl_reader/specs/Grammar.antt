@@ -6,6 +6,7 @@ use Rattle.erl_reader.specs.Value.{Value, Values}
 use Rattle.erl_reader.specs.Value.Value.{int, atom, list, tuple, bin}
 use Rattle.erl_reader.specs.Value.Values.{no_values, value}
 use Rattle.erl_token.specs.Lexing.{Token, Item, items_of}
+pub use Rattle.erl_token.specs.Rows.{first_from, last_to}
 use Rattle.erl_token.specs.Lexing.Token.{open_tuple, close_tuple, open_list, close_list, open_binary, close_binary, comma, dot, name, number, text}
 
 -- A term as it is spelled: a list of characters may also stand as a text. The members of a binary are numbers and texts.
@@ -113,16 +114,6 @@ Fits limit p = (depth p ≤ limit) × HasSegments p
 
 abbrev pub tokens : List Item → List Token
 tokens is = map (λ i. i.token) is
-
--- where a row begins and ends
-abbrev pub first_from : List Item → ℕ
-first_from [] = 0
-first_from (i ∷ is) = i.from
-
-abbrev pub last_to : List Item → ℕ
-last_to [] = 0
-last_to (i ∷ []) = i.to
-last_to (i ∷ j ∷ is) = last_to (j ∷ is)
 
 -- a term of a text, with its places
 pub record Reading : Type 0 where

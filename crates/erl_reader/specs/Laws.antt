@@ -1,5 +1,5 @@
 -- Laws of texts, whatever reads them.
-use Rattle.std.specs.Prelude.{◌≡◌, ℕ, ◌⊎◌, List}
+use Rattle.std.specs.Prelude.{◌≡◌, ℕ, ◌-◌, ◌⊎◌, List, [], ◌∷◌, ◌++◌, slice_range}
 use Rattle.erl_token.specs.declared.fault.TermFault.{TermFault}
 use Rattle.erl_reader.specs.Grammar.{Reading, Reads}
 use Rattle.erl_reader.specs.Faults.{IsFault}
@@ -19,3 +19,9 @@ ReadsOrFails = (limit : ℕ) (bytes : List ℕ) → ((rs : List Reading) × Read
 -- No text has two faults.
 abbrev pub HasOneFault : Type 0
 HasOneFault = (limit : ℕ) (bytes : List ℕ) (f g : TermFault) → IsFault limit bytes f → IsFault limit bytes g → f ≡ g
+
+-- The bytes of a term that is read, from its first to its last, with a dot behind them read as that term alone.
+abbrev pub EachTermStandsAlone : Type 0
+EachTermStandsAlone =
+    (limit : ℕ) (bytes : List ℕ) (before after : List Reading) (r : Reading) → Reads limit bytes (before ++ (r ∷ after))
+    → Reads limit (slice_range bytes r.from r.to ++ 46 ∷ []) (record { term = r.term; from = 0; to = r.to - r.from } ∷ [])

@@ -95,7 +95,7 @@ impl Parser {
             }
             Token::Number(n) => self.put_number(*n, &item),
             Token::Text(text) => self.put_text(alloc, text, &item),
-            Token::Stray(_) => Err(self.state.misplaced(&item)),
+            Token::Stray(_) | Token::NotUtf8 => Err(self.state.misplaced(&item)),
             Token::Broken(like, fault) => {
                 self.expect(*like, &item)?;
                 Err(*fault)
@@ -360,7 +360,7 @@ impl State {
         match self {
             State::Begun => no_term(item),
             State::Whole(_) => match item.token {
-                Token::Stray(_) => TermFault::BadToken(item.from),
+                Token::Stray(_) | Token::NotUtf8 => TermFault::BadToken(item.from),
                 _ => TermFault::MissingDot(item.from),
             },
             State::Inside(slot, level, _) => {
@@ -461,8 +461,8 @@ fn is_left_out(bracket: Bracket, item: &Item<'_>) -> bool
     ensures { result ≡ is_left_out bracket (token_value item.now.token) }
 {
     match (bracket, &item.token) {
-        (Bracket::List, Token::Stray(byte)) => *byte == 124,
-        (Bracket::Binary, Token::Stray(byte)) => *byte == 47 || *byte == 58,
+        (Bracket::List, Token::Stray(byte)) => *byte == b'|',
+        (Bracket::Binary, Token::Stray(byte)) => *byte == b'/' || *byte == b':',
         _ => false,
     }
 }
@@ -473,7 +473,7 @@ fn no_term(item: &Item<'_>) -> TermFault
 {
     match item.token {
         Token::Open(_) => TermFault::Deep(item.from),
-        Token::Stray(35) => TermFault::Unsupported(item.from),
+        Token::Stray(b'#') => TermFault::Unsupported(item.from),
         _ => TermFault::BadToken(item.from),
     }
 }

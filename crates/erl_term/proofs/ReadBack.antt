@@ -1,14 +1,13 @@
 -- The text of a term has one row of tokens, which spells that term.
-use Rattle.std.proofs.Common.{◌≡◌, ℕ, ℤ, pos, negsuc, ◌+◌, ◌<◌, ◌≤◌, max, Bool, true, false, if◌then◌else◌, Option, Some, None, List, [], ◌∷◌, ◌++◌, All, length, map, take, refl, ap, sym, ◌∙◌, subst, append_assoc, append-nil, length-append, ◌^◌, ◌==◌, codes, arith}
+use Rattle.std.proofs.Common.{◌≡◌, ℕ, ℤ, pos, negsuc, ◌+◌, ◌<◌, ◌≤◌, max, Bool, true, false, if◌then◌else◌, Option, Some, None, List, [], ◌∷◌, ◌++◌, All, length, map, refl, ap, sym, ◌∙◌, subst, append_assoc, append-nil, length-append, ◌^◌, codes, arith}
 use Rattle.std.specs.List.{flat_map, AllByRecursion}
 use Rattle.std.specs.Fmt.{decimal, signed_decimal}
 use Rattle.std.specs.Str.{IsUtf8, IsAscii, chars}
-use Rattle.std.proofs.Math.Seq.{take-length}
 use Rattle.std.proofs.Math.Utf8.{encodes}
 use Rattle.std.proofs.lemmas.Bool.Decides.{nat_tests}
 use Rattle.std.proofs.lemmas.List.{map-append}
 use Rattle.std.proofs.lemmas.List.Elements.{All-head, All-tail}
-use Rattle.std.proofs.lemmas.Str.{IsUtf8-append, IsUtf8-from_ascii, utf8_valid_len-IsUtf8}
+use Rattle.std.proofs.lemmas.Str.{IsUtf8-append, IsUtf8-from_ascii}
 use Rattle.std.proofs.lemmas.Str.Ascii.{IsAscii-nil, IsAscii-cons}
 use Rattle.erl_reader.specs.Value.{Value, Values, FitsTerm, FitTerms}
 use Rattle.erl_reader.specs.Value.Value.{int, atom, list, tuple, bin}
@@ -22,6 +21,7 @@ use Rattle.erl_reader.specs.Grammar.Phrase.{a_name, a_number, a_text, a_tuple, a
 use Rattle.erl_reader.specs.Grammar.Phrases.{no_phrases, phrase}
 use Rattle.erl_term.specs.Printing.{is_bare, atom_character, atom_text, characters_of, is_string, string_character, string_text, with_commas, binary_text, list_text, text_of, texts_of}
 use Rattle.erl_term.specs.Within.{IsShortName, HasShortNames, HaveShortNames, IsWithin, ReadsAs, brackets, most_brackets}
+use Rattle.erl_token.proofs.Runs.{sealed-IsUtf8}
 use Rattle.erl_term.proofs.Characters.{values-characters_of}
 use Rattle.erl_term.proofs.Joins.{AreApart, join-apart, term_apart}
 use Rattle.erl_term.proofs.QuotedTexts.{stand-atom, stand-string, chars-string, lex_quoted_name, lex_string}
@@ -265,11 +265,6 @@ mutual
   spell_members (value v vs) h f = one_member v vs (brackets v) (most_brackets vs) (text_of v) (texts_of vs) (spells v h.0 f.0) (spell_members vs h.1 f.1)
 
 -- Texts
-
-sealed-IsUtf8 : (bs : List ℕ) → IsUtf8 bs → sealed bs ≡ bs
-sealed-IsUtf8 bs u =
-    let whole : (length bs == length bs) ≡ true = grind (arith, nat_tests) in
-    rw (utf8_valid_len-IsUtf8 bs u, whole) (append-nil (take (length bs) bs) ∙ take-length bs)
 
 -- blanks have no tokens
 

@@ -1,5 +1,5 @@
 -- Texts in a row as one.
-use Rattle.std.proofs.Common.{◌≡◌, ◌≢◌, ℕ, ℤ, ◌+◌, ◌-◌, ◌<◌, pos, Bool, true, false, eqb, if◌then◌else◌, nat_le, List, [], ◌∷◌, ◌++◌, length, drop, slice_get, Some, None, refl, sym, ◌∙◌, ap, subst, append_assoc, arith}
+use Rattle.std.proofs.Common.{◌≡◌, ◌≢◌, ℕ, ℤ, ◌+◌, ◌-◌, ◌<◌, pos, Bool, true, false, eqb, if◌then◌else◌, nat_le, List, [], ◌∷◌, ◌++◌, length, drop, slice_get, Option, Some, None, IfSome, refl, sym, ◌∙◌, ap, subst, append_assoc, arith}
 use Rattle.std.proofs.lemmas.Bool.Decides.{nat_tests}
 use Rattle.std.specs.Str.{bytes_eq, chars}
 use Rattle.std.specs.Prelude.{codes}
@@ -18,7 +18,7 @@ use Rattle.erl_token.specs.declared.token.Bracket.TheVariants.{Tuple, List as Sq
 use Rattle.erl_token.specs.declared.content.Content.{Content}
 use Rattle.erl_token.specs.declared.token.Item.{Item as CodeItem}
 use Rattle.erl_token.specs.Views.{token_value, item_value, lexed, items_from}
-use Rattle.erl_token.specs.Scanned.{IsSpelled}
+use Rattle.erl_token.specs.Scanned.{IsSpelled, byte_in}
 use Rattle.erl_token.proofs.Lexemes.{takes_spelling, takes_item, begins_token, no_item}
 use Rattle.erl_token.specs.Lexing.{Token, Item, alone, some_name, some_number, some_text, text_in_quotes, class_of, is_bare_name_byte, name_spelling, bare, name_in_quotes, is_int, numbered, sign_of, doubled, ends_a_term, spelling, joined, in_front, put_item, join}
 use Rattle.erl_token.specs.Lexing.Token.{open_binary, close_binary, dot, name, number, text, stray, broken}
@@ -165,6 +165,18 @@ pub row_ends_text : (bytes s : List ℕ) (from to next : ℕ) → slice_get byte
     → put_item (text_item s from to) (items_from bytes next) ≡ text_item s from to ∷ items_from bytes next
 row_ends_text bytes s from to next e =
     put_item-last (text_item s from to) (items_from bytes next) (ap (λ is. text_first (join is)) (no_item bytes next e))
+
+pub row_ends_there : (bytes s : List ℕ) (from to next : ℕ) → byte_in (slice_get bytes next) ≡ None → IfSome (slice_get bytes next) (λ x. (class_of x ≢ Blank) × (class_of x ≢ Percent))
+    → put_item (text_item s from to) (items_from bytes next) ≡ text_item s from to ∷ items_from bytes next
+row_ends_there bytes s from to next none stops = go (slice_get bytes next) refl none stops
+  where
+    go : (o : Option ℕ) → slice_get bytes next ≡ o → byte_in o ≡ None → IfSome o (λ x. (class_of x ≢ Blank) × (class_of x ≢ Percent))
+        → put_item (text_item s from to) (items_from bytes next) ≡ text_item s from to ∷ items_from bytes next
+    go None e none stops = row_ends_text bytes s from to next e
+    go (Some x) e none stops = row_ends bytes s from to next x e stops.0 stops.1 (λ is. quoted x is none)
+      where
+        quoted : (x : ℕ) → x ≡ 34 → byte_in (Some x) ≡ None → ⊥
+        quoted x is none = let bad : byte_in (Some 34) ≡ None = ap (λ y. byte_in (Some y)) (sym is) ∙ none in cc
 
 -- a text in a row, as it stands by itself
 next_text : (bytes : List ℕ) (next : ℕ) (q : Quoted) → slice_get bytes next ≡ Some 34 → quoted 34 next (next + 1) 0 (drop (next + 1) bytes) ≡ q

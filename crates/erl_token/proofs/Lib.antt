@@ -10,4 +10,8 @@ pub mod Naming
 pub mod Pieces
 pub mod Lexemes
 pub mod Sizes
+pub mod Cutting
+pub mod NumberCuts
 pub mod Tiling
+pub mod TokenCuts
+pub mod RowCuts

@@ -1,5 +1,5 @@
 -- Numbers without their sign, byte by byte.
-use Rattle.std.proofs.Common.{◌≡◌, ℕ, suc, ◌+◌, ◌-◌, ◌<◌, ◌≤◌, ◌^◌, Bool, true, false, ◌&&◌, ◌||◌, if◌then◌else◌, nat_lt, nat_le, eqb, List, [], ◌∷◌, length, drop, get_or, Option, Some, None, slice_get, refl, sym, ◌∙◌, ap, arith}
+use Rattle.std.proofs.Common.{inl, inr, ◌⊎◌, ◌≡◌, ℕ, suc, ◌+◌, ◌-◌, ◌<◌, ◌≤◌, ◌^◌, Bool, true, false, ◌&&◌, ◌||◌, if◌then◌else◌, nat_lt, nat_le, eqb, List, [], ◌∷◌, length, drop, get_or, Option, Some, None, slice_get, refl, sym, ◌∙◌, ap, arith}
 use Rattle.std.specs.Char.{is_digit}
 use Rattle.std.specs.Str.{bytes_eq}
 use Rattle.std.proofs.lemmas.List.{drop-drop}
@@ -11,7 +11,9 @@ use Rattle.erl_token.specs.Escapes.{front, is_in, itself, escape}
 use Rattle.erl_token.specs.Escapes.Character.{means, senseless, unfinished}
 use Rattle.erl_token.specs.Numbers.{begins, more_digits, digit_row, spelled_by, goes_on_as_float, unless_float, is_alphanumeric, in_base, behind_base, behind_digits, digits_numeral, ended, character_number, character_numeral, numeral}
 use Rattle.erl_token.specs.Numbers.Numeral.{whole, faulty, cut_off}
-use Rattle.erl_token.specs.Scanned.{goes_on_with}
+use Rattle.erl_token.specs.Scanned.{goes_on_with, stands_at}
+use Rattle.erl_token.specs.declared.text.At.{At}
+use Rattle.erl_token.specs.declared.text.At.TheVariants.{Byte, NotUtf8, End}
 use Rattle.erl_token.specs.Scanned.{digits_here, capped, capped_numeral}
 use Rattle.erl_token.proofs.Runs.{drop_some, drop_none}
 
@@ -358,3 +360,18 @@ escape_unfinished at next bytes e k is =
     ap (λ p. ended p (drop p bytes)) k
     ∙ sym (ap capped_numeral (character_escape at bytes e ∙ ap (character_number 2 at (drop (at + 1) bytes)) (sym (is ∙ ap (λ p. escape (drop p bytes)) k)))
     ∙ capped_ended (at + 1) (drop (at + 1) bytes))
+
+-- where the bytes are no longer UTF-8
+
+pub bad_digit : (base at : ℕ) (bytes : List ℕ) → base ≤ 36 → slice_get bytes at ≡ Some 256 → begins (λ y. is_digit y base) (drop at bytes) ≡ false
+bad_digit base at bytes l e = let none : is_digit 256 base ≡ false = grind (arith, nat_tests) in begins_some base at 256 bytes e ∙ none
+
+pub ended_there : (at end : ℕ) (bytes : List ℕ) (there : At) → (there ≡ End → ⊥) → end ≡ at + length (front (goes_on_with InText) (drop at bytes)) → stands_at there ≡ slice_get bytes end
+    → faulty (BadToken end) ≡ ended at (drop at bytes)
+ended_there at end bytes (Byte x) differs e h = ended_some at end x bytes e (sym h)
+ended_there at end bytes NotUtf8 differs e h = ended_some at end 256 bytes e (sym h)
+ended_there at end bytes End differs e h = absurd (differs refl)
+
+pub float_there : (at : ℕ) (bytes : List ℕ) (there : At) → (there ≡ NotUtf8) ⊎ (there ≡ End) → stands_at there ≡ slice_get bytes at → goes_on_as_float (drop at bytes) ≡ false
+float_there at bytes there (inl is) e = float_some at 256 bytes (sym e ∙ ap stands_at is)
+float_there at bytes there (inr is) e = float_none at bytes (sym e ∙ ap stands_at is)

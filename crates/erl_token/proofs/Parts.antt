@@ -12,8 +12,10 @@ use Rattle.erl_token.specs.Lexing.{class_of, is_bare_name_byte, alone, doubled, 
 use Rattle.erl_token.specs.Lexing.Token.{cut, stray}
 use Rattle.erl_token.specs.Escapes.{front}
 use Rattle.erl_token.specs.Views.{seal}
-use Rattle.erl_token.specs.Scanned.{goes_on_with}
-use Rattle.erl_token.proofs.Runs.{drop_some, drop_none, front-take, front_le, front_passes}
+use Rattle.erl_token.specs.Scanned.{goes_on_with, stands_at}
+use Rattle.erl_token.specs.declared.text.At.{At}
+use Rattle.erl_token.specs.declared.text.At.TheVariants.{Byte, NotUtf8, End}
+use Rattle.erl_token.proofs.Runs.{drop_some, drop_none, front-take, front_le, front_passes, run_stops, run_past}
 
 -- no run goes on over the end of the bytes that are UTF-8
 pub stops_at_seal : (run : Run) → goes_on_with run 256 ≡ false
@@ -136,3 +138,9 @@ doubled_same t x bytes at y e same = let is : eqb y x ≡ true = grind (arith, n
 
 pub doubled_other : (t : Token) (x : ℕ) (bytes : List ℕ) (at y : ℕ) → slice_get bytes at ≡ Some y → y ≢ x → doubled t x (drop at bytes) ≡ alone (stray x)
 doubled_other t x bytes at y e other = let is : eqb y x ≡ false = grind (arith, nat_tests) in ap (doubled t x) (drop_some bytes at y e) ∙ rw is refl
+
+-- a run ends where no byte stands
+pub run_ends : (run : Run) (xs : List ℕ) (i : ℕ) (there : At) → ((b : ℕ) → there ≡ Byte b → ⊥) → stands_at there ≡ slice_get xs i → length (front (goes_on_with run) (drop i xs)) ≡ 0
+run_ends run xs i (Byte b) differs e = absurd (differs b refl)
+run_ends run xs i NotUtf8 differs e = run_stops (goes_on_with run) xs i 256 (sym e) (stops_at_seal run)
+run_ends run xs i End differs e = run_past (goes_on_with run) xs i (sym e)

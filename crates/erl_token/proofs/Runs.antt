@@ -1,9 +1,12 @@
 -- Bytes in a row that a token goes on with.
-use Rattle.std.proofs.Common.{◌≡◌, ℕ, zero, suc, ◌+◌, ◌<◌, ◌≤◌, Bool, true, false, ◌||◌, not, if◌then◌else◌, nat_lt, nat_le, eqb, List, [], ◌∷◌, length, take, drop, get_or, slice_get, Some, None, refl, ◌∙◌, ap, arith}
+use Rattle.std.proofs.Common.{◌≡◌, ℕ, zero, suc, ◌+◌, ◌<◌, ◌≤◌, Bool, true, false, ◌||◌, not, if◌then◌else◌, nat_lt, nat_le, eqb, List, [], ◌∷◌, length, take, drop, get_or, slice_get, Some, None, refl, ◌∙◌, ap, arith, append-nil, ◌==◌}
 use Rattle.std.proofs.lemmas.List.{drop_more}
 use Rattle.std.proofs.lemmas.Option.{slice_get_within, get_or_from_slice_get}
+use Rattle.std.specs.Str.{IsUtf8}
 use Rattle.std.specs.Str.Lossy.{utf8_valid_len}
-use Rattle.std.proofs.lemmas.Str.{utf8_valid_len_le}
+use Rattle.std.proofs.Math.Seq.{take-length}
+use Rattle.std.proofs.lemmas.Bool.Decides.{nat_tests}
+use Rattle.std.proofs.lemmas.Str.{utf8_valid_len_le, utf8_valid_len-IsUtf8}
 use Rattle.erl_token.specs.declared.run.Run.TheVariants.{InComment}
 use Rattle.erl_token.specs.Lexing.{sealed, comment_size, lex, ends_a_term}
 use Rattle.erl_token.specs.Escapes.{front}
@@ -12,6 +15,11 @@ use Rattle.erl_token.specs.Scanned.{goes_on_with}
 pub sealed-nil : (bytes : List ℕ) → length bytes ≡ 0 → [] ≡ sealed bytes
 sealed-nil [] e = let none : utf8_valid_len [] ≡ 0 = omega (arith, utf8_valid_len_le []) in rw none refl
 sealed-nil (x ∷ xs) e = absurd (cc)
+
+pub sealed-IsUtf8 : (bs : List ℕ) → IsUtf8 bs → sealed bs ≡ bs
+sealed-IsUtf8 bs u =
+    let whole : (length bs == length bs) ≡ true = grind (arith, nat_tests) in
+    rw (utf8_valid_len-IsUtf8 bs u, whole) (append-nil (take (length bs) bs) ∙ take-length bs)
 
 -- what stands from a place on
 pub drop_some : (xs : List ℕ) (i b : ℕ) → slice_get xs i ≡ Some b → drop i xs ≡ b ∷ drop (i + 1) xs

@@ -1,5 +1,5 @@
 -- How many bytes a token takes: at least one, and at most as many as there are.
-use Rattle.std.proofs.Common.{◌≡◌, ℕ, ℤ, pos, zero, suc, ◌+◌, ◌-◌, ◌*◌, ◌%◌, ◌<◌, ◌≤◌, Bool, true, false, ◌&&◌, ◌||◌, ◌==◌, if◌then◌else◌, nat_lt, nat_le, List, [], ◌∷◌, ◌++◌, length, take, drop, Option, Some, None, refl, ap, sym, subst, ◌∙◌, arith}
+use Rattle.std.proofs.Common.{◌≡◌, ℕ, ℤ, pos, zero, suc, ◌+◌, ◌-◌, ◌*◌, ◌%◌, ◌<◌, ◌≤◌, Bool, true, false, ◌&&◌, ◌||◌, ◌==◌, if◌then◌else◌, nat_lt, nat_le, List, [], ◌∷◌, length, take, drop, Option, Some, None, refl, ap, subst, ◌∙◌, arith}
 use Rattle.std.specs.Prelude.{codes, encode_utf8}
 use Rattle.std.specs.Char.{is_digit}
 use Rattle.std.specs.Str.{chars, chars_after, continuation_len, lead_bits, bytes_eq}
@@ -16,7 +16,7 @@ use Rattle.erl_token.specs.Quotes.{Quoted, quoted, behind, escaped}
 use Rattle.erl_token.specs.Quotes.Quoted.{closed, faulty}
 use Rattle.erl_token.specs.declared.fault.TermFault.TheVariants.{BadToken, BadNumber, Unsupported}
 use Rattle.erl_token.specs.Lexing.Token.{open_binary, close_binary, name, number, stray, broken}
-use Rattle.erl_token.specs.Lexing.{Token, Spelling, alone, some_name, some_number, is_bare_name_byte, name_spelling, bare, name_in_quotes, text_in_quotes, is_int, in_range, numbered, sign_of, signed, doubled, spelling, comment_size}
+use Rattle.erl_token.specs.Lexing.{Token, Spelling, alone, some_name, some_number, is_bare_name_byte, name_spelling, bare, name_in_quotes, text_in_quotes, is_int, numbered, sign_of, signed, doubled, spelling, comment_size}
 
 -- at least one byte, and at most so many
 abbrev pub Holds : ℕ → ℕ → Type 0
@@ -40,7 +40,7 @@ comment_fits (x ∷ xs) = go (x == 10 || nat_lt 255 x) (comment_fits xs)
 
 -- Characters
 
-abbrev CharacterHolds : ℕ → Character → Type 0
+abbrev pub CharacterHolds : ℕ → Character → Type 0
 CharacterHolds most (means c size) = Holds most size
 CharacterHolds most c = Unit {0}
 
@@ -54,7 +54,7 @@ first_holds : (cs : List ℕ) (most size : ℕ) → Holds most size → Characte
 first_holds [] most size h = tt
 first_holds (c ∷ cs) most size h = h
 
-itself_holds : (x : ℕ) (xs : List ℕ) → CharacterHolds (length xs + 1) (itself x xs)
+pub itself_holds : (x : ℕ) (xs : List ℕ) → CharacterHolds (length xs + 1) (itself x xs)
 unfolding chars
 itself_holds x xs = go (nat_lt (length xs) (continuation_len x)) refl
   where
@@ -118,7 +118,7 @@ named_holds : (o : Option ℕ) (x : ℕ) (xs : List ℕ) → CharacterHolds (len
 named_holds (Some c) x xs = (omega arith, omega arith)
 named_holds None x xs = itself_holds x xs
 
-escape_holds : (xs : List ℕ) → CharacterHolds (length xs) (escape xs)
+pub escape_holds : (xs : List ℕ) → CharacterHolds (length xs) (escape xs)
 escape_holds [] = tt
 escape_holds (x ∷ xs) =
     let n = length (x ∷ xs) in
@@ -135,7 +135,7 @@ escape_holds (x ∷ xs) =
 
 -- Numbers
 
-abbrev NumeralHolds : ℕ → Numeral → Type 0
+abbrev pub NumeralHolds : ℕ → Numeral → Type 0
 NumeralHolds most (whole n size) = Holds most size
 NumeralHolds most n = Unit {0}
 
@@ -205,7 +205,7 @@ character_holds at (x ∷ xs) =
     (subst (λ m. NumeralHolds m (character_number 2 at xs (escape xs))) two (character_number_holds 2 (length xs) at xs (escape xs) (escape_holds xs)))
     (subst (λ m. NumeralHolds m (character_number 1 at xs (itself x xs))) one (character_number_holds 1 (length xs + 1) at xs (itself x xs) (itself_holds x xs))))
 
-numeral_holds : (start at : ℕ) (xs : List ℕ) → NumeralHolds (length xs) (numeral start at xs)
+pub numeral_holds : (start at : ℕ) (xs : List ℕ) → NumeralHolds (length xs) (numeral start at xs)
 numeral_holds start at [] = tt
 numeral_holds start at (x ∷ xs) =
     let one : length xs + 1 ≡ length (x ∷ xs) = omega arith in

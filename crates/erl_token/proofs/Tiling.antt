@@ -1,11 +1,11 @@
 -- The items of a text tile it.
-use Rattle.std.proofs.Common.{◌≡◌, ℕ, zero, suc, ◌+◌, ◌-◌, ◌<◌, ◌≤◌, Bool, true, false, ◌&&◌, ◌||◌, ◌==◌, if◌then◌else◌, nat_lt, nat_le, List, [], ◌∷◌, ◌++◌, length, take, drop, Option, Some, None, refl, ap, sym, subst, ◌∙◌, arith, append_assoc, append-nil}
+use Rattle.std.proofs.Common.{◌≡◌, ℕ, zero, suc, ◌+◌, ◌-◌, ◌<◌, ◌≤◌, Bool, true, false, ◌||◌, ◌==◌, if◌then◌else◌, nat_lt, nat_le, List, [], ◌∷◌, ◌++◌, length, take, drop, Option, Some, None, refl, ap, sym, subst, ◌∙◌, arith, append_assoc, append-nil}
 use Rattle.std.proofs.lemmas.Bool.Decides.{nat_tests}
-use Rattle.std.proofs.lemmas.List.{length-append, length-take, length-drop, take-append-drop}
+use Rattle.std.proofs.lemmas.List.{length-append, length-take, take-append-drop}
 use Rattle.erl_token.specs.declared.class.Class.{Class}
 use Rattle.erl_token.specs.declared.class.Class.TheVariants.{Blank, Percent}
-use Rattle.erl_token.specs.Lexing.{Token, Item, Spelling, class_of, spelling, comment_size, start_of, goes_on, lex, joined, in_front, put_item, join, items_of, sealed}
-use Rattle.erl_token.specs.Tiling.{ends_comment, is_gap, Lies, Tile, ItemsTile}
+use Rattle.erl_token.specs.Lexing.{Token, Item, Spelling, class_of, spelling, comment_size, start_of, goes_on, lex, joined, in_front, put_item, join, sealed}
+use Rattle.erl_token.specs.Tiling.{ends_comment, is_gap, Tile, ItemsTile}
 use Rattle.erl_token.proofs.Sizes.{comment_fits, spelling_holds}
 
 -- a byte of a gap, in front of what is tiled
@@ -85,7 +85,7 @@ token_first x at xs s is some most t =
       subst (λ p. Tile false p (drop (s.size - 1) xs) is) (omega arith) t,
     )
 
-lex_tiles : (xs : List ℕ) (at n : ℕ) → n ≤ length xs → Tile false (at + n) (drop n xs) (lex at n xs)
+pub lex_tiles : (xs : List ℕ) (at n : ℕ) → n ≤ length xs → Tile false (at + n) (drop n xs) (lex at n xs)
 lex_tiles [] at zero h = refl
 lex_tiles [] at (suc n) h = absurd (omega arith)
 lex_tiles (x ∷ xs) at (suc n) h = subst (λ p. Tile false p (drop n xs) (lex (at + 1) n xs)) (omega arith) (lex_tiles xs (at + 1) n (omega arith))

@@ -6,3 +6,4 @@ pub mod Contents
 pub mod Views
 pub mod Scanned
 pub mod Tiling
+pub mod Rows

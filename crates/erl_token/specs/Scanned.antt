@@ -3,6 +3,8 @@ use Rattle.std.specs.Prelude.{◌≡◌, ℕ, ℤ, pos, neg_ℤ, ◌+◌, ◌-�
 use Rattle.std.specs.Char.{is_digit, digit_value}
 use Rattle.std.specs.Str.{IsCharBoundary}
 use Rattle.erl_token.specs.declared.text.Text.{Text}
+use Rattle.erl_token.specs.declared.text.At.{At}
+use Rattle.erl_token.specs.declared.text.At.TheVariants.{Byte, NotUtf8, End}
 use Rattle.erl_token.specs.declared.escape.Escaped.{Escaped}
 use Rattle.erl_token.specs.declared.escape.Escaped.TheVariants.{Means, Senseless, Unfinished}
 use Rattle.erl_token.specs.Escapes.{Character}
@@ -18,6 +20,12 @@ use Rattle.erl_token.specs.declared.token.Item.{Item as CodeItem}
 use Rattle.erl_token.specs.Numbers.{is_alphanumeric}
 use Rattle.erl_token.specs.Lexing.{Spelling, is_bare_name_byte}
 use Rattle.erl_token.specs.Views.{item_value}
+
+-- what stands at a place, as the bytes of a text have it: `specs/Lexing` puts 256 behind the last that is UTF-8
+abbrev pub stands_at : At → Option ℕ
+stands_at (Byte x) = Some x
+stands_at NotUtf8 = Some 256
+stands_at End = None
 
 -- what stands there, if it is a byte
 abbrev pub byte_in : Option ℕ → Option ℕ

@@ -2,7 +2,7 @@
 use Rattle.std.specs.Prelude.{◌≡◌, ℕ, ◌<◌, Bool, true, false, List, [], ◌∷◌, ◌++◌, drop, Option, Some, None}
 use Rattle.erl_token.specs.declared.text.Text.{Text}
 use Rattle.erl_token.specs.declared.token.Token.{Token as CodeToken}
-use Rattle.erl_token.specs.declared.token.Token.TheVariants.{Open, Close, Comma, Dot, Name, Number, Text as Quoted, Stray, Broken, Cut}
+use Rattle.erl_token.specs.declared.token.Token.TheVariants.{Open, Close, Comma, Dot, Name, Number, Text as Quoted, Stray, NotUtf8, Broken, Cut}
 use Rattle.erl_token.specs.declared.token.Bracket.TheVariants.{Tuple, List as Square, Binary}
 use Rattle.erl_token.specs.declared.token.Like.{Like}
 use Rattle.erl_token.specs.declared.token.Like.TheVariants.{Name as LikeName, Number as LikeNumber, Text as LikeText, OpenBinary, CloseBinary}
@@ -41,6 +41,7 @@ token_value (Name c) = name (content_bytes c)
 token_value (Number n) = number n
 token_value (Quoted c) = text (content_bytes c)
 token_value (Stray x) = stray x
+token_value NotUtf8 = stray 256
 token_value (Broken like f) = broken (like_value like) f
 token_value (Cut like) = cut (like_value like)
 

@@ -28,26 +28,26 @@ impl Class {
 
     /// The class of a byte.
     #[inline(always)]
-    pub fn of(byte: u16) -> Class
+    pub fn of(byte: u8) -> Class
         ensures { result ≡ class_of byte }
     {
         match byte {
-            0..=32 => Class::Blank,
-            37 => Class::Percent,
-            44 => Class::Comma,
-            46 => Class::Dot,
-            123 => Class::OpenTuple,
-            125 => Class::CloseTuple,
-            91 => Class::OpenList,
-            93 => Class::CloseList,
-            60 => Class::Less,
-            62 => Class::Greater,
-            34 => Class::Quote,
-            39 => Class::Apostrophe,
-            36 => Class::Dollar,
-            43 | 45 => Class::Sign,
-            97..=122 => Class::Letter,
-            48..=57 => Class::Digit,
+            0..=b' ' => Class::Blank,
+            b'%' => Class::Percent,
+            b',' => Class::Comma,
+            b'.' => Class::Dot,
+            b'{' => Class::OpenTuple,
+            b'}' => Class::CloseTuple,
+            b'[' => Class::OpenList,
+            b']' => Class::CloseList,
+            b'<' => Class::Less,
+            b'>' => Class::Greater,
+            b'"' => Class::Quote,
+            b'\'' => Class::Apostrophe,
+            b'$' => Class::Dollar,
+            b'+' | b'-' => Class::Sign,
+            b'a'..=b'z' => Class::Letter,
+            b'0'..=b'9' => Class::Digit,
             _ => Class::Other,
         }
     }

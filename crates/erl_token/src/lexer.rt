@@ -18,7 +18,7 @@ use crate::fault::TermFault;
 use crate::number::{Numeral, in_range, numeral_at};
 use crate::quote::{Quoted, quoted_from};
 use crate::run::{Run, run_end};
-use crate::text::Text;
+use crate::text::{At, Text};
 use crate::token::{Bracket, Item, Like, Token};
 use std::alloc::{AllocError, Global};
 
@@ -34,8 +34,10 @@ pub fn next_item<'a>(
     ensures { IfOk result (Yields (text_bytes text.entry) from) }
 {
     let at = gap_end(text, from);
-    let Some(byte) = text.at(at) else {
-        return Ok(None);
+    let byte = match text.at(at) {
+        At::Byte(byte) => byte,
+        At::NotUtf8 => return Ok(Some(alone(Token::NotUtf8, at))),
+        At::End => return Ok(None),
     };
     let Item { token, from, to } = item_at(alloc, text, at, byte, Class::of(byte))?;
     match token {
@@ -52,7 +54,7 @@ fn gap_end(text: Text<'_>, from: usize) -> usize
     ensures stops { IfSome (slice_get (text_bytes text.entry) result) (λ byte. (class_of byte ≢ Blank) × (class_of byte ≢ Percent)) }
 {
     let mut at = from;
-    while let Some(byte) = text.at(at) {
+    while let At::Byte(byte) = text.at(at) {
         match Class::of(byte) {
             Class::Blank => at += 1,
             Class::Percent => at = run_end(text, Run::InComment, at + 1),
@@ -76,8 +78,8 @@ fn text_row<'a>(
         (put_item (record { token = text_token (content_bytes content.entry); from = from; to = to }) (items_from (text_bytes text.entry) to)) from (item_value i)) }
 {
     let mut next = gap_end(text, to);
-    while let Some(34) = text.at(next) {
-        match quoted_from(alloc, text, 34, next)? {
+    while let Some(b'"') = text.byte(next) {
+        match quoted_from(alloc, text, b'"', next)? {
             Quoted::Closed(more, end) => {
                 content = content.and(alloc, more)?;
                 to = end;
@@ -104,7 +106,7 @@ fn item_at<'a>(
     alloc: Global,
     text: Text<'a>,
     at: usize,
-    byte: u16,
+    byte: u8,
     class: Class,
 ) -> Result<Item<'a>, AllocError>
     requires within { at < length (text_bytes text) }
@@ -156,14 +158,15 @@ fn alone(token: Token<'_>, at: usize) -> Item<'_>
 }
 
 /// Two such bytes in a row are a token, which is cut off where the text ends between them.
-fn doubled<'a>(text: Text<'a>, at: usize, byte: u16, token: Token<'a>, like: Like) -> Item<'a>
+fn doubled<'a>(text: Text<'a>, at: usize, byte: u8, token: Token<'a>, like: Like) -> Item<'a>
     requires room { at < 2 ^ 63 }
     requires like { token_value token ≡ like_value like }
     ensures { IsSpelled (doubled_spelling (token_value token.entry) byte (drop (at + 1) (text_bytes text.entry))) at result }
 {
     match text.at(at + 1) {
-        None => alone(Token::Cut(like), at),
-        Some(next) => {
+        At::End => alone(Token::Cut(like), at),
+        At::NotUtf8 => alone(Token::Stray(byte), at),
+        At::Byte(next) => {
             if next == byte {
                 Item {
                     token,
@@ -178,7 +181,7 @@ fn doubled<'a>(text: Text<'a>, at: usize, byte: u16, token: Token<'a>, like: Lik
 }
 
 /// A full stop is a dot where a term may end.
-fn full_stop(text: Text<'_>, at: usize, byte: u16) -> Item<'_>
+fn full_stop(text: Text<'_>, at: usize, byte: u8) -> Item<'_>
     requires { at < 2 ^ 63 }
     ensures { IsSpelled (spelling at DotClass byte (drop (at + 1) (text_bytes text.entry))) at result }
 {
@@ -194,8 +197,9 @@ fn ends_term(text: Text<'_>, at: usize) -> bool
     ensures { result ≡ ends_a_term (drop at (text_bytes text.entry)) }
 {
     match text.at(at) {
-        Some(byte) => byte <= 32 || byte == 37,
-        None => true,
+        At::Byte(byte) => byte <= b' ' || byte == b'%',
+        At::NotUtf8 => false,
+        At::End => true,
     }
 }
 
@@ -240,7 +244,7 @@ fn quoted_name<'a>(alloc: Global, text: Text<'a>, from: usize) -> Result<Item<'a
     requires utf8 { IsUtf8 text.valid.now }
     ensures { IfOk result (IsSpelled (name_in_quotes from (quoted 39 from (from + 1) 0 (drop (from + 1) (text_bytes text.entry)))) from) }
 {
-    match quoted_from(alloc, text, 39, from)? {
+    match quoted_from(alloc, text, b'\'', from)? {
         Quoted::Closed(content, to) => Ok(name_item(content, from, to)),
         Quoted::Faulty(fault) => Ok(alone(Token::Broken(Like::Name, fault), from)),
     }
@@ -252,7 +256,7 @@ fn quoted_text<'a>(alloc: Global, text: Text<'a>, from: usize) -> Result<Item<'a
     requires utf8 { IsUtf8 text.valid.now }
     ensures { IfOk result (IsSpelled (text_in_quotes (quoted 34 from (from + 1) 0 (drop (from + 1) (text_bytes text.entry)))) from) }
 {
-    match quoted_from(alloc, text, 34, from)? {
+    match quoted_from(alloc, text, b'"', from)? {
         Quoted::Closed(content, to) => Ok(Item {
             token: Token::Text(content),
             from,
@@ -271,12 +275,12 @@ fn number(text: Text<'_>, at: usize) -> Item<'_>
 }
 
 /// A number behind its sign, which is this byte, and blanks.
-fn signed(text: Text<'_>, at: usize, byte: u16) -> Item<'_>
+fn signed(text: Text<'_>, at: usize, byte: u8) -> Item<'_>
     requires { at < 2 ^ 63 }
     ensures { IsSpelled (signed_spelling at byte (drop (at + 1) (text_bytes text.entry))) at result }
 {
     let from = run_end(text, Run::InBlanks, at + 1);
-    numbered(numeral_at(text, at, from), at, byte == 45)
+    numbered(numeral_at(text, at, from), at, byte == b'-')
 }
 
 /// The token of a number, which begins at this place with its sign.

@@ -10,7 +10,7 @@ use crate::digits::{Digits, begins_digit, read_digits};
 use crate::escape::{Escaped, escape_at};
 use crate::fault::TermFault;
 use crate::run::{Run, run_end};
-use crate::text::Text;
+use crate::text::{At, Text};
 
 /// The largest number of 64 bits signed.
 const LARGEST: u64 = 9_223_372_036_854_775_807;
@@ -31,15 +31,18 @@ pub fn numeral_at(text: Text<'_>, start: usize, at: usize) -> Numeral
     ensures is { numeral_value at result ≡ capped_numeral (numeral start at (drop at (text_bytes text.entry))) }
     ensures ends { EndsAfter at result }
 {
-    let Some(byte) = text.at(at) else {
-        return Numeral::CutOff;
-    };
-    if begins_digit(text, at, 10) {
-        in_digits(text, start, at)
-    } else if byte == 36 {
-        of_character(text, at)
-    } else {
-        Numeral::Faulty(TermFault::BadToken(at))
+    match text.at(at) {
+        At::Byte(byte) => {
+            if begins_digit(text, at, 10) {
+                in_digits(text, start, at)
+            } else if byte == b'$' {
+                of_character(text, at)
+            } else {
+                Numeral::Faulty(TermFault::BadToken(at))
+            }
+        }
+        At::NotUtf8 => Numeral::Faulty(TermFault::BadToken(at)),
+        At::End => Numeral::CutOff,
     }
 }
 
@@ -51,7 +54,7 @@ fn in_digits(text: Text<'_>, start: usize, at: usize) -> Numeral
     ensures ends { EndsAfter at result }
 {
     let Digits { number, to } = read_digits(text, at, 10, true);
-    if is_byte(text, to, 35) {
+    if is_byte(text, to, b'#') {
         return behind_base(text, start, at, number, to + 1);
     }
     if is_float(text, to) {
@@ -66,13 +69,16 @@ fn behind_base(text: Text<'_>, start: usize, at: usize, base: u64, from: usize) 
     ensures is { numeral_value at result ≡ capped_numeral (base_spelling start base (from - at) from (drop from (text_bytes text.entry))) }
     ensures ends { EndsAfter at result }
 {
-    let Some(_) = text.at(from) else {
-        return Numeral::CutOff;
-    };
-    if begins_digit(text, from, 36) {
-        in_base(text, start, at, base, from)
-    } else {
-        Numeral::Faulty(TermFault::BadToken(from))
+    match text.at(from) {
+        At::Byte(_) => {
+            if begins_digit(text, from, 36) {
+                in_base(text, start, at, base, from)
+            } else {
+                Numeral::Faulty(TermFault::BadToken(from))
+            }
+        }
+        At::NotUtf8 => Numeral::Faulty(TermFault::BadToken(from)),
+        At::End => Numeral::CutOff,
     }
 }
 
@@ -99,13 +105,13 @@ fn in_base(text: Text<'_>, start: usize, at: usize, base: u64, from: usize) -> N
 }
 
 /// This byte stands at this place.
-fn is_byte(text: Text<'_>, at: usize, byte: u16) -> bool
+fn is_byte(text: Text<'_>, at: usize, byte: u8) -> bool
     ensures is { MatchBool result (slice_get (text_bytes text.entry) at ≡ Some byte) (slice_get (text_bytes text.entry) at ≡ Some byte → ⊥) }
     ensures within { IsTrue result → at < 2 ^ 63 }
 {
     match text.at(at) {
-        Some(there) => there == byte,
-        None => false,
+        At::Byte(there) => there == byte,
+        At::NotUtf8 | At::End => false,
     }
 }
 
@@ -113,10 +119,10 @@ fn is_byte(text: Text<'_>, at: usize, byte: u16) -> bool
 fn is_float(text: Text<'_>, at: usize) -> bool
     ensures { result ≡ goes_on_as_float (drop at (text_bytes text.entry)) }
 {
-    let Some(byte) = text.at(at) else {
-        return false;
-    };
-    byte == 46 && begins_digit(text, at + 1, 10)
+    match text.at(at) {
+        At::Byte(byte) => byte == b'.' && begins_digit(text, at + 1, 10),
+        At::NotUtf8 | At::End => false,
+    }
 }
 
 /// The number of a character, at its `$`.
@@ -126,16 +132,17 @@ fn of_character(text: Text<'_>, at: usize) -> Numeral
     ensures is { numeral_value at result ≡ capped_numeral (character_spelling (at + 1) (drop (at + 1) (text_bytes text.entry))) }
     ensures ends { EndsAfter at result }
 {
-    let Some(byte) = text.at(at + 1) else {
-        return Numeral::CutOff;
-    };
-    if byte > 255 {
-        Numeral::Faulty(TermFault::BadToken(at + 1))
-    } else if byte == 92 {
-        of_escape(text, at)
-    } else {
-        let (character, to) = text.character_at(at + 1);
-        Numeral::Whole(u64::from(character), to)
+    match text.at(at + 1) {
+        At::Byte(byte) => {
+            if byte == b'\\' {
+                of_escape(text, at)
+            } else {
+                let (character, to) = text.character_at(at + 1);
+                Numeral::Whole(u64::from(character), to)
+            }
+        }
+        At::NotUtf8 => Numeral::Faulty(TermFault::BadToken(at + 1)),
+        At::End => Numeral::CutOff,
     }
 }
 
@@ -162,8 +169,8 @@ fn ended(text: Text<'_>, at: usize) -> Numeral
 {
     let end = run_end(text, Run::InText, at);
     match text.at(end) {
-        Some(_) => Numeral::Faulty(TermFault::BadToken(end)),
-        None => Numeral::CutOff,
+        At::End => Numeral::CutOff,
+        _ => Numeral::Faulty(TermFault::BadToken(end)),
     }
 }
 

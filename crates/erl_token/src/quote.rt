@@ -9,7 +9,7 @@ use crate::content::Content;
 use crate::escape::{Escaped, escape_at};
 use crate::fault::TermFault;
 use crate::run::{Run, run_end};
-use crate::text::Text;
+use crate::text::{At, Text};
 use std::alloc::{AllocError, Global};
 
 /// What follows a quote.
@@ -25,7 +25,7 @@ pub enum Quoted<'a> {
 pub fn quoted_from<'a>(
     alloc: Global,
     text: Text<'a>,
-    quote: u16,
+    quote: u8,
     from: usize,
 ) -> Result<Quoted<'a>, AllocError>
     requires quote { IsQuote quote }
@@ -35,14 +35,11 @@ pub fn quoted_from<'a>(
 {
     let mut content = Content::Part("");
     let mut at = from + 1;
-    while let Some(byte) = text.at(at) {
+    while let At::Byte(byte) = text.at(at) {
         if byte == quote {
             return Ok(Quoted::Closed(content, at + 1));
         }
-        if byte > 255 {
-            return Ok(Quoted::Faulty(TermFault::BadToken(at)));
-        }
-        if byte == 92 {
+        if byte == b'\\' {
             match escape_at(text, at + 1) {
                 Escaped::Means(character, end) => {
                     content = content.and_character(alloc, character)?;
@@ -57,7 +54,10 @@ pub fn quoted_from<'a>(
             at = end;
         }
     }
-    Ok(Quoted::Faulty(TermFault::Unclosed(from)))
+    match text.at(at) {
+        At::NotUtf8 => Ok(Quoted::Faulty(TermFault::BadToken(at))),
+        _ => Ok(Quoted::Faulty(TermFault::Unclosed(from))),
+    }
 }
 
 /// The fault of a quote that the text's end leaves open, seen from a place behind it.

@@ -5,14 +5,14 @@ ghost use Rattle.erl_token.specs.Escapes.{is_in, front};
 ghost use Rattle.erl_token.specs.Views.{text_bytes};
 ghost use Rattle.erl_token.specs.Scanned.{goes_on_with};
 
-use crate::text::Text;
+use crate::text::{At, Text};
 
 /// Bytes in a row that a token or a comment goes on with.
 #[derive(Clone, Copy, Debug)]
 pub enum Run {
     InName,
     /// Between such quotes.
-    InQuotes(u16),
+    InQuotes(u8),
     InComment,
     /// Digits of any base, and `_`.
     InDigits,
@@ -23,25 +23,26 @@ pub enum Run {
 
 impl Run {
     /// The run goes on with the byte.
-    fn goes_on_with(self, byte: u16) -> bool
+    fn goes_on_with(self, byte: u8) -> bool
         ensures { result ≡ goes_on_with self byte }
     {
         match self {
-            Run::InName => is_small_letter(byte) || matches!(byte, 65..=90 | 48..=57 | 95 | 64),
-            Run::InQuotes(quote) => !(byte == quote || byte == 92 || byte > 255),
-            Run::InComment => !(byte == 10 || byte > 255),
-            Run::InDigits => matches!(byte, 48..=57 | 65..=90 | 97..=122 | 95),
-            Run::InBlanks => byte <= 32,
-            Run::InText => byte <= 255,
+            Run::InName => is_small_letter(byte)
+                || matches!(byte, b'A'..=b'Z' | b'0'..=b'9' | b'_' | b'@'),
+            Run::InQuotes(quote) => !(byte == quote || byte == b'\\'),
+            Run::InComment => byte != b'\n',
+            Run::InDigits => matches!(byte, b'0'..=b'9' | b'A'..=b'Z' | b'a'..=b'z' | b'_'),
+            Run::InBlanks => byte <= b' ',
+            Run::InText => true,
         }
     }
 }
 
 /// A small letter of ASCII, as most bytes of names are.
-fn is_small_letter(byte: u16) -> bool
+fn is_small_letter(byte: u8) -> bool
     ensures { result ≡ is_in 97 122 byte }
 {
-    97 <= byte && byte <= 122
+    b'a' <= byte && byte <= b'z'
 }
 
 /// Where the run from this place on ends.
@@ -52,7 +53,7 @@ pub fn run_end(text: Text<'_>, run: Run, from: usize) -> usize
     ensures utf8 { IsUtf8 text.entry.valid.now }
 {
     let mut at = from;
-    while let Some(byte) = text.at(at) {
+    while let At::Byte(byte) = text.at(at) {
         if !run.goes_on_with(byte) {
             break;
         }

@@ -5,6 +5,15 @@ ghost use Rattle.erl_token.specs.Lexing.{sealed};
 ghost use Rattle.erl_token.specs.Escapes.{itself};
 ghost use Rattle.erl_token.specs.Escapes.Character.{means};
 
+/// What stands at a place of a text.
+#[derive(Clone, Copy, Debug, PartialEq, Eq)]
+pub enum At {
+    Byte(u8),
+    /// Bytes that are not UTF-8. Nothing behind them is read.
+    NotUtf8,
+    End,
+}
+
 /// A text as far as it is UTF-8.
 #[derive(Clone, Copy, Debug)]
 pub struct Text<'a> {
@@ -15,7 +24,7 @@ pub struct Text<'a> {
 
 impl<'a> Text<'a> {
     ghost use Rattle.erl_token.specs.Views.{text_bytes};
-    ghost use Rattle.erl_token.specs.Scanned.{byte_in, IsBehind};
+    ghost use Rattle.erl_token.specs.Scanned.{byte_in, stands_at, IsBehind};
 
     /// The bytes as a text.
     pub fn of(bytes: &'a [u8]) -> Text<'a>
@@ -36,20 +45,20 @@ impl<'a> Text<'a> {
         }
     }
 
-    /// The byte at a place. Behind the last that is UTF-8, if more follow, stands 256.
-    pub(crate) fn at(self, place: usize) -> Option<u16>
-        ensures byte { result ≡ slice_get (text_bytes self.entry) place }
-        ensures within { IfSome result (λ _. place < 2 ^ 63) }
+    /// What stands at a place.
+    pub(crate) fn at(self, place: usize) -> At
+        ensures byte { stands_at result ≡ slice_get (text_bytes self.entry) place }
+        ensures within { IfSome (stands_at result) (λ _. place < 2 ^ 63) }
         // What `part` asks of its callers rests on this.
         ensures utf8 { IsUtf8 self.entry.valid.now }
     {
         let bytes = self.valid.as_bytes();
         if place < bytes.len() {
-            Some(bytes[place] as u16)
+            At::Byte(bytes[place])
         } else if place == bytes.len() && self.is_spoilt {
-            Some(256)
+            At::NotUtf8
         } else {
-            None
+            At::End
         }
     }
 
@@ -61,8 +70,8 @@ impl<'a> Text<'a> {
         ensures cut { IfSome result (λ byte. byte < 128 → IsCharBoundary self.entry.valid.now (place + 1)) }
     {
         match self.at(place) {
-            Some(byte @ 0..=255) => Some(byte as u8),
-            Some(_) | None => None,
+            At::Byte(byte) => Some(byte),
+            At::NotUtf8 | At::End => None,
         }
     }
 

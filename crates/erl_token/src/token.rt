@@ -35,7 +35,9 @@ pub enum Token<'a> {
     /// What stands between two quotes.
     Text(Content<'a>),
     /// A byte that begins no token.
-    Stray(u16),
+    Stray(u8),
+    /// Bytes that are not UTF-8.
+    NotUtf8,
     /// It begins as another token does, and has a fault of its own.
     Broken(Like, TermFault),
     /// It begins as another token does, and the end of the text cuts it off.

@@ -5,10 +5,13 @@ use Rattle.erl_token.proofs.Runs.{ends_some, ends_none}
 use Rattle.erl_token.proofs.lexer.ends_term.Goals as goal
 
 pub returns-then-byte-le32 : goal.returns-then-byte-le32
-returns-then-byte-le32 c = grind (arith, nat_tests, ends_some (text_bytes c.args.text) c.args.at c.in-Some.byte (search rules), c.if-byte-le32.true)
+returns-then-byte-le32 c = grind (arith, nat_tests, ends_some (text_bytes c.args.text) c.args.at c.in-Byte.byte (search rules), c.if-byte-le32.true)
 
 pub returns-else-byte-le32 : goal.returns-else-byte-le32
-returns-else-byte-le32 c = grind (arith, nat_tests, ends_some (text_bytes c.args.text) c.args.at c.in-Some.byte (search rules), c.if-byte-le32.false)
+returns-else-byte-le32 c = grind (arith, nat_tests, ends_some (text_bytes c.args.text) c.args.at c.in-Byte.byte (search rules), c.if-byte-le32.false)
 
-pub returns-in-None : goal.returns-in-None
-returns-in-None c = sym (ends_none (text_bytes c.args.text) c.args.at (search rules))
+pub returns-in-NotUtf8 : goal.returns-in-NotUtf8
+returns-in-NotUtf8 c = sym (ends_some (text_bytes c.args.text) c.args.at 256 (sym c.in-NotUtf8.ensures.byte))
+
+pub returns-in-End : goal.returns-in-End
+returns-in-End c = sym (ends_none (text_bytes c.args.text) c.args.at (search rules))

@@ -6,19 +6,19 @@ use Rattle.erl_token.proofs.lexer.gap_end.Goals as goal
 
 pub loop-at-preserved-in-Blank : goal.loop-at-preserved-in-Blank
 loop-at-preserved-in-Blank c = record {
-  passed = c.loop-at.invariant.passed ∙ skips_blank (text_bytes c.args.text) c.loop-at.at c.in-Some.byte (sym c.in-Some.ensures.byte) (search rules);
+  passed = c.loop-at.invariant.passed ∙ skips_blank (text_bytes c.args.text) c.loop-at.at c.in-Byte.byte (sym c.in-Byte.ensures.byte) (search rules);
   onward = search rules;
 }
 
 pub loop-at-smaller : goal.loop-at-smaller
 loop-at-smaller c =
-    let within : c.loop-at.at < length (text_bytes c.args.text) = slice_get_within (text_bytes c.args.text) c.loop-at.at c.in-Some.byte (sym c.in-Some.ensures.byte) in
+    let within : c.loop-at.at < length (text_bytes c.args.text) = slice_get_within (text_bytes c.args.text) c.loop-at.at c.in-Byte.byte (sym c.in-Byte.ensures.byte) in
     omega (arith, c.run_end-at.ensures.end)
 
 pub loop-at-preserved : goal.loop-at-preserved
 loop-at-preserved c = record {
   passed =
       c.loop-at.invariant.passed
-      ∙ skips_comment (text_bytes c.args.text) c.loop-at.at c.in-Some.byte c.run_end-at.result (sym c.in-Some.ensures.byte) (search rules) c.run_end-at.ensures.end;
+      ∙ skips_comment (text_bytes c.args.text) c.loop-at.at c.in-Byte.byte c.run_end-at.result (sym c.in-Byte.ensures.byte) (search rules) c.run_end-at.ensures.end;
   onward = omega (arith, c.run_end-at.ensures.end, c.loop-at.invariant.onward);
 }

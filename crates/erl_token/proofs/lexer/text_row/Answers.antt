@@ -1,14 +1,15 @@
-use Rattle.std.proofs.Common.{◌≡◌, slice_get, ◌∷◌, Some, None, sym, ◌∙◌, ap, arith}
+use Rattle.std.proofs.Common.{◌≡◌, slice_get, ◌∷◌, Some, sym, ◌∙◌, ap, arith}
 use Rattle.erl_token.specs.Lexing.{join, put_item}
 use Rattle.erl_token.specs.Views.{text_bytes, items_from}
 use Rattle.erl_token.specs.Contents.{content_bytes}
-use Rattle.erl_token.proofs.Joining.{text_item, row_goes_on, row_breaks, row_ends, row_ends_text}
+use Rattle.erl_token.proofs.Joining.{text_item, row_goes_on, row_breaks, row_ends, row_ends_there}
+use Rattle.erl_token.proofs.DigitRows.{slice_get_byte}
 use Rattle.erl_token.proofs.lexer.text_row.Goals as goal
 use Rattle.erl_token.proofs.lexer.text_row.Goals.{in_default, in_default-2}
 
 pub returns-in-Faulty : goal.returns-in-Faulty
 returns-in-Faulty c =
-    let here : slice_get (text_bytes c.args.text) c.loop-text.next ≡ Some 34 = sym c.in-Some-eq34.ensures.byte ∙ (λ j. Some (c.in-Some-eq34.field-0-test j)) in
+    let here : slice_get (text_bytes c.args.text) c.loop-text.next ≡ Some 34 = slice_get_byte (slice_get (text_bytes c.args.text) c.loop-text.next) 34 (sym c.in-Some-eq34.ensures.is ∙ (λ j. Some (c.in-Some-eq34.field-0-test j))) in
     let told = rw c.in-Faulty.is at c.in_ok-more.ensures in (
       c.loop-text.invariant.joined ∙ row_breaks (text_bytes c.args.text) (content_bytes c.loop-text.content) c.args.from c.loop-text.to c.loop-text.next c.in-Faulty.fault here told,
       (omega (arith, c.loop-text.invariant.some, c.loop-text.invariant.onward)),
@@ -16,7 +17,7 @@ returns-in-Faulty c =
 
 pub loop-text-preserved : goal.loop-text-preserved
 loop-text-preserved c =
-    let here : slice_get (text_bytes c.args.text) c.loop-text.next ≡ Some 34 = sym c.in-Some-eq34.ensures.byte ∙ (λ j. Some (c.in-Some-eq34.field-0-test j)) in
+    let here : slice_get (text_bytes c.args.text) c.loop-text.next ≡ Some 34 = slice_get_byte (slice_get (text_bytes c.args.text) c.loop-text.next) 34 (sym c.in-Some-eq34.ensures.is ∙ (λ j. Some (c.in-Some-eq34.field-0-test j))) in
     let told = rw c.in-Closed.is at c.in_ok-more.ensures in
     let behind : items_from (text_bytes c.args.text) c.in-Closed.end ≡ items_from (text_bytes c.args.text) c.gap_end-next-in-Closed.result = ap join c.gap_end-next-in-Closed.ensures.same in
     record {
@@ -31,9 +32,9 @@ loop-text-preserved c =
     }
 
 pub returns : goal.returns
-returns c = elim c.match-at.branch [
+returns c = elim c.match-byte.branch [
   | in_default w ↦ (
-      let at = sym w.in_default.ensures.byte in
+      let at = slice_get_byte (slice_get (text_bytes c.args.text) c.loop-text.next) _ (sym w.in_default.ensures.is) in
       let stops = rw at at c.loop-text.invariant.stops in (
         c.loop-text.invariant.joined
             ∙ (row_ends (text_bytes c.args.text) (content_bytes c.loop-text.content) c.args.from c.loop-text.to c.loop-text.next _ at stops.0 stops.1 w.in_default.field-0-test.1
@@ -41,10 +42,9 @@ returns c = elim c.match-at.branch [
         c.loop-text.invariant.some,
       ))
   | in_default-2 w ↦ (
-      let at : slice_get (text_bytes c.args.text) c.loop-text.next ≡ None = sym c.at.ensures.byte ∙ w.in_default.is in (
-        c.loop-text.invariant.joined
-            ∙ (row_ends_text (text_bytes c.args.text) (content_bytes c.loop-text.content) c.args.from c.loop-text.to c.loop-text.next at
-            ∙ ap (λ is. text_item (content_bytes c.loop-text.content) c.args.from c.loop-text.to ∷ is) (sym c.loop-text.invariant.behind)),
-        c.loop-text.invariant.some,
-      ))
+    c.loop-text.invariant.joined
+        ∙ (row_ends_there (text_bytes c.args.text) (content_bytes c.loop-text.content) c.args.from c.loop-text.to c.loop-text.next (sym c.byte.ensures.is ∙ w.in_default.is) c.loop-text.invariant.stops
+        ∙ ap (λ is. text_item (content_bytes c.loop-text.content) c.args.from c.loop-text.to ∷ is) (sym c.loop-text.invariant.behind)),
+    c.loop-text.invariant.some,
+  )
 ]

@@ -2,24 +2,29 @@ use Rattle.std.proofs.Common.{◌∙◌, ap, sym, arith, rules}
 use Rattle.erl_token.specs.Views.{text_bytes}
 use Rattle.erl_token.specs.Scanned.{capped_numeral}
 use Rattle.erl_token.proofs.TextPlaces.{byte_cut}
-use Rattle.erl_token.proofs.Numerals.{numeral_none, numeral_digit, numeral_character, numeral_other}
+use Rattle.erl_token.proofs.Numerals.{numeral_none, numeral_digit, numeral_character, numeral_other, bad_digit}
 use Rattle.erl_token.proofs.number.numeral_at.Goals as goal
 
-pub returns-in_default-clause-is : goal.returns-in_default-clause-is
-returns-in_default-clause-is c = ap capped_numeral (numeral_none c.args.start c.args.at (text_bytes c.args.text) (sym c.in_default.ensures.byte))
+pub returns-in-End-clause-is : goal.returns-in-End-clause-is
+returns-in-End-clause-is c = ap capped_numeral (numeral_none c.args.start c.args.at (text_bytes c.args.text) (sym c.in-End.ensures.byte))
 
 pub returns-then-begins_digit-clause-is : goal.returns-then-begins_digit-clause-is
 returns-then-begins_digit-clause-is c =
-    c.in_digits.ensures.is ∙ ap capped_numeral (numeral_digit c.args.start c.args.at c.in-Some.byte (text_bytes c.args.text) (sym c.in-Some.ensures.byte) (search rules))
+    c.in_digits.ensures.is ∙ ap capped_numeral (numeral_digit c.args.start c.args.at c.in-Byte.byte (text_bytes c.args.text) (sym c.in-Byte.ensures.byte) (search rules))
 
 pub of_character-requires-clause-cut : goal.of_character-requires-clause-cut
 of_character-requires-clause-cut c =
-    byte_cut c.args.text.valid.now c.args.text.is_spoilt c.args.at c.in-Some.byte c.at.ensures.utf8 (sym c.in-Some.ensures.byte) (omega (arith, c.if-byte-eq36.true))
+    byte_cut c.args.text.valid.now c.args.text.is_spoilt c.args.at c.in-Byte.byte c.at.ensures.utf8 (sym c.in-Byte.ensures.byte) (omega (arith, c.if-byte-eq36.true))
 
 pub returns-then-byte-eq36-clause-is : goal.returns-then-byte-eq36-clause-is
 returns-then-byte-eq36-clause-is c =
-    c.of_character.ensures.is ∙ ap capped_numeral (numeral_character c.args.start c.args.at c.in-Some.byte (text_bytes c.args.text) (sym c.in-Some.ensures.byte) c.if-byte-eq36.true)
+    c.of_character.ensures.is ∙ ap capped_numeral (numeral_character c.args.start c.args.at c.in-Byte.byte (text_bytes c.args.text) (sym c.in-Byte.ensures.byte) c.if-byte-eq36.true)
 
 pub returns-else-byte-eq36-clause-is : goal.returns-else-byte-eq36-clause-is
 returns-else-byte-eq36-clause-is c =
-    ap capped_numeral (numeral_other c.args.start c.args.at c.in-Some.byte (text_bytes c.args.text) (sym c.in-Some.ensures.byte) (search rules) c.if-byte-eq36.false)
+    ap capped_numeral (numeral_other c.args.start c.args.at c.in-Byte.byte (text_bytes c.args.text) (sym c.in-Byte.ensures.byte) (search rules) c.if-byte-eq36.false)
+
+pub returns-in-NotUtf8-clause-is : goal.returns-in-NotUtf8-clause-is
+returns-in-NotUtf8-clause-is c =
+    let here = sym c.in-NotUtf8.ensures.byte in
+    ap capped_numeral (numeral_other c.args.start c.args.at 256 (text_bytes c.args.text) here (bad_digit 10 c.args.at (text_bytes c.args.text) (omega arith) here) (λ e. omega (arith, e)))

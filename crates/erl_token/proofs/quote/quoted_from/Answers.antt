@@ -14,23 +14,23 @@ loop-at-init c = record {
 
 pub returns-then-byte-quote : goal.returns-then-byte-quote
 returns-then-byte-quote c =
-    let here : slice_get (text_bytes c.args.text) c.loop-at.at ≡ Some c.args.quote = sym c.in-Some.ensures.byte ∙ ap Some c.if-byte-quote.true in (
+    let here : slice_get (text_bytes c.args.text) c.loop-at.at ≡ Some c.args.quote = sym c.in-Byte.ensures.byte ∙ ap Some c.if-byte-quote.true in (
       closes_quote c.args.quote c.args.from (text_bytes c.args.text) (content_bytes c.loop-at.content) c.loop-at.at c.loop-at.invariant.read here,
       (omega (arith, c.loop-at.invariant.read.onward)),
     )
 
-pub returns-then-byte-gt255 : goal.returns-then-byte-gt255
-returns-then-byte-gt255 c =
-    bad_in_quotes c.args.quote c.args.from (text_bytes c.args.text) (content_bytes c.loop-at.content) c.loop-at.at c.in-Some.byte c.loop-at.invariant.read
-    (sym c.in-Some.ensures.byte) c.if-byte-quote.false c.if-byte-gt255.true
+pub returns-in-NotUtf8 : goal.returns-in-NotUtf8
+returns-in-NotUtf8 c =
+    bad_in_quotes c.args.quote c.args.from (text_bytes c.args.text) (content_bytes c.loop-at.content) c.loop-at.at 256 c.loop-at.invariant.read
+    (sym c.in-NotUtf8.ensures.byte) (λ e. omega (arith, e, (quote_byte c.requires.quote).0)) (omega arith)
 
 pub escape_at-requires : goal.escape_at-requires
 escape_at-requires c =
-    cut_behind c.args.text.valid.now c.args.text.is_spoilt c.loop-at.at c.in-Some.byte c.requires.utf8 (sym c.in-Some.ensures.byte) (omega arith)
+    cut_behind c.args.text.valid.now c.args.text.is_spoilt c.loop-at.at c.in-Byte.byte c.requires.utf8 (sym c.in-Byte.ensures.byte) (omega arith)
 
 pub loop-at-preserved-in-Means : goal.loop-at-preserved-in-Means
 loop-at-preserved-in-Means c =
-    let here : slice_get (text_bytes c.args.text) c.loop-at.at ≡ Some 92 = sym c.in-Some.ensures.byte ∙ ap Some c.if-byte-eq92.true in
+    let here : slice_get (text_bytes c.args.text) c.loop-at.at ≡ Some 92 = sym c.in-Byte.ensures.byte ∙ ap Some c.if-byte-eq92.true in
     let place : c.in-Means.end ≡ c.loop-at.at + 1 + (c.in-Means.end - (c.loop-at.at + 1)) = omega (arith, c.in-Means.ensures.ends.0) in
     record {
       read =
@@ -42,18 +42,18 @@ loop-at-preserved-in-Means c =
 
 pub returns-in-Senseless : goal.returns-in-Senseless
 returns-in-Senseless c =
-    let here : slice_get (text_bytes c.args.text) c.loop-at.at ≡ Some 92 = sym c.in-Some.ensures.byte ∙ ap Some c.if-byte-eq92.true in
+    let here : slice_get (text_bytes c.args.text) c.loop-at.at ≡ Some 92 = sym c.in-Byte.ensures.byte ∙ ap Some c.if-byte-eq92.true in
     senseless_escape c.args.quote c.args.from (text_bytes c.args.text) (content_bytes c.loop-at.content) c.loop-at.at c.loop-at.invariant.read (quote_byte c.requires.quote).1
     here (sym c.in-Senseless.ensures.is)
 
 pub unclosed-requires : goal.unclosed-requires
 unclosed-requires c =
-    let (within, is) = inside c.args.text.valid.now c.args.text.is_spoilt c.loop-at.at c.in-Some.byte (sym c.in-Some.ensures.byte) (omega arith) in
+    let (within, is) = inside c.args.text.valid.now c.args.text.is_spoilt c.loop-at.at c.in-Byte.byte (sym c.in-Byte.ensures.byte) (omega arith) in
     omega arith
 
 pub returns-in-Unfinished : goal.returns-in-Unfinished
 returns-in-Unfinished c =
-    let here : slice_get (text_bytes c.args.text) c.loop-at.at ≡ Some 92 = sym c.in-Some.ensures.byte ∙ ap Some c.if-byte-eq92.true in
+    let here : slice_get (text_bytes c.args.text) c.loop-at.at ≡ Some 92 = sym c.in-Byte.ensures.byte ∙ ap Some c.if-byte-eq92.true in
     unfinished_escape c.args.quote c.args.from (text_bytes c.args.text) (content_bytes c.loop-at.content) c.loop-at.at c.loop-at.invariant.read (quote_byte c.requires.quote).1
     here (sym c.in-Unfinished.ensures.is) ∙ ap faulty (sym c.unclosed.ensures)
 
@@ -63,9 +63,9 @@ part-requires-clause-ends c =
 
 pub loop-at-smaller : goal.loop-at-smaller
 loop-at-smaller c =
-    let within : c.loop-at.at < length (text_bytes c.args.text) = slice_get_within (text_bytes c.args.text) c.loop-at.at c.in-Some.byte (sym c.in-Some.ensures.byte) in
+    let within : c.loop-at.at < length (text_bytes c.args.text) = slice_get_within (text_bytes c.args.text) c.loop-at.at c.in-Byte.byte (sym c.in-Byte.ensures.byte) in
     let onward : c.loop-at.at < c.run_end-end.result =
-    run_goes_on c.args.quote (text_bytes c.args.text) c.loop-at.at c.in-Some.byte c.run_end-end.result (sym c.in-Some.ensures.byte) c.if-byte-quote.false c.if-byte-gt255.false
+    run_goes_on c.args.quote (text_bytes c.args.text) c.loop-at.at c.in-Byte.byte c.run_end-end.result (sym c.in-Byte.ensures.byte) c.if-byte-quote.false (omega arith)
     c.if-byte-eq92.false c.run_end-end.ensures.end in
     omega arith
 
