@@ -27,29 +27,43 @@ pub fn session<D: Disk, R: Read + Drop, W: Write + Drop>(
 ) -> (D, Result<(), SessionError>)
     requires { IsFresh input.old }
 
-    // At the end of the input or at `quit` the answer was written, and nothing else: the one from what the disk stood for,
-    // if the device didn't fail.
-    ensures answered { OnOk result.1 (FromDisk (D.seen disk) (D.failures disk) (D.failures result.0) (λ place. IfSome (left_in R.remaining input.old) (λ bytes.
-        Writes (held_by W.contents output.old) (held_by W.contents output.new) (IsAnswerOrFull place bytes ended)))) }
+    // At the end of the input or at `quit` the answer was written, and nothing else: the one from what the disk
+    // stood for, if the device didn't fail.
+    ensures answered { OnOk result.1
+        (FromDisk (D.seen disk) (D.failures disk) (D.failures result.0) (λ place.
+        IfSome (left_in R.remaining input.old) (λ bytes.
+        Writes (held_by W.contents output.old) (held_by W.contents output.new)
+        (IsAnswerOrFull place bytes ended)))) }
 
     // So it was where the input was cut off: more of it was needed than may be taken.
-    ensures cut { IsErrOf result.1 SessionError.Limit → FromDisk (D.seen disk) (D.failures disk) (D.failures result.0) (λ place. IfSome (left_in R.remaining input.old) (λ bytes.
-        Writes (held_by W.contents output.old) (held_by W.contents output.new) (IsAnswerOrFull place bytes cut_off))) }
+    ensures cut { IsErrOf result.1 SessionError.Limit
+        → FromDisk (D.seen disk) (D.failures disk) (D.failures result.0) (λ place.
+        IfSome (left_in R.remaining input.old) (λ bytes.
+        Writes (held_by W.contents output.old) (held_by W.contents output.new)
+        (IsAnswerOrFull place bytes cut_off))) }
 
-    // After any error a front of it was written.
-    ensures front { OnErr result.1 (FromDisk (D.seen disk) (D.failures disk) (D.failures result.0) (λ place. IfSome (left_in R.remaining input.old) (λ bytes.
-        Writes (held_by W.contents output.old) (held_by W.contents output.new) (BeginsAnswer place bytes)))) }
+    // After any error a prefix of it was written.
+    ensures front { OnErr result.1
+        (FromDisk (D.seen disk) (D.failures disk) (D.failures result.0) (λ place.
+        IfSome (left_in R.remaining input.old) (λ bytes.
+        Writes (held_by W.contents output.old) (held_by W.contents output.new)
+        (BeginsAnswer place bytes)))) }
 
-    // At each moment a crash leaves the list of a prefix of the events so far that holds every acknowledged one, as the
-    // answers tell them, and so does the disk that comes back.
-    ensures survives { (known : Option Known) → IsKept D.seen D.may_leave D.moment D.left_since known disk
-        → (run : List News) × Runs D.seen D.may_leave D.moment D.left_since known run disk result.0
-        × IfSome (left_in R.remaining input.old) (λ bytes. Writes (held_by W.contents output.old) (held_by W.contents output.new)
+    // At each moment a crash leaves the list of a prefix of the events so far that holds every acknowledged one, as
+    // the answers tell them, and so does the disk that comes back.
+    ensures survives { (known : Option Known)
+        → IsKept D.seen D.may_leave D.moment D.left_since known disk
+        → (run : List News)
+        × Runs D.seen D.may_leave D.moment D.left_since known run disk result.0
+        × IfSome (left_in R.remaining input.old) (λ bytes.
+        Writes (held_by W.contents output.old) (held_by W.contents output.new)
         (λ text. TellsAll (λ path. None) (commands_in bytes) text run)) }
 
     // Each error but want of memory has its cause in this call.
-    ensures read { IsErrOf result.1 SessionError.Read → HasRisen (failed_reads input.old) (failed_reads input.new) }
-    ensures write { IsErrOf result.1 SessionError.Write → HasRisen (failed_writes output.old) (failed_writes output.new) }
+    ensures read { IsErrOf result.1 SessionError.Read
+        → HasRisen (failed_reads input.old) (failed_reads input.new) }
+    ensures write { IsErrOf result.1 SessionError.Write
+        → HasRisen (failed_writes output.old) (failed_writes output.new) }
     ensures limit { IsErrOf result.1 SessionError.Limit → taken input.new ≡ most_bytes }
 
     // No byte past the limit is taken.

@@ -41,7 +41,8 @@ impl Files {
         path: String,
         file: GivenFile,
     ) -> Result<(), AllocFailed<(String, GivenFile)>>
-        ensures given { OnOk result (files_of self.new ≡ give (files_of self.old) (string_bytes path) (given_of file)) }
+        ensures given { OnOk result
+            (files_of self.new ≡ give (files_of self.old) (string_bytes path) (given_of file)) }
     {
         self.given.insert(path, file)?;
         Ok(())
@@ -49,10 +50,12 @@ impl Files {
 
     /// The release in the file of this path.
     pub fn release(&self, alloc: Global, path: &str) -> Result<RelFile, Refusal>
-        ensures found { IfOk result (λ file. IsIn path.now (files_of self.now path.now) (Ok (release_of file.release))) }
+        ensures found { IfOk result
+            (λ file. IsIn path.now (files_of self.now path.now) (Ok (release_of file.release))) }
         ensures file { IfOk result IsRelFile }
         ensures small { IfOk result (λ file. is_small (release_of file.release) ≡ true) }
-        ensures refused { IfErr result (λ r. r ≢ Refusal.NoMemory → IsIn path.now (files_of self.now path.now) (Err (refusal_of r))) }
+        ensures refused { IfErr result (λ r. r ≢ Refusal.NoMemory
+            → IsIn path.now (files_of self.now path.now) (Err (refusal_of r))) }
     {
         match self.given.get(path) {
             Some(GivenFile::Bytes(bytes)) => release_in(alloc, path, bytes),
@@ -64,10 +67,12 @@ impl Files {
 
 /// The release in the bytes of a `.rel` file.
 fn release_in(alloc: Global, path: &str, bytes: &[u8]) -> Result<RelFile, Refusal>
-    ensures found { IfOk result (λ file. IsIn path.now (Some (kept bytes.now)) (Ok (release_of file.release))) }
+    ensures found { IfOk result
+        (λ file. IsIn path.now (Some (kept bytes.now)) (Ok (release_of file.release))) }
     ensures file { IfOk result IsRelFile }
     ensures small { IfOk result (λ file. is_small (release_of file.release) ≡ true) }
-    ensures refused { IfErr result (λ r. r ≢ Refusal.NoMemory → IsIn path.now (Some (kept bytes.now)) (Err (refusal_of r))) }
+    ensures refused { IfErr result (λ r. r ≢ Refusal.NoMemory
+        → IsIn path.now (Some (kept bytes.now)) (Err (refusal_of r))) }
 {
     match read_rel_file(alloc, bytes) {
         Ok(file) if file.release.apps.as_slice().len() <= MOST_APPLICATIONS => Ok(file),
@@ -78,7 +83,8 @@ fn release_in(alloc: Global, path: &str, bytes: &[u8]) -> Result<RelFile, Refusa
 
 /// The refusal that tells a file's fault, where memory isn't what was wanting.
 fn refusal_for(alloc: Global, path: &str, fault: FileFault) -> Refusal
-    ensures { result ≢ Refusal.NoMemory → (fault ≢ FileFault.NoMemory) × (refusal_of result ≡ bad_file path.now (fault_of fault)) }
+    ensures { result ≢ Refusal.NoMemory → (fault ≢ FileFault.NoMemory)
+        × (refusal_of result ≡ bad_file path.now (fault_of fault)) }
 {
     match fault {
         FileFault::NoMemory => Refusal::NoMemory,

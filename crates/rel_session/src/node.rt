@@ -59,8 +59,11 @@ impl<D: Disk> Node<D> {
         requires { IsSoundPlace D.seen D.may_leave self.place }
         ensures sound { IsSoundPlace D.seen D.may_leave result.0.place }
         ensures counted { D.failures (disk_of self) ≤ D.failures (disk_of result.0) }
-        ensures followed { IfOk result.1 (λ text. TurnsNode D.seen D.failures self result.0 (λ n m. Follows true n (command_of command) (step_of m text))) }
-        ensures survives { Survives D.seen D.may_leave D.moment D.left_since (command_of command) result.1 self result.0 }
+        ensures followed { IfOk result.1
+            (λ text. TurnsNode D.seen D.failures self result.0
+            (λ n m. Follows true n (command_of command) (step_of m text))) }
+        ensures survives { Survives D.seen D.may_leave D.moment D.left_since
+            (command_of command) result.1 self result.0 }
         ensures memory { IfErr result.1 (λ e. e ≡ SessionError.NoMemory) }
     {
         match command {
@@ -88,8 +91,12 @@ impl<D: Disk> Node<D> {
         file: GivenFile,
     ) -> (Node<D>, Result<Option<String>, SessionError>)
         ensures place { result.0.place ≡ self.place }
-        ensures followed { IfOk result.1 (λ text. TurnsNode D.seen D.failures self result.0 (λ n m. Follows true n (file_given (string_bytes path) (given_of file)) (step_of m text))) }
-        ensures survives { Survives D.seen D.may_leave D.moment D.left_since (file_given (string_bytes path) (given_of file)) result.1 self result.0 }
+        ensures followed { IfOk result.1
+            (λ text. TurnsNode D.seen D.failures self result.0
+            (λ n m. Follows true n (file_given (string_bytes path) (given_of file))
+            (step_of m text))) }
+        ensures survives { Survives D.seen D.may_leave D.moment D.left_since
+            (file_given (string_bytes path) (given_of file)) result.1 self result.0 }
         ensures memory { IfErr result.1 (λ e. e ≡ SessionError.NoMemory) }
     {
         let Node { place, mut files } = self;
@@ -102,8 +109,11 @@ impl<D: Disk> Node<D> {
         requires { IsSoundPlace D.seen D.may_leave self.place }
         ensures sound { IsSoundPlace D.seen D.may_leave result.0.place }
         ensures counted { D.failures (disk_of self) ≤ D.failures (disk_of result.0) }
-        ensures followed { IfOk result.1 (λ text. TurnsNode D.seen D.failures self result.0 (λ n m. Follows true n (create path.now) (step_of m text))) }
-        ensures survives { Survives D.seen D.may_leave D.moment D.left_since (create path.now) result.1 self result.0 }
+        ensures followed { IfOk result.1
+            (λ text. TurnsNode D.seen D.failures self result.0
+            (λ n m. Follows true n (create path.now) (step_of m text))) }
+        ensures survives { Survives D.seen D.may_leave D.moment D.left_since
+            (create path.now) result.1 self result.0 }
         ensures memory { IfErr result.1 (λ e. e ≡ SessionError.NoMemory) }
     {
         let Node { place, files } = self;
@@ -125,8 +135,11 @@ impl<D: Disk> Node<D> {
         requires { IsSoundPlace D.seen D.may_leave self.place }
         ensures sound { IsSoundPlace D.seen D.may_leave result.0.place }
         ensures counted { D.failures (disk_of self) ≤ D.failures (disk_of result.0) }
-        ensures followed { IfOk result.1 (λ text. TurnsNode D.seen D.failures self result.0 (λ n m. Follows true n (set_unpacked path.now) (step_of m text))) }
-        ensures survives { Survives D.seen D.may_leave D.moment D.left_since (set_unpacked path.now) result.1 self result.0 }
+        ensures followed { IfOk result.1
+            (λ text. TurnsNode D.seen D.failures self result.0
+            (λ n m. Follows true n (set_unpacked path.now) (step_of m text))) }
+        ensures survives { Survives D.seen D.may_leave D.moment D.left_since
+            (set_unpacked path.now) result.1 self result.0 }
         ensures memory { IfErr result.1 (λ e. e ≡ SessionError.NoMemory) }
     {
         let Node { place, files } = self;
@@ -156,8 +169,11 @@ impl<D: Disk> Node<D> {
         requires { IsSoundPlace D.seen D.may_leave self.place }
         ensures sound { IsSoundPlace D.seen D.may_leave result.0.place }
         ensures counted { D.failures (disk_of self) ≤ D.failures (disk_of result.0) }
-        ensures followed { IfOk result.1 (λ text. TurnsNode D.seen D.failures self result.0 (λ n m. Follows true n boot (step_of m text))) }
-        ensures survives { Survives D.seen D.may_leave D.moment D.left_since boot result.1 self result.0 }
+        ensures followed { IfOk result.1
+            (λ text. TurnsNode D.seen D.failures self result.0
+            (λ n m. Follows true n boot (step_of m text))) }
+        ensures survives { Survives D.seen D.may_leave D.moment D.left_since
+            boot result.1 self result.0 }
         ensures memory { IfErr result.1 (λ e. e ≡ SessionError.NoMemory) }
     {
         let Node { place, files } = self;
@@ -173,7 +189,8 @@ fn keep(
     path: String,
     file: GivenFile,
 ) -> Result<Option<String>, SessionError>
-    ensures kept { OnOk result (files_of files.new ≡ give (files_of files.old) (string_bytes path) (given_of file)) }
+    ensures kept { OnOk result
+        (files_of files.new ≡ give (files_of files.old) (string_bytes path) (given_of file)) }
     ensures told { IfOk result (λ text. IsText text (codes "ok\n")) }
     ensures memory { IfErr result (λ e. e ≡ SessionError.NoMemory) }
 {
@@ -191,9 +208,12 @@ fn unpack<D: Disk>(
     requires { IsSound D.seen D.may_leave handler.old }
     ensures sound { IsSound D.seen D.may_leave handler.new }
     ensures counted { D.failures (disk_in handler.old) ≤ D.failures (disk_in handler.new) }
-    ensures unpacked { Turns D.seen D.failures (Made handler.old) (Made handler.new) (λ p q. IsAnswered result p q (IsUnpackedAt true p (files_of files.now) path.now)) }
-    ensures dead { is_dead handler.old ≡ true → (result ≡ Err Refusal.Dead) × (is_dead handler.new ≡ true) }
-    ensures survives { Brings D.seen D.may_leave D.moment D.left_since unpacked (files_of files.now) path.now result (Made handler.old) (Made handler.new) }
+    ensures unpacked { Turns D.seen D.failures (Made handler.old) (Made handler.new)
+        (λ p q. IsAnswered result p q (IsUnpackedAt true p (files_of files.now) path.now)) }
+    ensures dead { is_dead handler.old ≡ true → (result ≡ Err Refusal.Dead)
+        × (is_dead handler.new ≡ true) }
+    ensures survives { Brings D.seen D.may_leave D.moment D.left_since unpacked
+        (files_of files.now) path.now result (Made handler.old) (Made handler.new) }
 {
     if handler.is_dead() {
         return Err(Refusal::Dead);
@@ -218,7 +238,8 @@ fn line_of(alloc: Global, done: Result<String, Refusal>) -> Result<Option<String
 
 /// A line as a text of a session.
 fn text_of(line: Result<String, AllocError>) -> Result<Option<String>, SessionError>
-    ensures same { MatchResult line (λ s. result ≡ Ok (Some s)) (λ _. result ≡ Err SessionError.NoMemory) }
+    ensures same { MatchResult line (λ s. result ≡ Ok (Some s))
+        (λ _. result ≡ Err SessionError.NoMemory) }
 {
     Ok(Some(line?))
 }

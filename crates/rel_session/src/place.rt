@@ -47,11 +47,14 @@ impl<D: Disk> Place<D> {
         requires small { is_small (release_of file.release) ≡ true }
         ensures sound { IsSoundPlace D.seen D.may_leave result.0 }
         ensures counted { D.failures (disk_at self) ≤ D.failures (disk_at result.0) }
-        ensures made { Turns D.seen D.failures self result.0 (λ p q. IsAnswered result.1 p q (IsTold true (created p (Ok (release_of file.release))))) }
+        ensures made { Turns D.seen D.failures self result.0
+            (λ p q. IsAnswered result.1 p q
+            (IsTold true (created p (Ok (release_of file.release))))) }
         ensures vsn { IfOk result.1 (λ vsn. string_bytes vsn ≡ (release_of file.release).vsn) }
 
         // Done, it is acknowledged, where the device failed it is in doubt, and else no crash leaves anything new.
-        ensures survives { Keeps D.seen D.may_leave D.moment D.left_since (news_of (made (release_of file.release)) result.1) self result.0 }
+        ensures survives { Keeps D.seen D.may_leave D.moment D.left_since
+            (news_of (made (release_of file.release)) result.1) self result.0 }
     {
         let disk = match self {
             Place::Bare(disk) => disk,
@@ -71,8 +74,11 @@ impl<D: Disk> Place<D> {
         requires { IsSoundPlace D.seen D.may_leave self }
         ensures sound { IsSoundPlace D.seen D.may_leave result.0 }
         ensures counted { D.failures (disk_at self) ≤ D.failures (disk_at result.0) }
-        ensures booted { IfOk result.1 (λ text. Turns D.seen D.failures self result.0 (λ p q. (q ≡ woken p) × (string_bytes text ≡ woken_line p))) }
-        ensures survives { IsBooted D.seen D.may_leave D.moment D.left_since result.1 self result.0 }
+        ensures booted { IfOk result.1
+            (λ text. Turns D.seen D.failures self result.0
+            (λ p q. (q ≡ woken p) × (string_bytes text ≡ woken_line p))) }
+        ensures survives { IsBooted D.seen D.may_leave D.moment D.left_since
+            result.1 self result.0 }
     {
         match rel_handler::boot(alloc, self.into_disk()) {
             Ok(handler) => {
@@ -85,7 +91,8 @@ impl<D: Disk> Place<D> {
 
     /// The lines that list the releases.
     pub fn releases(&self, alloc: Global) -> Result<String, AllocError>
-        ensures of_place { IfOk result (λ text. OfPlace D.seen self.now (λ p. string_bytes text ≡ listed p)) }
+        ensures of_place { IfOk result
+            (λ text. OfPlace D.seen self.now (λ p. string_bytes text ≡ listed p)) }
         ensures some_list { IfOk result (λ text. (p : SomePlace) × (string_bytes text ≡ listed p)) }
     {
         let Place::Made(handler) = self else {
@@ -101,7 +108,8 @@ impl<D: Disk> Place<D> {
 /// The line that tells of a node that was booted: the version of the release that runs.
 fn booted_line<D: Disk>(alloc: Global, handler: &Handler<D>) -> Result<String, AllocError>
     requires { is_dead handler.now ≡ false }
-    ensures { IfOk result (λ text. string_bytes text ≡ ok_line (vsn_of (running (list_in handler.now)))) }
+    ensures { IfOk result (λ text.
+        string_bytes text ≡ ok_line (vsn_of (running (list_in handler.now)))) }
 {
     let Ok(list) = handler.which_releases() else {
         unreachable!();
