@@ -40,7 +40,8 @@ impl<R: Read> CountedReader<R> {
             (left_in R.remaining self.new) (take count room.new)) }
         ensures end { IfOk result (λ count. count ≡ 0 → IsAtEnd (left_in R.remaining self.new)) }
         ensures bound { IfOk result (λ count. count ≤ most) }
-        ensures kept { OnErr result (Keeps (left_in R.remaining self.old) (left_in R.remaining self.new)) }
+        ensures kept { OnErr result
+            (Keeps (left_in R.remaining self.old) (left_in R.remaining self.new)) }
         ensures counted { Counts result (failed_reads self.old) (failed_reads self.new) }
     {
         match self.reader.read(&mut room[..most]) {

@@ -84,7 +84,8 @@ fn read_some<R: Read>(
     ensures end { IfOk result (λ count. count ≡ 0 → IsAtEnd (left_in R.remaining reader.new)) }
     ensures bound { IfOk result (λ count. count ≤ most) }
     ensures same { OnOk result (failed_reads reader.new ≡ failed_reads reader.old) }
-    ensures error { IfErr result (λ e. (e ≡ ConsultError.Read) ⊎ (e ≡ ConsultError.Fault TermFault.NoMemory)) }
+    ensures error { IfErr result
+        (λ e. (e ≡ ConsultError.Read) ⊎ (e ≡ ConsultError.Fault TermFault.NoMemory)) }
     ensures cause { IfErr result (λ e. e ≡ ConsultError.Read
         → HasRisen (failed_reads reader.old) (failed_reads reader.new)) }
 {

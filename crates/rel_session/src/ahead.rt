@@ -62,7 +62,8 @@ impl Ahead {
 
     /// The first byte that was not used yet. It counts as used then.
     pub fn pop(&mut self) -> Option<u8>
-        ensures byte { MatchOption result ((self.old.bytes ≡ []) × (self.new.bytes ≡ [])) (λ b. self.old.bytes ≡ b ∷ self.new.bytes) }
+        ensures byte { MatchOption result ((self.old.bytes ≡ []) × (self.new.bytes ≡ []))
+            (λ b. self.old.bytes ≡ b ∷ self.new.bytes) }
         ensures taken { self.new.taken ≡ self.old.taken }
         ensures bounded { self.new.taken ≤ most_bytes }
     {

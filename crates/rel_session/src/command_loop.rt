@@ -37,8 +37,10 @@ pub fn session<D: Disk, R: Read + Drop, W: Write + Drop>(
         (held_by W.contents output.old) (held_by W.contents output.new)) }
 
     // Each error but want of memory has its cause in this call.
-    ensures read { IsErrOf result.1 SessionError.Read → HasRisen (failed_reads input.old) (failed_reads input.new) }
-    ensures write { IsErrOf result.1 SessionError.Write → HasRisen (failed_writes output.old) (failed_writes output.new) }
+    ensures read { IsErrOf result.1 SessionError.Read
+        → HasRisen (failed_reads input.old) (failed_reads input.new) }
+    ensures write { IsErrOf result.1 SessionError.Write
+        → HasRisen (failed_writes output.old) (failed_writes output.new) }
     ensures limit { IsErrOf result.1 SessionError.Limit → taken input.new ≡ most_bytes }
 
     // No byte past the limit is taken.

@@ -42,7 +42,8 @@ impl Files {
         path: String,
         file: GivenFile,
     ) -> Result<(), AllocFailed<(String, GivenFile)>>
-        ensures given { OnOk result (files_of self.new ≡ give (files_of self.old) (string_bytes path) (given_of file)) }
+        ensures given { OnOk result
+            (files_of self.new ≡ give (files_of self.old) (string_bytes path) (given_of file)) }
     {
         self.given.insert(path, file)?;
         Ok(())
@@ -79,7 +80,8 @@ fn release_in(alloc: Global, path: &str, bytes: &[u8]) -> Result<RelFile, Refusa
 
 /// The refusal that tells a file's fault, where memory isn't what was wanting.
 fn refusal_for(alloc: Global, path: &str, fault: FileFault) -> Refusal
-    ensures { result ≢ Refusal.NoMemory → (fault ≢ FileFault.NoMemory) × (refusal_of result ≡ bad_file path.now (fault_of fault)) }
+    ensures { result ≢ Refusal.NoMemory → (fault ≢ FileFault.NoMemory)
+        × (refusal_of result ≡ bad_file path.now (fault_of fault)) }
 {
     match fault {
         FileFault::NoMemory => Refusal::NoMemory,

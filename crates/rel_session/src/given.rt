@@ -30,7 +30,8 @@ impl GivenFile {
 
     /// Puts a line and its newline at the end.
     pub fn push_line(&mut self, line: &Line) -> Result<(), SessionError>
-        ensures pushed { OnOk result ((bs l : List ℕ) → IsGiven self.old bs → IsKept most_file line.now l → IsGiven self.new (bs ++ (l ++ 10 ∷ []))) }
+        ensures pushed { OnOk result ((bs l : List ℕ) → IsGiven self.old bs
+            → IsKept most_file line.now l → IsGiven self.new (bs ++ (l ++ 10 ∷ []))) }
         ensures memory { IfErr result (λ e. e ≡ SessionError.NoMemory) }
     {
         match (&mut *self, line) {

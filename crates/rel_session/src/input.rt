@@ -27,7 +27,8 @@ impl<R: Read + Drop> Input<R> {
 
     /// An input from which nothing was taken yet. It takes memory for a buffer.
     pub fn new(alloc: Global, reader: R) -> Result<Input<R>, SessionError>
-        ensures fresh { IfOk result (λ i. IsFresh i × (reader_of i ≡ reader) × (failed_reads i ≡ 0)) }
+        ensures fresh { IfOk result (λ i. IsFresh i × (reader_of i ≡ reader)
+            × (failed_reads i ≡ 0)) }
         ensures memory { IfErr result (λ e. e ≡ SessionError.NoMemory) }
     {
         Ok(Input {
@@ -38,8 +39,11 @@ impl<R: Read + Drop> Input<R> {
 
     /// The next byte.
     pub(crate) fn next(&mut self) -> Result<Option<u8>, SessionError>
-        ensures byte { IsNext (λ b x. b ≡ x) result (bytes_left R.remaining self.old) (bytes_left R.remaining self.new) }
-        ensures spends { IfOk result (λ b. MatchOption b (left self.new ≡ left self.old) (λ _. left self.old ≡ left self.new + 1)) }
+        ensures byte { IsNext (λ b x. b ≡ x) result (bytes_left R.remaining self.old)
+            (bytes_left R.remaining self.new) }
+        ensures spends { IfOk result
+            (λ b. MatchOption b (left self.new ≡ left self.old)
+            (λ _. left self.old ≡ left self.new + 1)) }
         ensures cause { HasCause result self.old self.new }
         ensures bounded { taken self.new ≤ most_bytes }
     {
@@ -59,8 +63,11 @@ impl<R: Read + Drop> Input<R> {
         alloc: Global,
         most: usize,
     ) -> Result<Option<Line>, SessionError>
-        ensures line { IsNext (IsKept most) result (lines_left R.remaining self.old) (lines_left R.remaining self.new) }
-        ensures spends { IfOk result (λ l. MatchOption l (left self.new ≤ left self.old) (λ _. left self.new < left self.old)) }
+        ensures line { IsNext (IsKept most) result (lines_left R.remaining self.old)
+            (lines_left R.remaining self.new) }
+        ensures spends { IfOk result
+            (λ l. MatchOption l (left self.new ≤ left self.old)
+            (λ _. left self.new < left self.old)) }
         ensures cause { HasCause result self.old self.new }
         ensures bounded { taken self.new ≤ most_bytes }
     {
@@ -81,7 +88,8 @@ impl<R: Read + Drop> Input<R> {
 
     /// The next command, with the file that belongs to it.
     pub(crate) fn next_command(&mut self, alloc: Global) -> Result<Option<Command>, SessionError>
-        ensures command { IsNext (λ c d. command_of c ≡ d) result (commands_left R.remaining self.old) (commands_left R.remaining self.new) }
+        ensures command { IsNext (λ c d. command_of c ≡ d) result
+            (commands_left R.remaining self.old) (commands_left R.remaining self.new) }
         ensures spends { IfOk result (λ c. IfSome c (λ _. left self.new < left self.old)) }
         ensures cause { HasCause result self.old self.new }
         ensures bounded { taken self.new ≤ most_bytes }
@@ -98,7 +106,9 @@ impl<R: Read + Drop> Input<R> {
 
     /// The command that gives the file whose lines come now, or a bad one if the file has no end.
     fn file_at(&mut self, alloc: Global, path: String) -> Result<Option<Command>, SessionError>
-        ensures command { IsNext (λ c d. command_of c ≡ d) result (file_left R.remaining (string_bytes path) self.old) (commands_left R.remaining self.new) }
+        ensures command { IsNext (λ c d. command_of c ≡ d) result
+            (file_left R.remaining (string_bytes path) self.old)
+            (commands_left R.remaining self.new) }
         ensures some { IfOk result IsSome }
         ensures spends { OnOk result (left self.new ≤ left self.old) }
         ensures cause { HasCause result self.old self.new }
@@ -118,8 +128,10 @@ impl<R: Read + Drop> Input<R> {
     fn fill(&mut self) -> Result<(), SessionError>
         requires used { self.old.ahead.bytes ≡ [] }
         requires unspent { taken self.old < most_bytes }
-        ensures same { OnOk result (Stays (bytes_left R.remaining self.old) (bytes_left R.remaining self.new)) }
-        ensures end { OnOk result (self.new.ahead.bytes ≡ [] → EndsAs over (bytes_left R.remaining self.new) (bytes_left R.remaining self.new)) }
+        ensures same { OnOk result
+            (Stays (bytes_left R.remaining self.old) (bytes_left R.remaining self.new)) }
+        ensures end { OnOk result (self.new.ahead.bytes ≡ []
+            → EndsAs over (bytes_left R.remaining self.new) (bytes_left R.remaining self.new)) }
         ensures left { OnOk result (left self.new ≡ left self.old) }
         ensures error { IfErr result (λ e. e ≡ SessionError.Read) }
         ensures cause { HasCause result self.old self.new }

@@ -18,7 +18,8 @@ impl Line {
 
     /// Puts a byte at its end, unless it gets longer than `most` by that: then it isn't kept.
     pub fn push(&mut self, byte: u8, most: usize) -> Result<(), SessionError>
-        ensures pushed { OnOk result ((l : List ℕ) → IsKept most self.old l → IsKept most self.new (l ++ byte ∷ [])) }
+        ensures pushed { OnOk result ((l : List ℕ) → IsKept most self.old l
+            → IsKept most self.new (l ++ byte ∷ [])) }
         ensures memory { IfErr result (λ e. e ≡ SessionError.NoMemory) }
     {
         match self {

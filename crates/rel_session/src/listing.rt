@@ -28,7 +28,8 @@ pub fn listing(alloc: Global, releases: &ReleaseList) -> Result<String, AllocErr
 
 /// Puts the line of a release at the end.
 fn push_line(alloc: Global, text: &mut String, listed: &ListedRelease) -> Result<(), AllocError>
-    ensures { OnOk result (string_bytes text.new ≡ string_bytes text.old ++ release_line (entry_of listed.now)) }
+    ensures { OnOk result
+        (string_bytes text.new ≡ string_bytes text.old ++ release_line (entry_of listed.now)) }
 {
     let term = release_term(alloc, listed)?;
     let line = print(alloc, &term)?;
@@ -50,7 +51,8 @@ fn release_term(alloc: Global, listed: &ListedRelease) -> Result<Term, AllocErro
 
 /// Applications as they are listed.
 fn application_terms(alloc: Global, applications: &[RelApp]) -> Result<Vec<Term>, AllocError>
-    ensures { IfOk result (λ ts. map value_of ts.items ≡ map (λ a. application_value (application_of a)) applications.now) }
+    ensures { IfOk result (λ ts.
+        map value_of ts.items ≡ map (λ a. application_value (application_of a)) applications.now) }
 {
     let mut terms = Vec::new(alloc);
     for application in applications {
@@ -88,7 +90,9 @@ fn tuple_of_four(
     third: Term,
     fourth: Term,
 ) -> Result<Term, AllocError>
-    ensures { IfOk result (λ t. value_of t ≡ tuple (values_of (value_of first ∷ value_of second ∷ value_of third ∷ value_of fourth ∷ []))) }
+    ensures { IfOk result (λ t.
+        value_of t ≡ tuple (values_of
+        (value_of first ∷ value_of second ∷ value_of third ∷ value_of fourth ∷ []))) }
 {
     let mut parts = Vec::new(alloc);
     parts.push(first)?;

@@ -160,7 +160,8 @@ fn keep(
     path: String,
     file: GivenFile,
 ) -> Result<Option<String>, SessionError>
-    ensures kept { OnOk result (files_of files.new ≡ give (files_of files.old) (string_bytes path) (given_of file)) }
+    ensures kept { OnOk result
+        (files_of files.new ≡ give (files_of files.old) (string_bytes path) (given_of file)) }
     ensures told { IfOk result (λ text. IsText text (codes "ok\n")) }
     ensures memory { IfErr result (λ e. e ≡ SessionError.NoMemory) }
 {
@@ -202,7 +203,8 @@ fn line_of(alloc: Global, done: Result<String, Refusal>) -> Result<Option<String
 
 /// A line as a text of a session.
 fn text_of(line: Result<String, AllocError>) -> Result<Option<String>, SessionError>
-    ensures same { MatchResult line (λ s. result ≡ Ok (Some s)) (λ _. result ≡ Err SessionError.NoMemory) }
+    ensures same { MatchResult line (λ s. result ≡ Ok (Some s))
+        (λ _. result ≡ Err SessionError.NoMemory) }
 {
     Ok(Some(line?))
 }

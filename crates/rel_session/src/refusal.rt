@@ -103,7 +103,8 @@ impl Refusal {
 
 /// The line that tells of a file's fault.
 fn bad_file(alloc: Global, path: &str, fault: &FileFault) -> Result<String, AllocError>
-    ensures { IfOk result (λ s. string_bytes s ≡ refusal_line (bad_file_refusal path.now (fault_of fault.now))) }
+    ensures { IfOk result (λ s.
+        string_bytes s ≡ refusal_line (bad_file_refusal path.now (fault_of fault.now))) }
 {
     let told = file_fault(alloc, fault)?;
     format!(in alloc; "error handler 8 BadFile {path} {told}\n")

@@ -28,7 +28,8 @@ impl Saying {
 
     /// What the line says. One that is too long says no command.
     pub fn of(alloc: Global, line: &Line) -> Result<Saying, AllocError>
-        ensures { IfOk result (λ said. (l : List ℕ) → IsKept most_line line.now l → saying_of said ≡ said_in l) }
+        ensures { IfOk result (λ said. (l : List ℕ) → IsKept most_line line.now l
+            → saying_of said ≡ said_in l) }
     {
         let Line::Text(bytes) = line else {
             return Ok(Saying::Tells(Command::Bad));
@@ -50,7 +51,8 @@ impl Saying {
     }
 
     fn by(alloc: Global, words: &[&str]) -> Result<Saying, AllocError>
-        ensures { IfOk result (λ said. saying_of said ≡ said_by (map (λ word. word.now) words.now)) }
+        ensures { IfOk result (λ said.
+            saying_of said ≡ said_by (map (λ word. word.now) words.now)) }
     {
         match words {
             [word] => Ok(Saying::alone(word)),
