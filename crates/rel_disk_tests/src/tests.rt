@@ -15,8 +15,8 @@ enum Step {
 use Step::{Cut, Sync, Write};
 
 // A disk in memory after these steps, each of which may fail. A step past the end syncs.
-fn disk_after(alloc: Global, capacity: usize, log: usize, steps: &[Step]) -> Result<MemDisk, Fail> {
-    let mut disk = MemDisk::new(alloc, capacity, log)?;
+fn stepped(disk: MemDisk, steps: &[Step]) -> Result<MemDisk, Fail> {
+    let mut disk = disk;
     for step in steps {
         let len = disk.len()?;
         let _ = match *step {
@@ -72,7 +72,7 @@ fn reads_what_was_written(rt: HostRuntime) -> Result<(), Fail> {
         (&[Write(0, b"abcdef"), Write(2, b"")], b"abcdef"),
     ];
     for (steps, bytes) in rows {
-        let disk = disk_after(alloc, 64, 1024, steps)?;
+        let disk = stepped(MemDisk::new(alloc, 64, 1024)?, steps)?;
         gives(&rt, alloc, disk, bytes, 0)?;
     }
     Ok(())
@@ -101,7 +101,25 @@ fn fills_its_capacity_and_its_log(rt: HostRuntime) -> Result<(), Fail> {
         (4, 68, &[Write(0, b"abc"), Cut(1), Cut(2)], b"ab", 1),
     ];
     for (capacity, log, steps, bytes, failures) in rows {
-        let disk = disk_after(alloc, capacity, log, steps)?;
+        let disk = stepped(MemDisk::new(alloc, capacity, log)?, steps)?;
+        gives(&rt, alloc, disk, bytes, failures)?;
+    }
+    Ok(())
+}
+
+// A disk may begin with bytes. They take none of the log, and are written over and cut as any.
+#[test]
+fn begins_with_bytes(rt: HostRuntime) -> Result<(), Fail> {
+    let alloc = rt.alloc();
+    let rows: [(&[Step], &[u8], u64); 5] = [
+        (&[], b"abcdef", 0),
+        (&[Write(5, b"XYZ")], b"abcdeXYZ", 0),
+        (&[Write(6, b"XYZ")], b"abcdef", 1),
+        (&[Cut(2)], b"ab", 0),
+        (&[Cut(1)], b"abcdef", 1),
+    ];
+    for (steps, bytes, failures) in rows {
+        let disk = stepped(MemDisk::with_bytes(alloc, b"abcdef", 8, 36)?, steps)?;
         gives(&rt, alloc, disk, bytes, failures)?;
     }
     Ok(())
