@@ -1,4 +1,6 @@
 // Disks in memory, among them disks that are full and disks that fail.
+ghost use Rattle.std.specs.Prelude.{◌≡◌, []};
+
 use crate::callers::append;
 use rel_disk::{DeviceFault, Disk, FailDisk, MemDisk};
 use std::alloc::Global;
@@ -191,6 +193,27 @@ fn a_fault_is_told(rt: HostRuntime) -> Result<(), Fail> {
     Ok(())
 }
 
+// An append to this disk succeeds or not, and these bytes are read then.
+fn appended(
+    rt: &impl Abort,
+    alloc: Global,
+    disk: FailDisk<MemDisk>,
+    succeeds: bool,
+    bytes: &[u8],
+) -> Result<(), Fail>
+    requires { disk.disk.calls ≡ [] }
+{
+    let (done, disk) = match append(disk, b"abc") {
+        Ok(disk) => (true, disk.disk),
+        Err((_, disk)) => (false, disk.disk),
+    };
+    assert_eq!(rt; done, succeeds);
+    let mut disk = disk;
+    let found = bytes_of(alloc, &mut disk)?;
+    same(rt, &found, bytes);
+    Ok(())
+}
+
 #[test]
 fn a_disk_is_handed_back(rt: HostRuntime) -> Result<(), Fail> {
     let rows: [(u64, bool, &[u8]); 5] = [
@@ -202,14 +225,24 @@ fn a_disk_is_handed_back(rt: HostRuntime) -> Result<(), Fail> {
     ];
     for (failing, succeeds, bytes) in rows {
         let disk = FailDisk::new(MemDisk::new(rt.alloc(), 64, 1024)?, failing);
-        let (done, disk) = match append(disk, b"abc") {
-            Ok(disk) => (true, disk.disk),
-            Err((_, disk)) => (false, disk.disk),
-        };
-        assert_eq!(rt; done, succeeds, "call {failing}");
-        let mut disk = disk;
-        let found = bytes_of(rt.alloc(), &mut disk)?;
-        same(&rt, &found, bytes);
+        appended(&rt, rt.alloc(), disk, succeeds, bytes)?;
+    }
+    Ok(())
+}
+
+// The call that fails may have a part of its effect.
+#[test]
+fn a_disk_fails_in_part(rt: HostRuntime) -> Result<(), Fail> {
+    let rows: [(u64, bool, &[u8]); 5] = [
+        (0, true, b"abc"),
+        (1, false, b""),
+        (2, false, b"ab"),
+        (3, false, b"abc"),
+        (4, true, b"abc"),
+    ];
+    for (failing, succeeds, bytes) in rows {
+        let disk = FailDisk::failing_in_part(MemDisk::new(rt.alloc(), 64, 1024)?, failing);
+        appended(&rt, rt.alloc(), disk, succeeds, bytes)?;
     }
     Ok(())
 }
