@@ -1,5 +1,5 @@
 -- The damage of single calls, told by places.
-use Rattle.std.proofs.Common.{◌≡◌, ◌⊎◌, inl, inr, ℕ, ◌+◌, ◌-◌, ◌<◌, ◌≤◌, min, List, ◌++◌, length, take, drop, get_or, sym, ap, ◌∙◌, arith, take-append-drop, length-append, length-take, length-drop}
+use Rattle.std.proofs.Common.{◌≡◌, ◌⊎◌, ⊎_elim, inl, inr, ℕ, ◌+◌, ◌-◌, ◌<◌, ◌≤◌, min, List, ◌++◌, length, take, drop, get_or, sym, ap, ◌∙◌, arith, take-append-drop, length-append, length-take, length-drop}
 use Rattle.std.proofs.lemmas.List.{get_or_append_left, get_or-append_right, get_or-take, get_or-drop, drop-drop, ext_get_or}
 use Rattle.rel_disk.specs.Damage.{Torn, Cut}
 use Rattle.rel_disk.specs.Places.{KeepsOutside, KeepsFront}
@@ -76,6 +76,11 @@ keeps_torn at n old new keeps = record {
         sym (take-append-drop back (drop inside behind))
         ∙ ap (λ (l : List ℕ). l ++ drop back (drop inside behind)) same_rest
         ∙ ap (λ (l : List ℕ). drop (at + n) old ++ l) (drop-drop back inside behind ∙ drop-drop (inside + back) front new ∙ ap (λ (k : ℕ). drop k new) (omega arith))
+
+pub torn_wider : (at m n : ℕ) (old new : List ℕ) → m ≤ n → Torn at m old new → Torn at n old new
+torn_wider at m n old new le torn =
+    let keeps = torn_keeps at m old new torn in
+    keeps_torn at n old new record { long = keeps.long; kept = λ i within outside. keeps.kept i within (⊎_elim (λ before. inl before) (λ behind. inr (omega (arith, behind))) outside) }
 
 pub cut_keeps : (n : ℕ) (old new : List ℕ) → Cut n old new → KeepsFront n old new
 cut_keeps n old new cut = record {

@@ -1,4 +1,4 @@
--- The calls that a disk has done, newest first, and what a read gives after them.
+-- The calls that a disk has done, newest first, and what a read gives after them, over the bytes that it began with.
 use Rattle.std.specs.Prelude.{ℕ, ◌+◌, ◌-◌, List, [], ◌∷◌, length, take}
 use Rattle.rel_disk.specs.Damage.{overwritten}
 
@@ -8,15 +8,15 @@ pub data Call : Type 0 where
   cut_to : ℕ → Call
   synced : Call
 
--- what a read gives after these calls on an empty disk
-abbrev pub content : List Call → List ℕ
-content [] = []
-content (wrote at bytes ∷ older) = overwritten at bytes (content older)
-content (cut_to len ∷ older) = take len (content older)
-content (synced ∷ older) = content older
+-- what a read gives after these calls on a disk that began with these bytes
+abbrev pub content : List ℕ → List Call → List ℕ
+content first [] = first
+content first (wrote at bytes ∷ older) = overwritten at bytes (content first older)
+content first (cut_to len ∷ older) = take len (content first older)
+content first (synced ∷ older) = content first older
 
 -- how many bytes a log keeps of a call: 32 for the call, and each byte that it writes or cuts off
-abbrev pub cost : List Call → Call → ℕ
-cost older (wrote at bytes) = 32 + length bytes
-cost older (cut_to len) = 32 + (length (content older) - len)
-cost older synced = 32
+abbrev pub cost : List ℕ → List Call → Call → ℕ
+cost first older (wrote at bytes) = 32 + length bytes
+cost first older (cut_to len) = 32 + (length (content first older) - len)
+cost first older synced = 32

@@ -31,17 +31,17 @@ overwritten_is_torn at bytes old = record {
         let none : drop inside bytes ≡ [] = drop_all inside bytes (omega arith) in
         sym (ap (λ (l : List ℕ). l ++ (behind ++ drop inside bytes)) whole ∙ ap (λ (l : List ℕ). bytes ++ (behind ++ l)) none ∙ ap (λ (l : List ℕ). bytes ++ l) (append-nil behind))
 
-pub content_is_image : (calls : List Call) → Image calls (content calls)
-content_is_image [] = refl
-content_is_image (wrote at bytes ∷ older) = (content older, content_is_image older, overwritten_is_torn at bytes (content older))
-content_is_image (cut_to len ∷ older) = (content older, content_is_image older, record { tail = []; is = sym (append-nil (take len (content older))) })
-content_is_image (synced ∷ older) = refl
+pub content_is_image : (first : List ℕ) (calls : List Call) → Image first calls (content first calls)
+content_is_image first [] = refl
+content_is_image first (wrote at bytes ∷ older) = (content first older, content_is_image first older, overwritten_is_torn at bytes (content first older))
+content_is_image first (cut_to len ∷ older) = (content first older, content_is_image first older, record { tail = []; is = sym (append-nil (take len (content first older))) })
+content_is_image first (synced ∷ older) = refl
 
-pub counts_now : (calls : List Call) (t : ℕ) (c : List ℕ) → t ≤ length calls → Image calls c → ImageSince calls t c
-counts_now [] t c le image = image
-counts_now (call ∷ older) t c le image = inl image
+pub counts_now : (first : List ℕ) (calls : List Call) (t : ℕ) (c : List ℕ) → t ≤ length calls → Image first calls c → ImageSince first calls t c
+counts_now first [] t c le image = image
+counts_now first (call ∷ older) t c le image = inl image
 
-pub only_now : (calls : List Call) (c : List ℕ) → ImageSince calls (length calls) c → Image calls c
-only_now [] c left = left
-only_now (call ∷ older) c (inl image) = image
-only_now (call ∷ older) c (inr earlier) = absurd (omega (arith, earlier.0))
+pub only_now : (first : List ℕ) (calls : List Call) (c : List ℕ) → ImageSince first calls (length calls) c → Image first calls c
+only_now first [] c left = left
+only_now first (call ∷ older) c (inl image) = image
+only_now first (call ∷ older) c (inr earlier) = absurd (omega (arith, earlier.0))

@@ -12,19 +12,19 @@ pub record KeepsFront (n : ℕ) (old new : List ℕ) : Type 0 where
   pub long : min n (length old) ≤ length new
   pub kept : (i : ℕ) → i < n → i < length old → slice_index new i ≡ slice_index old i
 
--- what a read gave at the last sync
-abbrev pub synced_content : List Call → List ℕ
-synced_content [] = []
-synced_content (wrote at bytes ∷ older) = synced_content older
-synced_content (cut_to len ∷ older) = synced_content older
-synced_content (synced ∷ older) = content older
+-- what a read gave at the last sync, or at the beginning
+abbrev pub synced_content : List ℕ → List Call → List ℕ
+synced_content first [] = first
+synced_content first (wrote at bytes ∷ older) = synced_content first older
+synced_content first (cut_to len ∷ older) = synced_content first older
+synced_content first (synced ∷ older) = content first older
 
--- the smallest length that the disk had since the last sync
-abbrev pub smallest_length : List Call → ℕ
-smallest_length [] = 0
-smallest_length (wrote at bytes ∷ older) = min (length (content (wrote at bytes ∷ older))) (smallest_length older)
-smallest_length (cut_to len ∷ older) = min (length (content (cut_to len ∷ older))) (smallest_length older)
-smallest_length (synced ∷ older) = length (content older)
+-- the smallest length that the disk had since then
+abbrev pub smallest_length : List ℕ → List Call → ℕ
+smallest_length first [] = length first
+smallest_length first (wrote at bytes ∷ older) = min (length (content first (wrote at bytes ∷ older))) (smallest_length first older)
+smallest_length first (cut_to len ∷ older) = min (length (content first (cut_to len ∷ older))) (smallest_length first older)
+smallest_length first (synced ∷ older) = length (content first older)
 
 -- a write since the last sync had this place in its range
 abbrev pub IsWritten : List Call → ℕ → Type 0
@@ -42,7 +42,7 @@ IsAtRest (synced ∷ older) = Unit {0}
 
 -- Each place that wasn't written, below the smallest length, is as it was at the last sync; the length is no smaller than that.
 -- At rest it is what a read gives.
-pub record Survives (calls : List Call) (image : List ℕ) : Type 0 where
-  pub long : smallest_length calls ≤ length image
-  pub kept : (i : ℕ) → i < smallest_length calls → (IsWritten calls i → ⊥) → slice_index image i ≡ slice_index (synced_content calls) i
-  pub at_rest : IsAtRest calls → image ≡ content calls
+pub record Survives (first : List ℕ) (calls : List Call) (image : List ℕ) : Type 0 where
+  pub long : smallest_length first calls ≤ length image
+  pub kept : (i : ℕ) → i < smallest_length first calls → (IsWritten calls i → ⊥) → slice_index image i ≡ slice_index (synced_content first calls) i
+  pub at_rest : IsAtRest calls → image ≡ content first calls

@@ -1,12 +1,13 @@
 // A disk that fails one call, to show what its callers make of it.
-ghost use Rattle.std.specs.Prelude.{◌≡◌, ◌≢◌, ◌⊎◌, ◌+◌, ◌-◌, ◌≤◌, ◌↔◌, ◌^◌, min, length, take, slice_range, IsErr, IfOk, OnOk, OnErr};
+ghost use Rattle.std.specs.Prelude.{◌≡◌, ◌≢◌, ◌⊎◌, ◌+◌, ◌-◌, ◌≤◌, ◌↔◌, ◌/◌, ◌^◌, min, true, false, length, take, slice_range, IsErr, IfOk, OnOk};
 ghost use Rattle.rel_disk.specs.Damage.{overwritten, Torn, Cut, Follows, Within, Only};
 ghost use Rattle.rel_disk.specs.Moments.{Elapses, HasFailed};
 ghost use Rattle.rel_disk.specs.FailDisk.{all_failures, TakesTurn};
 
 use crate::{DeviceFault, Disk};
 
-/// A disk of which one call that answers a `Result` fails and does nothing. All others are those of the disk within.
+/// A disk of which one call that answers a `Result` fails. It does nothing, or it has a part of its effect: a write writes
+/// half of its bytes, rounded up, and a cut and a sync are done whole. All others are those of the disk within.
 #[derive(Drop)]
 pub struct FailDisk<D: Disk> {
     /// The disk within.
@@ -15,37 +16,65 @@ pub struct FailDisk<D: Disk> {
     pub left: u64,
     /// How many calls have failed that the disk within did not see.
     pub refused: u64,
+    /// The call that fails has a part of its effect.
+    pub in_part: bool,
+}
+
+/// What becomes of a call.
+#[derive(Clone, Copy)]
+enum Turn {
+    Passes,
+    Fails,
+    FailsInPart,
 }
 
 impl<D: Disk> FailDisk<D> {
     /// Fails the call of this number, counted from 1. With 0 it fails none.
     pub fn new(disk: D, call: u64) -> Self
-        ensures { result ≡ record { disk = disk; left = call; refused = 0 } }
+        ensures { result ≡ record { disk = disk; left = call; refused = 0; in_part = false } }
     {
         FailDisk {
             disk,
             left: call,
             refused: 0,
+            in_part: false,
         }
     }
 
-    // Counts a call, and refuses it if it is the one that fails.
-    fn turn(&mut self) -> Result<(), DeviceFault>
-        ensures which { IsErr result ↔ (self.old.left ≡ 1) }
+    /// Such a disk, on which the call has a part of its effect.
+    pub fn failing_in_part(disk: D, call: u64) -> Self
+        ensures { result ≡ record { disk = disk; left = call; refused = 0; in_part = true } }
+    {
+        FailDisk {
+            disk,
+            left: call,
+            refused: 0,
+            in_part: true,
+        }
+    }
+
+    // Counts a call, and says what becomes of it.
+    fn turn(&mut self) -> Turn
+        ensures passes { (result ≡ Turn.Passes) ↔ (self.old.left ≢ 1) }
+        ensures fails { (result ≡ Turn.Fails) ↔ ((self.old.left ≡ 1) × (self.old.in_part ≡ false)) }
         ensures left { self.new.left ≡ self.old.left - 1 }
         ensures same { self.new.disk ≡ self.old.disk }
-        ensures refused { OnErr result (self.new.refused ≡ min (2 ^ 64 - 1) (self.old.refused + 1)) }
-        ensures passed { OnOk result (self.new.refused ≡ self.old.refused) }
+        ensures kind { self.new.in_part ≡ self.old.in_part }
+        ensures refused { self.old.left ≡ 1 → self.new.refused ≡ min (2 ^ 64 - 1) (self.old.refused + 1) }
+        ensures passed { self.old.left ≢ 1 → self.new.refused ≡ self.old.refused }
     {
         if self.left == 0 {
-            return Ok(());
+            return Turn::Passes;
         }
         self.left -= 1;
         if self.left > 0 {
-            return Ok(());
+            return Turn::Passes;
         }
         self.refused = self.refused.saturating_add(1);
-        Err(DeviceFault)
+        if self.in_part {
+            return Turn::FailsInPart;
+        }
+        Turn::Fails
     }
 }
 
@@ -78,8 +107,10 @@ impl<D: Disk> Disk for FailDisk<D> {
         ensures counted { all_failures D.failures self.old ≤ all_failures D.failures self.new }
         ensures cause { IsErr result → HasFailed (all_failures D.failures self.old) (all_failures D.failures self.new) }
     {
-        self.turn()?;
-        self.disk.len()
+        match self.turn() {
+            Turn::Passes => self.disk.len(),
+            _ => Err(DeviceFault),
+        }
     }
 
     fn read(&mut self, at: u64, buf: &mut [u8]) -> Result<(), DeviceFault>
@@ -95,13 +126,17 @@ impl<D: Disk> Disk for FailDisk<D> {
         ensures counted { all_failures D.failures self.old ≤ all_failures D.failures self.new }
         ensures cause { IsErr result → HasFailed (all_failures D.failures self.old) (all_failures D.failures self.new) }
     {
-        self.turn()?;
-        self.disk.read(at, buf)
+        match self.turn() {
+            Turn::Passes => self.disk.read(at, buf),
+            _ => Err(DeviceFault),
+        }
     }
 
     fn write_at(&mut self, at: u64, bytes: &[u8]) -> Result<(), DeviceFault>
         requires { at ≤ length (D.seen self.old.disk) }
         ensures turn { TakesTurn D.failures self.old self.new (IsErr result) }
+        ensures half { self.old.left ≡ 1 → self.old.in_part ≡ true → HasFailed (D.failures self.old.disk) (D.failures self.new.disk)
+            ⊎ (D.seen self.new.disk ≡ overwritten at (take ((length bytes.now + 1) / 2) bytes.now) (D.seen self.old.disk)) }
 
         // As of every disk.
         ensures written { OnOk result (D.seen self.new.disk ≡ overwritten at bytes.now (D.seen self.old.disk)) }
@@ -112,13 +147,21 @@ impl<D: Disk> Disk for FailDisk<D> {
         ensures counted { all_failures D.failures self.old ≤ all_failures D.failures self.new }
         ensures cause { IsErr result → HasFailed (all_failures D.failures self.old) (all_failures D.failures self.new) }
     {
-        self.turn()?;
-        self.disk.write_at(at, bytes)
+        match self.turn() {
+            Turn::Passes => self.disk.write_at(at, bytes),
+            Turn::Fails => Err(DeviceFault),
+            Turn::FailsInPart => {
+                let _ = self.disk.write_at(at, &bytes[..bytes.len().div_ceil(2)]);
+                Err(DeviceFault)
+            }
+        }
     }
 
     fn cut(&mut self, len: u64) -> Result<(), DeviceFault>
         requires { len ≤ length (D.seen self.old.disk) }
         ensures turn { TakesTurn D.failures self.old self.new (IsErr result) }
+        ensures whole { self.old.left ≡ 1 → self.old.in_part ≡ true → HasFailed (D.failures self.old.disk) (D.failures self.new.disk)
+            ⊎ (D.seen self.new.disk ≡ take len (D.seen self.old.disk)) }
 
         // As of every disk.
         ensures cut { OnOk result (D.seen self.new.disk ≡ take len (D.seen self.old.disk)) }
@@ -129,12 +172,20 @@ impl<D: Disk> Disk for FailDisk<D> {
         ensures counted { all_failures D.failures self.old ≤ all_failures D.failures self.new }
         ensures cause { IsErr result → HasFailed (all_failures D.failures self.old) (all_failures D.failures self.new) }
     {
-        self.turn()?;
-        self.disk.cut(len)
+        match self.turn() {
+            Turn::Passes => self.disk.cut(len),
+            Turn::Fails => Err(DeviceFault),
+            Turn::FailsInPart => {
+                let _ = self.disk.cut(len);
+                Err(DeviceFault)
+            }
+        }
     }
 
     fn sync(&mut self) -> Result<(), DeviceFault>
         ensures turn { TakesTurn D.failures self.old self.new (IsErr result) }
+        ensures whole { self.old.left ≡ 1 → self.old.in_part ≡ true → HasFailed (D.failures self.old.disk) (D.failures self.new.disk)
+            ⊎ Only (D.seen self.old.disk) (D.may_leave self.new.disk) }
 
         // As of every disk.
         ensures durable { OnOk result (Only (D.seen self.old.disk) (D.may_leave self.new.disk)) }
@@ -145,8 +196,14 @@ impl<D: Disk> Disk for FailDisk<D> {
         ensures counted { all_failures D.failures self.old ≤ all_failures D.failures self.new }
         ensures cause { IsErr result → HasFailed (all_failures D.failures self.old) (all_failures D.failures self.new) }
     {
-        self.turn()?;
-        self.disk.sync()
+        match self.turn() {
+            Turn::Passes => self.disk.sync(),
+            Turn::Fails => Err(DeviceFault),
+            Turn::FailsInPart => {
+                let _ = self.disk.sync();
+                Err(DeviceFault)
+            }
+        }
     }
 
     fn failures(&self) -> u64 {

@@ -14,25 +14,25 @@ pub fn damage_by_places()
 {}
 
 /// The images that single calls compose are exactly those that the ranges written since the last sync, and the smallest
-/// length since then, allow.
+/// length since then, allow, over the bytes that the disk began with.
 pub fn images_by_places()
-    ensures { (calls : List Call) (image : List ℕ) → Image calls image ↔ Survives calls image }
+    ensures { (first : List ℕ) (calls : List Call) (image : List ℕ) → Image first calls image ↔ Survives first calls image }
 {}
 
 /// On any disk the damage of calls adds up to these images.
 pub fn damage_adds_up<D: Disk>()
-    ensures write { (calls : List Call) (at : ℕ) (bytes : List ℕ) (old new : D)
-        → Within (Image calls) (D.may_leave old)
+    ensures write { (first : List ℕ) (calls : List Call) (at : ℕ) (bytes : List ℕ) (old new : D)
+        → Within (Image first calls) (D.may_leave old)
         → Follows (Torn at (length bytes)) (D.may_leave old) (D.may_leave new)
-        → Within (Image (wrote at bytes ∷ calls)) (D.may_leave new) }
-    ensures cut { (calls : List Call) (len : ℕ) (old new : D)
-        → Within (Image calls) (D.may_leave old)
+        → Within (Image first (wrote at bytes ∷ calls)) (D.may_leave new) }
+    ensures cut { (first : List ℕ) (calls : List Call) (len : ℕ) (old new : D)
+        → Within (Image first calls) (D.may_leave old)
         → Follows (Cut len) (D.may_leave old) (D.may_leave new)
-        → Within (Image (cut_to len ∷ calls)) (D.may_leave new) }
-    ensures sync { (calls : List Call) (old new : D)
-        → D.seen old ≡ content calls
+        → Within (Image first (cut_to len ∷ calls)) (D.may_leave new) }
+    ensures sync { (first : List ℕ) (calls : List Call) (old new : D)
+        → D.seen old ≡ content first calls
         → Only (D.seen old) (D.may_leave new)
-        → Within (Image (synced ∷ calls)) (D.may_leave new) }
+        → Within (Image first (synced ∷ calls)) (D.may_leave new) }
 {}
 
 /// What a read gives is an image, the images of this moment are among those since an earlier one, and since this moment

@@ -6,9 +6,9 @@
 //! that failed may have had any part of its effect, and the disk has counted a failure. The clauses speak of every
 //! moment, also of those within a call.
 //!
-//! [`MemDisk`] is exactly such a disk, with a bound on its bytes and on a log of its calls. [`FailDisk`] fails one call
-//! of another disk. That the damage of single calls adds up to the disk of the first sentence is a law:
-//! [`images_by_places`] and [`damage_adds_up`].
+//! [`MemDisk`] is exactly such a disk, which begins with no bytes or with given ones, and has a bound on its bytes and on
+//! a log of its calls. [`FailDisk`] fails one call of another disk. That the damage of single calls adds up to the disk of
+//! the first sentence is a law: [`images_by_places`] and [`damage_adds_up`].
 //!
 //! Not claimed: that a real file is such a disk, and when a real device fails.
 #![tactic(auto)]

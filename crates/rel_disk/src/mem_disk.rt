@@ -19,13 +19,15 @@ use std::marker::Model;
 /// and a sync take 32 bytes of the log, and as many more as they write or cut off.
 #[derive(Drop)]
 pub struct MemDisk {
+    // what it began with
+    first: Vec<u8>,
     bytes: Vec<u8>,
     log: Log,
     capacity: usize,
     failures: u64,
 }
 
-// Clauses see the calls, the capacity, the log's room and the failures.
+// Clauses see what it began with, the calls, the capacity, the log's room and the failures.
 impl Model for MemDisk {
     ghost use Rattle.rel_disk.specs.MemState.{MemState};
 
@@ -34,19 +36,35 @@ impl Model for MemDisk {
     ghost use Rattle.rel_disk.specs.MemState.{HoldsContent};
     ghost use Rattle.std.specs.Prelude.{vec_capacity};
 
-    ghost view = { λ d. record { calls = d.log.calls; capacity = d.capacity; room = d.log.room; failures = d.failures } };
+    ghost view = { λ d. record { first = d.first.items; calls = d.log.calls; capacity = d.capacity; room = d.log.room; failures = d.failures } };
 
-    ghost invariant = { λ d. HoldsContent d.bytes.items d.log.calls d.capacity (vec_capacity d.bytes) };
+    ghost invariant = { λ d. HoldsContent d.bytes.items d.first.items d.log.calls d.capacity (vec_capacity d.bytes) };
 }
 
 impl MemDisk {
     /// An empty disk that holds at most `capacity` bytes, and whose log holds `log` bytes.
     /// It takes its memory here, all at once.
     pub fn new(alloc: Global, capacity: usize, log: usize) -> Result<Self, AllocError>
-        ensures { IfOk result (λ disk. disk ≡ record { calls = []; capacity = capacity; room = log; failures = 0 }) }
+        ensures { IfOk result (λ disk. disk ≡ record { first = []; calls = []; capacity = capacity; room = log; failures = 0 }) }
     {
+        MemDisk::with_bytes(alloc, &[], capacity, log)
+    }
+
+    /// Such a disk that begins with these bytes, as behind a sync: a crash leaves them.
+    pub fn with_bytes(
+        alloc: Global,
+        bytes: &[u8],
+        capacity: usize,
+        log: usize,
+    ) -> Result<Self, AllocError>
+        requires { length bytes.now ≤ capacity }
+        ensures { IfOk result (λ disk. disk ≡ record { first = bytes.now; calls = []; capacity = capacity; room = log; failures = 0 }) }
+    {
+        let mut content = Vec::with_capacity(alloc, capacity)?;
+        append(&mut content, bytes);
         Ok(MemDisk {
-            bytes: Vec::with_capacity(alloc, capacity)?,
+            first: Vec::from_slice(alloc, bytes)?,
+            bytes: content,
             log: Log::new(alloc, log)?,
             capacity,
             failures: 0,
@@ -66,33 +84,33 @@ impl MemDisk {
 }
 
 impl Disk for MemDisk {
-    ghost seen = { λ d. content d.calls };
+    ghost seen = { λ d. content d.first d.calls };
 
-    ghost may_leave = { λ d. Image d.calls };
+    ghost may_leave = { λ d. Image d.first d.calls };
 
     ghost moment = { λ d. length d.calls };
 
-    ghost left_since = { λ d. ImageSince d.calls };
+    ghost left_since = { λ d. ImageSince d.first d.calls };
 
     ghost failures = { λ d. d.failures };
 
-    ghost reads_an_image = { λ d. content_is_image d.calls };
+    ghost reads_an_image = { λ d. content_is_image d.first d.calls };
 
-    ghost counts_now = { λ d. counts_now d.calls };
+    ghost counts_now = { λ d. counts_now d.first d.calls };
 
-    ghost only_now = { λ d. only_now d.calls };
+    ghost only_now = { λ d. only_now d.first d.calls };
 
     fn len(&mut self) -> Result<u64, DeviceFault>
-        ensures value { result ≡ Ok (length (content self.old.calls)) }
+        ensures value { result ≡ Ok (length (content self.old.first self.old.calls)) }
         ensures same { self.new ≡ self.old }
     {
         Ok(self.bytes.len() as u64)
     }
 
     fn read(&mut self, at: u64, buf: &mut [u8]) -> Result<(), DeviceFault>
-        requires { at + length buf.old ≤ length (content self.old.calls) }
+        requires { at + length buf.old ≤ length (content self.old.first self.old.calls) }
         ensures ok { IsOk result }
-        ensures bytes { buf.new ≡ slice_range (content self.old.calls) at (at + length buf.old) }
+        ensures bytes { buf.new ≡ slice_range (content self.old.first self.old.calls) at (at + length buf.old) }
         ensures same { self.new ≡ self.old }
     {
         let from = at as usize;
@@ -101,14 +119,14 @@ impl Disk for MemDisk {
     }
 
     fn write_at(&mut self, at: u64, bytes: &[u8]) -> Result<(), DeviceFault>
-        requires { at ≤ length (content self.old.calls) }
+        requires { at ≤ length (content self.old.first self.old.calls) }
         ensures room { IsOk result ↔ HasRoom self.old (wrote at bytes.now) }
         ensures done { OnOk result (self.new ≡ after_call (wrote at bytes.now) self.old) }
         ensures failed { OnErr result (self.new ≡ after_fault self.old) }
 
         // As of every disk.
-        ensures part { Torn at (length bytes.now) (content self.old.calls) (content self.new.calls) }
-        ensures crash { Follows (Torn at (length bytes.now)) (Image self.old.calls) (Image self.new.calls) }
+        ensures part { Torn at (length bytes.now) (content self.old.first self.old.calls) (content self.new.first self.new.calls) }
+        ensures crash { Follows (Torn at (length bytes.now)) (Image self.old.first self.old.calls) (Image self.new.first self.new.calls) }
         ensures counted { self.old.failures ≤ self.new.failures }
         ensures cause { IsErr result → HasFailed self.old.failures self.new.failures }
     {
@@ -122,14 +140,14 @@ impl Disk for MemDisk {
     }
 
     fn cut(&mut self, len: u64) -> Result<(), DeviceFault>
-        requires { len ≤ length (content self.old.calls) }
+        requires { len ≤ length (content self.old.first self.old.calls) }
         ensures room { IsOk result ↔ HasRoom self.old (cut_to len) }
         ensures done { OnOk result (self.new ≡ after_call (cut_to len) self.old) }
         ensures failed { OnErr result (self.new ≡ after_fault self.old) }
 
         // As of every disk.
-        ensures part { Cut len (content self.old.calls) (content self.new.calls) }
-        ensures crash { Follows (Cut len) (Image self.old.calls) (Image self.new.calls) }
+        ensures part { Cut len (content self.old.first self.old.calls) (content self.new.first self.new.calls) }
+        ensures crash { Follows (Cut len) (Image self.old.first self.old.calls) (Image self.new.first self.new.calls) }
         ensures counted { self.old.failures ≤ self.new.failures }
         ensures cause { IsErr result → HasFailed self.old.failures self.new.failures }
     {
@@ -148,7 +166,7 @@ impl Disk for MemDisk {
         ensures failed { OnErr result (self.new ≡ after_fault self.old) }
 
         // As of every disk.
-        ensures crash { Within (Image self.old.calls) (Image self.new.calls) }
+        ensures crash { Within (Image self.old.first self.old.calls) (Image self.new.first self.new.calls) }
         ensures counted { self.old.failures ≤ self.new.failures }
         ensures cause { IsErr result → HasFailed self.old.failures self.new.failures }
     {

@@ -1,4 +1,6 @@
 // Disks in memory, among them disks that are full and disks that fail.
+ghost use Rattle.std.specs.Prelude.{◌≡◌, []};
+
 use crate::callers::append;
 use rel_disk::{DeviceFault, Disk, FailDisk, MemDisk};
 use std::alloc::Global;
@@ -15,8 +17,8 @@ enum Step {
 use Step::{Cut, Sync, Write};
 
 // A disk in memory after these steps, each of which may fail. A step past the end syncs.
-fn disk_after(alloc: Global, capacity: usize, log: usize, steps: &[Step]) -> Result<MemDisk, Fail> {
-    let mut disk = MemDisk::new(alloc, capacity, log)?;
+fn stepped(disk: MemDisk, steps: &[Step]) -> Result<MemDisk, Fail> {
+    let mut disk = disk;
     for step in steps {
         let len = disk.len()?;
         let _ = match *step {
@@ -72,7 +74,7 @@ fn reads_what_was_written(rt: HostRuntime) -> Result<(), Fail> {
         (&[Write(0, b"abcdef"), Write(2, b"")], b"abcdef"),
     ];
     for (steps, bytes) in rows {
-        let disk = disk_after(alloc, 64, 1024, steps)?;
+        let disk = stepped(MemDisk::new(alloc, 64, 1024)?, steps)?;
         gives(&rt, alloc, disk, bytes, 0)?;
     }
     Ok(())
@@ -101,7 +103,25 @@ fn fills_its_capacity_and_its_log(rt: HostRuntime) -> Result<(), Fail> {
         (4, 68, &[Write(0, b"abc"), Cut(1), Cut(2)], b"ab", 1),
     ];
     for (capacity, log, steps, bytes, failures) in rows {
-        let disk = disk_after(alloc, capacity, log, steps)?;
+        let disk = stepped(MemDisk::new(alloc, capacity, log)?, steps)?;
+        gives(&rt, alloc, disk, bytes, failures)?;
+    }
+    Ok(())
+}
+
+// A disk may begin with bytes. They take none of the log, and are written over and cut as any.
+#[test]
+fn begins_with_bytes(rt: HostRuntime) -> Result<(), Fail> {
+    let alloc = rt.alloc();
+    let rows: [(&[Step], &[u8], u64); 5] = [
+        (&[], b"abcdef", 0),
+        (&[Write(5, b"XYZ")], b"abcdeXYZ", 0),
+        (&[Write(6, b"XYZ")], b"abcdef", 1),
+        (&[Cut(2)], b"ab", 0),
+        (&[Cut(1)], b"abcdef", 1),
+    ];
+    for (steps, bytes, failures) in rows {
+        let disk = stepped(MemDisk::with_bytes(alloc, b"abcdef", 8, 36)?, steps)?;
         gives(&rt, alloc, disk, bytes, failures)?;
     }
     Ok(())
@@ -173,6 +193,27 @@ fn a_fault_is_told(rt: HostRuntime) -> Result<(), Fail> {
     Ok(())
 }
 
+// An append to this disk succeeds or not, and these bytes are read then.
+fn appended(
+    rt: &impl Abort,
+    alloc: Global,
+    disk: FailDisk<MemDisk>,
+    succeeds: bool,
+    bytes: &[u8],
+) -> Result<(), Fail>
+    requires { disk.disk.calls ≡ [] }
+{
+    let (done, disk) = match append(disk, b"abc") {
+        Ok(disk) => (true, disk.disk),
+        Err((_, disk)) => (false, disk.disk),
+    };
+    assert_eq!(rt; done, succeeds);
+    let mut disk = disk;
+    let found = bytes_of(alloc, &mut disk)?;
+    same(rt, &found, bytes);
+    Ok(())
+}
+
 #[test]
 fn a_disk_is_handed_back(rt: HostRuntime) -> Result<(), Fail> {
     let rows: [(u64, bool, &[u8]); 5] = [
@@ -184,14 +225,24 @@ fn a_disk_is_handed_back(rt: HostRuntime) -> Result<(), Fail> {
     ];
     for (failing, succeeds, bytes) in rows {
         let disk = FailDisk::new(MemDisk::new(rt.alloc(), 64, 1024)?, failing);
-        let (done, disk) = match append(disk, b"abc") {
-            Ok(disk) => (true, disk.disk),
-            Err((_, disk)) => (false, disk.disk),
-        };
-        assert_eq!(rt; done, succeeds, "call {failing}");
-        let mut disk = disk;
-        let found = bytes_of(rt.alloc(), &mut disk)?;
-        same(&rt, &found, bytes);
+        appended(&rt, rt.alloc(), disk, succeeds, bytes)?;
+    }
+    Ok(())
+}
+
+// The call that fails may have a part of its effect.
+#[test]
+fn a_disk_fails_in_part(rt: HostRuntime) -> Result<(), Fail> {
+    let rows: [(u64, bool, &[u8]); 5] = [
+        (0, true, b"abc"),
+        (1, false, b""),
+        (2, false, b"ab"),
+        (3, false, b"abc"),
+        (4, true, b"abc"),
+    ];
+    for (failing, succeeds, bytes) in rows {
+        let disk = FailDisk::failing_in_part(MemDisk::new(rt.alloc(), 64, 1024)?, failing);
+        appended(&rt, rt.alloc(), disk, succeeds, bytes)?;
     }
     Ok(())
 }

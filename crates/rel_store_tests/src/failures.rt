@@ -1,7 +1,7 @@
 // Each call of the device fails in turn.
 ghost use Rattle.rel_store.specs.State.{IsSound};
 
-use crate::disks::{CAPACITY, LOG, finds, new_store};
+use crate::disks::{CAPACITY, LOG, finds, holds, new_store, opened};
 use StoreError::{Device, MustReopen, NotAStore};
 use rel_disk::{Disk, FailDisk, MemDisk};
 use rel_store::{Store, StoreError};
@@ -41,29 +41,39 @@ fn append_on<D: Disk>(rt: &impl Abort, alloc: Global, disk: D) -> (Result<(), St
     }
 }
 
+// An append on this disk answers so, with so many failures, and so many records are found then.
+fn append_fails(
+    rt: &impl Abort,
+    alloc: Global,
+    disk: FailDisk<MemDisk>,
+    wanted: (Result<(), StoreError>, u64),
+    records: usize,
+) {
+    let (answer, disk) = append_on(rt, alloc, disk);
+    assert_eq!(rt; (answer, disk.failures()), wanted);
+    finds(rt, alloc, disk.disk, Ok(records));
+}
+
 #[test]
 fn each_call_of_an_append_fails(rt: HostRuntime) -> Result<(), Fail> {
     let alloc = rt.alloc();
-    // An opening has three calls and an append four. Once the gate is written, the new record is read.
+    // An opening has three calls and an append four. Once the gate is written, the new record is read; the last number is
+    // for calls that fail in part.
     let rows = [
-        (1, Err(Device), 1, 1),
-        (2, Err(Device), 1, 1),
-        (3, Err(Device), 1, 1),
-        (4, Err(Device), 1, 1),
-        (5, Err(Device), 1, 1),
-        (6, Err(Device), 1, 1),
-        (7, Err(Device), 1, 2),
-        (8, Ok(()), 0, 2),
+        (1, (Err(Device), 1), 1, 1),
+        (2, (Err(Device), 1), 1, 1),
+        (3, (Err(Device), 1), 1, 1),
+        (4, (Err(Device), 1), 1, 1),
+        (5, (Err(Device), 1), 1, 1),
+        (6, (Err(Device), 1), 1, 2),
+        (7, (Err(Device), 1), 2, 2),
+        (8, (Ok(()), 0), 2, 2),
     ];
-    for (call, wanted, failures, records) in rows {
+    for (call, wanted, records, in_part) in rows {
         let disk = FailDisk::new(new_store(&rt, alloc)?, call);
-        let (answer, disk) = append_on(&rt, alloc, disk);
-        assert_eq!(rt;
-            (answer, disk.failures()),
-            (wanted, failures),
-            "call {call}"
-        );
-        finds(&rt, alloc, disk.disk, Ok(records));
+        append_fails(&rt, alloc, disk, wanted, records);
+        let disk = FailDisk::failing_in_part(new_store(&rt, alloc)?, call);
+        append_fails(&rt, alloc, disk, wanted, in_part);
     }
     Ok(())
 }
@@ -76,25 +86,39 @@ fn create_on<D: Disk>(alloc: Global, disk: D) -> (Result<(), StoreError>, D) {
     }
 }
 
+// A creation on this disk answers so, and so many records are found then.
+fn create_fails(
+    rt: &impl Abort,
+    alloc: Global,
+    disk: FailDisk<MemDisk>,
+    wanted: Result<(), StoreError>,
+    records: Result<usize, StoreError>,
+) {
+    let (answer, disk) = create_on(alloc, disk);
+    assert_eq!(rt; answer, wanted);
+    finds(rt, alloc, disk.disk, records);
+}
+
 #[test]
 fn each_call_of_a_creation_fails(rt: HostRuntime) -> Result<(), Fail> {
     let alloc = rt.alloc();
-    // The length, and three writes, each with its sync: an empty disk is not read.
+    // The length, and three writes, each with its sync: an empty disk is not read. The last column is for calls that fail
+    // in part.
     let rows = [
-        (1, Err(Device), Err(NotAStore)),
-        (2, Err(Device), Err(NotAStore)),
-        (3, Err(Device), Err(NotAStore)),
-        (4, Err(Device), Err(NotAStore)),
-        (5, Err(Device), Err(NotAStore)),
-        (6, Err(Device), Err(NotAStore)),
-        (7, Err(Device), Ok(1)),
-        (8, Ok(()), Ok(1)),
+        (1, Err(Device), Err(NotAStore), Err(NotAStore)),
+        (2, Err(Device), Err(NotAStore), Err(NotAStore)),
+        (3, Err(Device), Err(NotAStore), Err(NotAStore)),
+        (4, Err(Device), Err(NotAStore), Err(NotAStore)),
+        (5, Err(Device), Err(NotAStore), Err(NotAStore)),
+        (6, Err(Device), Err(NotAStore), Ok(1)),
+        (7, Err(Device), Ok(1), Ok(1)),
+        (8, Ok(()), Ok(1), Ok(1)),
     ];
-    for (call, wanted, records) in rows {
+    for (call, wanted, records, in_part) in rows {
         let disk = FailDisk::new(MemDisk::new(alloc, CAPACITY, LOG)?, call);
-        let (answer, disk) = create_on(alloc, disk);
-        assert_eq!(rt; answer, wanted, "call {call}");
-        finds(&rt, alloc, disk.disk, records);
+        create_fails(&rt, alloc, disk, wanted, records);
+        let disk = FailDisk::failing_in_part(MemDisk::new(alloc, CAPACITY, LOG)?, call);
+        create_fails(&rt, alloc, disk, wanted, in_part);
     }
     Ok(())
 }
@@ -123,19 +147,46 @@ pub(crate) fn slot_on<D: Disk>(
     }
 }
 
+// A write of the start slot on this disk answers so, and this text is found then.
+fn slot_fails(
+    rt: &impl Abort,
+    alloc: Global,
+    disk: FailDisk<MemDisk>,
+    wanted: Option<StoreError>,
+    text: &[u8],
+) -> Result<(), Fail> {
+    let (answer, disk) = slot_on(rt, alloc, disk);
+    assert_eq!(rt; answer.err(), wanted);
+    let mut store = opened(rt, alloc, disk.disk);
+    let mut slot = [0; 128];
+    store.read_slot(&mut slot)?;
+    holds(rt, slot.starts_with(text), "the text is that");
+    Ok(())
+}
+
 #[test]
 fn each_call_of_a_slot_fails(rt: HostRuntime) -> Result<(), Fail> {
     let alloc = rt.alloc();
-    // An opening has three calls, a write of the slot four, a reading one.
-    for call in 1..10 {
+    // An opening has three calls, a write of the slot four, a reading one. Once the selector is written, the new text is
+    // read; the last column is for calls that fail in part.
+    let old = b"\x0714.2 A\n\0";
+    let new = b"\x0714.2 B\n\0";
+    let rows = [
+        (1, Some(Device), old, old),
+        (2, Some(Device), old, old),
+        (3, Some(Device), old, old),
+        (4, Some(Device), old, old),
+        (5, Some(Device), old, old),
+        (6, Some(Device), old, new),
+        (7, Some(Device), new, new),
+        (8, Some(Device), new, new),
+        (9, None, new, new),
+    ];
+    for (call, wanted, text, in_part) in rows {
         let disk = FailDisk::new(new_store(&rt, alloc)?, call);
-        let (answer, disk) = slot_on(&rt, alloc, disk);
-        assert_eq!(rt;
-            answer.err(),
-            if call == 9 { None } else { Some(Device) },
-            "call {call}"
-        );
-        finds(&rt, alloc, disk.disk, Ok(1));
+        slot_fails(&rt, alloc, disk, wanted, text)?;
+        let disk = FailDisk::failing_in_part(new_store(&rt, alloc)?, call);
+        slot_fails(&rt, alloc, disk, wanted, in_part)?;
     }
     Ok(())
 }
