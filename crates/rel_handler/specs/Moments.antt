@@ -1,5 +1,5 @@
 -- What the calls of a handler leave at each moment.
-use Rattle.std.specs.Prelude.{◌≡◌, ◌⊎◌, ℕ, List, [], ◌∷◌, ◌++◌, Some}
+use Rattle.std.specs.Prelude.{◌≡◌, ◌⊎◌, ℕ, List, [], ◌∷◌, ◌++◌, Some, Result, Ok, Err}
 use Rattle.rel_disk.specs.Damage.{Only}
 use Rattle.rel_disk.specs.Moments.{LeavesOnly}
 use Rattle.rel_list.specs.Releases.{Releases}
@@ -7,6 +7,11 @@ use Rattle.rel_list.specs.Event.{Event, list_after}
 use Rattle.rel_list.specs.Event.Event.{boot}
 use Rattle.rel_store.specs.Moments.{IsTornFrom}
 use Rattle.rel_handler.specs.Events.{Known, IsPrefix, IsNoneOrOfPrefix}
+use Rattle.rel_store.specs.Contents.{IsSyncedAt}
+use Rattle.rel_handler.specs.State.{disk_in}
+use Rattle.rel_handler.specs.declared.error.BootError.{BootError}
+use Rattle.rel_handler.specs.declared.error.BootError.TheVariants.{Device}
+use Rattle.rel_handler.specs.declared.handler.Handler.{Handler}
 
 -- At this moment the first sync of a creation has succeeded. From it on a crash leaves no store, or one that stands for the
 -- list of such a prefix; before it what it left before the call, but for a torn gate.
@@ -25,3 +30,11 @@ pub record BootsTo (k : Known) (es : Releases) : Type 0 where
   pub events : List Event
   pub prefix : IsPrefix k events
   pub after : list_after (events ++ boot ∷ []) ≡ Some es
+
+-- The disk was synced in a boot: from then on a crash leaves what a read gives, whatever the boot answers. So an event in
+-- doubt is settled there. Where the device failed, it may have failed in the sync.
+abbrev pub IsSynced : {D : Type 0} → (D → List ℕ) → (D → List ℕ → Type 0) → (D → ℕ) → (D → ℕ → List ℕ → Type 0) → D → Result (Handler D) (BootError × D) → Type 0
+IsSynced {D} seen may_leave moment left_since old (Ok handler) =
+    (at : D) × IsSyncedAt seen may_leave moment left_since old (disk_in handler) at
+IsSynced {D} seen may_leave moment left_since old (Err refusal) =
+    (refusal.0 ≡ Device) ⊎ ((at : D) × IsSyncedAt seen may_leave moment left_since old refusal.1 at)

@@ -7,7 +7,7 @@ ghost use Rattle.rel_store.specs.Contents.{OpenRefused};
 ghost use Rattle.rel_store.specs.Records.{end_of};
 ghost use Rattle.rel_handler.specs.Events.{Known, IsOfPrefix};
 ghost use Rattle.rel_handler.specs.Image.{IsImageOf, IsImageAt};
-ghost use Rattle.rel_handler.specs.Moments.{BootsTo};
+ghost use Rattle.rel_handler.specs.Moments.{BootsTo, IsSynced};
 ghost use Rattle.rel_handler.specs.Records.{Makes, IsBadRecord};
 ghost use Rattle.rel_handler.specs.Refusals.{BootRefused, told_boot, IsOpenError};
 ghost use Rattle.rel_handler.specs.State.{disk_in, disk_of, list_in, is_dead, end_in, IsSound};
@@ -43,6 +43,7 @@ pub fn boot<D: Disk>(alloc: Global, disk: D) -> Result<Handler<D>, (BootError, D
 
     // No crash in the call leaves anything that none before it would have left.
     ensures any_moment { LeavesOnly D.moment D.left_since disk (disk_of result) (D.may_leave disk) }
+    ensures synced { IsSynced D.seen D.may_leave D.moment D.left_since disk result }
 
     ensures counted { D.failures disk ≤ D.failures (disk_of result) }
     ensures refused { IfErr result (λ e. BootRefused (D.seen disk) (D.failures disk) (D.failures e.1) e.0) }

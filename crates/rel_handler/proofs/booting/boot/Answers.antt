@@ -1,3 +1,6 @@
+use Rattle.std.proofs.Common.{inl, inr, ⊎_elim, sym, subst, ap, ◌∙◌}
+use Rattle.rel_store.specs.Contents.{IsSyncedAt}
+use Rattle.rel_handler.specs.Refusals.{told_boot}
 use Rattle.rel_handler.proofs.Boots.{made_again, sound_so, image_so, read_so, only_memory}
 use Rattle.rel_handler.proofs.Images.{each_image, booted_image, boots_to}
 use Rattle.rel_handler.proofs.Progress.{bodies_in}
@@ -29,3 +32,15 @@ pub returns-in-Err-read_list-clause-recovers : goal.returns-in-Err-read_list-cla
 returns-in-Err-read_list-clause-recovers g c = λ k all.
     let of = all (g.D.Disk.seen c.args.disk) (g.met.D.Disk.reads_an_image c.args.disk) in
     only_memory (g.D.Disk.seen c.args.disk) (bodies_in c.records.result.now) (records_in c.in-Ok.store) of.list c.in-Err-read_list.error c.records.ensures c.in-Ok.ensures.records of.image_of c.in-Err-read_list.ensures.bad
+
+-- the store was synced when it was opened
+pub returns-in-Ok-read_list-clause-synced : goal.returns-in-Ok-read_list-clause-synced
+returns-in-Ok-read_list-clause-synced g c = ⊎_elim (λ never. absurd never) (λ synced. synced) c.in-Ok.ensures.synced
+
+pub returns-in-Err-read_list-clause-synced : goal.returns-in-Err-read_list-clause-synced
+returns-in-Err-read_list-clause-synced g c =
+    let (at, synced) = ⊎_elim (λ never. absurd never) (λ synced. synced) c.in-Ok.ensures.synced in
+    inr (at, subst (λ d. IsSyncedAt g.D.Disk.seen g.D.Disk.may_leave g.D.Disk.moment g.D.Disk.left_since c.args.disk d at) (sym c.into_disk.ensures) synced)
+
+pub returns-in-Err-clause-synced : goal.returns-in-Err-clause-synced
+returns-in-Err-clause-synced g c = ⊎_elim (λ device. inl (c.boot_error.ensures ∙ ap told_boot device)) (λ synced. inr synced) c.in-Err.ensures.synced
