@@ -8,7 +8,7 @@ use Rattle.erl_term.specs.Within.{IsWithin}
 use Rattle.rel_files.specs.declared.release.Rel.{Rel}
 use Rattle.rel_files.specs.declared.reader.RelFile.{RelFile}
 use Rattle.rel_files.specs.Release.{release_of, application_of}
-use Rattle.rel_files.specs.File.{HasTerm, IsReleaseTerm, SaysRelease}
+use Rattle.rel_files.specs.File.{HasFileTerm, IsReleaseTerm, SaysRelease}
 use Rattle.rel_handler.specs.Files.{IsRelFile}
 use Rattle.rel_handler.specs.Limits.{is_small}
 use Rattle.relnode.specs.Refusals.Refusal.{too_many}
@@ -32,9 +32,9 @@ pub small_release : (rel : Rel) (n : ℕ) → n ≡ length rel.apps.items → n 
 small_release rel n e h = rw (length-map rel.apps.items application_of, ← e, at_most n h) refl
 
 -- what a file says that was read
-pub says_release : (bytes : List ℕ) (file : RelFile) → HasTerm bytes (value_of file.term) × IsReleaseTerm (value_of file.term) (release_of file.release) → SaysRelease bytes (release_of file.release)
+pub says_release : (bytes : List ℕ) (file : RelFile) → HasFileTerm bytes (value_of file.term) × IsReleaseTerm (value_of file.term) (release_of file.release) → SaysRelease bytes (release_of file.release)
 says_release bytes file says = (value_of file.term, says.0, says.1)
 
 -- a file that was read is one that a command may be given
-pub rel_file : (bytes : List ℕ) (file : RelFile) → HasTerm bytes (value_of file.term) × IsReleaseTerm (value_of file.term) (release_of file.release) → IsWithin 65 (value_of file.term) → IsRelFile file
+pub rel_file : (bytes : List ℕ) (file : RelFile) → HasFileTerm bytes (value_of file.term) × IsReleaseTerm (value_of file.term) (release_of file.release) → IsWithin 65 (value_of file.term) → IsRelFile file
 rel_file bytes file says limited = record { says = says.1; within = limited }
