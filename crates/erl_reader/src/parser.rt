@@ -90,7 +90,10 @@ impl Parser {
             Token::Name(_) => {
                 self.expect_term(&item)?;
                 let Item { token, from, to } = item;
-                let term = Term::Atom(token.into_text(alloc)?);
+                let Token::Name(name) = token else {
+                    unreachable!()
+                };
+                let term = Term::Atom(name.into_string(alloc)?);
                 self.put(Spanned { term, from, to })
             }
             Token::Number(n) => self.put_number(*n, &item),
@@ -308,7 +311,7 @@ impl Parser {
                 }
                 self.put(level.closed(item.to))
             }
-            _ => Ok(()),
+            _ => unreachable!(),
         }
     }
 

@@ -45,12 +45,6 @@ token_value NotUtf8 = stray 256
 token_value (Broken like f) = broken (like_value like) f
 token_value (Cut like) = cut (like_value like)
 
--- the text of a name or a text, and of any other token none
-abbrev pub token_text : CodeToken → List ℕ
-token_text (Name c) = content_bytes c
-token_text (Quoted c) = content_bytes c
-token_text t = []
-
 abbrev pub item_value : CodeItem → Item
 item_value i = record { token = token_value i.token; from = i.from; to = i.to }
 

@@ -68,7 +68,7 @@ impl<'a> Content<'a> {
     }
 
     /// As a text of its own.
-    pub(crate) fn into_string(self, alloc: Global) -> Result<String, AllocError>
+    pub fn into_string(self, alloc: Global) -> Result<String, AllocError>
         ensures { IfOk result (λ s. string_bytes s ≡ content_bytes self.entry) }
     {
         match self {

@@ -6,7 +6,7 @@
 //! A token is a bracket, a comma, a dot, a name, a number of 64 bits or a text (specs/Quotes, specs/Escapes and
 //! specs/Numbers say how the last three are spelled). Three are of no term: a byte that begins none, one that begins as
 //! another does and has a fault (`TermFault`), and one that the end of the text cuts off.
-//! What stands between quotes is not copied: it is kept in pieces (`Content`), and written out by `Token::into_text` alone.
+//! What stands between quotes is not copied: it is kept in pieces (`Content`), and written out by `Content::into_string` alone.
 //! The lexer reads each byte a bounded number of times, and takes memory for the pieces alone.
 #![tactic(auto)]
 

@@ -35,28 +35,32 @@ pub fn quoted_from<'a>(
 {
     let mut content = Content::Part("");
     let mut at = from + 1;
-    while let At::Byte(byte) = text.at(at) {
-        if byte == quote {
-            return Ok(Quoted::Closed(content, at + 1));
-        }
-        if byte == b'\\' {
-            match escape_at(text, at + 1) {
-                Escaped::Means(character, end) => {
-                    content = content.and_character(alloc, character)?;
+    loop {
+        match text.at(at) {
+            At::Byte(byte) => {
+                if byte == quote {
+                    return Ok(Quoted::Closed(content, at + 1));
+                }
+                if byte == b'\\' {
+                    match escape_at(text, at + 1) {
+                        Escaped::Means(character, end) => {
+                            content = content.and_character(alloc, character)?;
+                            at = end;
+                        }
+                        Escaped::Senseless => return Ok(Quoted::Faulty(TermFault::BadToken(at))),
+                        Escaped::Unfinished => {
+                            return Ok(Quoted::Faulty(unclosed(text, from, at + 1)));
+                        }
+                    }
+                } else {
+                    let end = run_end(text, Run::InQuotes(quote), at);
+                    content = content.and(alloc, Content::Part(text.part(at, end)))?;
                     at = end;
                 }
-                Escaped::Senseless => return Ok(Quoted::Faulty(TermFault::BadToken(at))),
-                Escaped::Unfinished => return Ok(Quoted::Faulty(unclosed(text, from, at + 1))),
             }
-        } else {
-            let end = run_end(text, Run::InQuotes(quote), at);
-            content = content.and(alloc, Content::Part(text.part(at, end)))?;
-            at = end;
+            At::NotUtf8 => return Ok(Quoted::Faulty(TermFault::BadToken(at))),
+            At::End => return Ok(Quoted::Faulty(TermFault::Unclosed(from))),
         }
-    }
-    match text.at(at) {
-        At::NotUtf8 => Ok(Quoted::Faulty(TermFault::BadToken(at))),
-        _ => Ok(Quoted::Faulty(TermFault::Unclosed(from))),
     }
 }
 

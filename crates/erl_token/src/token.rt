@@ -1,9 +1,7 @@
 //! The tokens of a text.
-ghost use Rattle.std.specs.Prelude.{◌≡◌, IfOk, string_bytes};
 
 use crate::content::Content;
 use crate::fault::TermFault;
-use std::alloc::{AllocError, Global};
 
 /// A pair of brackets.
 #[derive(Clone, Copy, Debug, PartialEq, Eq)]
@@ -42,20 +40,6 @@ pub enum Token<'a> {
     Broken(Like, TermFault),
     /// It begins as another token does, and the end of the text cuts it off.
     Cut(Like),
-}
-
-impl Token<'_> {
-    ghost use Rattle.erl_token.specs.Views.{token_text};
-
-    /// The text of a name or a text, as one of its own. No other token has one.
-    pub fn into_text(self, alloc: Global) -> Result<String, AllocError>
-        ensures { IfOk result (λ s. string_bytes s ≡ token_text self.entry) }
-    {
-        match self {
-            Token::Name(content) | Token::Text(content) => content.into_string(alloc),
-            _ => Ok(String::new(alloc)),
-        }
-    }
 }
 
 /// A token, from its first byte to behind its last.

@@ -74,11 +74,11 @@ loop-at-preserved c =
     let same = c.part.ensures ∙ run_between c.args.quote c.args.text.valid.now c.args.text.is_spoilt c.loop-at.at c.run_end-end.result c.loop-at.invariant.cut.0 c.run_end-end.ensures.end in
     record {
       read =
-          subst (λ (s : List ℕ). IsRead c.args.quote c.args.from (text_bytes c.args.text) s c.run_end-end.result) (sym c.in_ok-content.ensures)
+          subst (λ (s : List ℕ). IsRead c.args.quote c.args.from (text_bytes c.args.text) s c.run_end-end.result) (sym c.in_ok-content-in-Byte.ensures)
           (reads_run c.args.quote c.args.from (text_bytes c.args.text) (content_bytes c.loop-at.content) c.part.result.now c.loop-at.at c.run_end-end.result
           c.loop-at.invariant.read c.run_end-end.ensures.end same);
       cut = run_cut c.args.quote c.args.text.valid.now c.args.text.is_spoilt c.loop-at.at c.run_end-end.result (quote_byte c.requires.quote).0 c.loop-at.invariant.cut.0 c.run_end-end.ensures.end;
     }
 
-pub returns : goal.returns
-returns c = open_quote c.args.quote c.args.from (text_bytes c.args.text) (content_bytes c.loop-at.content) c.loop-at.at c.loop-at.invariant.read (search rules)
+pub returns-in-End : goal.returns-in-End
+returns-in-End c = open_quote c.args.quote c.args.from (text_bytes c.args.text) (content_bytes c.loop-at.content) c.loop-at.at c.loop-at.invariant.read (search rules)
