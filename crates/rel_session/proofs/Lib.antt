@@ -17,3 +17,5 @@ pub mod Lasting
 pub mod Failures
 pub mod OneAnswer
 pub mod Beginning
+pub mod BadRecords
+pub mod EachAnswer
