@@ -1,13 +1,13 @@
 mod Members
-mod Distinct
-mod Options
+pub mod Distinct
+pub mod Options
 mod Texts
 mod Terms
 mod Endings
-mod Shape
-mod Versions
+pub mod Shape
+pub mod Versions
 pub mod Outcomes
 mod Files
 pub mod OneFault
-mod Either
+pub mod Either
 mod Limits

@@ -16,3 +16,5 @@ pub mod Lasting
 pub mod Failures
 pub mod OneAnswer
 pub mod Beginning
+pub mod BadRecords
+pub mod EachAnswer

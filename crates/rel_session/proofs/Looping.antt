@@ -69,7 +69,7 @@ are_all None commands left = tt
 are_all (Some input) commands left = left
 
 -- a reply to the first of these commands
-replies_next : (files : Files) (p : Place) (c : Command) (rest : Feed Command) (ending : Ending) (a : Reply) (more : List Reply) → Transition files p c a
+pub replies_next : (files : Files) (p : Place) (c : Command) (rest : Feed Command) (ending : Ending) (a : Reply) (more : List Reply) → Transition files p c a
     → Replies (files_behind files c) a.after rest ending more → Replies files p (next c rest) ending (a ∷ more)
 replies_next files p (file path f) rest ended a more is right = (is, right)
 replies_next files p (create path) rest ended a more is right = (is, right)

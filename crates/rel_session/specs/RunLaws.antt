@@ -189,3 +189,21 @@ BeginsWithAMaking {D} v =
     → NoneFails first → NoneAcknowledged first → a.outcome.acknowledged ≢ []
     → (r : Release) × (a.outcome.acknowledged ≡ made r ∷ booting ∷ []) × (acknowledged_at a.after ≡ made r ∷ booting ∷ [])
       × KeepsAll v (raw []) (first ++ a ∷ []) rest old new
+
+-- the events of the place have a list
+abbrev pub HasList : Place → Type 0
+HasList (raw bytes) = Unit {0}
+HasList (closed s) = (list : Releases) × (list_after s.known.acknowledged ≡ Some list)
+HasList (running events end) = (list : Releases) × (list_after events ≡ Some list)
+HasList (dead s) = ⊥
+
+-- Each input has an answer in which the device does not fail.
+pub record HasAnswer (files : Files) (p : Place) (commands : Feed Command) : Type 0 where
+  pub ending : Ending
+  pub whole : ending ≢ early
+  pub replies : List Reply
+  pub works : NoneFails replies
+  pub right : Replies files p commands ending replies
+
+abbrev pub EachHasAnAnswer : Type 0
+EachHasAnAnswer = (files : Files) (p : Place) (commands : Feed Command) → IsCertain p → HasList p → HasAnswer files p commands

@@ -1,5 +1,5 @@
 //! Laws of sessions. Each function does nothing: its contract is the law.
-ghost use Rattle.rel_session.specs.RunLaws.{EachKeeps, IsOfAccepted, LosesNothing, BeginsWhereOneEnded, BeginsBehindACrash, LosesNothingEver, FailsOnlyWithTheDevice, TellsDoubt, HaveOneAnswer, BeginsWithAMaking};
+ghost use Rattle.rel_session.specs.RunLaws.{EachKeeps, IsOfAccepted, LosesNothing, BeginsWhereOneEnded, BeginsBehindACrash, LosesNothingEver, FailsOnlyWithTheDevice, TellsDoubt, HaveOneAnswer, BeginsWithAMaking, EachHasAnAnswer};
 
 use rel_disk::Disk;
 
@@ -32,6 +32,7 @@ pub fn a_doubt_is_told_as_a_failure()
 /// Where the device does not fail, an input has one answer from each place with nothing in doubt.
 pub fn an_input_has_one_answer()
     ensures one { HaveOneAnswer }
+    ensures some { EachHasAnAnswer }
 {}
 
 /// On an empty disk the first event that is acknowledged is that a release was made, and from then on none is lost.

@@ -1,5 +1,9 @@
+use Rattle.rel_session.proofs.EachAnswer.{each_has_an_answer}
 use Rattle.rel_session.proofs.OneAnswer.{have_one_answer}
 use Rattle.rel_session.proofs.laws.an_input_has_one_answer.Goals as goal
 
-pub returns : goal.returns
-returns c = record { one = have_one_answer }
+pub returns-clause-one : goal.returns-clause-one
+returns-clause-one c = have_one_answer
+
+pub returns-clause-some : goal.returns-clause-some
+returns-clause-some c = each_has_an_answer
