@@ -94,18 +94,32 @@ fn boots(call: u64) -> (&'static str, &'static str) {
     }
 }
 
-/// A session goes on behind a failed device: a dead node answers Dead or Exists, and its boot.
+/// The session of this input on this disk answers as where this call fails without effect.
+fn goes_on(rt: &impl Abort, alloc: Global, disk: FailDisk<MemDisk>, call: u64) -> Result<(), Fail> {
+    let input = format!(in alloc; "{TWO_RELEASES}releases\ncreate a.rel\n{BOOTED}{BOOTED}")?;
+    let ran = session_on(alloc, disk, input.as_bytes())?;
+    let (first, second) = boots(call);
+    let before = before_the_boots(call);
+    let answer = format!(in alloc; "{before}{first}{second}")?;
+    assert_eq!(rt; ran.written.as_slice(), answer.as_bytes(), "call {call}");
+    Ok(())
+}
+
+/// A session goes on behind a failed device: a dead node answers Dead or Exists, and its boot. A write of one byte that
+/// fails in part is done, so what is found then is found where its sync fails too.
 #[test]
 fn sessions_go_on_behind_a_failed_device(rt: HostRuntime) -> Result<(), Fail> {
     let alloc = rt.alloc();
-    let input = format!(in alloc; "{TWO_RELEASES}releases\ncreate a.rel\n{BOOTED}{BOOTED}")?;
     for call in 1..19 {
         let disk = FailDisk::new(empty_disk(alloc)?, call);
-        let ran = session_on(alloc, disk, input.as_bytes())?;
-        let (first, second) = boots(call);
-        let before = before_the_boots(call);
-        let answer = format!(in alloc; "{before}{first}{second}")?;
-        assert_eq!(&rt; ran.written.as_slice(), answer.as_bytes(), "call {call}");
+        goes_on(&rt, alloc, disk, call)?;
+        let disk = FailDisk::failing_in_part(empty_disk(alloc)?, call);
+        let alike = if call == 6 || call == 10 {
+            call + 1
+        } else {
+            call
+        };
+        goes_on(&rt, alloc, disk, alike)?;
     }
     Ok(())
 }
