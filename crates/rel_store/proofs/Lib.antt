@@ -1,6 +1,8 @@
 pub mod Append
+pub mod Layouts
 pub mod Moments
 pub mod NewStore
+pub mod OnlyReads
 pub mod Ownership
 pub mod Reading
 pub mod Scan

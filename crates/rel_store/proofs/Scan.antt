@@ -1,15 +1,19 @@
 -- The records of a store, read one after another.
-use Rattle.std.proofs.Common.{◌≡◌, ◌≢◌, ◌⊎◌, inl, inr, ℕ, zero, suc, ◌+◌, ◌-◌, ◌<◌, ◌≤◌, Bool, true, false, ◌&&◌, ◌||◌, not, IfErr, List, [], ◌∷◌, ◌++◌, length, get_or, drop, map, Vec, Result, Ok, Err, refl, sym, ◌∙◌, ap, subst, arith, length-drop}
-use Rattle.std.specs.Prelude.{if◌then◌else◌, nat_lt, nat_le, ◌==◌}
+use Rattle.std.proofs.Common.{◌≡◌, ◌≢◌, ◌⊎◌, inl, inr, ℕ, zero, suc, ◌+◌, ◌-◌, ◌<◌, ◌≤◌, Bool, true, false, ◌&&◌, IfErr, List, [], ◌∷◌, ◌++◌, length, get_or, take, drop, map, Vec, Result, Ok, Err, refl, sym, ◌∙◌, ap, subst, arith, length-drop}
+use Rattle.std.specs.Prelude.{IsErrAnd, if◌then◌else◌, nat_lt, nat_le, ◌==◌}
 use Rattle.std.specs.declared.alloc.Global.{Global}
+use Rattle.std.proofs.lemmas.Bool.{cases_lt}
 use Rattle.std.proofs.lemmas.Bool.Decides.{nat_tests}
-use Rattle.std.proofs.lemmas.List.{drop_more, drop-drop, length-take-le}
-use Rattle.rel_store.specs.Contents.{OpenRefused}
-use Rattle.rel_store.specs.Layout.{has_magic, base_of, base_slot}
+use Rattle.std.specs.Int.{w32, from_be_bytes}
+use Rattle.std.proofs.lemmas.List.{drop_more, drop-drop, drop-take, take-take, get_or-drop, get_or-take, length-take-le}
+use Rattle.rel_disk.specs.Moments.{HasFailed}
+use Rattle.rel_store.specs.Contents.{OpenRefused, RecordRefused, RecordsRefused}
+use Rattle.rel_store.specs.Layout.{base_of}
 use Rattle.rel_store.specs.Records.{told_length, told_body, is_whole, onto, records_from, records_of, space}
 use Rattle.rel_store.specs.declared.error.StoreError.{StoreError}
 use Rattle.rel_store.specs.declared.error.StoreError.TheVariants.{NotAStore, Damaged, Exists, Full, Device, NoMemory, MustReopen}
 use Rattle.rel_store.proofs.Reading.{onto_all, onto_all-push, onto_all-none, closed, more}
+use Rattle.rel_store.proofs.Whole.{Sound, readable}
 
 -- the bodies that vectors hold
 abbrev pub bodies_of : List (Vec ℕ Global) → List (List ℕ)
@@ -79,46 +83,103 @@ read_damaged bytes base gate bodies behind so_far is_open is broken =
     let refused : records_from gate 0 (1 ∷ behind) ≡ Err (Damaged gate) = ap (λ t. if t then onto (told_body behind) (records_from (gate + 1) (4 + told_length behind) behind) else Err (Damaged gate)) broken in
     sym so_far.rest ∙ ap (λ l. onto_all bodies (records_from gate 0 l)) here ∙ ap (onto_all bodies) refused ∙ onto_all-err bodies (Damaged gate)
 
--- the records of bytes are refused for nothing but damage
-records_from-refused : (place inside : ℕ) (bytes : List ℕ) (e : StoreError) → records_from place inside bytes ≡ Err e → (at : ℕ) × (e ≡ Damaged at)
-records_from-refused place inside [] e told = (place, cc)
-records_from-refused place zero (gate ∷ bytes) e told = go (records_from-refused (place + 1) (4 + told_length bytes) bytes e) (gate == 1) (is_whole bytes) told
-  where
-    onto-refused : (body : List ℕ) (r : Result (List (List ℕ)) StoreError) → onto body r ≡ Err e → r ≡ Err e
-    onto-refused body (Ok bodies) f = absurd cc
-    onto-refused body (Err d) f = f
+-- the first of five bytes from a gate on
+pub byte_in_five : (bytes : List ℕ) (gate : ℕ) (head : List ℕ) (byte : ℕ) → head ≡ take 5 (drop gate bytes) → get_or head 0 0 ≡ byte → get_or bytes gate 0 ≡ byte
+byte_in_five bytes gate head byte is first =
+    let there : gate + 0 ≡ gate = omega arith in
+    sym (ap (λ i. get_or bytes i 0) there)
+    ∙ sym (get_or-drop gate bytes 0 0)
+    ∙ sym (get_or-take 5 (drop gate bytes) 0 0 (omega arith))
+    ∙ sym (ap (λ (l : List ℕ). get_or l 0 0) is)
+    ∙ first
 
-    go : (records_from (place + 1) (4 + told_length bytes) bytes ≡ Err e → (at : ℕ) × (e ≡ Damaged at))
-        → (a b : Bool) → (if a then (if b then onto (told_body bytes) (records_from (place + 1) (4 + told_length bytes) bytes) else Err (Damaged place)) else Ok []) ≡ Err e → (at : ℕ) × (e ≡ Damaged at)
-    go rest true true f = rest (onto-refused (told_body bytes) _ f)
-    go rest true false f = (place, cc)
-    go rest false b f = absurd cc
-records_from-refused place (suc inside) (b ∷ bytes) e told = records_from-refused (place + 1) inside bytes e told
+-- The record at a gate, by what five bytes from the gate on tell of it.
+module _ (bytes : List ℕ) (gate size : ℕ) where
+  pub told_in_five : (head : List ℕ) → head ≡ take 5 (drop gate bytes) → size ≡ told_length (drop 1 head) → size ≡ told_length (drop (gate + 1) bytes)
+  told_in_five head is told =
+      told
+      ∙ ap (λ l. told_length (drop 1 l)) is
+      ∙ ap (λ l. from_be_bytes w32 (take 4 l)) (drop-take 1 4 (drop gate bytes))
+      ∙ ap (from_be_bytes w32) (take-take 4 4 (drop 1 (drop gate bytes)) (omega arith))
+      ∙ ap told_length (drop-drop 1 gate bytes)
 
--- and the bytes of a disk for that, or for being no store
-records_of-refused : (bytes : List ℕ) (e : StoreError) → records_of bytes ≡ Err e → (e ≡ NotAStore) ⊎ ((at : ℕ) × (e ≡ Damaged at))
-records_of-refused bytes e = go (nat_lt (length bytes) 289 || not (has_magic bytes)) (nat_lt (base_of bytes) 288 || nat_le (length bytes) (base_of bytes))
-  where
-    go : (a b : Bool) → (if a then Err NotAStore else (if b then Err (Damaged (base_slot bytes)) else records_from (base_of bytes) 0 (drop (base_of bytes) bytes))) ≡ Err e → (e ≡ NotAStore) ⊎ ((at : ℕ) × (e ≡ Damaged at))
-    go true b f = inl cc
-    go false true f = inr (base_slot bytes, cc)
-    go false false f = inr (records_from-refused (base_of bytes) 0 (drop (base_of bytes) bytes) e f)
+  tests : (n long : ℕ) → n ≤ 16777216 → 4 + n < long → (nat_le n 16777216 && nat_lt (4 + n) long) ≡ true
+  tests n long short within = grind (arith, nat_tests)
 
-told_by : (bytes : List ℕ) (before now : ℕ) (e : StoreError) → (e ≡ NoMemory) ⊎ (records_of bytes ≡ Err e) → OpenRefused bytes before now e
-told_by bytes before now NotAStore (inl none) = absurd cc
-told_by bytes before now NotAStore (inr told) = told
-told_by bytes before now (Damaged at) (inl none) = absurd cc
-told_by bytes before now (Damaged at) (inr told) = told
-told_by bytes before now NoMemory why = tt
-told_by bytes before now Exists (inl none) = absurd cc
-told_by bytes before now Exists (inr told) = elim (records_of-refused bytes Exists told) [ inl f ↦ absurd cc | inr f ↦ absurd (cc f.1) ]
-told_by bytes before now Full (inl none) = absurd cc
-told_by bytes before now Full (inr told) = elim (records_of-refused bytes Full told) [ inl f ↦ absurd cc | inr f ↦ absurd (cc f.1) ]
-told_by bytes before now Device (inl none) = absurd cc
-told_by bytes before now Device (inr told) = elim (records_of-refused bytes Device told) [ inl f ↦ absurd cc | inr f ↦ absurd (cc f.1) ]
-told_by bytes before now MustReopen (inl none) = absurd cc
-told_by bytes before now MustReopen (inr told) = elim (records_of-refused bytes MustReopen told) [ inl f ↦ absurd cc | inr f ↦ absurd (cc f.1) ]
+  fails : (n long : ℕ) → (16777216 < n) ⊎ (long ≤ 4 + n) → (nat_le n 16777216 && nat_lt (4 + n) long) ≡ false
+  fails n long (inl far) = grind (arith, nat_tests)
+  fails n long (inr past) = go (nat_le n 16777216) (grind (arith, nat_tests))
+    where
+      go : (a : Bool) → nat_lt (4 + n) long ≡ false → (a && nat_lt (4 + n) long) ≡ false
+      go true e = e
+      go false e = refl
 
-pub refused_by_bytes : {T : Type 0} (r : Result T StoreError) (bytes seen : List ℕ) (before now : ℕ) → bytes ≡ seen → IfErr r (λ e. (e ≡ NoMemory) ⊎ (records_of bytes ≡ Err e)) → IfErr r (OpenRefused seen before now)
-refused_by_bytes (Ok x) bytes seen before now same why = tt
-refused_by_bytes (Err e) bytes seen before now same why = subst (λ l. OpenRefused l before now e) same (told_by bytes before now e why)
+  pub whole_there : size ≡ told_length (drop (gate + 1) bytes) → size ≤ 16777216 → 5 + size < length bytes - gate → is_whole (drop (gate + 1) bytes) ≡ true
+  whole_there told short within = tests (told_length (drop (gate + 1) bytes)) (length (drop (gate + 1) bytes)) (omega (arith, told)) (omega (arith, told, length-drop (gate + 1) bytes))
+
+  pub broken_there : size ≡ told_length (drop (gate + 1) bytes) → (16777216 < size) ⊎ (length bytes - gate ≤ 5 + size) → is_whole (drop (gate + 1) bytes) ≡ false
+  broken_there told why = fails (told_length (drop (gate + 1) bytes)) (length (drop (gate + 1) bytes))
+      (elim why [ inl far ↦ inl (omega (arith, told)) | inr past ↦ inr (omega (arith, told, length-drop (gate + 1) bytes)) ])
+
+-- one record more, whose body is read by itself
+pub read_body_more : (bytes mid after : List ℕ) (base gate size : ℕ) (bodies : List (List ℕ)) (body : List ℕ) → IsReadTo bytes base gate bodies → mid ≡ bytes → after ≡ mid
+    → (get_or mid gate 0 ≡ 1) × (is_whole (drop (gate + 1) mid) ≡ true) × (size ≡ told_length (drop (gate + 1) mid))
+    → body ≡ take size (drop (gate + 5) after) → IsReadTo bytes base (gate + (5 + size)) (bodies ++ body ∷ [])
+read_body_more bytes mid after base gate size bodies body so_far same same' there read =
+    let behind = drop (gate + 1) bytes in
+    let is_open : get_or bytes gate 0 ≡ 1 = subst (λ l. get_or l gate 0 ≡ 1) same there.0 in
+    let whole : is_whole behind ≡ true = subst (λ l. is_whole (drop (gate + 1) l) ≡ true) same there.1 in
+    let told : size ≡ told_length behind = subst (λ l. size ≡ told_length (drop (gate + 1) l)) same there.2 in
+    let fits = whole_from behind whole in
+    let place : gate + 1 + 4 ≡ gate + 5 = omega arith in
+    let is : body ≡ told_body behind =
+    read
+    ∙ ap (λ l. take size (drop (gate + 5) l)) (same' ∙ same)
+    ∙ ap (λ n. take n (drop (gate + 5) bytes)) told
+    ∙ ap (λ l. take (told_length behind) l) (ap (λ p. drop p bytes) (sym place) ∙ sym (drop-drop 4 (gate + 1) bytes)) in
+    let long : length body ≡ size = ap length is ∙ length-take-le (told_length behind) (drop 4 behind) (omega (arith, length-drop 4 behind, fits.1)) ∙ sym told in
+    let next : gate + (5 + size) ≡ gate + (5 + length body) = omega (arith, long) in
+    read_more bytes base gate (gate + (5 + size)) bodies body behind so_far is_open refl whole is next
+
+-- a failure since a moment is one since an earlier one
+failed_since : (begun before now : ℕ) → begun ≤ before → before ≤ now → HasFailed before now → HasFailed begun now
+failed_since begun before now le le' failed = elim (cases_lt begun now) [
+  | inl rose ↦ inl rose
+  | inr level ↦ inr (elim failed [ inl more ↦ absurd (omega arith) | inr most ↦ omega arith ])
+]
+
+pub refused_since : (told : Result (List (List ℕ)) StoreError) (begun before now : ℕ) (e : StoreError) → begun ≤ before → before ≤ now → RecordsRefused told before now e → RecordsRefused told begun now e
+refused_since told begun before now (Damaged at) le le' why = why
+refused_since told begun before now Device le le' why = failed_since begun before now le le' why
+refused_since told begun before now NoMemory le le' why = why
+refused_since told begun before now NotAStore le le' why = why
+refused_since told begun before now Exists le le' why = why
+refused_since told begun before now Full le le' why = why
+refused_since told begun before now MustReopen le le' why = why
+
+-- why the next record isn't read
+pub refused_there : (bytes mid : List ℕ) (base gate : ℕ) (bodies : List (List ℕ)) (begun before now : ℕ) (e : StoreError) → IsReadTo bytes base gate bodies → mid ≡ bytes → begun ≤ before → before ≤ now
+    → RecordRefused mid gate before now e → RecordsRefused (records_from base 0 (drop base bytes)) begun now e
+refused_there bytes mid base gate bodies begun before now (Damaged at) so_far same le le' (here, is_open, broken) =
+    read_damaged bytes base gate bodies (drop (gate + 1) bytes) so_far (subst (λ l. get_or l gate 0 ≡ 1) same is_open) refl (subst (λ l. is_whole (drop (gate + 1) l) ≡ false) same broken) ∙ ap (λ p. Err (Damaged p)) (sym here)
+refused_there bytes mid base gate bodies begun before now Device so_far same le le' failed = failed_since begun before now le le' failed
+refused_there bytes mid base gate bodies begun before now NotAStore so_far same le le' why = why
+refused_there bytes mid base gate bodies begun before now NoMemory so_far same le le' why = absurd why
+refused_there bytes mid base gate bodies begun before now Exists so_far same le le' why = why
+refused_there bytes mid base gate bodies begun before now Full so_far same le le' why = why
+refused_there bytes mid base gate bodies begun before now MustReopen so_far same le le' why = why
+
+-- an error that is passed on
+pub passed_on : {T : Type 0} (P : StoreError → Type 0) (r : Result T StoreError) (e : StoreError) → IsErrAnd r (λ d. d ≡ e) → P e → IfErr r P
+passed_on P (Ok x) e is why = tt
+passed_on P (Err d) e is why = subst P (sym is) why
+
+-- Why the store on a disk isn't read, from why its records aren't.
+pub open_refused : (bytes : List ℕ) (before now : ℕ) (e : StoreError) → Sound bytes → RecordsRefused (records_from (base_of bytes) 0 (drop (base_of bytes) bytes)) before now e → OpenRefused bytes before now e
+open_refused bytes before now NotAStore s why = absurd why
+open_refused bytes before now (Damaged at) s why = readable bytes s ∙ why
+open_refused bytes before now Device s why = why
+open_refused bytes before now NoMemory s why = why
+open_refused bytes before now Exists s why = why
+open_refused bytes before now Full s why = why
+open_refused bytes before now MustReopen s why = why

@@ -1,9 +1,9 @@
 -- What an opening has read of a disk's bytes, and what it makes of the disk.
-use Rattle.std.specs.Prelude.{◌≡◌, ℕ, ◌+◌, ◌==◌, List, map, Result, Ok, Err, slice_index}
-use Rattle.rel_disk.specs.Damage.{Only}
+use Rattle.std.specs.Prelude.{◌≡◌, ℕ, ◌+◌, ◌==◌, false, List, drop, map, Result, Ok, Err, slice_index}
+use Rattle.rel_disk.specs.Damage.{Only, Within}
 use Rattle.rel_disk.specs.Moments.{LeavesOnly, HasFailed}
 use Rattle.rel_store.specs.Layout.{base_of}
-use Rattle.rel_store.specs.Records.{records_of, space}
+use Rattle.rel_store.specs.Records.{is_whole, records_of, space}
 use Rattle.rel_store.specs.declared.contents.Contents.{Contents}
 use Rattle.rel_store.specs.declared.error.StoreError.{StoreError}
 use Rattle.rel_store.specs.declared.error.StoreError.TheVariants.{NotAStore, Damaged, Device, NoMemory}
@@ -35,8 +35,27 @@ abbrev pub RefusedByDevice : {A D : Type 0} → Result A (StoreError × D) → T
 RefusedByDevice (Ok store) = ⊥
 RefusedByDevice (Err refusal) = refusal.0 ≡ Device
 
+-- A run of reads: what a read gives is as it was, and a crash leaves nothing that none before would have left.
+pub record HasOnlyRead {D : Type 0} (seen : D → List ℕ) (may_leave : D → List ℕ → Type 0) (moment : D → ℕ) (left_since : D → ℕ → List ℕ → Type 0) (old new : D) : Type 0 where
+  pub same : seen new ≡ seen old
+  pub crash : Within (may_leave old) (may_leave new)
+  pub any_moment : LeavesOnly moment left_since old new (may_leave old)
+
 -- Why a call that reads the disk refuses: a failure of the device, or want of memory.
 abbrev pub DeviceRefused : ℕ → ℕ → StoreError → Type 0
 DeviceRefused before now Device = HasFailed before now
 DeviceRefused before now NoMemory = Unit {0}
 DeviceRefused before now _ = ⊥
+
+-- Why the record at a gate isn't read: the gate is open and the record behind it isn't whole, or the device has failed.
+abbrev pub RecordRefused : List ℕ → ℕ → ℕ → ℕ → StoreError → Type 0
+RecordRefused bytes gate before now (Damaged at) = (at ≡ gate) × (slice_index bytes gate ≡ 1) × (is_whole (drop (gate + 1) bytes) ≡ false)
+RecordRefused bytes gate before now Device = HasFailed before now
+RecordRefused bytes gate before now _ = ⊥
+
+-- Why records aren't read, where the bytes tell these or a damage: that damage, a failure of the device, or want of memory.
+abbrev pub RecordsRefused : Result (List (List ℕ)) StoreError → ℕ → ℕ → StoreError → Type 0
+RecordsRefused told before now (Damaged at) = told ≡ Err (Damaged at)
+RecordsRefused told before now Device = HasFailed before now
+RecordsRefused told before now NoMemory = Unit {0}
+RecordsRefused told before now _ = ⊥

@@ -79,7 +79,7 @@ pub(crate) fn start_slot(text: &[u8]) -> [u8; 128]
     slot
 }
 
-// The body of n bytes in such a buffer, in the same memory.
+// The body of n bytes in such a buffer, in the same memory. What it doesn't need of that is given back.
 pub(crate) fn body_of_record(buffer: Vec<u8>, n: usize) -> Vec<u8>
     requires { 5 + n ≤ vec_len buffer }
     ensures { result.items ≡ take n (drop 5 buffer.items) }
@@ -87,5 +87,6 @@ pub(crate) fn body_of_record(buffer: Vec<u8>, n: usize) -> Vec<u8>
     let mut body = buffer;
     body.copy_within(RECORD_HEAD..RECORD_HEAD + n, 0);
     body.truncate(n);
+    body.shrink_to_fit();
     body
 }

@@ -1,13 +1,14 @@
-// What an opening reads of the bytes of a disk.
-ghost use Rattle.std.specs.Prelude.{◌≡◌, ◌⊎◌, ◌+◌, ◌<◌, map, length, drop, true, false, Ok, Err, IfOk, IfErr, MatchOption};
-ghost use Rattle.rel_store.specs.Records.{is_whole, told_body, records_from, records_of, space};
-ghost use Rattle.rel_store.specs.declared.error.StoreError.TheVariants.{NoMemory};
+// What an opening reads of a disk.
+ghost use Rattle.std.specs.Prelude.{◌≡◌, ◌≢◌, ◌+◌, ◌<◌, ◌≤◌, map, length, take, drop, true, false, None, Ok, Err, slice_index, IfOk, IfErr, IfSome};
+ghost use Rattle.rel_store.specs.Contents.{DeviceRefused, HasOnlyRead, RecordRefused, RecordsRefused};
+ghost use Rattle.rel_store.specs.Records.{is_whole, records_from, space, told_length};
 
 use crate::StoreError;
 use crate::layout::{
     FIRST_RECORD, MAX_BODY, OPEN, RECORD_HEAD, SHORTEST, START_SELECTOR, base_slot_of,
-    begins_a_store, place_at,
+    begins_a_store, body_length, place_at,
 };
+use rel_disk::Disk;
 use std::alloc::Global;
 
 // The records of a store, the place of the closed gate behind them, and which start slot counts.
@@ -22,61 +23,112 @@ pub(crate) struct Contents {
 #[derive(Drop)]
 struct Found {
     records: Vec<Vec<u8>>,
-    gate: usize,
+    gate: u64,
 }
 
 impl Contents {
-    ghost use Rattle.rel_store.specs.Contents.{AreContentsOf};
+    ghost use Rattle.rel_store.specs.Contents.{AreContentsOf, OpenRefused};
 
-    // Reads the bytes of a disk, or says what is wrong with them.
-    pub(crate) fn read(alloc: Global, bytes: &[u8]) -> Result<Contents, StoreError>
-        ensures ok { IfOk result (AreContentsOf bytes.now) }
-        ensures refused { IfErr result (λ e. (e ≡ NoMemory) ⊎ (records_of bytes.now ≡ Err e)) }
+    // Reads the store on a disk, or says what is wrong with it. Takes memory for the records alone.
+    pub(crate) fn read<D: Disk>(alloc: Global, disk: &mut D) -> Result<Contents, StoreError>
+        ensures ok { IfOk result (AreContentsOf (D.seen disk.old)) }
+        ensures reads { HasOnlyRead D.seen D.may_leave D.moment D.left_since disk.old disk.new }
+        ensures counted { D.failures disk.old ≤ D.failures disk.new }
+        ensures refused { IfErr result (OpenRefused (D.seen disk.old) (D.failures disk.old) (D.failures disk.new)) }
     {
-        if bytes.len() < SHORTEST || !begins_a_store(bytes) {
+        let len = disk.len()?;
+        if len < SHORTEST as u64 {
             return Err(StoreError::NotAStore);
         }
-        let slot = base_slot_of(bytes);
-        let base = place_at(bytes, slot);
-        if base < FIRST_RECORD || base >= bytes.len() as u64 {
+        let mut layout = [0; FIRST_RECORD as usize];
+        disk.read(0, &mut layout)?;
+        if !begins_a_store(&layout) {
+            return Err(StoreError::NotAStore);
+        }
+        let slot = base_slot_of(&layout);
+        let base = place_at(&layout, slot);
+        if base < FIRST_RECORD || base >= len {
             return Err(StoreError::Damaged(slot as u64));
         }
-        let found = read_records(alloc, bytes, base as usize)?;
+        let found = read_records(alloc, disk, base, len)?;
         Ok(Contents {
             records: found.records,
-            gate: found.gate as u64,
-            second_start: bytes[START_SELECTOR] == 1,
+            gate: found.gate,
+            second_start: layout[START_SELECTOR] == 1,
         })
     }
 }
 
 // The records from the gate at the base up to the first closed one.
-fn read_records(alloc: Global, bytes: &[u8], base: usize) -> Result<Found, StoreError>
-    requires { base < length bytes.now }
-    ensures records { IfOk result (λ found. records_from base 0 (drop base bytes.now) ≡ Ok (map (λ v. v.items) found.records.items)) }
+fn read_records<D: Disk>(
+    alloc: Global,
+    disk: &mut D,
+    base: u64,
+    len: u64,
+) -> Result<Found, StoreError>
+    requires within { base < len }
+    requires len { len ≡ length (D.seen disk.old) }
+    ensures records { IfOk result (λ found. records_from base 0 (drop base (D.seen disk.old)) ≡ Ok (map (λ v. v.items) found.records.items)) }
     ensures gate { IfOk result (λ found. found.gate ≡ base + space (map (λ v. v.items) found.records.items)) }
-    ensures refused { IfErr result (λ e. (e ≡ NoMemory) ⊎ (records_from base 0 (drop base bytes.now) ≡ Err e)) }
+    ensures reads { HasOnlyRead D.seen D.may_leave D.moment D.left_since disk.old disk.new }
+    ensures counted { D.failures disk.old ≤ D.failures disk.new }
+    ensures refused { IfErr result (RecordsRefused (records_from base 0 (drop base (D.seen disk.old))) (D.failures disk.old) (D.failures disk.new)) }
 {
     let mut records = Vec::new(alloc);
     let mut gate = base;
-    while bytes[gate] == OPEN {
-        let Some(body) = whole_body(&bytes[gate + 1..]) else {
-            return Err(StoreError::Damaged(gate as u64));
-        };
-        records.push(Vec::from_slice(alloc, body)?)?;
-        gate += RECORD_HEAD + body.len();
+    while let Some(size) = record_at(disk, gate, len)? {
+        let body = read_body(alloc, disk, gate + RECORD_HEAD as u64, size)?;
+        records.push(body)?;
+        gate += (RECORD_HEAD + size) as u64;
     }
     Ok(Found { records, gate })
 }
 
-// The body of the record behind a gate, if that is whole.
-fn whole_body(bytes: &[u8]) -> Option<&[u8]>
-    ensures { MatchOption result (is_whole bytes.now ≡ false) (λ body. (is_whole bytes.now ≡ true) × (body.now ≡ told_body bytes.now)) }
+// The length of the body of the record at this gate, if the gate is open.
+fn record_at<D: Disk>(disk: &mut D, gate: u64, len: u64) -> Result<Option<usize>, StoreError>
+    requires within { gate < len }
+    requires len { len ≡ length (D.seen disk.old) }
+    ensures closed { result ≡ Ok None → slice_index (D.seen disk.old) gate ≢ 1 }
+    ensures open { IfOk result (λ found. IfSome found (λ size. (slice_index (D.seen disk.old) gate ≡ 1)
+        × (is_whole (drop (gate + 1) (D.seen disk.old)) ≡ true) × (size ≡ told_length (drop (gate + 1) (D.seen disk.old))))) }
+    ensures reads { HasOnlyRead D.seen D.may_leave D.moment D.left_since disk.old disk.new }
+    ensures counted { D.failures disk.old ≤ D.failures disk.new }
+    ensures refused { IfErr result (RecordRefused (D.seen disk.old) gate (D.failures disk.old) (D.failures disk.new)) }
 {
-    let (told, rest) = bytes.split_first_chunk::<4>()?;
-    let size = u32::from_be_bytes(*told) as usize;
-    if size > MAX_BODY || size >= rest.len() {
-        return None;
+    if len - gate <= RECORD_HEAD as u64 {
+        let mut byte = [0];
+        disk.read(gate, &mut byte)?;
+        if byte[0] == OPEN {
+            return Err(StoreError::Damaged(gate));
+        }
+        return Ok(None);
     }
-    Some(&rest[..size])
+    let mut head = [0; RECORD_HEAD];
+    disk.read(gate, &mut head)?;
+    if head[0] != OPEN {
+        return Ok(None);
+    }
+    let size = body_length(&head);
+    if size > MAX_BODY || (RECORD_HEAD + size) as u64 >= len - gate {
+        return Err(StoreError::Damaged(gate));
+    }
+    Ok(Some(size))
+}
+
+// So many bytes from this place on.
+fn read_body<D: Disk>(
+    alloc: Global,
+    disk: &mut D,
+    at: u64,
+    size: usize,
+) -> Result<Vec<u8>, StoreError>
+    requires { at + size ≤ length (D.seen disk.old) }
+    ensures ok { IfOk result (λ body. body.items ≡ take size (drop at (D.seen disk.old))) }
+    ensures reads { HasOnlyRead D.seen D.may_leave D.moment D.left_since disk.old disk.new }
+    ensures counted { D.failures disk.old ≤ D.failures disk.new }
+    ensures refused { IfErr result (DeviceRefused (D.failures disk.old) (D.failures disk.new)) }
+{
+    let mut body = vec![in alloc; 0; size]?;
+    disk.read(at, &mut body)?;
+    Ok(body)
 }

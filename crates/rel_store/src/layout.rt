@@ -1,7 +1,8 @@
 // Where the parts of a store stand, and how they are read.
-ghost use Rattle.std.specs.Prelude.{◌≡◌, ◌+◌, ◌≤◌, length, if◌then◌else◌};
+ghost use Rattle.std.specs.Prelude.{◌≡◌, ◌+◌, ◌≤◌, length, drop, if◌then◌else◌};
 ghost use Rattle.std.specs.Int.{w64, from_be_bytes};
 ghost use Rattle.rel_store.specs.Layout.{part, has_magic, selected, base_slot, base_of};
+ghost use Rattle.rel_store.specs.Records.{told_length};
 
 /// The longest body of a record, in bytes.
 pub const MAX_BODY: usize = 16_777_216;
@@ -55,6 +56,15 @@ pub(crate) fn place_at(bytes: &[u8], at: usize) -> u64
     let mut place = [0; 8];
     place.copy_from_slice(&bytes[at..at + 8]);
     u64::from_be_bytes(place)
+}
+
+// The length that a gate and the four bytes behind it tell, greatest byte first.
+pub(crate) fn body_length(head: &[u8; 5]) -> usize
+    ensures { result ≡ told_length (drop 1 head.now) }
+{
+    let mut length = [0; 4];
+    length.copy_from_slice(&head[1..]);
+    u32::from_be_bytes(length) as usize
 }
 
 // The place of the second start slot, or of the first.

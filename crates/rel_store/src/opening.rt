@@ -1,8 +1,7 @@
 // A store is opened.
 ghost use Rattle.std.specs.Prelude.{◌≡◌, ◌⊎◌, ◌≤◌, IfOk, IfErr, IsErrOf, Ok};
-ghost use Rattle.rel_disk.specs.Damage.{Within};
 ghost use Rattle.rel_disk.specs.Moments.{LeavesOnly};
-ghost use Rattle.rel_store.specs.Contents.{AreContentsOf, DeviceRefused, IsSyncedAt, OpenRefused, RefusedByDevice};
+ghost use Rattle.rel_store.specs.Contents.{AreContentsOf, IsSyncedAt, OpenRefused, RefusedByDevice};
 ghost use Rattle.rel_store.specs.Records.{records_of};
 ghost use Rattle.rel_store.specs.State.{disk_of, records_in, IsSettled, IsSound};
 
@@ -12,7 +11,8 @@ use rel_disk::Disk;
 use std::alloc::Global;
 
 impl<D: Disk> Store<D> {
-    /// Opens the store on a disk. At `Ok` the disk is synced: what was read is what a crash leaves. Reads the disk once.
+    /// Opens the store on a disk. At `Ok` the disk is synced: what was read is what a crash leaves. Reads its layout and its
+    /// records, each once, and takes memory for the records alone.
     ///
     /// Refusals: `Device`, `NoMemory`, `NotAStore`, and `Damaged` at a base slot that tells no place behind the layout
     /// and within the disk, or at the open gate of a record that is too long or that the disk ends within; the gate
@@ -54,21 +54,5 @@ fn read_contents<D: Disk>(alloc: Global, disk: &mut D) -> Result<Contents, Store
     ensures refused { IfErr result (OpenRefused (D.seen disk.old) (D.failures disk.old) (D.failures disk.new)) }
 {
     disk.sync()?;
-    let bytes = read_all(alloc, disk)?;
-    Contents::read(alloc, &bytes)
-}
-
-// Reads all the bytes.
-fn read_all<D: Disk>(alloc: Global, disk: &mut D) -> Result<Vec<u8>, StoreError>
-    ensures read { IfOk result (λ bytes. bytes.items ≡ D.seen disk.old) }
-    ensures same { D.seen disk.new ≡ D.seen disk.old }
-    ensures crash { Within (D.may_leave disk.old) (D.may_leave disk.new) }
-    ensures any_moment { LeavesOnly D.moment D.left_since disk.old disk.new (D.may_leave disk.old) }
-    ensures counted { D.failures disk.old ≤ D.failures disk.new }
-    ensures refused { IfErr result (DeviceRefused (D.failures disk.old) (D.failures disk.new)) }
-{
-    let len = disk.len()?;
-    let mut bytes = vec![in alloc; 0; len as usize]?;
-    disk.read(0, &mut bytes)?;
-    Ok(bytes)
+    Contents::read(alloc, disk)
 }

@@ -57,7 +57,8 @@ fn append_fails(
 #[test]
 fn each_call_of_an_append_fails(rt: HostRuntime) -> Result<(), Fail> {
     let alloc = rt.alloc();
-    // An opening has three calls and an append four. Once the gate is written, the new record is read; the last number is
+    // An opening of a store of one record has six calls (a sync, the length, the layout, the record's head and its body,
+    // and the gate behind it), and an append four. Once the gate is written, the new record is read; the last number is
     // for calls that fail in part.
     let rows = [
         (1, (Err(Device), 1), 1, 1),
@@ -65,9 +66,12 @@ fn each_call_of_an_append_fails(rt: HostRuntime) -> Result<(), Fail> {
         (3, (Err(Device), 1), 1, 1),
         (4, (Err(Device), 1), 1, 1),
         (5, (Err(Device), 1), 1, 1),
-        (6, (Err(Device), 1), 1, 2),
-        (7, (Err(Device), 1), 2, 2),
-        (8, (Ok(()), 0), 2, 2),
+        (6, (Err(Device), 1), 1, 1),
+        (7, (Err(Device), 1), 1, 1),
+        (8, (Err(Device), 1), 1, 1),
+        (9, (Err(Device), 1), 1, 2),
+        (10, (Err(Device), 1), 2, 2),
+        (11, (Ok(()), 0), 2, 2),
     ];
     for (call, wanted, records, in_part) in rows {
         let disk = FailDisk::new(new_store(&rt, alloc)?, call);
@@ -167,7 +171,7 @@ fn slot_fails(
 #[test]
 fn each_call_of_a_slot_fails(rt: HostRuntime) -> Result<(), Fail> {
     let alloc = rt.alloc();
-    // An opening has three calls, a write of the slot four, a reading one. Once the selector is written, the new text is
+    // An opening has six calls, a write of the slot four, a reading one. Once the selector is written, the new text is
     // read; the last column is for calls that fail in part.
     let old = b"\x0714.2 A\n\0";
     let new = b"\x0714.2 B\n\0";
@@ -177,10 +181,13 @@ fn each_call_of_a_slot_fails(rt: HostRuntime) -> Result<(), Fail> {
         (3, Some(Device), old, old),
         (4, Some(Device), old, old),
         (5, Some(Device), old, old),
-        (6, Some(Device), old, new),
-        (7, Some(Device), new, new),
-        (8, Some(Device), new, new),
-        (9, None, new, new),
+        (6, Some(Device), old, old),
+        (7, Some(Device), old, old),
+        (8, Some(Device), old, old),
+        (9, Some(Device), old, new),
+        (10, Some(Device), new, new),
+        (11, Some(Device), new, new),
+        (12, None, new, new),
     ];
     for (call, wanted, text, in_part) in rows {
         let disk = FailDisk::new(new_store(&rt, alloc)?, call);

@@ -144,6 +144,19 @@ fn longest_records(rt: HostRuntime) -> Result<(), Fail> {
     Ok(())
 }
 
+// A record keeps the memory of its body, however much was reserved for it.
+#[test]
+fn reserved_memory_is_given_back(rt: HostRuntime) -> Result<(), Fail> {
+    let alloc = rt.alloc();
+    let mut store = opened(&rt, alloc, new_store(&rt, alloc)?);
+    store.reserve(alloc, MAX_BODY)?;
+    store.append(alloc, b"a.")?;
+    for record in store.records() {
+        holds(&rt, record.capacity() <= 3, "it has no more than it needs");
+    }
+    Ok(())
+}
+
 // The disk holds 4,096 bytes: a record may end it.
 #[test]
 fn full_disks(rt: HostRuntime) -> Result<(), Fail> {

@@ -1,20 +1,36 @@
-use Rattle.std.proofs.Common.{◌≡◌, ◌+◌, [], ◌∷◌, ◌++◌, length, inr, refl, sym, subst, arith}
+use Rattle.std.proofs.Common.{◌≡◌, ◌+◌, [], ◌∷◌, ◌++◌, get_or, Option, Some, Ok, ap, subst, sym, ◌∙◌, arith}
+use Rattle.std.specs.Prelude.{IfSome}
 use Rattle.std.proofs.lemmas.Grind.{common_steps}
-use Rattle.std.proofs.lemmas.List.{take_rest}
-use Rattle.rel_store.proofs.Scan.{IsReadTo, bodies_of, read_more, read_all, read_damaged}
+use Rattle.rel_store.specs.Contents.{RecordsRefused}
+use Rattle.rel_store.specs.Records.{records_from}
+use Rattle.rel_store.proofs.OnlyReads.{read_on}
+use Rattle.rel_store.proofs.Scan.{IsReadTo, bodies_of, read_body_more, read_all, refused_there, passed_on}
 use Rattle.rel_store.proofs.contents.read_records.Goals as goal
 
-pub returns-in_default-clause-refused : goal.returns-in_default-clause-refused
-returns-in_default-clause-refused c =
-    inr (read_damaged c.args.bytes.now c.args.base c.loop-gate.gate (bodies_of c.loop-gate.records.items) _ c.loop-gate.invariant c.loop-gate-test.true (take_rest c.args.bytes.now (c.loop-gate.gate + 1)) c.in_default.ensures)
+some_so : {A : Type 0} (P : A → Type 0) (o : Option A) (x : A) → o ≡ Some x → IfSome o P → P x
+some_so P o x is holds = subst (λ q. IfSome q P) is holds
 
-pub loop-gate-preserved : goal.loop-gate-preserved
-loop-gate-preserved c =
-    let added : bodies_of c.push.new.self.items ≡ bodies_of c.loop-gate.records.items ++ c.in-Some.body.now ∷ [] = grind (arith, common_steps) in
-    let bytes = c.args.bytes.now in
-    let gate = c.loop-gate.gate in
-    let next = read_more bytes c.args.base gate _ (bodies_of c.loop-gate.records.items) c.in-Some.body.now _ c.loop-gate.invariant c.loop-gate-test.true (take_rest bytes (gate + 1)) c.in-Some.ensures.0 c.in-Some.ensures.1 refl in
-    subst (IsReadTo bytes c.args.base (gate + (5 + length c.in-Some.body.now))) (sym added) next
+pub returns-in_err-size-clause-refused : goal.returns-in_err-size-clause-refused
+returns-in_err-size-clause-refused g c =
+    let (read, reads, counted) = c.loop-records.invariant in
+    passed_on _ c.from_residual.result c.in_err-size.field-0.0 c.from_residual.ensures.1
+    (refused_there (g.D.Disk.seen c.args.disk.now) (g.D.Disk.seen c.loop-records.disk) c.args.base c.loop-records.gate (bodies_of c.loop-records.records.items) (g.D.Disk.failures c.args.disk.now) (g.D.Disk.failures c.loop-records.disk) (g.D.Disk.failures c.record_at.new.disk)
+    c.in_err-size.field-0.0 read reads.same counted c.record_at.ensures.counted c.in_err-size.ensures.refused)
+
+pub loop-records-preserved : goal.loop-records-preserved
+loop-records-preserved g c =
+    let (read, reads, counted) = c.loop-records.invariant in
+    let added : bodies_of c.push.new.self.items ≡ bodies_of c.loop-records.records.items ++ c.in_ok-body.body.items ∷ [] = grind (arith, common_steps) in
+    let next = read_body_more (g.D.Disk.seen c.args.disk.now) (g.D.Disk.seen c.loop-records.disk) (g.D.Disk.seen c.record_at.new.disk) c.args.base c.loop-records.gate c.in-Some.size (bodies_of c.loop-records.records.items) c.in_ok-body.body.items
+    read reads.same c.record_at.ensures.reads.same (some_so _ c.in_ok-size.field-0 c.in-Some.size c.in-Some.is c.in_ok-size.ensures.open) c.in_ok-body.ensures.ok in
+    let read_so_far = read_on g.D.Disk.seen g.D.Disk.may_leave g.D.Disk.moment g.D.Disk.left_since c.args.disk.now c.loop-records.disk c.record_at.new.disk reads c.record_at.ensures.reads in
+    (
+      subst (IsReadTo (g.D.Disk.seen c.args.disk.now) c.args.base (c.loop-records.gate + (5 + c.in-Some.size))) (sym added) next,
+      read_on g.D.Disk.seen g.D.Disk.may_leave g.D.Disk.moment g.D.Disk.left_since c.args.disk.now c.record_at.new.disk c.read_body.new.disk read_so_far c.read_body.ensures.reads,
+      omega (arith, counted, c.record_at.ensures.counted, c.read_body.ensures.counted),
+    )
 
 pub returns-clause-records : goal.returns-clause-records
-returns-clause-records c = read_all c.args.bytes.now c.args.base c.loop-gate.gate (bodies_of c.loop-gate.records.items) c.loop-gate.invariant c.loop-gate-test.false
+returns-clause-records g c =
+    let (read, reads, counted) = c.loop-records.invariant in
+    read_all (g.D.Disk.seen c.args.disk.now) c.args.base c.loop-records.gate (bodies_of c.loop-records.records.items) read (λ is_open. c.in_ok-size.ensures.closed (ap (λ o. Ok o) c.in_default.is) (subst (λ l. get_or l c.loop-records.gate 0 ≡ 1) (sym reads.same) is_open))

@@ -1,9 +1,13 @@
-use Rattle.std.proofs.Common.{◌-◌, length}
+use Rattle.std.proofs.Common.{ℕ, ◌-◌, ◌≤◌, length}
+use Rattle.rel_store.specs.Contents.{HasOnlyRead}
 use Rattle.rel_store.proofs.Scan.{IsReadTo, bodies_of}
 use Rattle.rel_store.proofs.contents.read_records.Given as goal
 
-abbrev pub invariant-loop-gate : goal.invariant-loop-gate
-invariant-loop-gate l = IsReadTo l.bytes l.base l.gate (bodies_of l.records.items)
+abbrev pub invariant-loop-records : goal.invariant-loop-records
+invariant-loop-records g l =
+    IsReadTo (g.D.Disk.seen l.initial.disk) l.base l.gate (bodies_of l.records.items)
+    × HasOnlyRead g.D.Disk.seen g.D.Disk.may_leave g.D.Disk.moment g.D.Disk.left_since l.initial.disk l.disk
+    × (g.D.Disk.failures l.initial.disk ≤ g.D.Disk.failures l.disk)
 
-abbrev pub decreases-loop-gate : goal.decreases-loop-gate
-decreases-loop-gate l = length l.bytes - l.gate
+abbrev pub decreases-loop-records : goal.decreases-loop-records
+decreases-loop-records g l = l.len - l.gate
