@@ -25,7 +25,7 @@ pub fn no_failure_leaves_no_doubt<D: Disk>()
 {}
 
 /// An event that is in doubt is told as a failure of the device, never as done.
-pub fn a_doubt_is_told_as_a_failure()
+pub fn a_doubt_is_reported_as_a_failure()
     ensures { TellsDoubt }
 {}
 

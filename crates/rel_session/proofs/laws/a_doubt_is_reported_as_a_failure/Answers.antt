@@ -1,5 +1,5 @@
 use Rattle.rel_session.proofs.Failures.{tells_doubt}
-use Rattle.rel_session.proofs.laws.a_doubt_is_told_as_a_failure.Goals as goal
+use Rattle.rel_session.proofs.laws.a_doubt_is_reported_as_a_failure.Goals as goal
 
 pub returns : goal.returns
 returns c = tells_doubt
