@@ -15,7 +15,8 @@ use std::alloc::{AllocError, Global};
 
 /// A text's characters.
 pub fn characters(alloc: Global, text: &Content<'_>) -> Result<Vec<Term>, AllocError>
-    ensures { IfOk result (λ v. values_of (map value_of v.items) ≡ numbers (chars (content_bytes text.now))) }
+    ensures { IfOk result
+        (λ v. values_of (map value_of v.items) ≡ numbers (chars (content_bytes text.now))) }
 {
     match text {
         Content::Part(part) => {
@@ -34,7 +35,9 @@ pub fn characters(alloc: Global, text: &Content<'_>) -> Result<Vec<Term>, AllocE
 
 /// Adds the characters of pieces to members.
 fn add_pieces(members: &mut Vec<Term>, pieces: &[Piece<'_>]) -> Result<(), AllocError>
-    ensures { OnOk result (map value_of members.new.items ≡ map value_of members.old.items ++ character_values (flat_map piece_bytes pieces.now)) }
+    ensures { OnOk result
+        (map value_of members.new.items ≡ map value_of members.old.items
+        ++ character_values (flat_map piece_bytes pieces.now)) }
 {
     for piece in pieces {
         add_piece(members, piece)?;
@@ -44,7 +47,9 @@ fn add_pieces(members: &mut Vec<Term>, pieces: &[Piece<'_>]) -> Result<(), Alloc
 
 /// Adds the characters of a piece to members.
 fn add_piece(members: &mut Vec<Term>, piece: &Piece<'_>) -> Result<(), AllocError>
-    ensures added { OnOk result (map value_of members.new.items ≡ map value_of members.old.items ++ character_values (piece_bytes piece.now)) }
+    ensures added { OnOk result
+        (map value_of members.new.items ≡ map value_of members.old.items
+        ++ character_values (piece_bytes piece.now)) }
     ensures utf8 { IsUtf8 (piece_bytes piece.now) }
 {
     match piece {
@@ -55,7 +60,9 @@ fn add_piece(members: &mut Vec<Term>, piece: &Piece<'_>) -> Result<(), AllocErro
 
 /// Adds the characters of a part to members.
 fn add_part(members: &mut Vec<Term>, part: &str) -> Result<(), AllocError>
-    ensures added { OnOk result (map value_of members.new.items ≡ map value_of members.old.items ++ character_values part.now) }
+    ensures added { OnOk result
+        (map value_of members.new.items ≡ map value_of members.old.items
+        ++ character_values part.now) }
     ensures utf8 { IsUtf8 part.now }
 {
     members.reserve(part.len())?;
@@ -67,7 +74,9 @@ fn add_part(members: &mut Vec<Term>, part: &str) -> Result<(), AllocError>
 
 /// Adds a character to members.
 fn add_character(members: &mut Vec<Term>, character: char) -> Result<(), AllocError>
-    ensures added { OnOk result (map value_of members.new.items ≡ map value_of members.old.items ++ int (pos character) ∷ []) }
+    ensures added { OnOk result
+        (map value_of members.new.items ≡ map value_of members.old.items
+        ++ int (pos character) ∷ []) }
     ensures alone { IsAlone character }
 {
     Ok(members.push(Term::Int(i64::from(u32::from(character))))?)
@@ -75,7 +84,8 @@ fn add_character(members: &mut Vec<Term>, character: char) -> Result<(), AllocEr
 
 /// Adds a text's characters to bytes, up to the first that is no byte: whether all are.
 pub fn push_characters(bytes: &mut Vec<u8>, text: &Content<'_>) -> Result<bool, AllocError>
-    ensures { IfOk result (λ all. IsAdded all (chars (content_bytes text.now)) bytes.old.items bytes.new.items) }
+    ensures { IfOk result
+        (λ all. IsAdded all (chars (content_bytes text.now)) bytes.old.items bytes.new.items) }
 {
     match text {
         Content::Part(part) => push_part(bytes, part),
@@ -85,7 +95,9 @@ pub fn push_characters(bytes: &mut Vec<u8>, text: &Content<'_>) -> Result<bool, 
 
 /// Adds the characters of pieces to bytes, up to the first that is no byte: whether all are.
 fn push_pieces(bytes: &mut Vec<u8>, pieces: &[Piece<'_>]) -> Result<bool, AllocError>
-    ensures { IfOk result (λ all. IsAdded all (chars (flat_map piece_bytes pieces.now)) bytes.old.items bytes.new.items) }
+    ensures { IfOk result
+        (λ all. IsAdded all (chars (flat_map piece_bytes pieces.now))
+        bytes.old.items bytes.new.items) }
 {
     for piece in pieces {
         if !push_piece(bytes, piece)? {
@@ -97,7 +109,8 @@ fn push_pieces(bytes: &mut Vec<u8>, pieces: &[Piece<'_>]) -> Result<bool, AllocE
 
 /// Adds the characters of a piece to bytes, up to the first that is no byte: whether all are.
 fn push_piece(bytes: &mut Vec<u8>, piece: &Piece<'_>) -> Result<bool, AllocError>
-    ensures added { IfOk result (λ all. IsAdded all (chars (piece_bytes piece.now)) bytes.old.items bytes.new.items) }
+    ensures added { IfOk result
+        (λ all. IsAdded all (chars (piece_bytes piece.now)) bytes.old.items bytes.new.items) }
     ensures utf8 { IsUtf8 (piece_bytes piece.now) }
 {
     match piece {
@@ -108,7 +121,8 @@ fn push_piece(bytes: &mut Vec<u8>, piece: &Piece<'_>) -> Result<bool, AllocError
 
 /// Adds the characters of a part to bytes, up to the first that is no byte: whether all are.
 fn push_part(bytes: &mut Vec<u8>, part: &str) -> Result<bool, AllocError>
-    ensures added { IfOk result (λ all. IsAdded all (chars part.now) bytes.old.items bytes.new.items) }
+    ensures added { IfOk result
+        (λ all. IsAdded all (chars part.now) bytes.old.items bytes.new.items) }
     ensures utf8 { IsUtf8 part.now }
 {
     for character in part.chars() {
@@ -121,7 +135,8 @@ fn push_part(bytes: &mut Vec<u8>, part: &str) -> Result<bool, AllocError>
 
 /// Adds a character to bytes, if it is one.
 fn push_character(bytes: &mut Vec<u8>, character: char) -> Result<bool, AllocError>
-    ensures added { IfOk result (λ all. IsAdded all (character ∷ []) bytes.old.items bytes.new.items) }
+    ensures added { IfOk result
+        (λ all. IsAdded all (character ∷ []) bytes.old.items bytes.new.items) }
     ensures alone { IsAlone character }
 {
     let Ok(byte) = u8::try_from(u32::from(character)) else {

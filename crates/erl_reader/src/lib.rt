@@ -5,7 +5,8 @@
 //! tokens, with the open brackets on a stack of its own.
 //! `read_record` gives the one term of a record's body, read with more brackets (specs/OneTerm).
 //! The functions of `laws` say of these definitions that no text has two readings or two faults, that none both reads and
-//! has a fault, and that each has one of the two.
+//! has a fault, and that each has one of the two; and that a term that is cut out of its text, with a dot behind it, reads
+//! as that term alone.
 //! Read are atoms, integers of 64 bits, strings, tuples, lists and binaries.
 #![tactic(auto)]
 

@@ -79,7 +79,8 @@ impl Parser {
 
     /// Takes one more token. After an `Err` the parser is of no use.
     pub fn take(&mut self, alloc: Global, item: Item<'_>) -> Result<(), TermFault>
-        ensures step { Gives result (progress_of self.new) (step self.old.limit (progress_of self.old) (item_value item.entry)) }
+        ensures step { Gives result (progress_of self.new)
+            (step self.old.limit (progress_of self.old) (item_value item.entry)) }
         ensures limit { self.new.limit ≡ self.old.limit }
     {
         match &item.token {
@@ -126,7 +127,9 @@ impl Parser {
     fn expect_term(&self, item: &Item<'_>) -> Result<(), TermFault>
         ensures begins { OnOk result (begins_term (progress_of self.now).state ≡ true) }
         ensures refused { IfErr result (λ f. begins_term (progress_of self.now).state ≡ false) }
-        ensures fault { IfErr result (λ f. f ≡ misplaced (progress_of self.now).state (token_value item.now.token) item.now.from) }
+        ensures fault { IfErr result
+            (λ f. f ≡ misplaced (progress_of self.now).state
+            (token_value item.now.token) item.now.from) }
     {
         if self.begins_term() {
             Ok(())
@@ -137,9 +140,13 @@ impl Parser {
 
     /// What the token begins as may stand here, or else its fault is told.
     fn expect(&self, like: Like, item: &Item<'_>) -> Result<(), TermFault>
-        ensures may { OnOk result (comes self.now.limit (progress_of self.now) (like_value like) ≡ true) }
-        ensures refused { IfErr result (λ f. comes self.now.limit (progress_of self.now) (like_value like) ≡ false) }
-        ensures fault { IfErr result (λ f. f ≡ misplaced (progress_of self.now).state (token_value item.now.token) item.now.from) }
+        ensures may { OnOk result
+            (comes self.now.limit (progress_of self.now) (like_value like) ≡ true) }
+        ensures refused { IfErr result
+            (λ f. comes self.now.limit (progress_of self.now) (like_value like) ≡ false) }
+        ensures fault { IfErr result
+            (λ f. f ≡ misplaced (progress_of self.now).state
+            (token_value item.now.token) item.now.from) }
     {
         if self.may_come(like) {
             Ok(())
@@ -197,7 +204,10 @@ impl Parser {
 
     /// A term is whole: a member of the innermost bracket, or by itself.
     fn put(&mut self, whole: Spanned) -> Result<(), TermFault>
-        ensures ok { OnOk result (progress_of self.new ≡ record (progress_of self.old) { state = put (reading_of_spanned whole) [] (all_levels (progress_of self.old).state) }) }
+        ensures ok { OnOk result
+            (progress_of self.new ≡ record (progress_of self.old) {
+              state = put (reading_of_spanned whole) [] (all_levels (progress_of self.old).state);
+            }) }
         ensures err { IfErr result (λ f. f ≡ NoMemory) }
         ensures limit { self.new.limit ≡ self.old.limit }
     {
@@ -214,7 +224,8 @@ impl Parser {
     /// A number, by itself or as a byte of a binary.
     fn put_number(&mut self, n: i64, item: &Item<'_>) -> Result<(), TermFault>
         requires { item.now.token ≡ Number n }
-        ensures step { Gives result (progress_of self.new) (step self.old.limit (progress_of self.old) (item_value item.now)) }
+        ensures step { Gives result (progress_of self.new)
+            (step self.old.limit (progress_of self.old) (item_value item.now)) }
         ensures limit { self.new.limit ≡ self.old.limit }
     {
         if let State::Inside(slot, level, _) = &mut self.state {
@@ -241,7 +252,8 @@ impl Parser {
         item: &Item<'_>,
     ) -> Result<(), TermFault>
         requires { token_value item.now.token ≡ text_token (content_bytes text.now) }
-        ensures step { Gives result (progress_of self.new) (step self.old.limit (progress_of self.old) (item_value item.now)) }
+        ensures step { Gives result (progress_of self.new)
+            (step self.old.limit (progress_of self.old) (item_value item.now)) }
         ensures limit { self.new.limit ≡ self.old.limit }
     {
         if let State::Inside(slot, level, _) = &mut self.state {
@@ -262,7 +274,8 @@ impl Parser {
     /// Opens a bracket.
     fn open(&mut self, alloc: Global, bracket: Bracket, item: &Item<'_>) -> Result<(), TermFault>
         requires { item.now.token ≡ Open bracket }
-        ensures step { Gives result (progress_of self.new) (step self.old.limit (progress_of self.old) (item_value item.now)) }
+        ensures step { Gives result (progress_of self.new)
+            (step self.old.limit (progress_of self.old) (item_value item.now)) }
         ensures limit { self.new.limit ≡ self.old.limit }
     {
         self.expect_term(item)?;
@@ -298,7 +311,8 @@ impl Parser {
     /// Closes the innermost bracket.
     fn close(&mut self, bracket: Bracket, item: &Item<'_>) -> Result<(), TermFault>
         requires { item.now.token ≡ Close bracket }
-        ensures step { Gives result (progress_of self.new) (step self.old.limit (progress_of self.old) (item_value item.now)) }
+        ensures step { Gives result (progress_of self.new)
+            (step self.old.limit (progress_of self.old) (item_value item.now)) }
         ensures limit { self.new.limit ≡ self.old.limit }
     {
         if !self.may_close(bracket) {
@@ -330,7 +344,8 @@ impl Parser {
     /// A comma behind a member.
     fn separate(&mut self, item: &Item<'_>) -> Result<(), TermFault>
         requires { item.now.token ≡ Comma }
-        ensures step { Gives result (progress_of self.new) (step self.old.limit (progress_of self.old) (item_value item.now)) }
+        ensures step { Gives result (progress_of self.new)
+            (step self.old.limit (progress_of self.old) (item_value item.now)) }
         ensures limit { self.new.limit ≡ self.old.limit }
     {
         match &mut self.state {
@@ -345,7 +360,8 @@ impl Parser {
     /// A dot behind a term.
     fn end(&mut self, item: &Item<'_>) -> Result<(), TermFault>
         requires { item.now.token ≡ Dot }
-        ensures step { Gives result (progress_of self.new) (step self.old.limit (progress_of self.old) (item_value item.now)) }
+        ensures step { Gives result (progress_of self.new)
+            (step self.old.limit (progress_of self.old) (item_value item.now)) }
         ensures limit { self.new.limit ≡ self.old.limit }
     {
         match mem::replace(&mut self.state, State::Begun) {
@@ -358,7 +374,8 @@ impl Parser {
 impl State {
     /// The fault of a token that its place alone refuses.
     fn misplaced(&self, item: &Item<'_>) -> TermFault
-        ensures { result ≡ misplaced (state_of self.now) (token_value item.now.token) item.now.from }
+        ensures { result ≡ misplaced (state_of self.now)
+            (token_value item.now.token) item.now.from }
     {
         match self {
             State::Begun => no_term(item),
@@ -385,7 +402,8 @@ impl State {
 impl Level {
     /// The term that ends here.
     fn closed(self, to: usize) -> Spanned
-        ensures { reading_of_spanned result ≡ record { term = enclosed (level_of self).members; from = self.from; to = to } }
+        ensures { reading_of_spanned result
+            ≡ record { term = enclosed (level_of self).members; from = self.from; to = to } }
     {
         let Level { from, members } = self;
         Spanned {
@@ -421,7 +439,8 @@ impl Members {
 
     /// One term more, which adds no byte to a binary.
     fn push(&mut self, term: Term) -> Result<(), AllocError>
-        ensures { OnOk result (members_are self.new ≡ with_member (value_of term) [] (members_are self.old)) }
+        ensures { OnOk result
+            (members_are self.new ≡ with_member (value_of term) [] (members_are self.old)) }
     {
         match self {
             Members::Tuple(members) => {

@@ -15,7 +15,8 @@ pub const RECORD_DEPTH: usize = 72;
 /// has more than one, at the second.
 pub fn read_record(alloc: Global, bytes: &[u8]) -> Result<Term, TermFault>
     ensures found { IfOk result (λ term. HasTerm 72 bytes.now (value_of term)) }
-    ensures only { (v : Value) → HasTerm 72 bytes.now v → MatchResult result (λ term. value_of term ≡ v) (λ f. f ≡ TermFault.NoMemory) }
+    ensures only { (v : Value) → HasTerm 72 bytes.now v
+        → MatchResult result (λ term. value_of term ≡ v) (λ f. f ≡ TermFault.NoMemory) }
     ensures fault { IfErr result (TellsRecordFault 72 bytes.now) }
 {
     let mut terms = read(alloc, bytes, RECORD_DEPTH)?;

@@ -22,11 +22,13 @@ pub fn print(alloc: Global, term: &Term) -> Result<String, AllocError>
 
     // Within a reader's limit the text reads as that one term.
     ensures reads_back { IfOk result (λ s.
-        (limit : ℕ) → IsWithin limit (value_of term.now) → ReadsAs limit (string_bytes s) (value_of term.now)) }
+        (limit : ℕ) → IsWithin limit (value_of term.now)
+        → ReadsAs limit (string_bytes s) (value_of term.now)) }
 
     // With a dot and a new line it is the body of a record, and reads as that term.
     ensures is_a_body { IfOk result (λ s.
-        IsWithin 72 (value_of term.now) → HasTerm 72 (string_bytes s ++ codes ".\n") (value_of term.now)) }
+        IsWithin 72 (value_of term.now)
+        → HasTerm 72 (string_bytes s ++ codes ".\n") (value_of term.now)) }
 {
     let mut out = String::new(alloc);
     print_term(&mut out, term)?;
@@ -36,7 +38,8 @@ pub fn print(alloc: Global, term: &Term) -> Result<String, AllocError>
 // Appends a term.
 #[cycle(printing)]
 fn print_term(out: &mut String, term: &Term) -> Result<(), AllocError>
-    ensures printed { OnOk result (string_bytes out.new ≡ string_bytes out.old ++ text_of (value_of term.now)) }
+    ensures printed { OnOk result
+        (string_bytes out.new ≡ string_bytes out.old ++ text_of (value_of term.now)) }
     ensures fits { OnOk result (FitsTerm (value_of term.now)) }
 {
     match term {
@@ -50,7 +53,8 @@ fn print_term(out: &mut String, term: &Term) -> Result<(), AllocError>
 
 // Appends an integer in decimal.
 fn print_integer(out: &mut String, n: i64) -> Result<(), AllocError>
-    ensures printed { OnOk result (string_bytes out.new ≡ string_bytes out.old ++ signed_decimal n) }
+    ensures printed { OnOk result
+        (string_bytes out.new ≡ string_bytes out.old ++ signed_decimal n) }
     ensures fits { FitsSigned w64 n }
 {
     write!(out, "{n}")
@@ -59,7 +63,8 @@ fn print_integer(out: &mut String, n: i64) -> Result<(), AllocError>
 // Appends a list of these members.
 #[cycle(printing)]
 fn print_list(out: &mut String, items: &[Term]) -> Result<(), AllocError>
-    ensures printed { OnOk result (string_bytes out.new ≡ string_bytes out.old ++ text_of (list (members_of items.now))) }
+    ensures printed { OnOk result
+        (string_bytes out.new ≡ string_bytes out.old ++ text_of (list (members_of items.now))) }
     ensures fit { OnOk result (FitTerms (members_of items.now)) }
 {
     if is_string(items) {
@@ -73,7 +78,8 @@ fn print_list(out: &mut String, items: &[Term]) -> Result<(), AllocError>
 // Appends a tuple of these members.
 #[cycle(printing)]
 fn print_tuple(out: &mut String, items: &[Term]) -> Result<(), AllocError>
-    ensures printed { OnOk result (string_bytes out.new ≡ string_bytes out.old ++ text_of (tuple (members_of items.now))) }
+    ensures printed { OnOk result
+        (string_bytes out.new ≡ string_bytes out.old ++ text_of (tuple (members_of items.now))) }
     ensures fit { OnOk result (FitTerms (members_of items.now)) }
 {
     out.push('{')?;
@@ -84,7 +90,9 @@ fn print_tuple(out: &mut String, items: &[Term]) -> Result<(), AllocError>
 // Appends terms with commas between them.
 #[cycle(printing)]
 fn print_members(out: &mut String, items: &[Term]) -> Result<(), AllocError>
-    ensures printed { OnOk result (string_bytes out.new ≡ string_bytes out.old ++ with_commas (texts_of (members_of items.now))) }
+    ensures printed { OnOk result
+        (string_bytes out.new ≡ string_bytes out.old
+        ++ with_commas (texts_of (members_of items.now))) }
     ensures fit { OnOk result (FitTerms (members_of items.now)) }
 {
     for (i, item) in items.iter().enumerate() {

@@ -27,7 +27,8 @@ pub enum Content<'a> {
 impl<'a> Content<'a> {
     /// More stands behind it.
     pub(crate) fn and(self, alloc: Global, more: Content<'a>) -> Result<Content<'a>, AllocError>
-        ensures { IfOk result (λ c. content_bytes c ≡ content_bytes self.entry ++ content_bytes more.entry) }
+        ensures { IfOk result
+            (λ c. content_bytes c ≡ content_bytes self.entry ++ content_bytes more.entry) }
     {
         if matches!(self, Content::Part("")) {
             return Ok(more);
@@ -46,7 +47,8 @@ impl<'a> Content<'a> {
         alloc: Global,
         character: char,
     ) -> Result<Content<'a>, AllocError>
-        ensures { IfOk result (λ c. content_bytes c ≡ content_bytes self.entry ++ encode_utf8 character) }
+        ensures { IfOk result
+            (λ c. content_bytes c ≡ content_bytes self.entry ++ encode_utf8 character) }
     {
         let mut row = self.into_row(alloc)?;
         row.push(Piece::Character(character))?;

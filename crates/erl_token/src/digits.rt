@@ -25,8 +25,10 @@ pub fn read_digits(text: Text<'_>, from: usize, base: u8, joined: bool) -> Digit
     requires from { from ≤ 2 ^ 63 }
     requires low { 2 ≤ base }
     requires high { base ≤ 36 }
-    ensures number { result.number ≡ capped (spelled_by base (digits_here joined base (drop from (text_bytes text.entry)))) }
-    ensures to { result.to ≡ from + length (digits_here joined base (drop from (text_bytes text.entry))) }
+    ensures number { result.number
+        ≡ capped (spelled_by base (digits_here joined base (drop from (text_bytes text.entry)))) }
+    ensures to { result.to
+        ≡ from + length (digits_here joined base (drop from (text_bytes text.entry))) }
     ensures within { result.to ≤ 2 ^ 63 }
 {
     let mut number = 0;
@@ -47,7 +49,8 @@ pub fn read_digits(text: Text<'_>, from: usize, base: u8, joined: bool) -> Digit
 fn is_joint(text: Text<'_>, at: usize, byte: u8, base: u8, joined: bool) -> bool
     requires room { at < 2 ^ 63 }
     requires base { base ≤ 36 }
-    ensures { result ≡ (joined && (byte == 95 && begins (λ x. is_digit x base) (drop (at + 1) (text_bytes text.entry)))) }
+    ensures { result ≡ (joined &&
+        (byte == 95 && begins (λ x. is_digit x base) (drop (at + 1) (text_bytes text.entry)))) }
 {
     joined && byte == b'_' && begins_digit(text, at + 1, base)
 }

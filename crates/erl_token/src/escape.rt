@@ -57,7 +57,8 @@ fn octal(text: Text<'_>, at: usize, first: u8) -> Escaped
 /// An escape in hexadecimal, at its `x`.
 fn hexadecimal(text: Text<'_>, at: usize) -> Escaped
     requires { at < 2 ^ 63 }
-    ensures is { character_value at result ≡ hexadecimal_escape (drop (at + 1) (text_bytes text.entry)) }
+    ensures is { character_value at result
+        ≡ hexadecimal_escape (drop (at + 1) (text_bytes text.entry)) }
     ensures ends { EndsBehind text.entry at result }
 {
     match text.byte(at + 1) {
@@ -74,7 +75,9 @@ fn hexadecimal(text: Text<'_>, at: usize) -> Escaped
 fn paired(text: Text<'_>, at: usize, first: u8) -> Escaped
     requires first { digit_in 16 (slice_get (text_bytes text) (at + 1)) ≡ Some first }
     requires room { at + 1 < 2 ^ 63 }
-    ensures is { character_value at result ≡ paired_escape (slice_index (text_bytes text.entry) (at + 1)) (drop (at + 2) (text_bytes text.entry)) }
+    ensures is { character_value at result
+        ≡ paired_escape (slice_index (text_bytes text.entry) (at + 1))
+        (drop (at + 2) (text_bytes text.entry)) }
     ensures ends { EndsBehind text.entry at result }
 {
     let Some(_) = text.byte(at + 2) else {
@@ -129,7 +132,8 @@ fn by_name(text: Text<'_>, at: usize, byte: u8) -> Escaped
     requires room { at < 2 ^ 63 }
     requires cut { byte < 128 → IsCharBoundary text.valid.now (at + 1) }
     requires begins { IsCharBoundary text.valid.now at }
-    ensures is { character_value at result ≡ by_name_escape (letter_character byte) byte (drop (at + 1) (text_bytes text.entry)) }
+    ensures is { character_value at result
+        ≡ by_name_escape (letter_character byte) byte (drop (at + 1) (text_bytes text.entry)) }
     ensures ends { EndsBehind text.entry at result }
 {
     match letter_character(byte) {

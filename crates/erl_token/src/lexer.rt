@@ -51,7 +51,8 @@ pub fn next_item<'a>(
 fn gap_end(text: Text<'_>, from: usize) -> usize
     ensures same { lexed (text_bytes text.entry) from ≡ lexed (text_bytes text.entry) result }
     ensures onward { from ≤ result }
-    ensures stops { IfSome (slice_get (text_bytes text.entry) result) (λ byte. (class_of byte ≢ Blank) × (class_of byte ≢ Percent)) }
+    ensures stops { IfSome (slice_get (text_bytes text.entry) result)
+        (λ byte. (class_of byte ≢ Blank) × (class_of byte ≢ Percent)) }
 {
     let mut at = from;
     while let At::Byte(byte) = text.at(at) {
@@ -75,7 +76,10 @@ fn text_row<'a>(
     requires onward { from < to }
     requires utf8 { IsUtf8 text.valid.now }
     ensures { IfOk result (λ i. IsFirst (text_bytes text.entry)
-        (put_item (record { token = text_token (content_bytes content.entry); from = from; to = to }) (items_from (text_bytes text.entry) to)) from (item_value i)) }
+        (put_item
+        (record { token = text_token (content_bytes content.entry); from = from; to = to })
+        (items_from (text_bytes text.entry) to))
+        from (item_value i)) }
 {
     let mut next = gap_end(text, to);
     while let Some(b'"') = text.byte(next) {
@@ -113,7 +117,8 @@ fn item_at<'a>(
     requires byte { byte ≡ slice_index (text_bytes text) at }
     requires class { class ≡ class_of byte }
     requires utf8 { IsUtf8 text.valid.now }
-    ensures { IfOk result (IsSpelled (spelling at class byte (drop (at + 1) (text_bytes text.entry))) at) }
+    ensures { IfOk result
+        (IsSpelled (spelling at class byte (drop (at + 1) (text_bytes text.entry))) at) }
 {
     match class {
         Class::Comma => Ok(alone(Token::Comma, at)),
@@ -161,7 +166,8 @@ fn alone(token: Token<'_>, at: usize) -> Item<'_>
 fn doubled<'a>(text: Text<'a>, at: usize, byte: u8, token: Token<'a>, like: Like) -> Item<'a>
     requires room { at < 2 ^ 63 }
     requires like { token_value token ≡ like_value like }
-    ensures { IsSpelled (doubled_spelling (token_value token.entry) byte (drop (at + 1) (text_bytes text.entry))) at result }
+    ensures { IsSpelled (doubled_spelling (token_value token.entry) byte
+        (drop (at + 1) (text_bytes text.entry))) at result }
 {
     match text.at(at + 1) {
         At::End => alone(Token::Cut(like), at),
@@ -183,7 +189,8 @@ fn doubled<'a>(text: Text<'a>, at: usize, byte: u8, token: Token<'a>, like: Like
 /// A full stop is a dot where a term may end.
 fn full_stop(text: Text<'_>, at: usize, byte: u8) -> Item<'_>
     requires { at < 2 ^ 63 }
-    ensures { IsSpelled (spelling at DotClass byte (drop (at + 1) (text_bytes text.entry))) at result }
+    ensures { IsSpelled (spelling at DotClass byte
+        (drop (at + 1) (text_bytes text.entry))) at result }
 {
     if ends_term(text, at + 1) {
         alone(Token::Dot, at)
@@ -207,7 +214,8 @@ fn ends_term(text: Text<'_>, at: usize) -> bool
 fn bare_name(text: Text<'_>, from: usize) -> Item<'_>
     requires within { from < length (text_bytes text) }
     requires class { class_of (slice_index (text_bytes text) from) ≡ Letter }
-    ensures { IsSpelled (bare from (front is_bare_name_byte (drop from (text_bytes text.entry)))) from result }
+    ensures { IsSpelled (bare from
+        (front is_bare_name_byte (drop from (text_bytes text.entry)))) from result }
 {
     let to = run_end(text, Run::InName, from);
     let name = text.part(from, to);
@@ -242,7 +250,9 @@ fn name_item(name: Content<'_>, from: usize, to: usize) -> Item<'_>
 fn quoted_name<'a>(alloc: Global, text: Text<'a>, from: usize) -> Result<Item<'a>, AllocError>
     requires begins { slice_get (text_bytes text) from ≡ Some 39 }
     requires utf8 { IsUtf8 text.valid.now }
-    ensures { IfOk result (IsSpelled (name_in_quotes from (quoted 39 from (from + 1) 0 (drop (from + 1) (text_bytes text.entry)))) from) }
+    ensures { IfOk result
+        (IsSpelled (name_in_quotes from
+        (quoted 39 from (from + 1) 0 (drop (from + 1) (text_bytes text.entry)))) from) }
 {
     match quoted_from(alloc, text, b'\'', from)? {
         Quoted::Closed(content, to) => Ok(name_item(content, from, to)),
@@ -254,7 +264,9 @@ fn quoted_name<'a>(alloc: Global, text: Text<'a>, from: usize) -> Result<Item<'a
 fn quoted_text<'a>(alloc: Global, text: Text<'a>, from: usize) -> Result<Item<'a>, AllocError>
     requires begins { slice_get (text_bytes text) from ≡ Some 34 }
     requires utf8 { IsUtf8 text.valid.now }
-    ensures { IfOk result (IsSpelled (text_in_quotes (quoted 34 from (from + 1) 0 (drop (from + 1) (text_bytes text.entry)))) from) }
+    ensures { IfOk result
+        (IsSpelled (text_in_quotes
+        (quoted 34 from (from + 1) 0 (drop (from + 1) (text_bytes text.entry)))) from) }
 {
     match quoted_from(alloc, text, b'"', from)? {
         Quoted::Closed(content, to) => Ok(Item {
@@ -269,7 +281,8 @@ fn quoted_text<'a>(alloc: Global, text: Text<'a>, from: usize) -> Result<Item<'a
 /// A number without a sign.
 fn number(text: Text<'_>, at: usize) -> Item<'_>
     requires { at < 2 ^ 63 }
-    ensures { IsSpelled (numbered_spelling at pos 0 (numeral_spelling at at (drop at (text_bytes text.entry)))) at result }
+    ensures { IsSpelled (numbered_spelling at pos 0
+        (numeral_spelling at at (drop at (text_bytes text.entry)))) at result }
 {
     numbered(numeral_at(text, at, at), at, false)
 }
@@ -277,7 +290,8 @@ fn number(text: Text<'_>, at: usize) -> Item<'_>
 /// A number behind its sign, which is this byte, and blanks.
 fn signed(text: Text<'_>, at: usize, byte: u8) -> Item<'_>
     requires { at < 2 ^ 63 }
-    ensures { IsSpelled (signed_spelling at byte (drop (at + 1) (text_bytes text.entry))) at result }
+    ensures { IsSpelled (signed_spelling at byte
+        (drop (at + 1) (text_bytes text.entry))) at result }
 {
     let from = run_end(text, Run::InBlanks, at + 1);
     numbered(numeral_at(text, at, from), at, byte == b'-')
@@ -286,7 +300,8 @@ fn signed(text: Text<'_>, at: usize, byte: u8) -> Item<'_>
 /// The token of a number, which begins at this place with its sign.
 fn numbered<'a>(numeral: Numeral, at: usize, is_negative: bool) -> Item<'a>
     requires { at < 2 ^ 63 }
-    ensures { (n : NumeralSpelling) (from : ℕ) → at ≤ from → EndsAfter from numeral → numeral_value from numeral ≡ capped_numeral n
+    ensures { (n : NumeralSpelling) (from : ℕ) → at ≤ from → EndsAfter from numeral
+        → numeral_value from numeral ≡ capped_numeral n
         → IsSpelled (numbered_spelling at (signed_number is_negative) (from - at) n) at result }
 {
     match numeral {

@@ -28,7 +28,8 @@ pub enum Numeral {
 
 /// The number at a place. `start` is the place of its sign, if it has one, and else that place.
 pub fn numeral_at(text: Text<'_>, start: usize, at: usize) -> Numeral
-    ensures is { numeral_value at result ≡ capped_numeral (numeral start at (drop at (text_bytes text.entry))) }
+    ensures is { numeral_value at result
+        ≡ capped_numeral (numeral start at (drop at (text_bytes text.entry))) }
     ensures ends { EndsAfter at result }
 {
     match text.at(at) {
@@ -50,7 +51,8 @@ pub fn numeral_at(text: Text<'_>, start: usize, at: usize) -> Numeral
 fn in_digits(text: Text<'_>, start: usize, at: usize) -> Numeral
     requires room { at < 2 ^ 63 }
     requires digit { begins (λ x. is_digit x 10) (drop at (text_bytes text)) ≡ true }
-    ensures is { numeral_value at result ≡ capped_numeral (digits_spelling start at (drop at (text_bytes text.entry))) }
+    ensures is { numeral_value at result
+        ≡ capped_numeral (digits_spelling start at (drop at (text_bytes text.entry))) }
     ensures ends { EndsAfter at result }
 {
     let Digits { number, to } = read_digits(text, at, 10, true);
@@ -66,7 +68,9 @@ fn in_digits(text: Text<'_>, start: usize, at: usize) -> Numeral
 /// What follows a base and its `#`, from the place `from` on. The number begins at `at`, and at `start` with its sign.
 fn behind_base(text: Text<'_>, start: usize, at: usize, base: u64, from: usize) -> Numeral
     requires { at < from }
-    ensures is { numeral_value at result ≡ capped_numeral (base_spelling start base (from - at) from (drop from (text_bytes text.entry))) }
+    ensures is { numeral_value at result
+        ≡ capped_numeral (base_spelling start base (from - at) from
+        (drop from (text_bytes text.entry))) }
     ensures ends { EndsAfter at result }
 {
     match text.at(from) {
@@ -86,7 +90,9 @@ fn behind_base(text: Text<'_>, start: usize, at: usize, base: u64, from: usize) 
 fn in_base(text: Text<'_>, start: usize, at: usize, base: u64, from: usize) -> Numeral
     requires onward { at < from }
     requires digit { begins (λ x. is_digit x 36) (drop from (text_bytes text)) ≡ true }
-    ensures is { numeral_value at result ≡ capped_numeral (spelling_in_base start base (from - at) (drop from (text_bytes text.entry))) }
+    ensures is { numeral_value at result
+        ≡ capped_numeral (spelling_in_base start base (from - at)
+        (drop from (text_bytes text.entry))) }
     ensures ends { EndsAfter at result }
 {
     let end = run_end(text, Run::InDigits, from);
@@ -106,7 +112,8 @@ fn in_base(text: Text<'_>, start: usize, at: usize, base: u64, from: usize) -> N
 
 /// This byte stands at this place.
 fn is_byte(text: Text<'_>, at: usize, byte: u8) -> bool
-    ensures is { MatchBool result (slice_get (text_bytes text.entry) at ≡ Some byte) (slice_get (text_bytes text.entry) at ≡ Some byte → ⊥) }
+    ensures is { MatchBool result (slice_get (text_bytes text.entry) at ≡ Some byte)
+        (slice_get (text_bytes text.entry) at ≡ Some byte → ⊥) }
     ensures within { IsTrue result → at < 2 ^ 63 }
 {
     match text.at(at) {
@@ -129,7 +136,8 @@ fn is_float(text: Text<'_>, at: usize) -> bool
 fn of_character(text: Text<'_>, at: usize) -> Numeral
     requires room { at < 2 ^ 63 }
     requires cut { IsCharBoundary text.valid.now (at + 1) }
-    ensures is { numeral_value at result ≡ capped_numeral (character_spelling (at + 1) (drop (at + 1) (text_bytes text.entry))) }
+    ensures is { numeral_value at result
+        ≡ capped_numeral (character_spelling (at + 1) (drop (at + 1) (text_bytes text.entry))) }
     ensures ends { EndsAfter at result }
 {
     match text.at(at + 1) {
@@ -151,7 +159,8 @@ fn of_escape(text: Text<'_>, at: usize) -> Numeral
     requires stands { slice_get (text_bytes text) (at + 1) ≡ Some 92 }
     requires room { at + 1 < 2 ^ 63 }
     requires cut { IsCharBoundary text.valid.now (at + 2) }
-    ensures is { numeral_value at result ≡ capped_numeral (character_spelling (at + 1) (drop (at + 1) (text_bytes text.entry))) }
+    ensures is { numeral_value at result
+        ≡ capped_numeral (character_spelling (at + 1) (drop (at + 1) (text_bytes text.entry))) }
     ensures ends { EndsAfter at result }
 {
     match escape_at(text, at + 2) {
@@ -164,7 +173,8 @@ fn of_escape(text: Text<'_>, at: usize) -> Numeral
 /// The text ends behind this place, or is no longer UTF-8 there.
 fn ended(text: Text<'_>, at: usize) -> Numeral
     requires { at ≤ 2 ^ 63 }
-    ensures is { (from : ℕ) → numeral_value from result ≡ end_spelling at (drop at (text_bytes text.entry)) }
+    ensures is { (from : ℕ) → numeral_value from result
+        ≡ end_spelling at (drop at (text_bytes text.entry)) }
     ensures ends { (from : ℕ) → EndsAfter from result }
 {
     let end = run_end(text, Run::InText, at);

@@ -31,7 +31,8 @@ pub fn quoted_from<'a>(
     requires quote { IsQuote quote }
     requires begins { slice_get (text_bytes text) from ≡ Some quote }
     requires utf8 { IsUtf8 text.valid.now }
-    ensures { IfOk result (IsQuoted (quoted quote from (from + 1) 0 (drop (from + 1) (text_bytes text.entry))) from) }
+    ensures { IfOk result
+        (IsQuoted (quoted quote from (from + 1) 0 (drop (from + 1) (text_bytes text.entry))) from) }
 {
     let mut content = Content::Part("");
     let mut at = from + 1;

@@ -48,7 +48,8 @@ fn is_small_letter(byte: u8) -> bool
 /// Where the run from this place on ends.
 pub fn run_end(text: Text<'_>, run: Run, from: usize) -> usize
     requires { from ≤ 2 ^ 63 }
-    ensures end { result ≡ from + length (front (goes_on_with run) (drop from (text_bytes text.entry))) }
+    ensures end { result ≡ from + length
+        (front (goes_on_with run) (drop from (text_bytes text.entry))) }
     ensures within { result ≤ 2 ^ 63 }
     ensures utf8 { IsUtf8 text.entry.valid.now }
 {

@@ -67,7 +67,8 @@ impl<'a> Text<'a> {
         ensures is { result ≡ byte_in (slice_get (text_bytes self.entry) place) }
         ensures within { IfSome result (λ _. place < 2 ^ 63) }
         // Behind a byte that is a character of its own the text may be cut.
-        ensures cut { IfSome result (λ byte. byte < 128 → IsCharBoundary self.entry.valid.now (place + 1)) }
+        ensures cut { IfSome result
+            (λ byte. byte < 128 → IsCharBoundary self.entry.valid.now (place + 1)) }
     {
         match self.at(place) {
             At::Byte(byte) => Some(byte),
@@ -77,8 +78,10 @@ impl<'a> Text<'a> {
 
     /// The place from which on the bytes are not UTF-8, if there is one.
     pub(crate) fn bad_place(self) -> Option<usize>
-        ensures place { result ≡ (if self.entry.is_spoilt then Some (length self.entry.valid.now) else None) }
-        ensures bytes { EachIndex self.entry.valid.now (λ k. slice_index self.entry.valid.now k < 256) }
+        ensures place { result
+            ≡ (if self.entry.is_spoilt then Some (length self.entry.valid.now) else None) }
+        ensures bytes { EachIndex self.entry.valid.now
+            (λ k. slice_index self.entry.valid.now k < 256) }
     {
         let bytes = self.valid.as_bytes();
         if self.is_spoilt {
@@ -103,7 +106,8 @@ impl<'a> Text<'a> {
     pub(crate) fn character_at(self, at: usize) -> (char, usize)
         requires within { at < length self.valid.now }
         requires begins { IsCharBoundary self.valid.now at }
-        ensures is { itself (slice_index (text_bytes self.entry) at) (drop (at + 1) (text_bytes self.entry)) ≡ means result.0 (result.1 - at) }
+        ensures is { itself (slice_index (text_bytes self.entry) at)
+            (drop (at + 1) (text_bytes self.entry)) ≡ means result.0 (result.1 - at) }
         ensures behind { IsBehind self.entry at result.1 }
     {
         let valid = self.valid;

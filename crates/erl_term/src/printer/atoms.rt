@@ -93,7 +93,8 @@ fn is_reserved(name: &str) -> bool
 
 // Appends a character of an atom, within the quotes.
 fn print_character(out: &mut String, character: char) -> Result<(), AllocError>
-    ensures { OnOk result (string_bytes out.new ≡ string_bytes out.old ++ atom_character character) }
+    ensures { OnOk result
+        (string_bytes out.new ≡ string_bytes out.old ++ atom_character character) }
 {
     match character {
         '\'' => out.push_str("\\'"),

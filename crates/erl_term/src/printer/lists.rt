@@ -47,7 +47,8 @@ pub(super) fn print_string(out: &mut String, items: &[Term]) -> Result<(), Alloc
 
 // Appends a character of a string, within the quotes.
 fn print_character(out: &mut String, character: char) -> Result<(), AllocError>
-    ensures { OnOk result (string_bytes out.new ≡ string_bytes out.old ++ string_character character) }
+    ensures { OnOk result
+        (string_bytes out.new ≡ string_bytes out.old ++ string_character character) }
 {
     match character {
         '"' => out.push_str("\\\""),
@@ -61,7 +62,8 @@ fn print_character(out: &mut String, character: char) -> Result<(), AllocError>
 
 // Appends bytes in decimal, as a binary.
 pub(super) fn print_bytes(out: &mut String, bytes: &[u8]) -> Result<(), AllocError>
-    ensures printed { OnOk result (string_bytes out.new ≡ string_bytes out.old ++ binary_text bytes.now) }
+    ensures printed { OnOk result
+        (string_bytes out.new ≡ string_bytes out.old ++ binary_text bytes.now) }
     ensures fit { All (λ byte. byte < 256) bytes.now }
 {
     out.push_str("<<")?;
