@@ -437,19 +437,19 @@ fn unpack_on(
 #[test]
 fn each_call_of_a_command_fails(rt: HostRuntime) -> Result<(), Fail> {
     let alloc = rt.alloc();
-    // A boot has three calls and a commit four, two of them syncs.
-    for call in 1..9 {
+    // A boot of a node with one record has six calls and a commit four, two of them syncs.
+    for call in 1..12 {
         let disk = FailDisk::new(
             new_node(&rt, alloc, MemDisk::new(alloc, CAPACITY, LOG)?)?.into_disk(),
             call,
         );
         let (done, disk) = unpack_on(&rt, alloc, disk)?;
-        assert_eq!(rt; done, call == 8, "call {call}");
-        assert_eq!(rt; disk.failures(), u64::from(call < 8), "call {call}");
+        assert_eq!(rt; done, call == 11, "call {call}");
+        assert_eq!(rt; disk.failures(), u64::from(call < 11), "call {call}");
         let mut node = booted(&rt, alloc, disk.disk);
         let count = node.which_releases().map(|list| list.len());
         assert!(rt;
-            count == Ok(1) || (count == Ok(2) && call >= 6),
+            count == Ok(1) || (count == Ok(2) && call >= 9),
             "call {call}"
         );
         if count == Ok(1) {
