@@ -1,7 +1,7 @@
 -- Runs of reads, put together.
 use Rattle.std.proofs.Common.{◌≡◌, ℕ, List, refl, ◌∙◌}
 use Rattle.rel_disk.specs.Damage.{Within}
-use Rattle.rel_disk.specs.Moments.{Elapses, LeavesOnly}
+use Rattle.rel_disk.specs.Moments.{Elapses}
 use Rattle.rel_disk.proofs.Moments.{started, goes_on, joined, weakened}
 use Rattle.rel_store.specs.Contents.{HasOnlyRead}
 

@@ -1,6 +1,6 @@
 -- The records of a store, read one after another.
-use Rattle.std.proofs.Common.{◌≡◌, ◌≢◌, ◌⊎◌, inl, inr, ℕ, zero, suc, ◌+◌, ◌-◌, ◌<◌, ◌≤◌, Bool, true, false, ◌&&◌, IfErr, List, [], ◌∷◌, ◌++◌, length, get_or, take, drop, map, Vec, Result, Ok, Err, refl, sym, ◌∙◌, ap, subst, arith, length-drop}
-use Rattle.std.specs.Prelude.{IsErrAnd, if◌then◌else◌, nat_lt, nat_le, ◌==◌}
+use Rattle.std.proofs.Common.{◌≡◌, ◌≢◌, ◌⊎◌, inl, inr, ℕ, ◌+◌, ◌-◌, ◌<◌, ◌≤◌, Bool, true, false, ◌&&◌, IfErr, List, [], ◌∷◌, ◌++◌, length, get_or, take, drop, map, Vec, Result, Ok, Err, refl, sym, ◌∙◌, ap, subst, arith, length-drop}
+use Rattle.std.specs.Prelude.{IsErrAnd, if◌then◌else◌, nat_lt, nat_le}
 use Rattle.std.specs.declared.alloc.Global.{Global}
 use Rattle.std.proofs.lemmas.Bool.{cases_lt}
 use Rattle.std.proofs.lemmas.Bool.Decides.{nat_tests}
@@ -9,7 +9,7 @@ use Rattle.std.proofs.lemmas.List.{drop_more, drop-drop, drop-take, take-take, g
 use Rattle.rel_disk.specs.Moments.{HasFailed}
 use Rattle.rel_store.specs.Contents.{OpenRefused, RecordRefused, RecordsRefused}
 use Rattle.rel_store.specs.Layout.{base_of}
-use Rattle.rel_store.specs.Records.{told_length, told_body, is_whole, onto, records_from, records_of, space}
+use Rattle.rel_store.specs.Records.{told_length, told_body, is_whole, onto, records_from, space}
 use Rattle.rel_store.specs.declared.error.StoreError.{StoreError}
 use Rattle.rel_store.specs.declared.error.StoreError.TheVariants.{NotAStore, Damaged, Exists, Full, Device, NoMemory, MustReopen}
 use Rattle.rel_store.proofs.Reading.{onto_all, onto_all-push, onto_all-none, closed, more}

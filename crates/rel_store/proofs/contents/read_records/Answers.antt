@@ -1,8 +1,6 @@
-use Rattle.std.proofs.Common.{◌≡◌, ◌+◌, [], ◌∷◌, ◌++◌, get_or, Option, Some, Ok, ap, subst, sym, ◌∙◌, arith}
+use Rattle.std.proofs.Common.{◌≡◌, ◌+◌, [], ◌∷◌, ◌++◌, get_or, Option, Some, Ok, ap, subst, sym, arith}
 use Rattle.std.specs.Prelude.{IfSome}
 use Rattle.std.proofs.lemmas.Grind.{common_steps}
-use Rattle.rel_store.specs.Contents.{RecordsRefused}
-use Rattle.rel_store.specs.Records.{records_from}
 use Rattle.rel_store.proofs.OnlyReads.{read_on}
 use Rattle.rel_store.proofs.Scan.{IsReadTo, bodies_of, read_body_more, read_all, refused_there, passed_on}
 use Rattle.rel_store.proofs.contents.read_records.Goals as goal
@@ -23,8 +21,7 @@ loop-records-preserved g c =
     let added : bodies_of c.push.new.self.items ≡ bodies_of c.loop-records.records.items ++ c.in_ok-body.body.items ∷ [] = grind (arith, common_steps) in
     let next = read_body_more (g.D.Disk.seen c.args.disk.now) (g.D.Disk.seen c.loop-records.disk) (g.D.Disk.seen c.record_at.new.disk) c.args.base c.loop-records.gate c.in-Some.size (bodies_of c.loop-records.records.items) c.in_ok-body.body.items
     read reads.same c.record_at.ensures.reads.same (some_so _ c.in_ok-size.field-0 c.in-Some.size c.in-Some.is c.in_ok-size.ensures.open) c.in_ok-body.ensures.ok in
-    let read_so_far = read_on g.D.Disk.seen g.D.Disk.may_leave g.D.Disk.moment g.D.Disk.left_since c.args.disk.now c.loop-records.disk c.record_at.new.disk reads c.record_at.ensures.reads in
-    (
+    let read_so_far = read_on g.D.Disk.seen g.D.Disk.may_leave g.D.Disk.moment g.D.Disk.left_since c.args.disk.now c.loop-records.disk c.record_at.new.disk reads c.record_at.ensures.reads in (
       subst (IsReadTo (g.D.Disk.seen c.args.disk.now) c.args.base (c.loop-records.gate + (5 + c.in-Some.size))) (sym added) next,
       read_on g.D.Disk.seen g.D.Disk.may_leave g.D.Disk.moment g.D.Disk.left_since c.args.disk.now c.record_at.new.disk c.read_body.new.disk read_so_far c.read_body.ensures.reads,
       omega (arith, counted, c.record_at.ensures.counted, c.read_body.ensures.counted),

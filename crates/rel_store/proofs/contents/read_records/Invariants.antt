@@ -1,4 +1,4 @@
-use Rattle.std.proofs.Common.{ℕ, ◌-◌, ◌≤◌, length}
+use Rattle.std.proofs.Common.{◌-◌, ◌≤◌}
 use Rattle.rel_store.specs.Contents.{HasOnlyRead}
 use Rattle.rel_store.proofs.Scan.{IsReadTo, bodies_of}
 use Rattle.rel_store.proofs.contents.read_records.Given as goal

@@ -1,6 +1,5 @@
-use Rattle.std.proofs.Common.{◌≡◌, ◌⊎◌, inl, inr, ℕ, ◌+◌, ◌-◌, ◌<◌, ◌≤◌, List, length, take, drop, refl, ◌∙◌, ap, arith, rules}
-use Rattle.std.specs.Prelude.{slice_range, slice_index, slice_index_or}
-use Rattle.rel_store.specs.Records.{told_length}
+use Rattle.std.proofs.Common.{◌≡◌, ◌⊎◌, inl, inr, ℕ, ◌+◌, ◌-◌, ◌<◌, ◌≤◌, List, length, take, drop, refl, ◌∙◌, ap, arith}
+use Rattle.std.specs.Prelude.{slice_range}
 use Rattle.rel_store.proofs.Scan.{told_in_five, byte_in_five, whole_there, broken_there}
 use Rattle.rel_store.proofs.contents.record_at.Goals.{then-size-gt-MAX_BODY-via-then-size-gt-MAX_BODY, then-size-gt-MAX_BODY-via-else-size-gt-MAX_BODY+then-size-len}
 use Rattle.rel_store.proofs.contents.record_at.Goals as goal
@@ -24,8 +23,7 @@ pub returns-clause-open : goal.returns-clause-open
 returns-clause-open g c =
     let bytes = g.D.Disk.seen c.args.disk.now in
     let head = five bytes c.read-2.new.buf c.args.gate c.in_ok-read-2.ensures.bytes in
-    let told = told_in_five bytes c.args.gate c.body_length-size.result c.read-2.new.buf head c.body_length-size.ensures in
-    (
+    let told = told_in_five bytes c.args.gate c.body_length-size.result c.read-2.new.buf head c.body_length-size.ensures in (
       byte_in_five bytes c.args.gate c.read-2.new.buf 1 head c.if-head-ne-OPEN.false,
       whole_there bytes c.args.gate c.body_length-size.result told c.if-size-gt-MAX_BODY.false (omega (arith, c.if-size-len.false, c.requires.len)),
       told,

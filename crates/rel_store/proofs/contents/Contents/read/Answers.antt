@@ -1,4 +1,4 @@
-use Rattle.std.proofs.Common.{◌≡◌, ◌⊎◌, inl, inr, ℕ, ◌+◌, ◌<◌, ◌≤◌, length, take, drop, sym, ◌∙◌, ap, subst, arith}
+use Rattle.std.proofs.Common.{◌≡◌, ◌⊎◌, inl, inr, ◌+◌, ◌<◌, ◌≤◌, length, take, drop, sym, ◌∙◌, ap, subst, arith}
 use Rattle.rel_store.specs.Contents.{RecordsRefused}
 use Rattle.rel_store.specs.Records.{records_from, space}
 use Rattle.rel_store.proofs.Layouts.{no_magic, selector_there, no_base, records_there, place_there, refused_by_records}
@@ -27,7 +27,7 @@ returns-in_err-found-clause-refused g c =
     let long : 289 ≤ length bytes = omega (arith, c.if-len.false, len) in
     let there = c.read.ensures.same ∙ c.len.ensures.same in
     let why = refused_since _ (g.D.Disk.failures c.args.disk.now) (g.D.Disk.failures c.read.new.self) (g.D.Disk.failures c.read_records.new.disk) c.in_err-found.field-0.0 (omega (arith, c.len.ensures.counted, c.read.ensures.counted)) c.read_records.ensures.counted
-        c.in_err-found.ensures.refused in
+    c.in_err-found.ensures.refused in
     passed_on _ c.from_residual-in_err-found.result c.in_err-found.field-0.0 c.from_residual-in_err-found.ensures.1
     (refused_by_records bytes c.read.new.buf layout c.base_slot_of-slot.result c.place_at-base.result long (sym c.begins_a_store.ensures ∙ c.if-not-begins_a_store.false) c.base_slot_of-slot.ensures c.place_at-base.ensures
     c.if-base-lt-FIRST_RECORD.false (omega (arith, c.if-base-len.false, len)) _ _ c.in_err-found.field-0.0 (subst (λ l. RecordsRefused (records_from c.place_at-base.result 0 (drop c.place_at-base.result l)) (g.D.Disk.failures c.args.disk.now) (g.D.Disk.failures c.read_records.new.disk) c.in_err-found.field-0.0) there why))
