@@ -274,11 +274,14 @@ fn each_call_of_a_creation_fails(rt: HostRuntime) -> Result<(), Fail> {
     Ok(())
 }
 
-// With 0 no call fails. A boot has three calls and a commit four, two of them syncs: the third opens the record's gate. The
-// eighth call is the first of the next commit.
+// With 0 no call fails. A boot of a node with one record has six calls and a commit four, two of them syncs: the third opens
+// the record's gate. The eleventh call is the first of the next commit.
 const COMMANDS: &str = "\
 ok ok open A permanent;B unpacked;C unpacked; failures 0: \
 A permanent;B unpacked;C unpacked; ExistingRelease A permanent;B unpacked;C unpacked; \n\
+Device failures 1: A permanent; ok A permanent;B unpacked; \n\
+Device failures 1: A permanent; ok A permanent;B unpacked; \n\
+Device failures 1: A permanent; ok A permanent;B unpacked; \n\
 Device failures 1: A permanent; ok A permanent;B unpacked; \n\
 Device failures 1: A permanent; ok A permanent;B unpacked; \n\
 Device failures 1: A permanent; ok A permanent;B unpacked; \n\
@@ -294,7 +297,7 @@ A permanent;B unpacked; ExistingRelease A permanent;B unpacked; \n";
 fn each_call_of_a_command_fails(rt: HostRuntime) -> Result<(), Fail> {
     let alloc = rt.alloc();
     let mut answers = String::new(alloc);
-    for call in 0..9 {
+    for call in 0..12 {
         unpack_on_failing(alloc, new_disk(alloc)?, call, &mut answers)?;
     }
     same(&rt, &answers, COMMANDS);

@@ -83,13 +83,14 @@ fn before_the_boots(call: u64) -> &'static str {
     }
 }
 
-/// What two boots write then, each with the list of releases. A boot has three calls.
+/// What two boots write then, each with the list of releases. A boot of a node with
+/// two records has eight calls.
 fn boots(call: u64) -> (&'static str, &'static str) {
     let failed = "error boot 3 Device\nerror handler 18 Dead\n";
     match call {
         1..=10 => (FIRST, FIRST),
-        12..=14 => (failed, BOTH),
-        15..=17 => (BOTH, failed),
+        12..=19 => (failed, BOTH),
+        20..=27 => (BOTH, failed),
         _ => (BOTH, BOTH),
     }
 }
@@ -110,7 +111,7 @@ fn goes_on(rt: &impl Abort, alloc: Global, disk: FailDisk<MemDisk>, call: u64) -
 #[test]
 fn sessions_go_on_behind_a_failed_device(rt: HostRuntime) -> Result<(), Fail> {
     let alloc = rt.alloc();
-    for call in 1..19 {
+    for call in 1..29 {
         let disk = FailDisk::new(empty_disk(alloc)?, call);
         goes_on(&rt, alloc, disk, call)?;
         let disk = FailDisk::failing_in_part(empty_disk(alloc)?, call);
