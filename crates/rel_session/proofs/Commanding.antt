@@ -14,7 +14,7 @@ use Rattle.rel_session.specs.Feed.{Feed, Gives, Stays, EndsAs, IsNext}
 use Rattle.rel_session.specs.Feed.Feed.{over, cut, next}
 use Rattle.rel_session.specs.Lines.{IsKept}
 use Rattle.rel_session.specs.Commands.{Command, Saying, File, file_of, said_in, is_end, put_saying, commands_of, commands_behind, given_of, command_of, IsGiven, most_line, most_file}
-use Rattle.rel_session.specs.Commands.Saying.{nothing, opens, tells}
+use Rattle.rel_session.specs.Commands.Saying.{opens, tells}
 use Rattle.rel_session.specs.Commands.Command.{file, bad}
 
 -- what a line of a command is
@@ -24,16 +24,6 @@ Says said line = (l : List ℕ) → IsKept most_line line l → said ≡ said_in
 pub unread : {A : Type 0} (old : Option (Feed A)) → Stays old old
 unread None = tt
 unread (Some old) = refl
-
--- a blank line is passed over
-pub passes_blank : (line : Line) (said : Saying) (old : Option (Feed Command)) (now new : Option (Feed (List ℕ)))
-    → Stays old (option_map commands_of now) → Gives now new (IsKept most_line line) → Says said line → said ≡ nothing
-    → Stays old (option_map commands_of new)
-passes_blank line said None now new s g says is = tt
-passes_blank line said (Some old) None new s g says is = absurd s
-passes_blank line said (Some old) (Some now) None s g says is = absurd g
-passes_blank line said (Some old) (Some now) (Some new) s (l, was, k) says is =
-    sym (sym s ∙ ap commands_of was ∙ ap (λ x. put_saying x (commands_of new) (λ path. commands_behind path [] new)) (sym (says l k) ∙ is))
 
 -- a line says a command
 pub says_command : (line : Line) (said : Saying) (c : CommandInMemory) (old : Option (Feed Command)) (now new : Option (Feed (List ℕ)))

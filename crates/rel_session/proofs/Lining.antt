@@ -105,19 +105,6 @@ ends_at_end most is_begun line (Some old) (Some now) (Some new) b s (was, is) = 
   s.kept,
 )
 
-nothing_before : (xs : List ℕ) (ls : Feed (List ℕ)) → is_some_list xs ≡ false → onto_all xs ls ≡ ls
-nothing_before [] ls e = refl
-nothing_before (x ∷ xs) ls e = absurd cc
-
--- there is none
-pub no_line : (most : ℕ) (line : Line) (old : Option (Feed (List ℕ))) (now new : Option (Feed ℕ))
-    → IsSoFar most false line old (option_map lines_of now) → EndsAs over now new → EndsAs over old (option_map lines_of new)
-no_line most line None now new s e = tt
-no_line most line (Some old) None new s e = absurd s
-no_line most line (Some old) (Some now) None s e = absurd e
-no_line most line (Some old) (Some now) (Some new) s (was, is) =
-    (s.is ∙ nothing_before s.bytes (lines_of now) s.begun ∙ ap lines_of was, ap lines_of is)
-
 -- it is cut off
 pub cut_within : (most : ℕ) (is_begun : Bool) (line : Line) (old : Option (Feed (List ℕ))) (now new : Option (Feed ℕ))
     → IsSoFar most is_begun line old (option_map lines_of now) → EndsAs cut now new → EndsAs cut old (option_map lines_of new)
