@@ -55,7 +55,7 @@ one_found path (Some too_large) a b p q = p ∙ sym q
 one_found path (Some (bytes bs)) a b (said, says, p) (also, says_too, q) = p ∙ ap (usable path) (one_saying bs said also says says_too) ∙ sym q
 
 -- one event more, on whatever list
-list_from-more : (es : Releases) (events : Events) (e : Event) → list_from es (events ++ e ∷ []) ≡ option_and_then (step e) (list_from es events)
+pub list_from-more : (es : Releases) (events : Events) (e : Event) → list_from es (events ++ e ∷ []) ≡ option_and_then (step e) (list_from es events)
 list_from-more es [] e = last (step e es)
   where
     last : (o : Option Releases) → option_and_then (λ l. Some l) o ≡ o
@@ -218,12 +218,12 @@ module _ (a b : Reply) (both : Both a b) where
   one_reply files p q bad alike is also = as_these a b _ _ is also (refl, refl, alike)
 
 -- how a session ends where no reply is left
-abbrev Ends : Feed Command → Ending → Type 0
+abbrev pub Ends : Feed Command → Ending → Type 0
 Ends over ending = ending ≡ ended
 Ends cut ending = ending ≡ cut_off
 Ends (next c rest) ending = (c ≡ quit) × (ending ≡ ended)
 
-ends : (files : Files) (p : Place) (commands : Feed Command) (ending : Ending) → ending ≢ early → Replies files p commands ending [] → Ends commands ending
+pub ends : (files : Files) (p : Place) (commands : Feed Command) (ending : Ending) → ending ≢ early → Replies files p commands ending [] → Ends commands ending
 ends files p commands early not_early right = absurd (not_early refl)
 ends files p over ended not_early right = right
 ends files p over cut_off not_early right = right
@@ -244,13 +244,13 @@ ends files p (next releases rest) cut_off not_early right = absurd right
 ends files p (next bad rest) ended not_early right = absurd right
 ends files p (next bad rest) cut_off not_early right = absurd right
 
-one_end : (commands : Feed Command) (a b : Ending) → Ends commands a → Ends commands b → a ≡ b
+pub one_end : (commands : Feed Command) (a b : Ending) → Ends commands a → Ends commands b → a ≡ b
 one_end over a b p q = p ∙ sym q
 one_end cut a b p q = p ∙ sym q
 one_end (next c rest) a b p q = p.1 ∙ sym q.1
 
 -- a session that ends does not go on
-never_goes_on : (files : Files) (p : Place) (commands : Feed Command) (a b : Ending) (r : Reply) (more : List Reply) → Ends commands a → Replies files p commands b (r ∷ more) → ⊥
+pub never_goes_on : (files : Files) (p : Place) (commands : Feed Command) (a b : Ending) (r : Reply) (more : List Reply) → Ends commands a → Replies files p commands b (r ∷ more) → ⊥
 never_goes_on files p over a b r more end right = none_left files p over b r more (inl refl) right
 never_goes_on files p cut a b r more end right = none_left files p cut b r more (inr refl) right
 never_goes_on files p (next c rest) a b r more (quitting, end) right = subst (λ d. Transition.Transition files p d r) quitting (next_answered files p c rest b r more right).0

@@ -1,22 +1,26 @@
 -- What is so of whole sessions, over all their moments.
-use Rattle.std.specs.Prelude.{◌≡◌, ◌≢◌, ◌⊎◌, ℕ, zero, suc, true, false, List, [], ◌∷◌, ◌++◌, Option, None, Some}
+use Rattle.std.specs.Prelude.{◌≡◌, ◌≢◌, ◌⊎◌, ℕ, zero, suc, ◌==◌, not, Bool, true, false, List, [], ◌∷◌, ◌++◌, Option, None, Some}
+use Rattle.std.specs.List.{list_all, AllByRecursion}
 use Rattle.rel_disk.specs.Damage.{Only}
-use Rattle.rel_list.specs.Releases.{Releases}
+use Rattle.rel_list.specs.Releases.{Releases, Entry}
 use Rattle.rel_list.specs.Event.{Event, list_after}
 use Rattle.rel_list.specs.Event.Event.{made, boot as booting}
+use Rattle.rel_files.specs.File.{HasVersions}
 use Rattle.rel_files.specs.Release.{Release}
-use Rattle.rel_handler.specs.Events.{Events, Stored, with_doubt, certain, IsStoredAs, IsOfPrefix}
+use Rattle.rel_handler.specs.Events.{Events, Stored, with_doubt, certain, MayHave, IsStoredAs, IsOfPrefix}
 use Rattle.rel_handler.specs.Image.{IsImageOf}
 use Rattle.rel_store.specs.Records.{end_of}
 use Rattle.rel_session.specs.Commands.{Command}
+use Rattle.rel_session.specs.Commands.Command.{create, set_unpacked}
 use Rattle.rel_session.specs.Device.{Device, LeavesOnly, HasFailed}
 use Rattle.rel_session.specs.Feed.{Feed}
+use Rattle.rel_session.specs.Feed.Feed.{next}
 use Rattle.rel_session.specs.Files.{Files}
 use Rattle.rel_session.specs.Node.{Place, Reply}
 use Rattle.rel_session.specs.Node.Place.{raw, closed, running, dead}
 use Rattle.rel_session.specs.Refusals.{refusal_line}
 use Rattle.rel_session.specs.Refusals.Refusal.{device}
-use Rattle.rel_session.specs.Run.{Starts, Holds, Leads, Replies, Ending}
+use Rattle.rel_session.specs.Run.{Starts, Holds, Leads, Replies, Ending, answers_of}
 use Rattle.rel_session.specs.Run.Ending.{early}
 use Rattle.rel_session.specs.Transition.{Transition}
 
@@ -207,3 +211,33 @@ pub record HasAnswer (files : Files) (p : Place) (commands : Feed Command) : Typ
 
 abbrev pub EachHasAnAnswer : Type 0
 EachHasAnAnswer = (files : Files) (p : Place) (commands : Feed Command) → IsCertain p → HasList p → HasAnswer files p commands
+
+-- a text without a newline
+abbrev pub is_one_line : List ℕ → Bool
+is_one_line s = list_all (λ b. not (b == 10)) s
+
+-- each path of these commands is one
+abbrev pub HaveLinePaths : Feed Command → Type 0
+HaveLinePaths (next (create path) rest) = (is_one_line path ≡ true) × HaveLinePaths rest
+HaveLinePaths (next (set_unpacked path) rest) = (is_one_line path ≡ true) × HaveLinePaths rest
+HaveLinePaths (next c rest) = HaveLinePaths rest
+HaveLinePaths commands = Unit {0}
+
+-- each release of the list that the store has, or may have, has the versions of one that was read
+abbrev pub HaveVersions : Releases → Type 0
+HaveVersions list = AllByRecursion (λ (e : Entry). HasVersions e.release) list
+
+abbrev pub HasVersionsAt : Place → Type 0
+HasVersionsAt (raw bytes) = Unit {0}
+HasVersionsAt (closed s) = (events : Events) (end : ℕ) (list : Releases) → MayHave s events end → list_after events ≡ Some list → HaveVersions list
+HasVersionsAt (running events end) = (list : Releases) → list_after events ≡ Some list → HaveVersions list
+HasVersionsAt (dead s) = (events : Events) (end : ℕ) (list : Releases) → MayHave s events end → list_after events ≡ Some list → HaveVersions list
+
+-- A text tells one run: two over the same commands, whether the device fails or not, which write the same have the same
+-- answers and the same events, acknowledged and in doubt, command by command.
+abbrev pub TellsOneRun : Type 0
+TellsOneRun =
+    (files : Files) (p : Place) (commands : Feed Command) (a b : Ending) (first second : List Reply)
+    → HasVersionsAt p → HaveLinePaths commands → a ≢ early → b ≢ early
+    → Replies files p commands a first → Replies files p commands b second → answers_of first ≡ answers_of second
+    → (a ≡ b) × AreSame first second

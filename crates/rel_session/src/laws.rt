@@ -1,5 +1,5 @@
 //! Laws of sessions. Each function does nothing: its contract is the law.
-ghost use Rattle.rel_session.specs.RunLaws.{EachKeeps, IsOfAccepted, LosesNothing, BeginsWhereOneEnded, BeginsBehindACrash, LosesNothingEver, FailsOnlyWithTheDevice, TellsDoubt, HaveOneAnswer, BeginsWithAMaking, EachHasAnAnswer};
+ghost use Rattle.rel_session.specs.RunLaws.{EachKeeps, IsOfAccepted, LosesNothing, BeginsWhereOneEnded, BeginsBehindACrash, LosesNothingEver, FailsOnlyWithTheDevice, TellsDoubt, HaveOneAnswer, BeginsWithAMaking, EachHasAnAnswer, TellsOneRun};
 
 use rel_disk::Disk;
 
@@ -38,4 +38,10 @@ pub fn an_input_has_one_answer()
 /// On an empty disk the first event that is acknowledged is that a release was made, and from then on none is lost.
 pub fn an_empty_disk_begins_with_a_making<D: Disk>()
     ensures { BeginsWithAMaking D.Disk }
+{}
+
+/// What a session has written tells which events are acknowledged and which are in doubt, whether the device failed or
+/// not: the text of one run is that of no other.
+pub fn a_text_tells_one_run()
+    ensures { TellsOneRun }
 {}
