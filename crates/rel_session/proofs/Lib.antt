@@ -23,3 +23,4 @@ pub mod Telling
 pub mod Whole
 pub mod Versions
 pub mod OneRun
+pub mod LinePaths

@@ -86,7 +86,7 @@ list_versions events e of all list is = go (list_after events) refl (sym (list_f
     go (Some es) after is = step_versions e es list of (all es after) is
 
 -- the list of records has those that its records say
-record_versions : (es : Releases) (bodies : List (List ℕ)) (end : Releases) → HaveVersions es → MakesFrom es bodies end → HaveVersions end
+pub record_versions : (es : Releases) (bodies : List (List ℕ)) (end : Releases) → HaveVersions es → MakesFrom es bodies end → HaveVersions end
 record_versions es [] end all is = subst HaveVersions (sym is) all
 record_versions es (body ∷ bodies) end all (r, between, spelled, taken, rest) =
     record_versions between bodies end (step_versions (event_in r) es between (of r spelled.says.versions) all (stepped r es between taken)) rest
@@ -95,7 +95,7 @@ record_versions es (body ∷ bodies) end all (r, between, spelled, taken, rest) 
     of (makes_record x) has = has
     of (adds x) has = has
 
-unbooted : (es : Releases) → HaveVersions (booted es) → HaveVersions es
+pub unbooted : (es : Releases) → HaveVersions (booted es) → HaveVersions es
 unbooted [] all = tt
 unbooted (e ∷ es) all = (all.0, unbooted es all.1)
 

@@ -20,7 +20,7 @@ use Rattle.rel_session.specs.Node.{Place, Reply}
 use Rattle.rel_session.specs.Node.Place.{raw, closed, running, dead}
 use Rattle.rel_session.specs.Refusals.{refusal_line}
 use Rattle.rel_session.specs.Refusals.Refusal.{device}
-use Rattle.rel_session.specs.Run.{Starts, Holds, Leads, Replies, Ending, answers_of}
+use Rattle.rel_session.specs.Run.{Starts, Holds, Leads, Replies, Ending, answers_of, commands_in}
 use Rattle.rel_session.specs.Run.Ending.{early}
 use Rattle.rel_session.specs.Transition.{Transition}
 
@@ -241,3 +241,10 @@ TellsOneRun =
     → HasVersionsAt p → HaveLinePaths commands → a ≢ early → b ≢ early
     → Replies files p commands a first → Replies files p commands b second → answers_of first ≡ answers_of second
     → (a ≡ b) × AreSame first second
+
+-- The commands of an input have such paths, and the place of a store with nothing in doubt such versions.
+abbrev pub ReadsLinePaths : Type 0
+ReadsLinePaths = (input : List ℕ) → HaveLinePaths (commands_in input)
+
+abbrev pub KeepsVersions : {D : Type 0} → Device D → Type 0
+KeepsVersions {D} v = (p : Place) (disk : D) → IsCertain p → Holds v p disk → HasVersionsAt p

@@ -1,5 +1,5 @@
 //! Laws of sessions. Each function does nothing: its contract is the law.
-ghost use Rattle.rel_session.specs.RunLaws.{EachKeeps, IsOfAccepted, LosesNothing, BeginsWhereOneEnded, BeginsBehindACrash, LosesNothingEver, FailsOnlyWithTheDevice, TellsDoubt, HaveOneAnswer, BeginsWithAMaking, EachHasAnAnswer, TellsOneRun};
+ghost use Rattle.rel_session.specs.RunLaws.{EachKeeps, IsOfAccepted, LosesNothing, BeginsWhereOneEnded, BeginsBehindACrash, LosesNothingEver, FailsOnlyWithTheDevice, TellsDoubt, HaveOneAnswer, BeginsWithAMaking, EachHasAnAnswer, TellsOneRun, ReadsLinePaths, KeepsVersions};
 
 use rel_disk::Disk;
 
@@ -42,6 +42,10 @@ pub fn an_empty_disk_begins_with_a_making<D: Disk>()
 
 /// What a session has written tells which events are acknowledged and which are in doubt, whether the device failed or
 /// not: the text of one run is that of no other.
-pub fn a_text_tells_one_run()
-    ensures { TellsOneRun }
+pub fn a_text_tells_one_run<D: Disk>()
+    ensures one { TellsOneRun }
+
+    // The paths of an input's commands and the versions of a store are as it asks.
+    ensures paths { ReadsLinePaths }
+    ensures versions { KeepsVersions D.Disk }
 {}
