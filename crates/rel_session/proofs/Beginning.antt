@@ -1,21 +1,17 @@
 -- A session on an empty disk.
-use Rattle.std.proofs.Common.{◌≡◌, ◌≢◌, ◌⊎◌, inl, inr, ⊎_elim, ℕ, ◌+◌, Bool, true, false, List, [], ◌∷◌, ◌++◌, length, codes, Option, Some, None, Result, Ok, Err, refl, sym, ap, ◌∙◌, subst, append_assoc}
+use Rattle.std.proofs.Common.{◌≡◌, ◌≢◌, ◌⊎◌, inl, inr, ⊎_elim, true, false, List, [], ◌∷◌, ◌++◌, Result, Ok, Err, refl, sym, ◌∙◌, subst, append_assoc}
 use Rattle.rel_files.specs.Release.{Release}
-use Rattle.rel_list.specs.Event.{Event}
-use Rattle.rel_list.specs.Event.Event.{made, unpacked, boot as booting}
-use Rattle.rel_store.specs.Layout.{has_magic}
-use Rattle.rel_handler.specs.Events.{Events}
-use Rattle.rel_handler.specs.Records.{body_of}
+use Rattle.rel_list.specs.Event.Event.{made, boot as booting}
 use Rattle.rel_session.specs.Commands.{Command}
 use Rattle.rel_session.specs.Commands.Command.{file, create, set_unpacked, boot, releases, quit, bad}
 use Rattle.rel_session.specs.Device.{Device}
 use Rattle.rel_session.specs.Feed.{Feed}
 use Rattle.rel_session.specs.Files.{Files, files_behind, Found}
-use Rattle.rel_session.specs.Node.{Place, Outcome, Reply, reply}
-use Rattle.rel_session.specs.Node.Place.{raw, closed, running, dead}
+use Rattle.rel_session.specs.Node.{Place, Reply}
+use Rattle.rel_session.specs.Node.Place.{raw}
 use Rattle.rel_session.specs.Refusals.{Refusal}
-use Rattle.rel_session.specs.Run.{Holds, Leads, Replies, Ending}
-use Rattle.rel_session.specs.RunLaws.{acknowledged_at, IsKnown, BecomesKnown, NoneFails, NoneAcknowledged, BeginsWithAMaking}
+use Rattle.rel_session.specs.Run.{Leads, Replies, Ending}
+use Rattle.rel_session.specs.RunLaws.{acknowledged_at, BecomesKnown, NoneFails, NoneAcknowledged, BeginsWithAMaking}
 use Rattle.rel_session.specs.Transition
 use Rattle.rel_session.proofs.Lasting.{first_answered, loses_nothing}
 use Rattle.rel_session.proofs.Replies.{IsDevice}

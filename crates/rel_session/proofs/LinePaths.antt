@@ -1,12 +1,12 @@
 -- The paths of an input's commands lie within its lines, and the versions of a store are those of its records.
-use Rattle.std.proofs.Common.{◌≡◌, ℕ, Bool, true, false, ◌&&◌, not, List, [], ◌∷◌, ◌++◌, length, codes, Some, inl, inr, refl, sym, ap, ◌∙◌, subst}
+use Rattle.std.proofs.Common.{◌≡◌, ℕ, Bool, true, false, not, List, [], ◌∷◌, ◌++◌, length, codes, Some, inl, inr, refl, sym, ap, ◌∙◌, subst}
 use Rattle.std.specs.Prelude.{if◌then◌else◌, ◌==◌, nat_lt}
-use Rattle.std.specs.List.{slice_split, onto_first}
+use Rattle.std.specs.List.{onto_first}
 use Rattle.std.specs.Str.{bytes_eq, is_utf8}
 use Rattle.rel_list.specs.Releases.{Releases}
 use Rattle.rel_list.specs.Event.{list_after, booted}
 use Rattle.rel_store.specs.Records.{end_of}
-use Rattle.rel_handler.specs.Events.{Events, Stored, MayHave, IsStoredAs, certain}
+use Rattle.rel_handler.specs.Events.{Events, MayHave, IsStoredAs, certain}
 use Rattle.rel_session.specs.Commands.{Command, Saying, said_in, said_by, said_alone, said_with_path, is_blank, words_of, is_end, file_of, most_line, put_saying, commands_of, commands_behind}
 use Rattle.rel_session.specs.Commands.Command.{file, create, set_unpacked, boot, releases, quit, bad}
 use Rattle.rel_session.specs.Commands.Saying.{nothing, opens, tells}
@@ -15,10 +15,8 @@ use Rattle.rel_session.specs.Feed.{Feed, bytes_within}
 use Rattle.rel_session.specs.Feed.Feed.{over, cut, next}
 use Rattle.rel_session.specs.Input.{most_bytes}
 use Rattle.rel_session.specs.Lines.{onto, lines_of}
-use Rattle.rel_session.specs.Node.{Place}
 use Rattle.rel_session.specs.Node.Place.{raw, closed, running, dead}
-use Rattle.rel_session.specs.Run.{Holds, commands_in}
-use Rattle.rel_session.specs.RunLaws.{is_one_line, HaveLinePaths, ReadsLinePaths, HaveVersions, HasVersionsAt, IsCertain, KeepsVersions}
+use Rattle.rel_session.specs.RunLaws.{is_one_line, HaveLinePaths, ReadsLinePaths, HaveVersions, HasVersionsAt, KeepsVersions}
 use Rattle.rel_session.proofs.Replies.{IsDevice}
 use Rattle.rel_session.proofs.Versions.{HasLinePath, record_versions, unbooted}
 use Rattle.rel_session.proofs.Whole.{ArePlain, parts, joined}

@@ -1,24 +1,21 @@
 -- A device that does not fail leaves one answer to each command.
-use Rattle.std.proofs.Common.{◌≡◌, ◌≢◌, ◌⊎◌, inl, inr, ⊎_elim, ℕ, ◌+◌, Bool, true, false, List, [], ◌∷◌, ◌++◌, length, codes, Option, Some, None, Result, Ok, Err, refl, sym, ap, ◌∙◌, subst}
+use Rattle.std.proofs.Common.{◌≡◌, ◌≢◌, inl, inr, ℕ, ◌+◌, Bool, true, false, List, [], ◌∷◌, ◌++◌, length, codes, Option, Some, None, Result, Ok, Err, refl, sym, ap, ◌∙◌, subst}
 use Rattle.std.specs.Option.{option_and_then}
 use Rattle.rel_files.specs.Fault.{Fault}
 use Rattle.rel_files.specs.File.{IsReleaseTerm}
-use Rattle.rel_files.specs.Release.{Release}
 use Rattle.rel_files.proofs.OneFault.{one_file_fault, never_says_and_fails}
 use Rattle.rel_files.proofs.Outcomes.{one_release}
 use Rattle.rel_list.specs.Releases.{Releases, running as running_release}
 use Rattle.rel_list.specs.Event.{Event, list_from, list_after, step, booted}
 use Rattle.rel_list.specs.Event.Event.{made, unpacked, boot as booting}
 use Rattle.rel_store.specs.Layout.{has_magic}
-use Rattle.rel_store.specs.Records.{records_of, end_of}
-use Rattle.rel_store.specs.State.{Fits}
-use Rattle.rel_store.specs.declared.error.StoreError.TheVariants as store
+use Rattle.rel_store.specs.Records.{end_of}
 use Rattle.rel_handler.specs.declared.error.BootError.{BootError}
 use Rattle.rel_handler.specs.declared.error.BootError.TheVariants as boot_error
 use Rattle.rel_handler.specs.declared.error.HandlerError.{HandlerError}
-use Rattle.rel_handler.specs.Events.{Events, Stored, MayHave, certain}
+use Rattle.rel_handler.specs.Events.{Events, MayHave, certain}
 use Rattle.rel_handler.specs.Image.{IsImageOf}
-use Rattle.rel_handler.specs.Records.{IsBadRecord, Makes, body_of}
+use Rattle.rel_handler.specs.Records.{Makes, body_of}
 use Rattle.rel_handler.specs.Taking.{commanded}
 use Rattle.rel_handler.proofs.Images.{booted_image}
 use Rattle.rel_handler.proofs.Making.{makes_not_bad}
@@ -30,7 +27,7 @@ use Rattle.rel_session.specs.Feed.{Feed}
 use Rattle.rel_session.specs.Feed.Feed.{over, cut, next}
 use Rattle.rel_session.specs.Files.{Files, files_behind, Found, Says, usable, IsFound}
 use Rattle.rel_session.specs.Listing.{listing}
-use Rattle.rel_session.specs.Node.{Place, Outcome, Reply, reply, refused, done, nothing, releases_after, list_or_none}
+use Rattle.rel_session.specs.Node.{Place, Reply, releases_after, list_or_none}
 use Rattle.rel_session.specs.Node.Place.{raw, closed, running, dead}
 use Rattle.rel_session.specs.Refusals.{Refusal, boot_line}
 use Rattle.rel_session.specs.Run.{Replies, Ending}

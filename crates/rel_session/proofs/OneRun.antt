@@ -1,5 +1,5 @@
 -- A text tells one run.
-use Rattle.std.proofs.Common.{◌≡◌, ◌≢◌, ◌⊎◌, inl, inr, ℕ, true, List, [], ◌∷◌, ◌++◌, refl, sym, ap, ◌∙◌, subst}
+use Rattle.std.proofs.Common.{◌≡◌, ◌≢◌, inl, inr, ℕ, List, [], ◌∷◌, ◌++◌, refl, sym, ap, ◌∙◌}
 use Rattle.rel_session.specs.Commands.{Command}
 use Rattle.rel_session.specs.Commands.Command.{file, create, set_unpacked, boot, releases, quit, bad}
 use Rattle.rel_session.specs.Feed.{Feed}
@@ -11,9 +11,9 @@ use Rattle.rel_session.specs.Run.Ending.{early}
 use Rattle.rel_session.specs.RunLaws.{HaveLinePaths, HasVersionsAt, AreSame, TellsOneRun}
 use Rattle.rel_session.proofs.Lasting.{next_answered, none_left}
 use Rattle.rel_session.proofs.OneAnswer.{ends, one_end, never_goes_on}
-use Rattle.rel_session.proofs.Telling.{Effect, Kind, kind_of, effect_of, one_effect}
+use Rattle.rel_session.proofs.Telling.{Effect, kind_of, one_effect}
 use Rattle.rel_session.proofs.Versions.{HasLinePath, each_good}
-use Rattle.rel_session.proofs.Whole.{IsWhole, one_front}
+use Rattle.rel_session.proofs.Whole.{one_front}
 
 -- the first command's path, and those of the others
 line_paths : (c : Command) (rest : Feed Command) → HaveLinePaths (next c rest) → HasLinePath c × HaveLinePaths rest

@@ -1,11 +1,11 @@
 -- What an answer tells of its command: with the command, its file and the kind of place it determines the events.
-use Rattle.std.proofs.Common.{◌≡◌, ◌≢◌, ◌⊎◌, inl, inr, ⊎_elim, ℕ, ◌+◌, Bool, true, false, List, [], ◌∷◌, ◌++◌, length, codes, Option, Some, None, Result, Ok, Err, refl, sym, ap, ◌∙◌, subst}
+use Rattle.std.proofs.Common.{◌≡◌, inl, inr, ℕ, Bool, true, false, List, [], ◌∷◌, length, codes, Option, Some, None, Result, Ok, Err, refl, sym, ap, ◌∙◌, subst}
 use Rattle.std.specs.Prelude.{if◌then◌else◌, ◌==◌, nat_le}
 use Rattle.std.specs.Str.{bytes_eq}
 use Rattle.rel_files.specs.Fault.{Fault}
 use Rattle.rel_files.specs.Release.{Release}
 use Rattle.rel_list.specs.Releases.{Releases}
-use Rattle.rel_list.specs.Event.{Event, step}
+use Rattle.rel_list.specs.Event.{step}
 use Rattle.rel_list.specs.Event.Event.{made, unpacked, boot as booting}
 use Rattle.rel_store.specs.Layout.{has_magic}
 use Rattle.rel_handler.specs.declared.error.BootError.{BootError}
@@ -15,11 +15,11 @@ use Rattle.rel_handler.specs.declared.error.HandlerError.TheVariants.{ExistingRe
 use Rattle.rel_handler.specs.Events.{Events, Stored, certain}
 use Rattle.rel_handler.specs.Limits.{is_small, most_releases}
 use Rattle.rel_handler.specs.Records.{body_of}
-use Rattle.rel_handler.specs.Taking.{commanded, allowed, kept_short}
+use Rattle.rel_handler.specs.Taking.{commanded, allowed}
 use Rattle.rel_session.specs.Commands.{Command, File}
 use Rattle.rel_session.specs.Commands.Command.{file, create, set_unpacked, boot, releases, quit, bad}
 use Rattle.rel_session.specs.Commands.File.{bytes, too_large}
-use Rattle.rel_session.specs.Files.{Files, Found, Says, usable, IsFound}
+use Rattle.rel_session.specs.Files.{Files, Found, usable, IsFound}
 use Rattle.rel_session.specs.Node.{Place, Outcome, Reply, reply, nothing, done, failed_with, releases_after}
 use Rattle.rel_session.specs.Node.Place.{raw, closed, running, dead}
 use Rattle.rel_session.specs.Refusals.{Refusal, refusal_of, refusal_line, handler_refusal, boot_line}

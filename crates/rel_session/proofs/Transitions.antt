@@ -1,19 +1,18 @@
 -- What each reply does to the acknowledged events.
-use Rattle.std.proofs.Common.{◌≡◌, ◌≢◌, ◌⊎◌, inl, inr, ⊎_elim, ℕ, ◌+◌, Bool, true, false, List, [], ◌∷◌, ◌++◌, length, codes, Option, Some, None, Result, Ok, Err, refl, sym, ap, ◌∙◌, subst, append-nil}
+use Rattle.std.proofs.Common.{◌≡◌, ◌≢◌, ◌⊎◌, inl, inr, ⊎_elim, ℕ, Bool, true, false, List, [], ◌++◌, length, codes, Option, None, Result, Ok, Err, refl, sym, ap, ◌∙◌, subst, append-nil}
 use Rattle.rel_list.specs.Releases.{Releases}
-use Rattle.rel_list.specs.Event.{Event, list_after}
-use Rattle.rel_list.specs.Event.Event.{made, unpacked, boot as booting}
+use Rattle.rel_list.specs.Event.{Event}
+use Rattle.rel_list.specs.Event.Event.{unpacked}
 use Rattle.rel_store.specs.Layout.{has_magic}
 use Rattle.rel_store.specs.Records.{end_of}
 use Rattle.rel_handler.specs.declared.error.HandlerError.{HandlerError}
 use Rattle.rel_handler.specs.Events.{Events, Stored, MayHave, certain, with_doubt}
-use Rattle.rel_handler.specs.Image.{IsImageOf}
 use Rattle.rel_handler.specs.Records.{body_of}
 use Rattle.rel_handler.specs.Taking.{commanded}
 use Rattle.rel_session.specs.Commands.{Command}
 use Rattle.rel_session.specs.Commands.Command.{file, create, set_unpacked, boot, releases, quit, bad}
 use Rattle.rel_session.specs.Files.{Files, Found}
-use Rattle.rel_session.specs.Node.{Place, Outcome, Reply, reply, nothing, releases_after}
+use Rattle.rel_session.specs.Node.{Place, Reply, reply, nothing, releases_after}
 use Rattle.rel_session.specs.Node.Place.{raw, closed, running, dead}
 use Rattle.rel_session.specs.Refusals.{Refusal}
 use Rattle.rel_session.specs.RunLaws.{acknowledged_at, IsKnown, Finds, Keeps}

@@ -1,7 +1,7 @@
 -- The versions that a session tells are those of files that were read, so that no answer has a newline within.
-use Rattle.std.proofs.Common.{◌≡◌, ◌≢◌, ◌⊎◌, inl, inr, ⊎_elim, ℕ, ◌+◌, Bool, true, false, not, List, [], ◌∷◌, ◌++◌, length, codes, find, Option, Some, None, Result, Ok, Err, refl, sym, ap, ◌∙◌, subst, arith}
+use Rattle.std.proofs.Common.{◌≡◌, inl, inr, ℕ, Bool, true, false, not, List, [], ◌∷◌, ◌++◌, length, codes, find, Option, Some, None, Result, Ok, Err, refl, sym, ap, ◌∙◌, subst, arith}
 use Rattle.std.specs.Prelude.{if◌then◌else◌, ◌==◌, is_some}
-use Rattle.std.specs.List.{list_all, AllByRecursion}
+use Rattle.std.specs.List.{list_all}
 use Rattle.std.specs.Option.{option_and_then, option_map, option_or}
 use Rattle.std.proofs.lemmas.Bool.Decides.{nat_tests}
 use Rattle.erl_term.specs.Lexing.{is_in}
@@ -11,28 +11,25 @@ use Rattle.rel_files.specs.Name.{IsVersion}
 use Rattle.rel_files.specs.Release.{Release}
 use Rattle.rel_list.specs.Releases.{Releases, Entry, status_of, permanent, current, running as running_release}
 use Rattle.rel_list.specs.Status.{is_current, is_permanent}
-use Rattle.rel_list.specs.declared.status.Status.{Status}
-use Rattle.rel_list.specs.Event.{Event, step, list_from, list_after, booted, booted_status, entry}
+use Rattle.rel_list.specs.Event.{Event, step, list_after, booted, entry}
 use Rattle.rel_list.specs.declared.status.Status.TheVariants.{Unpacked, Permanent}
 use Rattle.rel_list.specs.Event.Event.{made, unpacked, boot as booting}
 use Rattle.rel_store.specs.Layout.{has_magic}
 use Rattle.rel_store.specs.Records.{end_of}
-use Rattle.rel_handler.specs.declared.error.BootError.{BootError}
 use Rattle.rel_handler.specs.declared.error.HandlerError.{HandlerError}
 use Rattle.rel_handler.specs.declared.error.HandlerError.TheVariants as handler_error
-use Rattle.rel_handler.specs.Events.{Events, Stored, MayHave, certain, uncertain, with_doubt}
-use Rattle.rel_handler.specs.Image.{IsImageOf}
+use Rattle.rel_handler.specs.Events.{Events, Stored, MayHave, certain, uncertain}
 use Rattle.rel_handler.specs.Limits.{is_small}
-use Rattle.rel_handler.specs.Records.{Record, makes as makes_record, adds, assigned, release_in, MakesFrom, body_of}
+use Rattle.rel_handler.specs.Records.{Record, makes as makes_record, adds, release_in, MakesFrom, body_of}
 use Rattle.rel_handler.specs.Taking.{commanded}
 use Rattle.rel_session.specs.Commands.{Command, File}
 use Rattle.rel_session.specs.Commands.Command.{file, create, set_unpacked, boot, releases, quit, bad}
 use Rattle.rel_session.specs.Commands.File.{bytes, too_large}
 use Rattle.rel_session.specs.Files.{Files, Found, Says, usable, IsFound}
-use Rattle.rel_session.specs.Node.{Place, Outcome, Reply, reply, releases_after}
+use Rattle.rel_session.specs.Node.{Place, Reply, releases_after}
 use Rattle.rel_session.specs.Node.Place.{raw, closed, running, dead}
-use Rattle.rel_session.specs.Refusals.{Refusal, refusal_of, refusal_line, handler_refusal, boot_line}
-use Rattle.rel_session.specs.Refusals.Refusal.{bad_file, missing_file, too_many, device}
+use Rattle.rel_session.specs.Refusals.{Refusal, refusal_of, refusal_line, handler_refusal}
+use Rattle.rel_session.specs.Refusals.Refusal.{too_many, device}
 use Rattle.rel_session.specs.RunLaws.{is_one_line, HaveVersions, HasVersionsAt}
 use Rattle.rel_session.specs.Transition
 use Rattle.rel_session.proofs.Histories.{event_in, stepped}

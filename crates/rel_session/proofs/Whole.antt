@@ -1,19 +1,18 @@
 -- Where an answer ends in a text.
-use Rattle.std.proofs.Common.{◌≡◌, ◌≢◌, ◌⊎◌, inl, inr, ⊎_elim, ℕ, zero, suc, ◌+◌, ◌%◌, ◌/◌, ◌<◌, Bool, true, false, ◌&&◌, ◌||◌, not, List, [], ◌∷◌, ◌++◌, length, map, codes, Option, Some, None, refl, sym, ap, ◌∙◌, subst, arith, append_assoc}
+use Rattle.std.proofs.Common.{◌≡◌, ℕ, zero, suc, ◌+◌, ◌%◌, ◌/◌, ◌<◌, Bool, true, false, ◌&&◌, not, List, [], ◌∷◌, ◌++◌, length, map, codes, Option, Some, None, refl, sym, ap, ◌∙◌, subst, arith, append_assoc}
 use Rattle.std.specs.Prelude.{if◌then◌else◌, ◌==◌, nat_lt, ℤ, pos, negsuc}
-use Rattle.std.specs.List.{list_all, flat_map, join_with_byte}
+use Rattle.std.specs.List.{list_all, flat_map}
 use Rattle.std.specs.Char.{encode_utf8}
 use Rattle.std.specs.Fmt.{decimal, digits, digits_onto, digit_glyph, signed_decimal}
 use Rattle.std.proofs.lemmas.Bool.Decides.{nat_tests}
 use Rattle.std.proofs.lemmas.List.Folds.{list_all-append}
 use Rattle.std.proofs.lemmas.Str.{encode_ascii}
 use Rattle.erl_term.specs.Grammar.{numbers}
-use Rattle.erl_term.specs.Printing.{text_of, texts_of, characters_of, is_printable, string_character, string_text, list_text, with_commas}
+use Rattle.erl_term.specs.Printing.{text_of, texts_of, characters_of, is_printable, string_character, list_text, with_commas}
 use Rattle.erl_term.specs.TermFault.{TermFault}
 use Rattle.erl_term.specs.TermFault.TheVariants as term
-use Rattle.erl_term.specs.Value.{Value, Values, values_of}
-use Rattle.erl_term.specs.Value.Value.{int, atom, list, tuple}
-use Rattle.erl_term.specs.Value.Values.{no_values, value}
+use Rattle.erl_term.specs.Value.{Values, values_of}
+use Rattle.erl_term.specs.Value.Value.{atom, list}
 use Rattle.erl_term.proofs.Characters.{values-characters_of}
 use Rattle.rel_files.specs.Fault.{Fault}
 use Rattle.rel_files.specs.Fault.Fault.{bad_term, bad_shape, duplicate, bad_version, no_memory as out_of_memory}
@@ -24,7 +23,7 @@ use Rattle.rel_list.specs.declared.status.Status.{Status}
 use Rattle.rel_list.specs.declared.status.Status.TheVariants.{Unpacked, Current, Old, Permanent}
 use Rattle.rel_handler.specs.declared.error.BootError.{BootError}
 use Rattle.rel_handler.specs.declared.error.BootError.TheVariants as boot_error
-use Rattle.rel_session.specs.Listing.{listing, release_line, release_value, text_value, application_value}
+use Rattle.rel_session.specs.Listing.{listing, release_line, text_value, application_value}
 use Rattle.rel_session.specs.Refusals.{Refusal, refusal_line, boot_line, term_fault_text, file_fault_text}
 use Rattle.rel_session.specs.Refusals.Refusal.{existing_release, bad_file, missing_file, too_many, device, full, dead, no_memory, exists}
 use Rattle.rel_session.specs.RunLaws.{is_one_line}

@@ -1,5 +1,5 @@
 -- What is so of whole sessions, over all their moments.
-use Rattle.std.specs.Prelude.{◌≡◌, ◌≢◌, ◌⊎◌, ℕ, zero, suc, ◌==◌, not, Bool, true, false, List, [], ◌∷◌, ◌++◌, Option, None, Some}
+use Rattle.std.specs.Prelude.{◌≡◌, ◌≢◌, ◌⊎◌, ℕ, zero, suc, ◌==◌, not, Bool, true, false, List, [], ◌∷◌, ◌++◌, None, Some}
 use Rattle.std.specs.List.{list_all, AllByRecursion}
 use Rattle.rel_disk.specs.Damage.{Only}
 use Rattle.rel_list.specs.Releases.{Releases, Entry}

@@ -1,4 +1,3 @@
-use Rattle.rel_session.specs.Device.{Device}
 use Rattle.rel_session.proofs.Replies.{IsDevice, boots, boot_lapses}
 use Rattle.rel_session.proofs.place.Place.boot.Goals as goal
 
