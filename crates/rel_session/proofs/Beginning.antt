@@ -75,11 +75,10 @@ module _ {D : Type 0} (v : Device D) (laws : IsDevice v) where
   pub begins_with_a_making : BeginsWithAMaking v
   begins_with_a_making files commands ending first a rest old new right empty leads works none some =
       let of = first_event files (raw []) commands ending first a rest refl right works none some in
-      let same : first ++ a ∷ rest ≡ (first ++ a ∷ []) ++ rest = sym (append_assoc first (a ∷ []) rest) in
-      (
+      let same : first ++ a ∷ rest ≡ (first ++ a ∷ []) ++ rest = sym (append_assoc first (a ∷ []) rest) in (
         of.release,
         of.acknowledged,
         of.after,
         loses_nothing v laws files (raw []) commands ending (first ++ a ∷ []) rest old new (subst (Replies files (raw []) commands ending) same right) empty
-        (subst (λ l. Leads v (raw []) l old new) same leads) (becomes_known (raw []) first a some),
+            (subst (λ l. Leads v (raw []) l old new) same leads) (becomes_known (raw []) first a some),
       )

@@ -31,7 +31,7 @@ use Rattle.rel_session.specs.Node.{Place, Reply, reply, nothing, releases_after,
 use Rattle.rel_session.specs.Node.Place.{raw, closed, running, dead}
 use Rattle.rel_session.specs.Refusals.{Refusal, boot_line}
 use Rattle.rel_session.specs.Run.Ending.{ended, cut_off}
-use Rattle.rel_session.specs.RunLaws.{IsCertain, HasList, HasAnswer, EachHasAnAnswer}
+use Rattle.rel_session.specs.AnswerLaws.{IsCertain, HasList, HasAnswer, EachHasAnAnswer}
 use Rattle.rel_session.specs.Transition
 use Rattle.rel_session.proofs.BadRecords.{boots_or_not}
 use Rattle.rel_session.proofs.Histories.{events_of_image}

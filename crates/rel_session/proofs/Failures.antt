@@ -18,7 +18,7 @@ use Rattle.rel_session.specs.Node.Place.{raw, closed, running, dead}
 use Rattle.rel_session.specs.Refusals.{Refusal, refusal_line}
 use Rattle.rel_session.specs.Refusals.Refusal.{device}
 use Rattle.rel_session.specs.Run.{Leads}
-use Rattle.rel_session.specs.RunLaws.{FailsOnlyWithTheDevice, TellsDoubt}
+use Rattle.rel_session.specs.AnswerLaws.{FailsOnlyWithTheDevice, TellsDoubt}
 use Rattle.rel_session.specs.Transition
 use Rattle.rel_session.proofs.Lasting.{first_answered}
 

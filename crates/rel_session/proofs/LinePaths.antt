@@ -16,7 +16,8 @@ use Rattle.rel_session.specs.Feed.Feed.{over, cut, next}
 use Rattle.rel_session.specs.Input.{most_bytes}
 use Rattle.rel_session.specs.Lines.{onto, lines_of}
 use Rattle.rel_session.specs.Node.Place.{raw, closed, running, dead}
-use Rattle.rel_session.specs.RunLaws.{is_one_line, HaveLinePaths, ReadsLinePaths, HaveVersions, HasVersionsAt, KeepsVersions}
+use Rattle.rel_session.specs.AnswerLaws.{is_one_line, HaveLinePaths, ReadsLinePaths, HaveVersions, HasVersionsAt, KeepsVersions}
+use Rattle.rel_session.specs.RunLaws.{MayBe}
 use Rattle.rel_session.proofs.Replies.{IsDevice}
 use Rattle.rel_session.proofs.Versions.{HasLinePath, record_versions, unbooted}
 use Rattle.rel_session.proofs.Whole.{ArePlain, parts, joined}
@@ -128,9 +129,9 @@ keeps_versions v laws (raw x) disk sure holds = tt
 keeps_versions v laws (running events end) disk sure holds = image_versions events end (v.seen disk) (holds (v.seen disk) (laws.reads_an_image disk))
 keeps_versions v laws (dead s) disk sure holds = absurd sure
 keeps_versions v laws (closed s) disk sure holds =
-    subst (λ t. HasVersionsAt (closed t)) (sym sure) (λ events end list has after.
-      image_versions s.known.acknowledged s.end (v.seen disk) (subst (λ t. IsStoredAs t (v.seen disk)) sure (holds (v.seen disk) (laws.reads_an_image disk))) list (sym (ap list_after (only events end has)) ∙ after))
+    subst (λ t. HasVersionsAt (closed t)) (sym sure) (λ events list is after.
+    image_versions s.known.acknowledged s.end (v.seen disk) (subst (λ t. IsStoredAs t (v.seen disk)) sure (holds (v.seen disk) (laws.reads_an_image disk))) list (sym (ap list_after (only events is)) ∙ after))
   where
-    only : (events : Events) (end : ℕ) → MayHave (certain s.known.acknowledged s.end) events end → events ≡ s.known.acknowledged
-    only events end (inl has) = has.0
-    only events end (inr has) = has.0
+    only : (events : Events) → MayBe (certain s.known.acknowledged s.end) events → events ≡ s.known.acknowledged
+    only events (inl same) = same
+    only events (inr same) = same

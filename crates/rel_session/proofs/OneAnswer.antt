@@ -32,7 +32,8 @@ use Rattle.rel_session.specs.Node.Place.{raw, closed, running, dead}
 use Rattle.rel_session.specs.Refusals.{Refusal, boot_line}
 use Rattle.rel_session.specs.Run.{Replies, Ending}
 use Rattle.rel_session.specs.Run.Ending.{ended, cut_off, early}
-use Rattle.rel_session.specs.RunLaws.{NoneFails, IsCertain, AreSame, HaveOneAnswer}
+use Rattle.rel_session.specs.AnswerLaws.{IsCertain, AreSame, HaveOneAnswer}
+use Rattle.rel_session.specs.RunLaws.{NoneFails}
 use Rattle.rel_session.specs.Transition
 use Rattle.rel_session.proofs.Lasting.{next_answered, none_left}
 

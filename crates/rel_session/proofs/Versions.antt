@@ -30,10 +30,12 @@ use Rattle.rel_session.specs.Node.{Place, Reply, releases_after}
 use Rattle.rel_session.specs.Node.Place.{raw, closed, running, dead}
 use Rattle.rel_session.specs.Refusals.{Refusal, refusal_of, refusal_line, handler_refusal}
 use Rattle.rel_session.specs.Refusals.Refusal.{too_many, device}
-use Rattle.rel_session.specs.RunLaws.{is_one_line, HaveVersions, HasVersionsAt}
+use Rattle.rel_session.specs.AnswerLaws.{is_one_line, HaveVersions, HasVersionsAt}
+use Rattle.rel_session.specs.RunLaws.{MayBe}
 use Rattle.rel_session.specs.Transition
 use Rattle.rel_session.proofs.Histories.{event_in, stepped}
 use Rattle.rel_session.proofs.OneAnswer.{list_from-more}
+use Rattle.rel_session.proofs.Transitions.{may_have}
 use Rattle.rel_session.proofs.Whole.{parts, joined, IsWhole, HasLine, ok_whole, refusal_whole, boot_line_whole, listing_whole}
 
 -- a version has no newline
@@ -98,7 +100,7 @@ unbooted (e ∷ es) all = (all.0, unbooted es all.1)
 
 -- and a store one of those of its list
 stored_versions : (s : Stored) → HasVersionsAt (closed s) → (events : Events) (end : ℕ) → MayHave s events end → OfList events
-stored_versions s all events end has list is = all events end list has is
+stored_versions s all events end has list is = all events list (may_have s events end has) is
 
 -- the version of the release that runs
 found_version : (t : Entry → Bool) (es : Releases) → HaveVersions es → is_one_line (Transition.version_of (option_map (λ (e : Entry). e.release) (find t es))) ≡ true
@@ -157,11 +159,11 @@ device_line behind = refl
 brings : (events : Events) (end : ℕ) (r : Release) (size : ℕ) (o : Result Releases HandlerError) → HasVersions r → OfList events → (a : Reply) → Transition.Brings events end (unpacked r) size r.vsn o a → IsGood a
 brings events end r size (Err why) of all a is = good_as a _ is (handler_line why, all)
 brings events end r size (Ok list) of all a (inl (fits, inl is)) = good_as a _ is (ok_whole r.vsn (one_line r.vsn of.own), list_versions events (unpacked r) of all)
-brings events end r size (Ok list) of all a (inl (fits, inr is)) = good_as a _ is (device_line, may_have)
+brings events end r size (Ok list) of all a (inl (fits, inr is)) = good_as a _ is (device_line, either_way)
   where
-    may_have : (es : Events) (stop : ℕ) (l : Releases) → MayHave (uncertain events end (unpacked r) size) es stop → list_after es ≡ Some l → HaveVersions l
-    may_have es stop l (inl has) after = all l (ap list_after (sym has.0) ∙ after)
-    may_have es stop l (inr has) after = list_versions events (unpacked r) of all l (ap list_after (sym has.0) ∙ after)
+    either_way : (es : Events) (l : Releases) → MayBe (uncertain events end (unpacked r) size) es → list_after es ≡ Some l → HaveVersions l
+    either_way es l (inl same) after = all l (ap list_after (sym same) ∙ after)
+    either_way es l (inr same) after = list_versions events (unpacked r) of all l (ap list_after (sym same) ∙ after)
 brings events end r size (Ok list) of all a (inr (over_it, is)) = good_as a _ is ((λ behind. refl), all)
 
 sets_unpacked : (files : Files) (path : List ℕ) (p : Place) → is_one_line path ≡ true → HasVersionsAt p → (a : Reply) → Transition.SetsUnpacked files path p a → IsGood a
@@ -207,9 +209,9 @@ boots (raw x) all a (inr (inr (torn, is))) = good_as a _ is ((λ behind. refl), 
 boots (closed s) all a is = boots_store s all a is
 boots (running events end) all a is = boots_store (certain events end) only a is
   where
-    only : (es : Events) (stop : ℕ) (l : Releases) → MayHave (certain events end) es stop → list_after es ≡ Some l → HaveVersions l
-    only es stop l (inl has) after = all l (ap list_after (sym has.0) ∙ after)
-    only es stop l (inr has) after = all l (ap list_after (sym has.0) ∙ after)
+    only : (es : Events) (l : Releases) → MayBe (certain events end) es → list_after es ≡ Some l → HaveVersions l
+    only es l (inl same) after = all l (ap list_after (sym same) ∙ after)
+    only es l (inr same) after = all l (ap list_after (sym same) ∙ after)
 boots (dead s) all a is = boots_store s all a is
 
 listed : (p : Place) → IsWhole (Transition.listed p)

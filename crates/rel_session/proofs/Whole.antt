@@ -26,7 +26,7 @@ use Rattle.rel_handler.specs.declared.error.BootError.TheVariants as boot_error
 use Rattle.rel_session.specs.Listing.{listing, release_line, text_value, application_value}
 use Rattle.rel_session.specs.Refusals.{Refusal, refusal_line, boot_line, term_fault_text, file_fault_text}
 use Rattle.rel_session.specs.Refusals.Refusal.{existing_release, bad_file, missing_file, too_many, device, full, dead, no_memory, exists}
-use Rattle.rel_session.specs.RunLaws.{is_one_line}
+use Rattle.rel_session.specs.AnswerLaws.{is_one_line}
 use Rattle.rel_session.specs.Transition.{ok_line}
 
 -- Where a reader of answers stands: at the start of one or of a line of a listing, within such a line, or in the last line.
@@ -223,7 +223,7 @@ line_of_listing e rest whole behind =
     let apps = list (values_of (map application_value e.release.apps)) in
     let members = texts_of (values_of (text_value e.release.name ∷ text_value e.release.vsn ∷ apps ∷ atom (status_word e.status) ∷ [])) in
     let plain : is_one_line (with_commas members ++ codes "}") ≡ true = append_plain (with_commas members) (codes "}")
-            (commas_plain members (text_plain e.release.name, (text_plain e.release.vsn, (list_plain (values_of (map application_value e.release.apps)) (applications_plain e.release.apps), (status_plain e.status, tt))))) refl in
+    (commas_plain members (text_plain e.release.name, (text_plain e.release.vsn, (list_plain (values_of (map application_value e.release.apps)) (applications_plain e.release.apps), (status_plain e.status, tt))))) refl in
     let line = line_behind (with_commas members ++ codes "}") (codes "\n") plain (λ more. refl) (rest ++ behind) in
     ap (cut start) (append_assoc (release_line e) rest behind) ∙ ap (λ t. 123 ∷ t) (line ∙ ap (λ t. ((with_commas members ++ codes "}") ++ codes "\n") ++ t) (whole behind))
 
