@@ -24,3 +24,4 @@ pub mod Whole
 pub mod Versions
 pub mod OneRun
 pub mod LinePaths
+pub mod OneText

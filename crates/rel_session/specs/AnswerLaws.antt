@@ -15,7 +15,7 @@ use Rattle.rel_session.specs.Node.{Place, Reply}
 use Rattle.rel_session.specs.Node.Place.{raw, closed, running, dead}
 use Rattle.rel_session.specs.Refusals.{refusal_line}
 use Rattle.rel_session.specs.Refusals.Refusal.{device}
-use Rattle.rel_session.specs.Run.{Holds, Leads, Replies, Ending, answers_of, commands_in}
+use Rattle.rel_session.specs.Run.{Holds, Leads, Replies, Ending, answers_of, commands_in, IsRun}
 use Rattle.rel_session.specs.Run.Ending.{early}
 use Rattle.rel_session.specs.RunLaws.{MayBe, NoneFails}
 use Rattle.rel_session.specs.Transition.{Transition}
@@ -58,6 +58,15 @@ HaveOneAnswer =
     (files : Files) (p : Place) (commands : Feed Command) (a b : Ending) (first second : List Reply)
     → IsCertain p → a ≢ early → b ≢ early → NoneFails first → NoneFails second
     → Replies files p commands a first → Replies files p commands b second → (a ≡ b) × AreSame first second
+
+-- So sessions over the same commands from one place, in which the device did not fail, have written the same text, on
+-- whatever disks.
+abbrev pub HaveOneText : {D : Type 0} → Device D → Type 0
+HaveOneText {D} v =
+    (files : Files) (p : Place) (commands : Feed Command) (a b : Ending) (old new other later : D) (text written : List ℕ)
+    → IsCertain p → a ≢ early → b ≢ early → (HasFailed v old new → ⊥) → (HasFailed v other later → ⊥)
+    → IsRun v files p commands a old new text → IsRun v files p commands b other later written
+    → (a ≡ b) × (text ≡ written)
 
 -- the events of the place have a list
 abbrev pub HasList : Place → Type 0

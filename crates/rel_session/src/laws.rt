@@ -1,5 +1,5 @@
 //! Laws of sessions. Each function does nothing: its contract is the law.
-ghost use Rattle.rel_session.specs.AnswerLaws.{FailsOnlyWithTheDevice, TellsDoubt, HaveOneAnswer, EachHasAnAnswer, TellsOneRun, ReadsLinePaths, KeepsVersions};
+ghost use Rattle.rel_session.specs.AnswerLaws.{FailsOnlyWithTheDevice, TellsDoubt, HaveOneAnswer, HaveOneText, EachHasAnAnswer, TellsOneRun, ReadsLinePaths, KeepsVersions};
 ghost use Rattle.rel_session.specs.RunLaws.{EachKeeps, IsOfAccepted, LosesNothing, BeginsWhereOneEnded, BeginsBehindACrash, LosesNothingEver, BeginsWithAMaking};
 
 use rel_disk::Disk;
@@ -32,8 +32,9 @@ pub fn a_doubt_is_told_as_a_failure()
 
 /// Where the device does not fail, an input has one answer from each place with nothing in doubt: no two, and one there
 /// is.
-pub fn an_input_has_one_answer()
+pub fn an_input_has_one_answer<D: Disk>()
     ensures one { HaveOneAnswer }
+    ensures written { HaveOneText D.Disk }
     ensures some { EachHasAnAnswer }
 {}
 
