@@ -7,3 +7,4 @@ pub mod Views
 pub mod Scanned
 pub mod Tiling
 pub mod Rows
+pub mod FaultTexts

@@ -1,7 +1,8 @@
 -- The fault of a file.
-use Rattle.std.specs.Prelude.{ℕ, List, string_bytes}
+use Rattle.std.specs.Prelude.{ℕ, List, ◌++◌, codes, decimal, string_bytes}
 use Rattle.erl_term.specs.TermFault.{TermFault}
 use Rattle.erl_term.specs.TermFault.TheVariants as term
+use Rattle.erl_term.specs.FaultTexts.{term_fault_text}
 use Rattle.rel_files.specs.declared.fault.FileFault.{FileFault}
 use Rattle.rel_files.specs.declared.fault.FileFault.TheVariants.{BadTerm, BadShape, Duplicate, BadVersion, NoMemory}
 
@@ -24,3 +25,11 @@ fault_of (BadShape at) = bad_shape at
 fault_of (Duplicate name) = duplicate (string_bytes name)
 fault_of BadVersion = bad_version
 fault_of NoMemory = no_memory
+
+-- how a fault is shown: its name, and its place if it has one
+abbrev pub file_fault_text : Fault → List ℕ
+file_fault_text (bad_term e) = term_fault_text e
+file_fault_text (bad_shape at) = codes "BadShape " ++ decimal at
+file_fault_text (duplicate name) = codes "Duplicate"
+file_fault_text bad_version = codes "BadVersion"
+file_fault_text no_memory = codes "NoMemory"

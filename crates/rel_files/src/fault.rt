@@ -5,25 +5,21 @@ ghost use Rattle.rel_files.specs.Fault.{file_fault_of};
 
 use erl_term::TermFault;
 use std::alloc::{AllocError, AllocFailed};
-use thiserror::Error;
+use std::fmt::{self, Display, Formatter};
 
-/// What is wrong with a file. Of several faults the one that stands first here is reported.
-#[derive(Debug, PartialEq, Drop, Error)]
+/// What is wrong with a file. Of several faults the one that stands first here is reported. It is shown by its name, and by
+/// its place if it has one.
+#[derive(Debug, PartialEq, Drop)]
 pub enum FileFault {
     /// It is no row of terms.
-    #[error("{0}")]
     BadTerm(TermFault),
     /// It has not one term, or one of another shape. The place is that of its first term, 0 if it has none.
-    #[error("BadShape {0}")]
     BadShape(usize),
     /// This name stands twice.
-    #[error("Duplicate")]
     Duplicate(String),
     /// A version is a list of numbers, and no text of a version.
-    #[error("BadVersion")]
     BadVersion,
     /// No memory was left. It says nothing of the file.
-    #[error("NoMemory")]
     NoMemory,
 }
 
@@ -53,3 +49,22 @@ impl From<TermFault> for FileFault {
         }
     }
 }
+
+impl Display for FileFault {
+    ghost use Rattle.std.specs.Prelude.{Some};
+    ghost use Rattle.rel_files.specs.Fault.{fault_of, file_fault_text};
+
+    ghost output = { λ f. Some (file_fault_text (fault_of f)) };
+
+    fn fmt<W: fmt::Write>(&self, f: &mut Formatter<W>) -> fmt::Result {
+        match self {
+            FileFault::BadTerm(fault) => write!(f, "{fault}"),
+            FileFault::BadShape(at) => write!(f, "BadShape {at}"),
+            FileFault::Duplicate(_) => f.write_str("Duplicate"),
+            FileFault::BadVersion => f.write_str("BadVersion"),
+            FileFault::NoMemory => f.write_str("NoMemory"),
+        }
+    }
+}
+
+impl std::error::Error for FileFault {}

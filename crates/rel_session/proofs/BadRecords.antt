@@ -1,11 +1,11 @@
 -- The bytes of a disk stand for a list, or a boot refuses them.
-use Rattle.std.proofs.Common.{◌≡◌, ◌≢◌, ◌⊎◌, inl, inr, ℕ, zero, suc, ◌+◌, Bool, true, false, ◌||◌, ◌&&◌, not, List, [], ◌∷◌, ◌++◌, length, codes, take, drop, Option, Some, None, Result, Ok, Err, refl, sym, ap, ◌∙◌, subst, append_assoc, append-nil}
+use Rattle.std.proofs.Common.{◌≡◌, ◌⊎◌, inl, inr, ℕ, zero, suc, ◌+◌, Bool, true, false, ◌||◌, ◌&&◌, not, List, [], ◌∷◌, ◌++◌, length, codes, drop, Option, Some, None, Result, Ok, Err, refl, sym, ap, ◌∙◌, subst, append_assoc, append-nil}
 use Rattle.std.specs.Prelude.{if◌then◌else◌, nat_lt, nat_le, ◌==◌}
-use Rattle.std.specs.Option.{option_map, option_and_then}
+use Rattle.std.specs.Option.{option_map}
 use Rattle.std.specs.Str.{bytes_eq}
 use Rattle.std.proofs.lemmas.Slice.Eq.{bytes_eq-Decides}
-use Rattle.erl_term.specs.Value.{Value, Values}
-use Rattle.erl_term.specs.Value.Value.{int, atom, list, tuple, bin}
+use Rattle.erl_term.specs.Value.{Value}
+use Rattle.erl_term.specs.Value.Value.{atom, list, tuple}
 use Rattle.erl_term.specs.Value.Values.{no_values, value}
 use Rattle.erl_term.specs.Grammar.{Reading, Reads}
 use Rattle.erl_term.specs.Faults.{IsFault}
@@ -34,7 +34,7 @@ use Rattle.rel_handler.specs.declared.error.BootError.{BootError}
 use Rattle.rel_handler.specs.declared.error.BootError.TheVariants as boot_error
 use Rattle.rel_handler.specs.Image.{IsImageOf}
 use Rattle.rel_handler.specs.Parts.{parts_in, name_in, is_empty_list}
-use Rattle.rel_handler.specs.Records.{Record, makes, adds, record_term, word_of, release_in as release_of_record, Spells, assigned, MakesFrom, Makes, CannotStand, IsBadRecord, none_at_all, bad_after}
+use Rattle.rel_handler.specs.Records.{Record, makes, adds, record_term, word_of, release_in as release_of_record, Spells, assigned, MakesFrom, Makes, IsBadRecord, none_at_all, bad_after}
 use Rattle.rel_handler.proofs.Boots.{image_so}
 use Rattle.rel_handler.proofs.Making.{makes-push, cannot_stand}
 use Rattle.rel_handler.proofs.Reading.{one_term, one_word, one_rel}

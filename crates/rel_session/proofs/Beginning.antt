@@ -1,21 +1,17 @@
 -- A session on an empty disk.
-use Rattle.std.proofs.Common.{◌≡◌, ◌≢◌, ◌⊎◌, inl, inr, ⊎_elim, ℕ, ◌+◌, Bool, true, false, List, [], ◌∷◌, ◌++◌, length, codes, Option, Some, None, Result, Ok, Err, refl, sym, ap, ◌∙◌, subst, append_assoc}
+use Rattle.std.proofs.Common.{◌≡◌, ◌≢◌, ◌⊎◌, inl, inr, ⊎_elim, true, false, List, [], ◌∷◌, ◌++◌, Result, Ok, Err, refl, sym, ◌∙◌, subst, append_assoc}
 use Rattle.rel_files.specs.Release.{Release}
-use Rattle.rel_list.specs.Event.{Event}
-use Rattle.rel_list.specs.Event.Event.{made, unpacked, boot as booting}
-use Rattle.rel_store.specs.Layout.{has_magic}
-use Rattle.rel_handler.specs.Events.{Events}
-use Rattle.rel_handler.specs.Records.{body_of}
+use Rattle.rel_list.specs.Event.Event.{made, boot as booting}
 use Rattle.rel_session.specs.Commands.{Command}
 use Rattle.rel_session.specs.Commands.Command.{file, create, set_unpacked, boot, releases, quit, bad}
 use Rattle.rel_session.specs.Device.{Device}
 use Rattle.rel_session.specs.Feed.{Feed}
 use Rattle.rel_session.specs.Files.{Files, files_behind, Found}
-use Rattle.rel_session.specs.Node.{Place, Outcome, Reply, reply}
-use Rattle.rel_session.specs.Node.Place.{raw, closed, running, dead}
+use Rattle.rel_session.specs.Node.{Place, Reply}
+use Rattle.rel_session.specs.Node.Place.{raw}
 use Rattle.rel_session.specs.Refusals.{Refusal}
-use Rattle.rel_session.specs.Run.{Holds, Leads, Replies, Ending}
-use Rattle.rel_session.specs.RunLaws.{acknowledged_at, IsKnown, BecomesKnown, NoneFails, NoneAcknowledged, BeginsWithAMaking}
+use Rattle.rel_session.specs.Run.{Leads, Replies, Ending}
+use Rattle.rel_session.specs.RunLaws.{acknowledged_at, BecomesKnown, NoneFails, NoneAcknowledged, BeginsWithAMaking}
 use Rattle.rel_session.specs.Transition
 use Rattle.rel_session.proofs.Lasting.{first_answered, loses_nothing}
 use Rattle.rel_session.proofs.Replies.{IsDevice}
@@ -79,11 +75,10 @@ module _ {D : Type 0} (v : Device D) (laws : IsDevice v) where
   pub begins_with_a_making : BeginsWithAMaking v
   begins_with_a_making files commands ending first a rest old new right empty leads works none some =
       let of = first_event files (raw []) commands ending first a rest refl right works none some in
-      let same : first ++ a ∷ rest ≡ (first ++ a ∷ []) ++ rest = sym (append_assoc first (a ∷ []) rest) in
-      (
+      let same : first ++ a ∷ rest ≡ (first ++ a ∷ []) ++ rest = sym (append_assoc first (a ∷ []) rest) in (
         of.release,
         of.acknowledged,
         of.after,
         loses_nothing v laws files (raw []) commands ending (first ++ a ∷ []) rest old new (subst (Replies files (raw []) commands ending) same right) empty
-        (subst (λ l. Leads v (raw []) l old new) same leads) (becomes_known (raw []) first a some),
+            (subst (λ l. Leads v (raw []) l old new) same leads) (becomes_known (raw []) first a some),
       )

@@ -1,12 +1,12 @@
 -- Each input has an answer in which the device does not fail.
-use Rattle.std.proofs.Common.{◌≡◌, ◌≢◌, ◌⊎◌, inl, inr, ⊎_elim, ℕ, ◌+◌, ◌<◌, ◌≤◌, Bool, true, false, List, [], ◌∷◌, ◌++◌, length, codes, Option, Some, None, Result, Ok, Err, refl, sym, ap, ◌∙◌, subst, arith}
+use Rattle.std.proofs.Common.{◌≡◌, ◌⊎◌, inl, inr, ℕ, ◌+◌, ◌<◌, ◌≤◌, Bool, true, false, List, [], ◌∷◌, ◌++◌, length, codes, Option, Some, None, Result, Ok, Err, refl, sym, ap, ◌∙◌, subst, arith}
 use Rattle.std.proofs.lemmas.Bool.{cases_lt}
 use Rattle.rel_files.specs.Fault.{Fault}
 use Rattle.rel_files.specs.File.{SaysRelease, HasFault}
 use Rattle.rel_files.specs.Release.{Release}
 use Rattle.rel_files.proofs.Either.{says_or_fault}
-use Rattle.rel_list.specs.Releases.{Releases, running as running_release}
-use Rattle.rel_list.specs.Event.{Event, list_after, booted}
+use Rattle.rel_list.specs.Releases.{Releases}
+use Rattle.rel_list.specs.Event.{list_after, booted}
 use Rattle.rel_list.specs.Event.Event.{made, unpacked, boot as booting}
 use Rattle.rel_list.specs.Event.{entry}
 use Rattle.rel_list.specs.declared.status.Status.TheVariants.{Permanent}
@@ -15,7 +15,7 @@ use Rattle.rel_store.specs.Records.{end_of}
 use Rattle.rel_store.specs.State.{Fits}
 use Rattle.rel_handler.specs.declared.error.BootError.{BootError}
 use Rattle.rel_handler.specs.declared.error.HandlerError.{HandlerError}
-use Rattle.rel_handler.specs.Events.{Events, Stored, certain}
+use Rattle.rel_handler.specs.Events.{Events, certain}
 use Rattle.rel_handler.specs.Image.{IsImageOf}
 use Rattle.rel_handler.specs.Records.{body_of}
 use Rattle.rel_handler.specs.Taking.{commanded}
@@ -26,13 +26,12 @@ use Rattle.rel_session.specs.Commands.Command.{file, create, set_unpacked, boot,
 use Rattle.rel_session.specs.Commands.File.{bytes, too_large}
 use Rattle.rel_session.specs.Feed.{Feed}
 use Rattle.rel_session.specs.Feed.Feed.{over, cut, next}
-use Rattle.rel_session.specs.Files.{Files, files_behind, Found, Says, usable, IsFound}
-use Rattle.rel_session.specs.Node.{Place, Outcome, Reply, reply, refused, done, nothing, releases_after, list_or_none}
+use Rattle.rel_session.specs.Files.{Files, files_behind, Found, usable, IsFound}
+use Rattle.rel_session.specs.Node.{Place, Reply, reply, nothing, releases_after, list_or_none}
 use Rattle.rel_session.specs.Node.Place.{raw, closed, running, dead}
 use Rattle.rel_session.specs.Refusals.{Refusal, boot_line}
-use Rattle.rel_session.specs.Run.{Replies, Ending}
-use Rattle.rel_session.specs.Run.Ending.{ended, cut_off, early}
-use Rattle.rel_session.specs.RunLaws.{NoneFails, IsCertain, HasList, HasAnswer, EachHasAnAnswer}
+use Rattle.rel_session.specs.Run.Ending.{ended, cut_off}
+use Rattle.rel_session.specs.AnswerLaws.{IsCertain, HasList, HasAnswer, EachHasAnAnswer}
 use Rattle.rel_session.specs.Transition
 use Rattle.rel_session.proofs.BadRecords.{boots_or_not}
 use Rattle.rel_session.proofs.Histories.{events_of_image}

@@ -1,23 +1,22 @@
 -- A command that was followed: its reply, told by its text.
 use Rattle.std.proofs.Common.{◌≡◌, ◌⊎◌, inl, inr, ℕ, List, Option, Some, None, Result, Ok, Err, refl, sym, ap, ◌∙◌, subst}
-use Rattle.std.specs.Prelude.{IfOk, IfErr, OnOk, MatchResult, String, string_bytes, codes}
+use Rattle.std.specs.Prelude.{IfOk, OnOk, MatchResult, String, string_bytes, codes}
 use Rattle.std.specs.declared.alloc.Global.{Global}
 use Rattle.std.specs.declared.alloc.AllocError.{AllocError}
 use Rattle.rel_session.specs.declared.error.SessionError.{SessionError}
 use Rattle.rel_session.specs.declared.error.SessionError.TheVariants.{NoMemory}
 use Rattle.rel_session.specs.declared.files.Files.{Files as FilesInMemory}
 use Rattle.rel_session.specs.declared.node.Node.{Node}
-use Rattle.rel_session.specs.declared.place.Place.{Place as PlaceInMemory}
 use Rattle.rel_session.specs.declared.refusal.Refusal.{Refusal as RefusalInMemory}
 use Rattle.rel_session.specs.declared.refusal.Refusal.TheVariants as refusal
 use Rattle.rel_session.specs.Commands.{Command, File}
-use Rattle.rel_session.specs.Commands.Command.{boot, releases, bad, file}
+use Rattle.rel_session.specs.Commands.Command.{file}
 use Rattle.rel_session.specs.Device.{Device}
 use Rattle.rel_session.specs.Files.{files_of, files_behind, give}
 use Rattle.rel_session.specs.InMemory.{disk_at, IsAt, Replied, Lapsed, Answers, Tells, Follows, IsLine, IsText}
 use Rattle.rel_session.specs.Node.{Place, Reply, reply, nothing}
 use Rattle.rel_session.specs.Refusals.{refusal_of, refusal_line}
-use Rattle.rel_session.specs.Transition.{Transition, Boots, listed, ok_line}
+use Rattle.rel_session.specs.Transition.{Transition, ok_line}
 use Rattle.rel_session.proofs.Replies.{IsDevice, stays, lapses}
 
 module _ {D : Type 0} (v : Device D) (old new : Node D) (command : Command) (same : files_of new.files ≡ files_behind (files_of old.files) command) where

@@ -12,7 +12,7 @@ use Rattle.rel_files.specs.File.{HasFileTerm, IsReleaseTerm}
 use Rattle.rel_handler.specs.Files.{IsRelFile}
 use Rattle.rel_handler.specs.Limits.{is_small}
 use Rattle.rel_session.specs.Refusals.Refusal.{too_many}
-use Rattle.rel_session.specs.Files.{Found, usable}
+use Rattle.rel_session.specs.Files.{usable}
 use Rattle.rel_session.specs.InMemory.{found_of}
 
 at_most : (n : ℕ) → n ≤ 64 → nat_le n 64 ≡ true

@@ -14,7 +14,7 @@ use Rattle.rel_handler.specs.declared.error.HandlerError.{HandlerError}
 use Rattle.rel_handler.specs.declared.error.HandlerError.TheVariants.{TooMany, Exists, ExistingRelease}
 use Rattle.rel_handler.proofs.Lists.{list_after-push}
 
-abbrev event_in : Record → Event
+abbrev pub event_in : Record → Event
 event_in (makes r) = made r
 event_in (adds r) = unpacked r
 
@@ -32,7 +32,7 @@ allowed_so refusal true (Some es) end e = by_length (nat_le (length es) most_rel
     by_length true e = by_one (has_one_permanent es) e
     by_length false e = absurd cc
 
-stepped : (r : Record) (es next : Releases) → assigned r es ≡ Some next → step (event_in r) es ≡ Some next
+pub stepped : (r : Record) (es next : Releases) → assigned r es ≡ Some next → step (event_in r) es ≡ Some next
 stepped (makes r) es next e = allowed_so Exists (is_small r) (step (made r) es) next e
 stepped (adds r) es next e = allowed_so ExistingRelease (is_small r) (step (unpacked r) es) next e
 

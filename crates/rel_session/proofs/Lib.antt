@@ -18,3 +18,9 @@ pub mod OneAnswer
 pub mod Beginning
 pub mod BadRecords
 pub mod EachAnswer
+pub mod Telling
+pub mod Whole
+pub mod Versions
+pub mod OneRun
+pub mod LinePaths
+pub mod OneText

@@ -1,5 +1,5 @@
 -- A session's loop: whatever run the commands that are left have, it completes the run of all.
-use Rattle.std.proofs.Common.{◌≡◌, ◌⊎◌, inl, inr, ℕ, ◌≤◌, List, [], ◌∷◌, ◌++◌, Option, Some, None, Result, Ok, Err, refl, sym, ap, ◌∙◌, subst, append_assoc, append-nil, arith}
+use Rattle.std.proofs.Common.{◌≡◌, ◌⊎◌, inl, inr, ℕ, List, [], ◌∷◌, ◌++◌, Option, Some, None, Ok, Err, refl, sym, ap, ◌∙◌, subst, append_assoc, append-nil, arith}
 use Rattle.std.specs.Prelude.{IsErrOf, String, string_bytes}
 use Rattle.std.specs.Option.{option_map}
 use Rattle.std.specs.Io.KnownBytes.{Appends, prepend_known}
@@ -8,7 +8,6 @@ use Rattle.rel_session.specs.declared.error.SessionError.{SessionError}
 use Rattle.rel_session.specs.declared.error.SessionError.TheVariants.{Limit}
 use Rattle.rel_session.specs.declared.input.Input.{Input}
 use Rattle.rel_session.specs.declared.node.Node.{Node}
-use Rattle.rel_session.specs.declared.place.Place.{Place as PlaceInMemory}
 use Rattle.rel_session.specs.declared.place.Place.TheVariants as memory
 use Rattle.rel_session.specs.Commands.{Command, commands_of}
 use Rattle.rel_session.specs.Commands.Command.{file, create, set_unpacked, boot, releases, quit, bad}
@@ -25,7 +24,7 @@ use Rattle.rel_session.specs.Node.Place.{raw, closed, running, dead}
 use Rattle.counted_io.specs.Prefixes.{AppendsPrefix}
 use Rattle.counted_io.proofs.WriteLemmas.{Appends-nothing, Appends-twice}
 use Rattle.rel_session.specs.Written.{Writes}
-use Rattle.rel_session.specs.Run.{Starts, Holds, Leads, Replies, Ending, IsWritten, IsRun, answers_of, commands_in}
+use Rattle.rel_session.specs.Run.{Starts, Leads, Replies, Ending, IsWritten, IsRun, answers_of, commands_in}
 use Rattle.rel_session.specs.Run.Ending.{ended, cut_off, early}
 use Rattle.rel_session.specs.Transition.{Transition}
 use Rattle.rel_session.proofs.Replies.{IsDevice, held, still}

@@ -1,24 +1,21 @@
 -- A device that does not fail leaves one answer to each command.
-use Rattle.std.proofs.Common.{◌≡◌, ◌≢◌, ◌⊎◌, inl, inr, ⊎_elim, ℕ, ◌+◌, Bool, true, false, List, [], ◌∷◌, ◌++◌, length, codes, Option, Some, None, Result, Ok, Err, refl, sym, ap, ◌∙◌, subst}
+use Rattle.std.proofs.Common.{◌≡◌, ◌≢◌, inl, inr, ℕ, ◌+◌, Bool, true, false, List, [], ◌∷◌, ◌++◌, length, codes, Option, Some, None, Result, Ok, Err, refl, sym, ap, ◌∙◌, subst}
 use Rattle.std.specs.Option.{option_and_then}
 use Rattle.rel_files.specs.Fault.{Fault}
 use Rattle.rel_files.specs.File.{IsReleaseTerm}
-use Rattle.rel_files.specs.Release.{Release}
 use Rattle.rel_files.proofs.OneFault.{one_file_fault, never_says_and_fails}
 use Rattle.rel_files.proofs.Outcomes.{one_release}
 use Rattle.rel_list.specs.Releases.{Releases, running as running_release}
 use Rattle.rel_list.specs.Event.{Event, list_from, list_after, step, booted}
 use Rattle.rel_list.specs.Event.Event.{made, unpacked, boot as booting}
 use Rattle.rel_store.specs.Layout.{has_magic}
-use Rattle.rel_store.specs.Records.{records_of, end_of}
-use Rattle.rel_store.specs.State.{Fits}
-use Rattle.rel_store.specs.declared.error.StoreError.TheVariants as store
+use Rattle.rel_store.specs.Records.{end_of}
 use Rattle.rel_handler.specs.declared.error.BootError.{BootError}
 use Rattle.rel_handler.specs.declared.error.BootError.TheVariants as boot_error
 use Rattle.rel_handler.specs.declared.error.HandlerError.{HandlerError}
-use Rattle.rel_handler.specs.Events.{Events, Stored, MayHave, certain}
+use Rattle.rel_handler.specs.Events.{Events, MayHave, certain}
 use Rattle.rel_handler.specs.Image.{IsImageOf}
-use Rattle.rel_handler.specs.Records.{IsBadRecord, Makes, body_of}
+use Rattle.rel_handler.specs.Records.{Makes, body_of}
 use Rattle.rel_handler.specs.Taking.{commanded}
 use Rattle.rel_handler.proofs.Images.{booted_image}
 use Rattle.rel_handler.proofs.Making.{makes_not_bad}
@@ -30,12 +27,13 @@ use Rattle.rel_session.specs.Feed.{Feed}
 use Rattle.rel_session.specs.Feed.Feed.{over, cut, next}
 use Rattle.rel_session.specs.Files.{Files, files_behind, Found, Says, usable, IsFound}
 use Rattle.rel_session.specs.Listing.{listing}
-use Rattle.rel_session.specs.Node.{Place, Outcome, Reply, reply, refused, done, nothing, releases_after, list_or_none}
+use Rattle.rel_session.specs.Node.{Place, Reply, releases_after, list_or_none}
 use Rattle.rel_session.specs.Node.Place.{raw, closed, running, dead}
 use Rattle.rel_session.specs.Refusals.{Refusal, boot_line}
 use Rattle.rel_session.specs.Run.{Replies, Ending}
 use Rattle.rel_session.specs.Run.Ending.{ended, cut_off, early}
-use Rattle.rel_session.specs.RunLaws.{NoneFails, IsCertain, AreSame, HaveOneAnswer}
+use Rattle.rel_session.specs.AnswerLaws.{IsCertain, AreSame, HaveOneAnswer}
+use Rattle.rel_session.specs.RunLaws.{NoneFails}
 use Rattle.rel_session.specs.Transition
 use Rattle.rel_session.proofs.Lasting.{next_answered, none_left}
 
@@ -55,7 +53,7 @@ one_found path (Some too_large) a b p q = p ∙ sym q
 one_found path (Some (bytes bs)) a b (said, says, p) (also, says_too, q) = p ∙ ap (usable path) (one_saying bs said also says says_too) ∙ sym q
 
 -- one event more, on whatever list
-list_from-more : (es : Releases) (events : Events) (e : Event) → list_from es (events ++ e ∷ []) ≡ option_and_then (step e) (list_from es events)
+pub list_from-more : (es : Releases) (events : Events) (e : Event) → list_from es (events ++ e ∷ []) ≡ option_and_then (step e) (list_from es events)
 list_from-more es [] e = last (step e es)
   where
     last : (o : Option Releases) → option_and_then (λ l. Some l) o ≡ o
@@ -218,12 +216,12 @@ module _ (a b : Reply) (both : Both a b) where
   one_reply files p q bad alike is also = as_these a b _ _ is also (refl, refl, alike)
 
 -- how a session ends where no reply is left
-abbrev Ends : Feed Command → Ending → Type 0
+abbrev pub Ends : Feed Command → Ending → Type 0
 Ends over ending = ending ≡ ended
 Ends cut ending = ending ≡ cut_off
 Ends (next c rest) ending = (c ≡ quit) × (ending ≡ ended)
 
-ends : (files : Files) (p : Place) (commands : Feed Command) (ending : Ending) → ending ≢ early → Replies files p commands ending [] → Ends commands ending
+pub ends : (files : Files) (p : Place) (commands : Feed Command) (ending : Ending) → ending ≢ early → Replies files p commands ending [] → Ends commands ending
 ends files p commands early not_early right = absurd (not_early refl)
 ends files p over ended not_early right = right
 ends files p over cut_off not_early right = right
@@ -244,13 +242,13 @@ ends files p (next releases rest) cut_off not_early right = absurd right
 ends files p (next bad rest) ended not_early right = absurd right
 ends files p (next bad rest) cut_off not_early right = absurd right
 
-one_end : (commands : Feed Command) (a b : Ending) → Ends commands a → Ends commands b → a ≡ b
+pub one_end : (commands : Feed Command) (a b : Ending) → Ends commands a → Ends commands b → a ≡ b
 one_end over a b p q = p ∙ sym q
 one_end cut a b p q = p ∙ sym q
 one_end (next c rest) a b p q = p.1 ∙ sym q.1
 
 -- a session that ends does not go on
-never_goes_on : (files : Files) (p : Place) (commands : Feed Command) (a b : Ending) (r : Reply) (more : List Reply) → Ends commands a → Replies files p commands b (r ∷ more) → ⊥
+pub never_goes_on : (files : Files) (p : Place) (commands : Feed Command) (a b : Ending) (r : Reply) (more : List Reply) → Ends commands a → Replies files p commands b (r ∷ more) → ⊥
 never_goes_on files p over a b r more end right = none_left files p over b r more (inl refl) right
 never_goes_on files p cut a b r more end right = none_left files p cut b r more (inr refl) right
 never_goes_on files p (next c rest) a b r more (quitting, end) right = subst (λ d. Transition.Transition files p d r) quitting (next_answered files p c rest b r more right).0

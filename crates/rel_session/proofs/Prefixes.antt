@@ -1,10 +1,10 @@
 -- What is known of a store, and the prefixes of its events.
-use Rattle.std.proofs.Common.{◌≡◌, ◌⊎◌, inl, inr, ℕ, ◌+◌, Bool, true, false, List, [], ◌∷◌, ◌++◌, Option, Some, None, refl, sym, ap, ◌∙◌, subst}
+use Rattle.std.proofs.Common.{◌≡◌, ◌⊎◌, inl, inr, ℕ, Bool, true, false, List, [], ◌∷◌, ◌++◌, Option, Some, None, refl, sym, ap, ◌∙◌, subst}
 use Rattle.std.specs.Prelude.{is_some, if◌then◌else◌}
 use Rattle.std.proofs.lemmas.List.{append-nil}
 use Rattle.rel_list.specs.Releases.{Releases}
 use Rattle.rel_list.specs.Event.{Event, list_after}
-use Rattle.rel_handler.specs.Events.{Known, Events, settled, doubted, with_doubt, accepted, IsPrefix, Stored, certain, uncertain, MayHave, IsStoredAs}
+use Rattle.rel_handler.specs.Events.{Events, settled, with_doubt, accepted, IsPrefix, Stored, certain, uncertain, MayHave, IsStoredAs}
 use Rattle.rel_handler.specs.Image.{IsImageOf, IsImageAt}
 use Rattle.rel_store.specs.Records.{end_of}
 use Rattle.rel_store.specs.Layout.{has_magic}

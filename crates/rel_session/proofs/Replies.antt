@@ -1,5 +1,5 @@
 -- What each command replies, wherever the disk stands, as the handler's clauses give it.
-use Rattle.std.proofs.Common.{◌≡◌, ◌≢◌, ◌⊎◌, inl, inr, ℕ, ◌+◌, ◌≤◌, Bool, true, false, List, [], ◌∷◌, ◌++◌, Option, Some, None, Result, Ok, Err, refl, sym, ap, ◌∙◌, subst, arith}
+use Rattle.std.proofs.Common.{◌≡◌, ◌≢◌, ◌⊎◌, inl, inr, ℕ, ◌+◌, ◌≤◌, Bool, true, false, List, [], ◌∷◌, ◌++◌, Some, None, Result, Ok, Err, refl, sym, ap, ◌∙◌, subst, arith}
 use Rattle.std.specs.Result.{IsErrAnd}
 use Rattle.std.specs.Prelude.{IfOk, IsErr, String, string_bytes, codes, length}
 use Rattle.std.specs.declared.alloc.Global.{Global}
@@ -15,7 +15,7 @@ use Rattle.rel_handler.specs.declared.error.HandlerError.TheVariants as handler_
 use Rattle.rel_handler.specs.declared.error.BootError.{BootError}
 use Rattle.rel_handler.specs.declared.error.BootError.TheVariants as boot_error
 use Rattle.rel_handler.specs.declared.handler.Handler.{Handler}
-use Rattle.rel_handler.specs.Events.{Events, Stored, certain, uncertain, MayHave, IsStoredAs, settled}
+use Rattle.rel_handler.specs.Events.{Events, Stored, certain, uncertain, IsStoredAs, settled}
 use Rattle.rel_handler.specs.Image.{IsImageOf, IsImageAt}
 use Rattle.rel_handler.specs.State.{disk_in, list_in, is_dead, end_in, IsSame}
 use Rattle.rel_handler.specs.Taking.{commanded}
@@ -26,7 +26,7 @@ use Rattle.rel_handler.proofs.Lists.{list_after-push}
 use Rattle.rel_store.specs.Records.{end_of}
 use Rattle.rel_session.proofs.Histories.{events_of_image}
 use Rattle.rel_list.specs.Releases.{Releases, running as running_release}
-use Rattle.rel_list.specs.Event.{Event, list_after, booted, entry}
+use Rattle.rel_list.specs.Event.{list_after, booted, entry}
 use Rattle.rel_list.specs.Event.Event.{made, unpacked, boot as booting}
 use Rattle.rel_store.specs.Layout.{has_magic}
 use Rattle.rel_store.specs.State.{Fits}
@@ -36,15 +36,14 @@ use Rattle.rel_handler.specs.Records.{body_of}
 use Rattle.rel_handler.proofs.Unpacking.{steps}
 use Rattle.rel_list.specs.declared.status.Status.TheVariants.{Permanent}
 use Rattle.rel_session.proofs.Prefixes.{has_a_store}
-use Rattle.rel_session.specs.Commands.{Command}
 use Rattle.rel_session.specs.Device.{Device, LeavesOnly, HasFailed}
 use Rattle.rel_session.specs.Files.{Files, Found, IsFound}
 use Rattle.rel_session.specs.InMemory.{disk_at, IsAt, Replied, Lapsed, Answers, Tells}
-use Rattle.rel_session.specs.Node.{Place, Outcome, Reply, reply, refused, failed, nothing, done, failed_with, releases_after, list_or_none}
+use Rattle.rel_session.specs.Node.{Place, Reply, reply, refused, failed, nothing, done, failed_with, releases_after, list_or_none}
 use Rattle.rel_session.specs.Node.Place.{raw, closed, running, dead}
 use Rattle.rel_session.specs.Refusals.{Refusal, refusal_of, refusal_line, handler_refusal, boot_line}
 use Rattle.rel_session.specs.Refusals.Refusal.{full, exists, device, dead as dead_node}
-use Rattle.rel_session.specs.Run.{IsReached, Holds, Moments, MomentsOf, Happens, events_of}
+use Rattle.rel_session.specs.Run.{IsReached, Holds, Moments}
 use Rattle.rel_session.specs.Transition
 
 -- What the laws of a device give, of those of the trait that are used here.

@@ -1,22 +1,21 @@
 -- What each reply does to the acknowledged events.
-use Rattle.std.proofs.Common.{◌≡◌, ◌≢◌, ◌⊎◌, inl, inr, ⊎_elim, ℕ, ◌+◌, Bool, true, false, List, [], ◌∷◌, ◌++◌, length, codes, Option, Some, None, Result, Ok, Err, refl, sym, ap, ◌∙◌, subst, append-nil}
+use Rattle.std.proofs.Common.{◌≡◌, ◌≢◌, ◌⊎◌, inl, inr, ⊎_elim, ℕ, Bool, true, false, List, [], ◌++◌, length, codes, Option, None, Result, Ok, Err, refl, sym, ap, ◌∙◌, subst, append-nil}
 use Rattle.rel_list.specs.Releases.{Releases}
-use Rattle.rel_list.specs.Event.{Event, list_after}
-use Rattle.rel_list.specs.Event.Event.{made, unpacked, boot as booting}
+use Rattle.rel_list.specs.Event.{Event}
+use Rattle.rel_list.specs.Event.Event.{unpacked}
 use Rattle.rel_store.specs.Layout.{has_magic}
 use Rattle.rel_store.specs.Records.{end_of}
 use Rattle.rel_handler.specs.declared.error.HandlerError.{HandlerError}
-use Rattle.rel_handler.specs.Events.{Events, Stored, MayHave, certain, with_doubt}
-use Rattle.rel_handler.specs.Image.{IsImageOf}
+use Rattle.rel_handler.specs.Events.{Events, Stored, MayHave, certain}
 use Rattle.rel_handler.specs.Records.{body_of}
 use Rattle.rel_handler.specs.Taking.{commanded}
 use Rattle.rel_session.specs.Commands.{Command}
 use Rattle.rel_session.specs.Commands.Command.{file, create, set_unpacked, boot, releases, quit, bad}
 use Rattle.rel_session.specs.Files.{Files, Found}
-use Rattle.rel_session.specs.Node.{Place, Outcome, Reply, reply, nothing, releases_after}
+use Rattle.rel_session.specs.Node.{Place, Reply, reply, nothing, releases_after}
 use Rattle.rel_session.specs.Node.Place.{raw, closed, running, dead}
 use Rattle.rel_session.specs.Refusals.{Refusal}
-use Rattle.rel_session.specs.RunLaws.{acknowledged_at, IsKnown, Finds, Keeps}
+use Rattle.rel_session.specs.RunLaws.{MayBe, acknowledged_at, IsKnown, Finds, Keeps}
 use Rattle.rel_session.specs.Transition
 
 same_known : (p : Place) (es : Events) → es ≡ [] → IsKnown p ⊎ (es ≢ []) → IsKnown p
@@ -94,7 +93,7 @@ booted : (p : Place) (events : Events) (end : ℕ) (a : Reply) → Finds p event
 booted p events end a finds (list, after, is) = keeps_as p a _ is (keeps_known p _ events finds refl tt)
 
 -- the events that a store may have
-may_have : (s : Stored) (events : Events) (end : ℕ) → MayHave s events end → (events ≡ s.known.acknowledged) ⊎ (events ≡ with_doubt s.known.acknowledged s.known.in_doubt)
+pub may_have : (s : Stored) (events : Events) (end : ℕ) → MayHave s events end → MayBe s events
 may_have s events end (inl (is, at)) = inl is
 may_have s events end (inr (is, at)) = inr is
 

@@ -1,5 +1,5 @@
 -- A disk as one value: what a read gives, what a crash may leave now and at moments past, and how often it has failed.
-use Rattle.std.specs.Prelude.{◌≡◌, ℕ, List}
+use Rattle.std.specs.Prelude.{ℕ, List}
 use Rattle.rel_disk.specs.declared.disk.Disk.{Ghosts}
 use Rattle.rel_disk.specs.Moments as moments
 

@@ -1,5 +1,6 @@
 pub mod Ahead
 pub mod AheadView
+pub mod AnswerLaws
 pub mod Commands
 pub mod Device
 pub mod Ended

@@ -1,8 +1,8 @@
 -- Where the disk of a node stands, and what a command's reply says.
-use Rattle.std.specs.Prelude.{◌≡◌, ◌⊎◌, ℕ, ◌+◌, Bool, true, false, List, [], ◌∷◌, Option, None, Some}
+use Rattle.std.specs.Prelude.{ℕ, Bool, true, false, List, [], Option, None, Some}
 use Rattle.rel_list.specs.Releases.{Releases}
 use Rattle.rel_list.specs.Event.{Event, list_after}
-use Rattle.rel_handler.specs.Events.{Known, Events, Stored, certain}
+use Rattle.rel_handler.specs.Events.{Events, Stored}
 use Rattle.rel_session.specs.Refusals.{Refusal, refusal_line}
 use Rattle.rel_session.specs.Refusals.Refusal.{device}
 

@@ -1,9 +1,6 @@
 -- Why a command is refused, and how that is told.
-use Rattle.std.specs.Prelude.{ℕ, List, ◌++◌, codes, decimal, string_bytes}
-use Rattle.erl_term.specs.TermFault.{TermFault}
-use Rattle.erl_term.specs.TermFault.TheVariants as term
-use Rattle.rel_files.specs.Fault.{Fault, fault_of}
-use Rattle.rel_files.specs.Fault.Fault.{bad_term, bad_shape, duplicate, bad_version, no_memory as out_of_memory}
+use Rattle.std.specs.Prelude.{ℕ, List, ◌++◌, codes, string_bytes}
+use Rattle.rel_files.specs.Fault.{Fault, fault_of, file_fault_text}
 use Rattle.rel_handler.specs.declared.error.HandlerError.{HandlerError}
 use Rattle.rel_handler.specs.declared.error.HandlerError.TheVariants as handler
 use Rattle.rel_handler.specs.declared.error.BootError.{BootError}
@@ -22,24 +19,6 @@ pub data Refusal : Type 0 where
   dead : Refusal
   no_memory : Refusal
   exists : Refusal
-
--- the fault of a term, with its place
-abbrev pub term_fault_text : TermFault → List ℕ
-term_fault_text (term.BadToken at) = codes "BadToken " ++ decimal at
-term_fault_text (term.BadNumber at) = codes "BadNumber " ++ decimal at
-term_fault_text (term.Unclosed at) = codes "Unclosed " ++ decimal at
-term_fault_text (term.MissingDot at) = codes "MissingDot " ++ decimal at
-term_fault_text (term.Unsupported at) = codes "Unsupported " ++ decimal at
-term_fault_text (term.Deep at) = codes "Deep " ++ decimal at
-term_fault_text term.NoMemory = codes "NoMemory"
-
--- the fault of a file, with its place if it has one
-abbrev pub file_fault_text : Fault → List ℕ
-file_fault_text (bad_term e) = term_fault_text e
-file_fault_text (bad_shape at) = codes "BadShape " ++ decimal at
-file_fault_text (duplicate name) = codes "Duplicate"
-file_fault_text bad_version = codes "BadVersion"
-file_fault_text out_of_memory = codes "NoMemory"
 
 -- the line that tells a refusal: its number, its name and its detail
 abbrev pub refusal_line : Refusal → List ℕ

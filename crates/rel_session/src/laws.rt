@@ -1,18 +1,19 @@
 //! Laws of sessions. Each function does nothing: its contract is the law.
-ghost use Rattle.rel_session.specs.RunLaws.{EachKeeps, IsOfAccepted, LosesNothing, BeginsWhereOneEnded, BeginsBehindACrash, LosesNothingEver, FailsOnlyWithTheDevice, TellsDoubt, HaveOneAnswer, BeginsWithAMaking, EachHasAnAnswer};
+ghost use Rattle.rel_session.specs.AnswerLaws.{FailsOnlyWithTheDevice, TellsDoubt, HaveOneAnswer, HaveOneText, EachHasAnAnswer, TellsOneRun, ReadsLinePaths, KeepsVersions};
+ghost use Rattle.rel_session.specs.RunLaws.{EachKeeps, IsOfAccepted, LosesNothing, BeginsWhereOneEnded, BeginsBehindACrash, LosesNothingEver, BeginsWithAMaking};
 
 use rel_disk::Disk;
 
 /// Each reply keeps the acknowledged events. At each moment of a session, ended or broken off, a crash leaves the list
-/// of events that begin with all those acknowledged before. Where nothing is in doubt they are all that it has.
+/// of events that begin with all those acknowledged before that moment.
 pub fn a_crash_loses_nothing_acknowledged<D: Disk>()
     ensures replies { EachKeeps }
     ensures accepted { IsOfAccepted }
     ensures moments { LosesNothing D.Disk }
 {}
 
-/// A session may begin on the disk that another handed back, and on what a crash left of it. So no number of sessions
-/// and crashes loses an acknowledged event.
+/// A session may begin on the disk that another handed back, and on one that holds what a crash left of it. No number of
+/// sessions and crashes loses an acknowledged event.
 pub fn a_session_begins_where_another_ended<D: Disk>()
     ensures ended { BeginsWhereOneEnded D.Disk }
     ensures crashed { BeginsBehindACrash D.Disk }
@@ -29,13 +30,26 @@ pub fn a_doubt_is_reported_as_a_failure()
     ensures { TellsDoubt }
 {}
 
-/// Where the device does not fail, an input has one answer from each place with nothing in doubt.
-pub fn an_input_has_one_answer()
+/// Where the device does not fail, an input has one answer from each place with nothing in doubt: no two, and one there
+/// is.
+pub fn an_input_has_one_answer<D: Disk>()
     ensures one { HaveOneAnswer }
+    ensures written { HaveOneText D.Disk }
     ensures some { EachHasAnAnswer }
 {}
 
-/// On an empty disk the first event that is acknowledged is that a release was made, and from then on none is lost.
+/// On an empty disk of a device that has not failed, the first event that is acknowledged is that a release was made.
+/// From then on no acknowledged event is lost, whatever fails.
 pub fn an_empty_disk_begins_with_a_making<D: Disk>()
     ensures { BeginsWithAMaking D.Disk }
+{}
+
+/// Two runs of the same commands from one place that have written the same text have the same events, acknowledged and
+/// in doubt, command by command. So a text tells which they are, whether the device failed or not.
+pub fn a_text_tells_one_run<D: Disk>()
+    ensures one { TellsOneRun }
+
+    // The paths of an input's commands and the versions of a store are as it asks.
+    ensures paths { ReadsLinePaths }
+    ensures versions { KeepsVersions D.Disk }
 {}

@@ -1,11 +1,8 @@
 //! Why the node refuses a command.
 ghost use Rattle.std.specs.Prelude.{◌≡◌, ◌++◌, codes, string_bytes, IfOk};
-ghost use Rattle.rel_files.specs.Fault.{fault_of};
 ghost use Rattle.rel_session.specs.declared.refusal.Refusal.TheVariants.{NoMemory};
-ghost use Rattle.rel_session.specs.Refusals.{file_fault_text, term_fault_text, refusal_line};
-ghost use Rattle.rel_session.specs.Refusals.Refusal.{bad_file as bad_file_refusal};
+ghost use Rattle.rel_session.specs.Refusals.{refusal_line};
 
-use erl_term::TermFault;
 use rel_files::FileFault;
 use rel_handler::HandlerError;
 use std::alloc::{AllocError, AllocFailed, Global};
@@ -89,7 +86,7 @@ impl Refusal {
                 alloc,
                 "error handler 2 ExistingRelease\n",
             ),
-            Refusal::BadFile(path, fault) => bad_file(alloc, path.as_str(), fault),
+            Refusal::BadFile(path, fault) => format!(in alloc; "error handler 8 BadFile {path} {fault}\n"),
             Refusal::MissingFile(path) => format!(in alloc; "error handler 9 MissingFile {path}\n"),
             Refusal::TooMany => String::from_str(alloc, "error handler 12 TooMany\n"),
             Refusal::Device => String::from_str(alloc, "error handler 16 Device\n"),
@@ -98,42 +95,5 @@ impl Refusal {
             Refusal::NoMemory => String::from_str(alloc, "error handler 19 NoMemory\n"),
             Refusal::Exists => String::from_str(alloc, "error handler 20 Exists\n"),
         }
-    }
-}
-
-/// The line that tells of a file's fault.
-fn bad_file(alloc: Global, path: &str, fault: &FileFault) -> Result<String, AllocError>
-    ensures { IfOk result (λ s.
-        string_bytes s ≡ refusal_line (bad_file_refusal path.now (fault_of fault.now))) }
-{
-    let told = file_fault(alloc, fault)?;
-    format!(in alloc; "error handler 8 BadFile {path} {told}\n")
-}
-
-/// The fault of a file, with its place if it has one.
-fn file_fault(alloc: Global, fault: &FileFault) -> Result<String, AllocError>
-    ensures { IfOk result (λ s. string_bytes s ≡ file_fault_text (fault_of fault.now)) }
-{
-    match fault {
-        FileFault::BadTerm(fault) => term_fault(alloc, *fault),
-        FileFault::BadShape(at) => format!(in alloc; "BadShape {at}"),
-        FileFault::Duplicate(_) => String::from_str(alloc, "Duplicate"),
-        FileFault::BadVersion => String::from_str(alloc, "BadVersion"),
-        FileFault::NoMemory => String::from_str(alloc, "NoMemory"),
-    }
-}
-
-/// The fault of a term, with its place.
-fn term_fault(alloc: Global, fault: TermFault) -> Result<String, AllocError>
-    ensures { IfOk result (λ s. string_bytes s ≡ term_fault_text fault) }
-{
-    match fault {
-        TermFault::BadToken(at) => format!(in alloc; "BadToken {at}"),
-        TermFault::BadNumber(at) => format!(in alloc; "BadNumber {at}"),
-        TermFault::Unclosed(at) => format!(in alloc; "Unclosed {at}"),
-        TermFault::MissingDot(at) => format!(in alloc; "MissingDot {at}"),
-        TermFault::Unsupported(at) => format!(in alloc; "Unsupported {at}"),
-        TermFault::Deep(at) => format!(in alloc; "Deep {at}"),
-        TermFault::NoMemory => String::from_str(alloc, "NoMemory"),
     }
 }

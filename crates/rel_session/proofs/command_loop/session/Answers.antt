@@ -1,4 +1,4 @@
-use Rattle.std.proofs.Common.{◌≡◌, ◌∙◌, refl, string_bytes, Ok, Some, None, Err}
+use Rattle.std.proofs.Common.{◌≡◌, ◌∙◌, refl}
 use Rattle.std.specs.Option.{option_map}
 use Rattle.rel_session.specs.declared.command.Command.{Command as CommandInMemory}
 use Rattle.rel_session.specs.Commands.{command_of}

@@ -1,9 +1,13 @@
 use Rattle.rel_session.proofs.EachAnswer.{each_has_an_answer}
 use Rattle.rel_session.proofs.OneAnswer.{have_one_answer}
+use Rattle.rel_session.proofs.OneText.{have_one_text}
 use Rattle.rel_session.proofs.laws.an_input_has_one_answer.Goals as goal
 
 pub returns-clause-one : goal.returns-clause-one
-returns-clause-one c = have_one_answer
+returns-clause-one g c = have_one_answer
+
+pub returns-clause-written : goal.returns-clause-written
+returns-clause-written g c = have_one_text g.D.Disk
 
 pub returns-clause-some : goal.returns-clause-some
-returns-clause-some c = each_has_an_answer
+returns-clause-some g c = each_has_an_answer

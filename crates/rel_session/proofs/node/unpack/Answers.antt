@@ -1,5 +1,4 @@
-use Rattle.std.proofs.Common.{rules, refl, sym, subst, Ok, Err}
-use Rattle.rel_handler.specs.declared.error.HandlerError.{HandlerError}
+use Rattle.std.proofs.Common.{rules, refl, sym, subst}
 use Rattle.rel_session.specs.Files.{files_of}
 use Rattle.rel_session.specs.InMemory.{Answers, found_of}
 use Rattle.rel_session.specs.Refusals.{handler_refusal}

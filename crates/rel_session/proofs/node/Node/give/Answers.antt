@@ -1,7 +1,5 @@
-use Rattle.std.proofs.Common.{refl, sym, ap}
-use Rattle.std.specs.Prelude.{Err, codes, string_bytes}
+use Rattle.std.specs.Prelude.{string_bytes}
 use Rattle.rel_session.specs.Commands.{given_of}
-use Rattle.rel_session.specs.Commands.Command.{file}
 use Rattle.rel_session.proofs.Following.{gives}
 use Rattle.rel_session.proofs.Replies.{IsDevice}
 use Rattle.rel_session.proofs.node.Node.give.Goals as goal

@@ -1,6 +1,5 @@
-use Rattle.std.proofs.Common.{refl, sym, subst, Err}
+use Rattle.std.proofs.Common.{refl, Err}
 use Rattle.rel_session.specs.Commands.Command.{set_unpacked}
-use Rattle.rel_session.specs.InMemory.{Answers}
 use Rattle.rel_session.specs.Transition.{SetsUnpacked}
 use Rattle.rel_session.specs.Files.{files_of}
 use Rattle.rel_session.specs.declared.place.Place.TheVariants as memory

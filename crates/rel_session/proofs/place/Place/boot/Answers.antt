@@ -1,5 +1,4 @@
 use Rattle.std.proofs.Common.{⊎_elim}
-use Rattle.rel_session.specs.Device.{Device}
 use Rattle.rel_session.proofs.Replies.{IsDevice, boots, boot_lapses}
 use Rattle.rel_session.proofs.place.Place.boot.Goals as goal
 

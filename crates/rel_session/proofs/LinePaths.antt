@@ -1,0 +1,137 @@
+-- The paths of an input's commands lie within its lines, and the versions of a store are those of its records.
+use Rattle.std.proofs.Common.{◌≡◌, ℕ, Bool, true, false, not, List, [], ◌∷◌, ◌++◌, length, codes, Some, inl, inr, refl, sym, ap, ◌∙◌, subst}
+use Rattle.std.specs.Prelude.{if◌then◌else◌, ◌==◌, nat_lt}
+use Rattle.std.specs.List.{onto_first}
+use Rattle.std.specs.Str.{bytes_eq, is_utf8}
+use Rattle.rel_list.specs.Releases.{Releases}
+use Rattle.rel_list.specs.Event.{list_after, booted}
+use Rattle.rel_store.specs.Records.{end_of}
+use Rattle.rel_handler.specs.Events.{Events, MayHave, IsStoredAs, certain}
+use Rattle.rel_session.specs.Commands.{Command, Saying, said_in, said_by, said_alone, said_with_path, is_blank, words_of, is_end, file_of, most_line, put_saying, commands_of, commands_behind}
+use Rattle.rel_session.specs.Commands.Command.{file, create, set_unpacked, boot, releases, quit, bad}
+use Rattle.rel_session.specs.Commands.Saying.{nothing, opens, tells}
+use Rattle.rel_session.specs.Device.{Device}
+use Rattle.rel_session.specs.Feed.{Feed, bytes_within}
+use Rattle.rel_session.specs.Feed.Feed.{over, cut, next}
+use Rattle.rel_session.specs.Input.{most_bytes}
+use Rattle.rel_session.specs.Lines.{onto, lines_of}
+use Rattle.rel_session.specs.Node.Place.{raw, closed, running, dead}
+use Rattle.rel_session.specs.AnswerLaws.{is_one_line, HaveLinePaths, ReadsLinePaths, HaveVersions, HasVersionsAt, KeepsVersions}
+use Rattle.rel_session.specs.RunLaws.{MayBe}
+use Rattle.rel_session.proofs.Replies.{IsDevice}
+use Rattle.rel_session.proofs.Versions.{HasLinePath, record_versions, unbooted}
+use Rattle.rel_session.proofs.Whole.{ArePlain, parts, joined}
+
+abbrev AreLines : Feed (List ℕ) → Type 0
+AreLines (next l ls) = (is_one_line l ≡ true) × AreLines ls
+AreLines ls = Unit {0}
+
+onto_plain : (x : ℕ) (ls : Feed (List ℕ)) → not (x == 10) ≡ true → AreLines ls → AreLines (onto x ls)
+onto_plain x over plain lines = (joined (not (x == 10)) true plain refl, tt)
+onto_plain x cut plain lines = tt
+onto_plain x (next l ls) plain (line, lines) = (joined (not (x == 10)) (is_one_line l) plain line, lines)
+
+lines_plain : (bs : Feed ℕ) → AreLines (lines_of bs)
+lines_plain over = tt
+lines_plain cut = tt
+lines_plain (next x xs) = go (x == 10) refl (lines_plain xs)
+  where
+    go : (b : Bool) → (x == 10) ≡ b → AreLines (lines_of xs) → AreLines (if b then next [] (lines_of xs) else onto x (lines_of xs))
+    go true is lines = (refl, lines)
+    go false is lines = onto_plain x (lines_of xs) (ap not is) lines
+
+split_plain : (l : List ℕ) → is_one_line l ≡ true → ArePlain (words_of l)
+split_plain [] line = (refl, tt)
+split_plain (x ∷ l) line =
+    let (first, more) = parts (not (x == 10)) (is_one_line l) line in
+    go (x == 32) (words_of l) first (split_plain l more)
+  where
+    front : (ws : List (List ℕ)) → not (x == 10) ≡ true → ArePlain ws → ArePlain (onto_first x ws)
+    front [] plain words = (joined (not (x == 10)) true plain refl, tt)
+    front (w ∷ ws) plain words = (joined (not (x == 10)) (is_one_line w) plain words.0, words.1)
+
+    go : (b : Bool) (ws : List (List ℕ)) → not (x == 10) ≡ true → ArePlain ws → ArePlain (if b then [] ∷ ws else onto_first x ws)
+    go true ws plain words = (refl, words)
+    go false ws plain words = front ws plain words
+
+-- what a line says has such a path
+abbrev IsPlainSaying : Saying → Type 0
+IsPlainSaying (tells c) = HasLinePath c
+IsPlainSaying said = Unit {0}
+
+either : (b : Bool) (x y : Saying) → IsPlainSaying x → IsPlainSaying y → IsPlainSaying (if b then x else y)
+either true x y p q = p
+either false x y p q = q
+
+alone_plain : (word : List ℕ) → IsPlainSaying (said_alone word)
+alone_plain word = either (bytes_eq word (codes "boot")) (tells boot) _ tt (either (bytes_eq word (codes "releases")) (tells releases) _ tt (either (bytes_eq word (codes "quit")) (tells quit) (tells bad) tt tt))
+
+path_plain : (word path : List ℕ) → is_one_line path ≡ true → IsPlainSaying (said_with_path word path)
+path_plain word path line =
+    either (bytes_eq word (codes "file")) (opens path) _ tt (either (bytes_eq word (codes "create")) (tells (create path)) _ line (either (bytes_eq word (codes "set_unpacked")) (tells (set_unpacked path)) (tells bad) line tt))
+
+words_plain : (words : List (List ℕ)) → ArePlain words → IsPlainSaying (said_by words)
+words_plain [] plain = tt
+words_plain (word ∷ []) plain = alone_plain word
+words_plain (word ∷ [] ∷ []) plain = tt
+words_plain (word ∷ (x ∷ path) ∷ []) plain = path_plain word (x ∷ path) plain.1.0
+words_plain (word ∷ [] ∷ other ∷ more) plain = tt
+words_plain (word ∷ (x ∷ path) ∷ other ∷ more) plain = tt
+
+saying_plain : (l : List ℕ) → is_one_line l ≡ true → IsPlainSaying (said_in l)
+saying_plain l line =
+    either (nat_lt most_line (length l)) (tells bad) _ tt (either (is_blank l) nothing _ tt (either (is_utf8 l) (said_by (words_of l)) (tells bad) (words_plain (words_of l) (split_plain l line)) tt))
+
+one_more : (c : Command) (rest : Feed Command) → HasLinePath c → HaveLinePaths rest → HaveLinePaths (next c rest)
+one_more (file path f) rest line lines = lines
+one_more (create path) rest line lines = (line, lines)
+one_more (set_unpacked path) rest line lines = (line, lines)
+one_more boot rest line lines = lines
+one_more releases rest line lines = lines
+one_more quit rest line lines = lines
+one_more bad rest line lines = lines
+
+-- the commands of lines, and those behind a file that began
+commands_plain : (ls : Feed (List ℕ)) → AreLines ls → HaveLinePaths (commands_of ls) × ((path bs : List ℕ) → HaveLinePaths (commands_behind path bs ls))
+commands_plain over lines = (tt, λ path bs. tt)
+commands_plain cut lines = (tt, λ path bs. tt)
+commands_plain (next l ls) (line, lines) =
+    let (rest, behind) = commands_plain ls lines in
+    (put (said_in l) (saying_plain l line) rest (λ path. behind path []), λ path bs. ending path bs (is_end l) rest (behind path (bs ++ (l ++ 10 ∷ []))))
+  where
+    put : (said : Saying) → IsPlainSaying said → HaveLinePaths (commands_of ls) → ((path : List ℕ) → HaveLinePaths (commands_behind path [] ls)) → HaveLinePaths (put_saying said (commands_of ls) (λ path. commands_behind path [] ls))
+    put nothing plain rest behind = rest
+    put (opens path) plain rest behind = behind path
+    put (tells c) plain rest behind = one_more c (commands_of ls) plain rest
+
+    ending : (path bs : List ℕ) (b : Bool) → HaveLinePaths (commands_of ls) → HaveLinePaths (commands_behind path (bs ++ (l ++ 10 ∷ [])) ls)
+        → HaveLinePaths (if b then next (file path (file_of bs)) (commands_of ls) else commands_behind path (bs ++ (l ++ 10 ∷ [])) ls)
+    ending path bs true rest behind = rest
+    ending path bs false rest behind = behind
+
+pub reads_line_paths : ReadsLinePaths
+reads_line_paths input = (commands_plain (lines_of (bytes_within most_bytes input)) (lines_plain (bytes_within most_bytes input))).0
+
+-- the list of events that an image stands for
+image_versions : (events : Events) (end : ℕ) (c : List ℕ) → IsStoredAs (certain events end) c → (list : Releases) → list_after events ≡ Some list → HaveVersions list
+image_versions events end c of list after =
+    let versions = unbooted of.list (record_versions [] of.image_of.bodies (booted of.list) tt of.image_of.list.0) in
+    let same : Some of.list ≡ Some list = sym of.after ∙ ap list_after (only of.has) ∙ after in
+    let one : of.list ≡ list = cc in
+    subst HaveVersions one versions
+  where
+    only : MayHave (certain events end) of.events (end_of c) → of.events ≡ events
+    only (inl has) = has.0
+    only (inr has) = has.0
+
+pub keeps_versions : {D : Type 0} (v : Device D) → IsDevice v → KeepsVersions v
+keeps_versions v laws (raw x) disk sure holds = tt
+keeps_versions v laws (running events end) disk sure holds = image_versions events end (v.seen disk) (holds (v.seen disk) (laws.reads_an_image disk))
+keeps_versions v laws (dead s) disk sure holds = absurd sure
+keeps_versions v laws (closed s) disk sure holds =
+    subst (λ t. HasVersionsAt (closed t)) (sym sure) (λ events list is after.
+    image_versions s.known.acknowledged s.end (v.seen disk) (subst (λ t. IsStoredAs t (v.seen disk)) sure (holds (v.seen disk) (laws.reads_an_image disk))) list (sym (ap list_after (only events is)) ∙ after))
+  where
+    only : (events : Events) → MayBe (certain s.known.acknowledged s.end) events → events ≡ s.known.acknowledged
+    only events (inl same) = same
+    only events (inr same) = same

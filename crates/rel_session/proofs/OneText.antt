@@ -1,0 +1,28 @@
+-- Sessions in which the device did not fail have written one text.
+use Rattle.std.proofs.Common.{◌≡◌, ◌≢◌, ℕ, List, [], ◌∷◌, ◌++◌, refl, sym, ◌∙◌}
+use Rattle.rel_session.specs.AnswerLaws.{AreSame, HaveOneText}
+use Rattle.rel_session.specs.Device.{Device}
+use Rattle.rel_session.specs.Node.{Reply}
+use Rattle.rel_session.specs.Run.{Ending, IsWritten, answers_of}
+use Rattle.rel_session.specs.Run.Ending.{ended, cut_off, early}
+use Rattle.rel_session.proofs.Failures.{fails_only_with_the_device}
+use Rattle.rel_session.proofs.OneAnswer.{have_one_answer}
+
+same_text : (first second : List Reply) → AreSame first second → answers_of first ≡ answers_of second
+same_text [] [] same = refl
+same_text (a ∷ first) (b ∷ second) (answer, outcome, same) = λ k. answer k ++ same_text first second same k
+same_text [] (b ∷ second) same = absurd same
+same_text (a ∷ first) [] same = absurd same
+
+-- a session that is not ended early has written all its answers
+whole_text : (ending : Ending) (replies : List Reply) (text : List ℕ) → ending ≢ early → IsWritten ending replies text → text ≡ answers_of replies
+whole_text ended replies text whole is = is
+whole_text cut_off replies text whole is = is
+whole_text early replies text whole is = absurd (whole refl)
+
+pub have_one_text : {D : Type 0} (v : Device D) → HaveOneText v
+have_one_text v files p commands a b old new other later text written sure not_a not_b works works_too one two =
+    let fine = fails_only_with_the_device v files p commands a one.replies old new one.right one.leads works in
+    let fine_too = fails_only_with_the_device v files p commands b two.replies other later two.right two.leads works_too in
+    let (ending, same) = have_one_answer files p commands a b one.replies two.replies sure not_a not_b fine.0 fine_too.0 one.right two.right in
+    (ending, whole_text a one.replies text not_a one.written ∙ same_text one.replies two.replies same ∙ sym (whole_text b two.replies written not_b two.written))

@@ -1,0 +1,15 @@
+use Rattle.rel_session.proofs.LinePaths.{reads_line_paths, keeps_versions}
+use Rattle.rel_session.proofs.OneRun.{tells_one_run}
+use Rattle.rel_session.proofs.Replies.{IsDevice}
+use Rattle.rel_session.proofs.laws.a_text_tells_one_run.Goals as goal
+
+pub returns-clause-one : goal.returns-clause-one
+returns-clause-one g c = tells_one_run
+
+pub returns-clause-paths : goal.returns-clause-paths
+returns-clause-paths g c = reads_line_paths
+
+pub returns-clause-versions : goal.returns-clause-versions
+returns-clause-versions g c =
+    let laws : IsDevice g.D.Disk = record { reads_an_image = g.met.D.Disk.reads_an_image; counts_now = g.met.D.Disk.counts_now; only_now = g.met.D.Disk.only_now } in
+    keeps_versions g.D.Disk laws

@@ -1,0 +1,130 @@
+-- What is so of the answers of whole sessions.
+use Rattle.std.specs.Prelude.{◌≡◌, ◌≢◌, ◌==◌, not, Bool, true, ℕ, List, [], ◌∷◌, None, Some}
+use Rattle.std.specs.List.{list_all, AllByRecursion}
+use Rattle.rel_files.specs.File.{HasVersions}
+use Rattle.rel_list.specs.Releases.{Releases, Entry}
+use Rattle.rel_list.specs.Event.{Event, list_after}
+use Rattle.rel_handler.specs.Events.{Events, certain}
+use Rattle.rel_session.specs.Commands.{Command}
+use Rattle.rel_session.specs.Commands.Command.{create, set_unpacked}
+use Rattle.rel_session.specs.Device.{Device, HasFailed}
+use Rattle.rel_session.specs.Feed.{Feed}
+use Rattle.rel_session.specs.Feed.Feed.{next}
+use Rattle.rel_session.specs.Files.{Files}
+use Rattle.rel_session.specs.Node.{Place, Reply}
+use Rattle.rel_session.specs.Node.Place.{raw, closed, running, dead}
+use Rattle.rel_session.specs.Refusals.{refusal_line}
+use Rattle.rel_session.specs.Refusals.Refusal.{device}
+use Rattle.rel_session.specs.Run.{Holds, Leads, Replies, Ending, answers_of, commands_in, IsRun}
+use Rattle.rel_session.specs.Run.Ending.{early}
+use Rattle.rel_session.specs.RunLaws.{MayBe, NoneFails}
+use Rattle.rel_session.specs.Transition.{Transition}
+
+-- none of the replies leaves an event in doubt
+abbrev pub NoneInDoubt : List Reply → Type 0
+NoneInDoubt [] = Unit {0}
+NoneInDoubt (a ∷ more) = (a.outcome.in_doubt ≡ None) × NoneInDoubt more
+
+-- Where the disk's count of failures did not rise, none of the replies is a failure, and nothing is in doubt.
+abbrev pub FailsOnlyWithTheDevice : {D : Type 0} → Device D → Type 0
+FailsOnlyWithTheDevice {D} v =
+    (files : Files) (p : Place) (commands : Feed Command) (ending : Ending) (replies : List Reply) (old new : D)
+    → Replies files p commands ending replies → Leads v p replies old new → (HasFailed v old new → ⊥)
+    → NoneFails replies × NoneInDoubt replies
+
+-- The answer of a reply with an event in doubt tells that the device failed.
+abbrev pub TellsDoubt : Type 0
+TellsDoubt =
+    (files : Files) (p : Place) (c : Command) (a : Reply) (e : Event)
+    → Transition files p c a → a.outcome.in_doubt ≡ Some e
+    → (a.outcome.failed ≡ true) × (a.answer ≡ refusal_line device)
+
+-- A device that does not fail leaves no choice there: bytes, or a store with nothing in doubt.
+abbrev pub IsCertain : Place → Type 0
+IsCertain (raw bytes) = Unit {0}
+IsCertain (closed s) = s ≡ certain s.known.acknowledged s.end
+IsCertain (running events end) = Unit {0}
+IsCertain (dead s) = ⊥
+
+-- the same answers, and the same events, acknowledged and in doubt
+abbrev pub AreSame : List Reply → List Reply → Type 0
+AreSame [] [] = Unit {0}
+AreSame (a ∷ first) (b ∷ second) = (a.answer ≡ b.answer) × (a.outcome ≡ b.outcome) × AreSame first second
+AreSame first second = ⊥
+
+-- Where the device does not fail, all the commands of an input have one answer each, and the session one ending.
+abbrev pub HaveOneAnswer : Type 0
+HaveOneAnswer =
+    (files : Files) (p : Place) (commands : Feed Command) (a b : Ending) (first second : List Reply)
+    → IsCertain p → a ≢ early → b ≢ early → NoneFails first → NoneFails second
+    → Replies files p commands a first → Replies files p commands b second → (a ≡ b) × AreSame first second
+
+-- So sessions over the same commands from one place, in which the device did not fail, have written the same text, on
+-- whatever disks.
+abbrev pub HaveOneText : {D : Type 0} → Device D → Type 0
+HaveOneText {D} v =
+    (files : Files) (p : Place) (commands : Feed Command) (a b : Ending) (old new other later : D) (text written : List ℕ)
+    → IsCertain p → a ≢ early → b ≢ early → (HasFailed v old new → ⊥) → (HasFailed v other later → ⊥)
+    → IsRun v files p commands a old new text → IsRun v files p commands b other later written
+    → (a ≡ b) × (text ≡ written)
+
+-- the events of the place have a list
+abbrev pub HasList : Place → Type 0
+HasList (raw bytes) = Unit {0}
+HasList (closed s) = (list : Releases) × (list_after s.known.acknowledged ≡ Some list)
+HasList (running events end) = (list : Releases) × (list_after events ≡ Some list)
+HasList (dead s) = ⊥
+
+-- The commands have answers in which the device does not fail.
+pub record HasAnswer (files : Files) (p : Place) (commands : Feed Command) : Type 0 where
+  pub ending : Ending
+  pub whole : ending ≢ early
+  pub replies : List Reply
+  pub works : NoneFails replies
+  pub right : Replies files p commands ending replies
+
+-- Each input has such answers.
+abbrev pub EachHasAnAnswer : Type 0
+EachHasAnAnswer =
+    (files : Files) (p : Place) (commands : Feed Command) → IsCertain p → HasList p → HasAnswer files p commands
+
+-- a text without a newline
+abbrev pub is_one_line : List ℕ → Bool
+is_one_line s = list_all (λ b. not (b == 10)) s
+
+-- each path of these commands is one
+abbrev pub HaveLinePaths : Feed Command → Type 0
+HaveLinePaths (next (create path) rest) = (is_one_line path ≡ true) × HaveLinePaths rest
+HaveLinePaths (next (set_unpacked path) rest) = (is_one_line path ≡ true) × HaveLinePaths rest
+HaveLinePaths (next c rest) = HaveLinePaths rest
+HaveLinePaths commands = Unit {0}
+
+-- each release of the list has the versions of a file
+abbrev pub HaveVersions : Releases → Type 0
+HaveVersions list = AllByRecursion (λ (e : Entry). HasVersions e.release) list
+
+-- so has each of the lists that the store there may have
+abbrev pub HasVersionsAt : Place → Type 0
+HasVersionsAt (raw bytes) = Unit {0}
+HasVersionsAt (closed s) =
+    (events : Events) (list : Releases) → MayBe s events → list_after events ≡ Some list → HaveVersions list
+HasVersionsAt (running events end) = (list : Releases) → list_after events ≡ Some list → HaveVersions list
+HasVersionsAt (dead s) =
+    (events : Events) (list : Releases) → MayBe s events → list_after events ≡ Some list → HaveVersions list
+
+-- A text tells one run: two over the same commands, whether the device fails or not, which write the same have the
+-- same answers and the same events, acknowledged and in doubt, command by command.
+abbrev pub TellsOneRun : Type 0
+TellsOneRun =
+    (files : Files) (p : Place) (commands : Feed Command) (a b : Ending) (first second : List Reply)
+    → HasVersionsAt p → HaveLinePaths commands → a ≢ early → b ≢ early
+    → Replies files p commands a first → Replies files p commands b second → answers_of first ≡ answers_of second
+    → (a ≡ b) × AreSame first second
+
+-- The commands of an input have such paths.
+abbrev pub ReadsLinePaths : Type 0
+ReadsLinePaths = (input : List ℕ) → HaveLinePaths (commands_in input)
+
+-- A store with nothing in doubt has such versions.
+abbrev pub KeepsVersions : {D : Type 0} → Device D → Type 0
+KeepsVersions {D} v = (p : Place) (disk : D) → IsCertain p → Holds v p disk → HasVersionsAt p
