@@ -24,7 +24,9 @@ use Rattle.rel_list.specs.declared.status.Status.TheVariants.{Unpacked, Current,
 use Rattle.rel_handler.specs.declared.error.BootError.{BootError}
 use Rattle.rel_handler.specs.declared.error.BootError.TheVariants as boot_error
 use Rattle.rel_session.specs.Listing.{listing, release_line, text_value, application_value}
-use Rattle.rel_session.specs.Refusals.{Refusal, refusal_line, boot_line, term_fault_text, file_fault_text}
+use Rattle.erl_term.specs.FaultTexts.{term_fault_text}
+use Rattle.rel_files.specs.Fault.{file_fault_text}
+use Rattle.rel_session.specs.Refusals.{Refusal, refusal_line, boot_line}
 use Rattle.rel_session.specs.Refusals.Refusal.{existing_release, bad_file, missing_file, too_many, device, full, dead, no_memory, exists}
 use Rattle.rel_session.specs.AnswerLaws.{is_one_line}
 use Rattle.rel_session.specs.Transition.{ok_line}
