@@ -86,7 +86,9 @@ impl Refusal {
                 alloc,
                 "error handler 2 ExistingRelease\n",
             ),
-            Refusal::BadFile(path, fault) => format!(in alloc; "error handler 8 BadFile {path} {fault}\n"),
+            Refusal::BadFile(path, fault) => format!(in alloc;
+                "error handler 8 BadFile {path} {fault}\n"
+            ),
             Refusal::MissingFile(path) => format!(in alloc; "error handler 9 MissingFile {path}\n"),
             Refusal::TooMany => String::from_str(alloc, "error handler 12 TooMany\n"),
             Refusal::Device => String::from_str(alloc, "error handler 16 Device\n"),
