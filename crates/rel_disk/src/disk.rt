@@ -49,7 +49,8 @@ pub trait Disk {
     /// Fills the buffer with the bytes from `at` on. After a `DeviceFault` it may hold anything.
     fn read(&mut self, at: u64, buf: &mut [u8]) -> Result<(), DeviceFault>
         requires { at + length buf.old ≤ length (seen self.old) }
-        ensures bytes { OnOk result (buf.new ≡ slice_range (seen self.old) at (at + length buf.old)) }
+        ensures bytes { OnOk result
+            (buf.new ≡ slice_range (seen self.old) at (at + length buf.old)) }
         ensures same { seen self.new ≡ seen self.old }
         ensures crash { Within (may_leave self.old) (may_leave self.new) }
         ensures time { Elapses (moment self.old) (moment self.new)
@@ -62,7 +63,8 @@ pub trait Disk {
         requires { at ≤ length (seen self.old) }
         ensures written { OnOk result (seen self.new ≡ overwritten at bytes.now (seen self.old)) }
         ensures part { Torn at (length bytes.now) (seen self.old) (seen self.new) }
-        ensures crash { Follows (Torn at (length bytes.now)) (may_leave self.old) (may_leave self.new) }
+        ensures crash { Follows (Torn at (length bytes.now)) (may_leave self.old)
+            (may_leave self.new) }
         ensures time { Elapses (moment self.old) (moment self.new)
             (left_since self.old) (left_since self.new) (may_leave self.new) }
         ensures counted { failures self.old ≤ failures self.new }
@@ -101,5 +103,6 @@ pub trait Disk {
         → left_since disk t c };
 
     /// Since this moment there are only this moment's.
-    ghost only_now: { (disk : Self) (c : List ℕ) → left_since disk (moment disk) c → may_leave disk c };
+    ghost only_now: { (disk : Self) (c : List ℕ) → left_since disk (moment disk) c
+        → may_leave disk c };
 }

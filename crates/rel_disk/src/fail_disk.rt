@@ -60,7 +60,8 @@ impl<D: Disk> FailDisk<D> {
         ensures left { self.new.left ≡ self.old.left - 1 }
         ensures same { self.new.disk ≡ self.old.disk }
         ensures kind { self.new.in_part ≡ self.old.in_part }
-        ensures refused { self.old.left ≡ 1 → self.new.refused ≡ min (2 ^ 64 - 1) (self.old.refused + 1) }
+        ensures refused { self.old.left ≡ 1
+            → self.new.refused ≡ min (2 ^ 64 - 1) (self.old.refused + 1) }
         ensures passed { self.old.left ≢ 1 → self.new.refused ≡ self.old.refused }
     {
         if self.left == 0 {
@@ -105,7 +106,8 @@ impl<D: Disk> Disk for FailDisk<D> {
         ensures time { Elapses (D.moment self.old.disk) (D.moment self.new.disk)
             (D.left_since self.old.disk) (D.left_since self.new.disk) (D.may_leave self.new.disk) }
         ensures counted { all_failures D.failures self.old ≤ all_failures D.failures self.new }
-        ensures cause { IsErr result → HasFailed (all_failures D.failures self.old) (all_failures D.failures self.new) }
+        ensures cause { IsErr result
+            → HasFailed (all_failures D.failures self.old) (all_failures D.failures self.new) }
     {
         match self.turn() {
             Turn::Passes => self.disk.len(),
@@ -118,13 +120,15 @@ impl<D: Disk> Disk for FailDisk<D> {
         ensures turn { TakesTurn D.failures self.old self.new (IsErr result) }
 
         // As of every disk.
-        ensures bytes { OnOk result (buf.new ≡ slice_range (D.seen self.old.disk) at (at + length buf.old)) }
+        ensures bytes { OnOk result
+            (buf.new ≡ slice_range (D.seen self.old.disk) at (at + length buf.old)) }
         ensures same { D.seen self.new.disk ≡ D.seen self.old.disk }
         ensures crash { Within (D.may_leave self.old.disk) (D.may_leave self.new.disk) }
         ensures time { Elapses (D.moment self.old.disk) (D.moment self.new.disk)
             (D.left_since self.old.disk) (D.left_since self.new.disk) (D.may_leave self.new.disk) }
         ensures counted { all_failures D.failures self.old ≤ all_failures D.failures self.new }
-        ensures cause { IsErr result → HasFailed (all_failures D.failures self.old) (all_failures D.failures self.new) }
+        ensures cause { IsErr result
+            → HasFailed (all_failures D.failures self.old) (all_failures D.failures self.new) }
     {
         match self.turn() {
             Turn::Passes => self.disk.read(at, buf),
@@ -135,17 +139,22 @@ impl<D: Disk> Disk for FailDisk<D> {
     fn write_at(&mut self, at: u64, bytes: &[u8]) -> Result<(), DeviceFault>
         requires { at ≤ length (D.seen self.old.disk) }
         ensures turn { TakesTurn D.failures self.old self.new (IsErr result) }
-        ensures half { self.old.left ≡ 1 → self.old.in_part ≡ true → HasFailed (D.failures self.old.disk) (D.failures self.new.disk)
-            ⊎ (D.seen self.new.disk ≡ overwritten at (take ((length bytes.now + 1) / 2) bytes.now) (D.seen self.old.disk)) }
+        ensures half { self.old.left ≡ 1 → self.old.in_part ≡ true
+            → HasFailed (D.failures self.old.disk) (D.failures self.new.disk)
+            ⊎ (D.seen self.new.disk ≡ overwritten at (take ((length bytes.now + 1) / 2) bytes.now)
+            (D.seen self.old.disk)) }
 
         // As of every disk.
-        ensures written { OnOk result (D.seen self.new.disk ≡ overwritten at bytes.now (D.seen self.old.disk)) }
+        ensures written { OnOk result
+            (D.seen self.new.disk ≡ overwritten at bytes.now (D.seen self.old.disk)) }
         ensures part { Torn at (length bytes.now) (D.seen self.old.disk) (D.seen self.new.disk) }
-        ensures crash { Follows (Torn at (length bytes.now)) (D.may_leave self.old.disk) (D.may_leave self.new.disk) }
+        ensures crash { Follows (Torn at (length bytes.now)) (D.may_leave self.old.disk)
+            (D.may_leave self.new.disk) }
         ensures time { Elapses (D.moment self.old.disk) (D.moment self.new.disk)
             (D.left_since self.old.disk) (D.left_since self.new.disk) (D.may_leave self.new.disk) }
         ensures counted { all_failures D.failures self.old ≤ all_failures D.failures self.new }
-        ensures cause { IsErr result → HasFailed (all_failures D.failures self.old) (all_failures D.failures self.new) }
+        ensures cause { IsErr result
+            → HasFailed (all_failures D.failures self.old) (all_failures D.failures self.new) }
     {
         match self.turn() {
             Turn::Passes => self.disk.write_at(at, bytes),
@@ -160,7 +169,8 @@ impl<D: Disk> Disk for FailDisk<D> {
     fn cut(&mut self, len: u64) -> Result<(), DeviceFault>
         requires { len ≤ length (D.seen self.old.disk) }
         ensures turn { TakesTurn D.failures self.old self.new (IsErr result) }
-        ensures whole { self.old.left ≡ 1 → self.old.in_part ≡ true → HasFailed (D.failures self.old.disk) (D.failures self.new.disk)
+        ensures whole { self.old.left ≡ 1 → self.old.in_part ≡ true
+            → HasFailed (D.failures self.old.disk) (D.failures self.new.disk)
             ⊎ (D.seen self.new.disk ≡ take len (D.seen self.old.disk)) }
 
         // As of every disk.
@@ -170,7 +180,8 @@ impl<D: Disk> Disk for FailDisk<D> {
         ensures time { Elapses (D.moment self.old.disk) (D.moment self.new.disk)
             (D.left_since self.old.disk) (D.left_since self.new.disk) (D.may_leave self.new.disk) }
         ensures counted { all_failures D.failures self.old ≤ all_failures D.failures self.new }
-        ensures cause { IsErr result → HasFailed (all_failures D.failures self.old) (all_failures D.failures self.new) }
+        ensures cause { IsErr result
+            → HasFailed (all_failures D.failures self.old) (all_failures D.failures self.new) }
     {
         match self.turn() {
             Turn::Passes => self.disk.cut(len),
@@ -184,7 +195,8 @@ impl<D: Disk> Disk for FailDisk<D> {
 
     fn sync(&mut self) -> Result<(), DeviceFault>
         ensures turn { TakesTurn D.failures self.old self.new (IsErr result) }
-        ensures whole { self.old.left ≡ 1 → self.old.in_part ≡ true → HasFailed (D.failures self.old.disk) (D.failures self.new.disk)
+        ensures whole { self.old.left ≡ 1 → self.old.in_part ≡ true
+            → HasFailed (D.failures self.old.disk) (D.failures self.new.disk)
             ⊎ Only (D.seen self.old.disk) (D.may_leave self.new.disk) }
 
         // As of every disk.
@@ -194,7 +206,8 @@ impl<D: Disk> Disk for FailDisk<D> {
         ensures time { Elapses (D.moment self.old.disk) (D.moment self.new.disk)
             (D.left_since self.old.disk) (D.left_since self.new.disk) (D.may_leave self.new.disk) }
         ensures counted { all_failures D.failures self.old ≤ all_failures D.failures self.new }
-        ensures cause { IsErr result → HasFailed (all_failures D.failures self.old) (all_failures D.failures self.new) }
+        ensures cause { IsErr result
+            → HasFailed (all_failures D.failures self.old) (all_failures D.failures self.new) }
     {
         match self.turn() {
             Turn::Passes => self.disk.sync(),

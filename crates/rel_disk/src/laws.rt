@@ -16,7 +16,8 @@ pub fn damage_by_places()
 /// The images that single calls compose are exactly those that the ranges written since the last sync, and the smallest
 /// length since then, allow, over the bytes that the disk began with.
 pub fn images_by_places()
-    ensures { (first : List ℕ) (calls : List Call) (image : List ℕ) → Image first calls image ↔ Survives first calls image }
+    ensures { (first : List ℕ) (calls : List Call) (image : List ℕ) → Image first calls image
+        ↔ Survives first calls image }
 {}
 
 /// On any disk the damage of calls adds up to these images.

@@ -36,16 +36,29 @@ impl Model for MemDisk {
     ghost use Rattle.rel_disk.specs.MemState.{HoldsContent};
     ghost use Rattle.std.specs.Prelude.{vec_capacity};
 
-    ghost view = { λ d. record { first = d.first.items; calls = d.log.calls; capacity = d.capacity; room = d.log.room; failures = d.failures } };
+    ghost view = { λ d. record {
+      first = d.first.items;
+      calls = d.log.calls;
+      capacity = d.capacity;
+      room = d.log.room;
+      failures = d.failures;
+    } };
 
-    ghost invariant = { λ d. HoldsContent d.bytes.items d.first.items d.log.calls d.capacity (vec_capacity d.bytes) };
+    ghost invariant = { λ d. HoldsContent d.bytes.items d.first.items d.log.calls
+        d.capacity (vec_capacity d.bytes) };
 }
 
 impl MemDisk {
     /// An empty disk that holds at most `capacity` bytes, and whose log holds `log` bytes.
     /// It takes its memory here, all at once.
     pub fn new(alloc: Global, capacity: usize, log: usize) -> Result<Self, AllocError>
-        ensures { IfOk result (λ disk. disk ≡ record { first = []; calls = []; capacity = capacity; room = log; failures = 0 }) }
+        ensures { IfOk result (λ disk. disk ≡ record {
+          first = [];
+          calls = [];
+          capacity = capacity;
+          room = log;
+          failures = 0;
+        }) }
     {
         MemDisk::with_bytes(alloc, &[], capacity, log)
     }
@@ -58,7 +71,13 @@ impl MemDisk {
         log: usize,
     ) -> Result<Self, AllocError>
         requires { length bytes.now ≤ capacity }
-        ensures { IfOk result (λ disk. disk ≡ record { first = bytes.now; calls = []; capacity = capacity; room = log; failures = 0 }) }
+        ensures { IfOk result (λ disk. disk ≡ record {
+          first = bytes.now;
+          calls = [];
+          capacity = capacity;
+          room = log;
+          failures = 0;
+        }) }
     {
         let mut content = Vec::with_capacity(alloc, capacity)?;
         append(&mut content, bytes);
@@ -110,7 +129,8 @@ impl Disk for MemDisk {
     fn read(&mut self, at: u64, buf: &mut [u8]) -> Result<(), DeviceFault>
         requires { at + length buf.old ≤ length (content self.old.first self.old.calls) }
         ensures ok { IsOk result }
-        ensures bytes { buf.new ≡ slice_range (content self.old.first self.old.calls) at (at + length buf.old) }
+        ensures bytes { buf.new
+            ≡ slice_range (content self.old.first self.old.calls) at (at + length buf.old) }
         ensures same { self.new ≡ self.old }
     {
         let from = at as usize;
@@ -125,8 +145,10 @@ impl Disk for MemDisk {
         ensures failed { OnErr result (self.new ≡ after_fault self.old) }
 
         // As of every disk.
-        ensures part { Torn at (length bytes.now) (content self.old.first self.old.calls) (content self.new.first self.new.calls) }
-        ensures crash { Follows (Torn at (length bytes.now)) (Image self.old.first self.old.calls) (Image self.new.first self.new.calls) }
+        ensures part { Torn at (length bytes.now) (content self.old.first self.old.calls)
+            (content self.new.first self.new.calls) }
+        ensures crash { Follows (Torn at (length bytes.now)) (Image self.old.first self.old.calls)
+            (Image self.new.first self.new.calls) }
         ensures counted { self.old.failures ≤ self.new.failures }
         ensures cause { IsErr result → HasFailed self.old.failures self.new.failures }
     {
@@ -146,8 +168,10 @@ impl Disk for MemDisk {
         ensures failed { OnErr result (self.new ≡ after_fault self.old) }
 
         // As of every disk.
-        ensures part { Cut len (content self.old.first self.old.calls) (content self.new.first self.new.calls) }
-        ensures crash { Follows (Cut len) (Image self.old.first self.old.calls) (Image self.new.first self.new.calls) }
+        ensures part { Cut len (content self.old.first self.old.calls)
+            (content self.new.first self.new.calls) }
+        ensures crash { Follows (Cut len) (Image self.old.first self.old.calls)
+            (Image self.new.first self.new.calls) }
         ensures counted { self.old.failures ≤ self.new.failures }
         ensures cause { IsErr result → HasFailed self.old.failures self.new.failures }
     {
@@ -166,7 +190,8 @@ impl Disk for MemDisk {
         ensures failed { OnErr result (self.new ≡ after_fault self.old) }
 
         // As of every disk.
-        ensures crash { Within (Image self.old.first self.old.calls) (Image self.new.first self.new.calls) }
+        ensures crash { Within (Image self.old.first self.old.calls)
+            (Image self.new.first self.new.calls) }
         ensures counted { self.old.failures ≤ self.new.failures }
         ensures cause { IsErr result → HasFailed self.old.failures self.new.failures }
     {

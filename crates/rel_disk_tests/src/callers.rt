@@ -12,8 +12,12 @@ pub(crate) fn append<D: Disk>(disk: D, bytes: &[u8]) -> Result<D, (DeviceFault, 
     ensures durable { IfOk result (λ after. Only (D.seen after) (D.may_leave after)) }
 
     // At each moment a crash leaves what was there, with or without more behind it.
-    ensures kept { IfOk result (λ after. LeavesOnly D.moment D.left_since disk after (λ c. take (length (D.seen disk)) c ≡ D.seen disk)) }
-    ensures kept_at_err { IfErr result (λ e. LeavesOnly D.moment D.left_since disk e.1 (λ c. take (length (D.seen disk)) c ≡ D.seen disk)) }
+    ensures kept { IfOk result
+        (λ after. LeavesOnly D.moment D.left_since disk after
+        (λ c. take (length (D.seen disk)) c ≡ D.seen disk)) }
+    ensures kept_at_err { IfErr result
+        (λ e. LeavesOnly D.moment D.left_since disk e.1
+        (λ c. take (length (D.seen disk)) c ≡ D.seen disk)) }
     ensures cause { IfErr result (λ e. HasFailed (D.failures disk) (D.failures e.1)) }
 {
     let mut disk = disk;

@@ -27,8 +27,10 @@ pub(crate) fn make_room(
 // Appends a record with its gate open, and the closed gate behind it.
 fn push_record(buffer: &mut Vec<u8>, body: &[u8]) -> Result<(), AllocError>
     requires { length body.now ≤ 16777216 }
-    ensures ok { OnOk result (buffer.new.items ≡ buffer.old.items ++ (1 ∷ (record_bytes body.now ++ 0 ∷ []))) }
-    ensures full { OnErr result (vec_capacity buffer.old < vec_len buffer.old + (length body.now + 6)) }
+    ensures ok { OnOk result
+        (buffer.new.items ≡ buffer.old.items ++ (1 ∷ (record_bytes body.now ++ 0 ∷ []))) }
+    ensures full { OnErr result
+        (vec_capacity buffer.old < vec_len buffer.old + (length body.now + 6)) }
 {
     buffer.push(OPEN)?;
     buffer.extend_from_slice(&(body.len() as u32).to_be_bytes())?;
@@ -55,7 +57,8 @@ pub(crate) fn spell_record(
 pub(crate) fn spell_store(alloc: Global, first: &[u8], start: &[u8]) -> Result<Vec<u8>, AllocError>
     requires first { length first.now ≤ 16777216 }
     requires start { length start.now ≤ 127 }
-    ensures { IfOk result (λ bytes. bytes.items ≡ new_layout start.now ++ (1 ∷ (record_bytes first.now ++ 0 ∷ []))) }
+    ensures { IfOk result
+        (λ bytes. bytes.items ≡ new_layout start.now ++ (1 ∷ (record_bytes first.now ++ 0 ∷ []))) }
 {
     let mut bytes = Vec::with_capacity(alloc, SHORTEST + RECORD_HEAD + first.len())?;
     bytes.extend_from_slice(&MAGIC)?;

@@ -34,7 +34,8 @@ impl Contents {
         ensures ok { IfOk result (AreContentsOf (D.seen disk.old)) }
         ensures reads { HasOnlyRead D.seen D.may_leave D.moment D.left_since disk.old disk.new }
         ensures counted { D.failures disk.old ≤ D.failures disk.new }
-        ensures refused { IfErr result (OpenRefused (D.seen disk.old) (D.failures disk.old) (D.failures disk.new)) }
+        ensures refused { IfErr result
+            (OpenRefused (D.seen disk.old) (D.failures disk.old) (D.failures disk.new)) }
     {
         let len = disk.len()?;
         if len < SHORTEST as u64 {
@@ -68,11 +69,16 @@ fn read_records<D: Disk>(
 ) -> Result<Found, StoreError>
     requires within { base < len }
     requires len { len ≡ length (D.seen disk.old) }
-    ensures records { IfOk result (λ found. records_from base 0 (drop base (D.seen disk.old)) ≡ Ok (map (λ v. v.items) found.records.items)) }
-    ensures gate { IfOk result (λ found. found.gate ≡ base + space (map (λ v. v.items) found.records.items)) }
+    ensures records { IfOk result
+        (λ found. records_from base 0 (drop base (D.seen disk.old))
+        ≡ Ok (map (λ v. v.items) found.records.items)) }
+    ensures gate { IfOk result
+        (λ found. found.gate ≡ base + space (map (λ v. v.items) found.records.items)) }
     ensures reads { HasOnlyRead D.seen D.may_leave D.moment D.left_since disk.old disk.new }
     ensures counted { D.failures disk.old ≤ D.failures disk.new }
-    ensures refused { IfErr result (RecordsRefused (records_from base 0 (drop base (D.seen disk.old))) (D.failures disk.old) (D.failures disk.new)) }
+    ensures refused { IfErr result
+        (RecordsRefused (records_from base 0 (drop base (D.seen disk.old))) (D.failures disk.old)
+        (D.failures disk.new)) }
 {
     let mut records = Vec::new(alloc);
     let mut gate = base;
@@ -89,11 +95,14 @@ fn record_at<D: Disk>(disk: &mut D, gate: u64, len: u64) -> Result<Option<usize>
     requires within { gate < len }
     requires len { len ≡ length (D.seen disk.old) }
     ensures closed { result ≡ Ok None → slice_index (D.seen disk.old) gate ≢ 1 }
-    ensures open { IfOk result (λ found. IfSome found (λ size. (slice_index (D.seen disk.old) gate ≡ 1)
-        × (is_whole (drop (gate + 1) (D.seen disk.old)) ≡ true) × (size ≡ told_length (drop (gate + 1) (D.seen disk.old))))) }
+    ensures open { IfOk result
+        (λ found. IfSome found (λ size. (slice_index (D.seen disk.old) gate ≡ 1)
+        × (is_whole (drop (gate + 1) (D.seen disk.old)) ≡ true)
+        × (size ≡ told_length (drop (gate + 1) (D.seen disk.old))))) }
     ensures reads { HasOnlyRead D.seen D.may_leave D.moment D.left_since disk.old disk.new }
     ensures counted { D.failures disk.old ≤ D.failures disk.new }
-    ensures refused { IfErr result (RecordRefused (D.seen disk.old) gate (D.failures disk.old) (D.failures disk.new)) }
+    ensures refused { IfErr result
+        (RecordRefused (D.seen disk.old) gate (D.failures disk.old) (D.failures disk.new)) }
 {
     if len - gate <= RECORD_HEAD as u64 {
         let mut byte = [0];

@@ -30,17 +30,26 @@ impl<D: Disk> Store<D> {
         ensures sound { IfOk result (IsSound D.seen D.may_leave) }
         ensures records { IfOk result (λ store. records_in store ≡ first.now ∷ []) }
         ensures start { IfOk result (λ store. text_in D.seen store ≡ slot_with start.now) }
-        ensures bytes { IfOk result (λ store. D.seen (disk_in store) ≡ overwritten 0 (new_store first.now start.now) (D.seen disk)) }
+        ensures bytes { IfOk result
+            (λ store. D.seen (disk_in store) ≡ overwritten 0 (new_store first.now start.now)
+            (D.seen disk)) }
         ensures fits { OnOk result (Fits 289 (length first.now)) }
         ensures end { IfOk result (λ store. end_in store ≡ 289 + (5 + length first.now)) }
 
         // At each moment from the first sync on a crash leaves no store, or one with the first record.
-        ensures any_moment { Creates D.seen D.may_leave D.moment D.left_since first.now start.now disk (disk_of result) }
-        ensures begun { OnOk result ((at : D) × IsBegunAt D.seen D.may_leave D.moment D.left_since first.now start.now disk (disk_of result) at) }
+        ensures any_moment { Creates D.seen D.may_leave D.moment D.left_since first.now start.now
+            disk (disk_of result) }
+        ensures begun { OnOk result
+            ((at : D)
+            × IsBegunAt D.seen D.may_leave D.moment D.left_since first.now start.now disk
+            (disk_of result) at) }
 
-        ensures taken { has_magic (D.seen disk) ≡ true → IfErr result (λ e. IsUnwritten D.seen D.may_leave D.moment D.left_since disk e.1) × IsErr result }
+        ensures taken { has_magic (D.seen disk) ≡ true
+            → IfErr result (λ e. IsUnwritten D.seen D.may_leave D.moment D.left_since disk e.1)
+            × IsErr result }
         ensures counted { D.failures disk ≤ D.failures (disk_of result) }
-        ensures refused { IfErr result (λ e. CreateRefused (D.seen disk) first.now (D.failures disk) (D.failures e.1)
+        ensures refused { IfErr result
+            (λ e. CreateRefused (D.seen disk) first.now (D.failures disk) (D.failures e.1)
             (IsUnwritten D.seen D.may_leave D.moment D.left_since disk e.1) e.0) }
     {
         let mut disk = disk;
@@ -68,13 +77,20 @@ fn lay_out<D: Disk>(
     requires { length start.now ≤ 127 }
     ensures records { IfOk result (λ records. map (λ v. v.items) records.items ≡ first.now ∷ []) }
     ensures short { OnOk result (length first.now ≤ 16777216) }
-    ensures written { OnOk result (D.seen disk.new ≡ overwritten 0 (new_store first.now start.now) (D.seen disk.old)) }
+    ensures written { OnOk result
+        (D.seen disk.new ≡ overwritten 0 (new_store first.now start.now) (D.seen disk.old)) }
     ensures durable { OnOk result (Only (D.seen disk.new) (D.may_leave disk.new)) }
-    ensures any_moment { Creates D.seen D.may_leave D.moment D.left_since first.now start.now disk.old disk.new }
-    ensures begun { OnOk result ((at : D) × IsBegunAt D.seen D.may_leave D.moment D.left_since first.now start.now disk.old disk.new at) }
-    ensures taken { has_magic (D.seen disk.old) ≡ true → IsUnwritten D.seen D.may_leave D.moment D.left_since disk.old disk.new × IsErr result }
+    ensures any_moment { Creates D.seen D.may_leave D.moment D.left_since first.now start.now
+        disk.old disk.new }
+    ensures begun { OnOk result
+        ((at : D)
+        × IsBegunAt D.seen D.may_leave D.moment D.left_since first.now start.now disk.old disk.new
+        at) }
+    ensures taken { has_magic (D.seen disk.old) ≡ true
+        → IsUnwritten D.seen D.may_leave D.moment D.left_since disk.old disk.new × IsErr result }
     ensures counted { D.failures disk.old ≤ D.failures disk.new }
-    ensures refused { IfErr result (CreateRefused (D.seen disk.old) first.now (D.failures disk.old) (D.failures disk.new)
+    ensures refused { IfErr result
+        (CreateRefused (D.seen disk.old) first.now (D.failures disk.old) (D.failures disk.new)
         (IsUnwritten D.seen D.may_leave D.moment D.left_since disk.old disk.new)) }
 {
     if is_taken(disk)? {

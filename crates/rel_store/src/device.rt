@@ -11,7 +11,8 @@ pub(crate) fn write_through<D: Disk>(disk: &mut D, at: u64, bytes: &[u8]) -> Res
     requires { at ≤ length (D.seen disk.old) }
     ensures written { OnOk result (D.seen disk.new ≡ overwritten at bytes.now (D.seen disk.old)) }
     ensures durable { OnOk result (Only (D.seen disk.new) (D.may_leave disk.new)) }
-    ensures any_moment { LeavesOnly D.moment D.left_since disk.old disk.new (IsTornFrom (D.may_leave disk.old) at (length bytes.now)) }
+    ensures any_moment { LeavesOnly D.moment D.left_since disk.old disk.new
+        (IsTornFrom (D.may_leave disk.old) at (length bytes.now)) }
     ensures counted { D.failures disk.old ≤ D.failures disk.new }
     ensures cause { IsErr result → HasFailed (D.failures disk.old) (D.failures disk.new) }
 {

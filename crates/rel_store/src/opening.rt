@@ -24,11 +24,15 @@ impl<D: Disk> Store<D> {
 
         // No crash in the call leaves anything that none before it would have left; from its sync on a crash leaves what a
         // read gives, whatever the opening answers then.
-        ensures any_moment { LeavesOnly D.moment D.left_since disk (disk_of result) (D.may_leave disk) }
-        ensures synced { RefusedByDevice result ⊎ ((at : D) × IsSyncedAt D.seen D.may_leave D.moment D.left_since disk (disk_of result) at) }
+        ensures any_moment { LeavesOnly D.moment D.left_since disk (disk_of result)
+            (D.may_leave disk) }
+        ensures synced { RefusedByDevice result
+            ⊎ ((at : D)
+            × IsSyncedAt D.seen D.may_leave D.moment D.left_since disk (disk_of result) at) }
 
         ensures counted { D.failures disk ≤ D.failures (disk_of result) }
-        ensures refused { IfErr result (λ e. OpenRefused (D.seen disk) (D.failures disk) (D.failures e.1) e.0) }
+        ensures refused { IfErr result
+            (λ e. OpenRefused (D.seen disk) (D.failures disk) (D.failures e.1) e.0) }
     {
         let mut disk = disk;
         match read_contents(alloc, &mut disk) {
@@ -49,9 +53,11 @@ impl<D: Disk> Store<D> {
 fn read_contents<D: Disk>(alloc: Global, disk: &mut D) -> Result<Contents, StoreError>
     ensures ok { IfOk result (AreContentsOf (D.seen disk.old)) }
     ensures any_moment { LeavesOnly D.moment D.left_since disk.old disk.new (D.may_leave disk.old) }
-    ensures synced { IsErrOf result StoreError.Device ⊎ ((at : D) × IsSyncedAt D.seen D.may_leave D.moment D.left_since disk.old disk.new at) }
+    ensures synced { IsErrOf result StoreError.Device
+        ⊎ ((at : D) × IsSyncedAt D.seen D.may_leave D.moment D.left_since disk.old disk.new at) }
     ensures counted { D.failures disk.old ≤ D.failures disk.new }
-    ensures refused { IfErr result (OpenRefused (D.seen disk.old) (D.failures disk.old) (D.failures disk.new)) }
+    ensures refused { IfErr result
+        (OpenRefused (D.seen disk.old) (D.failures disk.old) (D.failures disk.new)) }
 {
     disk.sync()?;
     Contents::read(alloc, disk)

@@ -70,7 +70,8 @@ impl<D: Disk> Store<D> {
         ensures room { OnOk result ((m : ℕ) → m ≤ n → HasRoom m self.new) }
         ensures kept { IsSame self.old self.new }
         ensures reopened { IsErrOf result StoreError.MustReopen ↔ (has_failed self.old ≡ true) }
-        ensures refused { IfErr result (Refused D.failures ⊥ (HasRoom n self.old → ⊥) self.old self.new) }
+        ensures refused { IfErr result
+            (Refused D.failures ⊥ (HasRoom n self.old → ⊥) self.old self.new) }
     {
         if self.must_reopen {
             return Err(StoreError::MustReopen);
@@ -91,19 +92,27 @@ impl<D: Disk> Store<D> {
         ensures added { OnOk result (records_in self.new ≡ records_in self.old ++ body.now ∷ []) }
         ensures start { OnOk result (text_in D.seen self.new ≡ text_in D.seen self.old) }
         ensures end { OnOk result (end_in self.new ≡ end_in self.old + (5 + length body.now)) }
-        ensures bytes { OnOk result (D.seen (disk_in self.new) ≡ with_record (gate_in self.old) body.now (D.seen (disk_in self.old))) }
+        ensures bytes { OnOk result
+            (D.seen (disk_in self.new) ≡ with_record (gate_in self.old) body.now
+            (D.seen (disk_in self.old))) }
 
         // A crash at any moment of the call leaves the records from before it, with the new one or without, and all bytes
         // as they were but those of the record.
-        ensures any_moment { has_failed self.old ≡ false → LeavesOnly D.moment D.left_since (disk_in self.old) (disk_in self.new)
+        ensures any_moment { has_failed self.old ≡ false
+            → LeavesOnly D.moment D.left_since (disk_in self.old) (disk_in self.new)
             (StandsEither (records_in self.old) body.now (text_in D.seen self.old)) }
-        ensures others { has_failed self.old ≡ false → LeavesOnly D.moment D.left_since (disk_in self.old) (disk_in self.new)
-            (LeavesOthers (IsInRecord (gate_in self.old) (length body.now)) (D.seen (disk_in self.old))) }
+        ensures others { has_failed self.old ≡ false
+            → LeavesOnly D.moment D.left_since (disk_in self.old) (disk_in self.new)
+            (LeavesOthers (IsInRecord (gate_in self.old) (length body.now))
+            (D.seen (disk_in self.old))) }
 
         ensures counted { D.failures (disk_in self.old) ≤ D.failures (disk_in self.new) }
-        ensures full { IsErrOf result StoreError.Full ↔ ((has_failed self.old ≡ false) × (Fits (end_in self.old) (length body.now) → ⊥)) }
+        ensures full { IsErrOf result StoreError.Full
+            ↔ ((has_failed self.old ≡ false) × (Fits (end_in self.old) (length body.now) → ⊥)) }
         ensures reopened { IsErrOf result StoreError.MustReopen ↔ (has_failed self.old ≡ true) }
-        ensures refused { IfErr result (Refused D.failures (Fits (end_in self.old) (length body.now) → ⊥) (HasRoom (length body.now) self.old → ⊥) self.old self.new) }
+        ensures refused { IfErr result
+            (Refused D.failures (Fits (end_in self.old) (length body.now) → ⊥)
+            (HasRoom (length body.now) self.old → ⊥) self.old self.new) }
     {
         if self.must_reopen {
             return Err(StoreError::MustReopen);
@@ -138,7 +147,8 @@ impl<D: Disk> Store<D> {
         ensures bytes { D.seen (disk_in self.new) ≡ D.seen (disk_in self.old) }
         ensures end { end_in self.new ≡ end_in self.old }
         ensures room { (n : ℕ) → HasRoom n self.old → HasRoom n self.new }
-        ensures any_moment { has_failed self.old ≡ false → LeavesOnly D.moment D.left_since (disk_in self.old) (disk_in self.new)
+        ensures any_moment { has_failed self.old ≡ false
+            → LeavesOnly D.moment D.left_since (disk_in self.old) (disk_in self.new)
             (Stands (records_in self.old) (text_in D.seen self.old)) }
         ensures counted { D.failures (disk_in self.old) ≤ D.failures (disk_in self.new) }
         ensures reopened { IsErrOf result StoreError.MustReopen ↔ (has_failed self.old ≡ true) }
@@ -165,13 +175,17 @@ impl<D: Disk> Store<D> {
         ensures records { records_in self.new ≡ records_in self.old }
         ensures end { end_in self.new ≡ end_in self.old }
         ensures room { (n : ℕ) → HasRoom n self.old → HasRoom n self.new }
-        ensures bytes { OnOk result (D.seen (disk_in self.new) ≡ with_start text.now (D.seen (disk_in self.old))) }
+        ensures bytes { OnOk result
+            (D.seen (disk_in self.new) ≡ with_start text.now (D.seen (disk_in self.old))) }
 
         // A crash at any moment of the call leaves the old text or the new one, and the records, and all bytes as they were
         // but those of the slot that doesn't count and of its selector.
-        ensures any_moment { has_failed self.old ≡ false → LeavesOnly D.moment D.left_since (disk_in self.old) (disk_in self.new)
-            (StandsWithEither (records_in self.old) (text_in D.seen self.old) (slot_with text.now)) }
-        ensures others { has_failed self.old ≡ false → LeavesOnly D.moment D.left_since (disk_in self.old) (disk_in self.new)
+        ensures any_moment { has_failed self.old ≡ false
+            → LeavesOnly D.moment D.left_since (disk_in self.old) (disk_in self.new)
+            (StandsWithEither (records_in self.old) (text_in D.seen self.old)
+            (slot_with text.now)) }
+        ensures others { has_failed self.old ≡ false
+            → LeavesOnly D.moment D.left_since (disk_in self.old) (disk_in self.new)
             (LeavesOthers (IsInOtherSlot (D.seen (disk_in self.old))) (D.seen (disk_in self.old))) }
 
         ensures counted { D.failures (disk_in self.old) ≤ D.failures (disk_in self.new) }

@@ -18,8 +18,10 @@ pub(crate) fn append_both<D: Disk>(
 ) -> Result<(), StoreError>
     requires { IsSettled D.seen D.may_leave store.old }
     ensures settled { OnOk result (IsSettled D.seen D.may_leave store.new) }
-    ensures both { OnOk result (records_in store.new ≡ records_in store.old ++ a.now ∷ [] ++ b.now ∷ []) }
-    ensures any_moment { LeavesOnly D.moment D.left_since (disk_in store.old) (disk_in store.new) (λ c.
+    ensures both { OnOk result
+        (records_in store.new ≡ records_in store.old ++ a.now ∷ [] ++ b.now ∷ []) }
+    ensures any_moment { LeavesOnly D.moment D.left_since (disk_in store.old) (disk_in store.new)
+        (λ c.
         Stands (records_in store.old) (text_in D.seen store.old) c
         ⊎ Stands (records_in store.old ++ a.now ∷ []) (text_in D.seen store.old) c
         ⊎ Stands (records_in store.old ++ a.now ∷ [] ++ b.now ∷ []) (text_in D.seen store.old) c) }
@@ -31,9 +33,11 @@ pub(crate) fn append_both<D: Disk>(
 // Opens a disk on which each crash leaves a store with these records or with those: it has the one or the other.
 pub(crate) fn reopen<D: Disk>(alloc: Global, disk: D) -> Result<Store<D>, (StoreError, D)>
     ghost known: { List (List ℕ) × List (List ℕ) × List ℕ }
-    requires { (c : List ℕ) → D.may_leave disk c → Stands known.0 known.2 c ⊎ Stands known.1 known.2 c }
+    requires { (c : List ℕ) → D.may_leave disk c → Stands known.0 known.2 c
+        ⊎ Stands known.1 known.2 c }
     ensures settled { IfOk result (IsSettled D.seen D.may_leave) }
-    ensures records { IfOk result (λ store. (records_in store ≡ known.0) ⊎ (records_in store ≡ known.1)) }
+    ensures records { IfOk result
+        (λ store. (records_in store ≡ known.0) ⊎ (records_in store ≡ known.1)) }
     ensures refused { IfErr result (λ e. (e.0 ≡ Device) ⊎ (e.0 ≡ NoMemory)) }
 {
     Store::open_disk(alloc, disk)
