@@ -12,7 +12,7 @@ use Rattle.erl_reader.specs.Machine.{Level, kind_of, bracket_of, run, nothing_re
 use Rattle.erl_reader.specs.Machine.State.{begun, whole, inside}
 use Rattle.erl_reader.specs.Machine.Kind.{opening}
 use Rattle.erl_reader.proofs.Passes.{progress}
-use Rattle.erl_reader.proofs.Standing.{At, phrases_of, ahead, ahead-end, joined, run_stands, nothing_stands}
+use Rattle.erl_reader.proofs.StateLemmas.{At, phrases_of, ahead, ahead-end, joined, run_stands, nothing_stands}
 use Rattle.erl_reader.proofs.Viability.{terms_are_rows}
 use Rattle.erl_reader.proofs.Places.{AreSame, IsBefore, places}
 use Rattle.erl_reader.proofs.Balance.{IsEven, ClosesEach, even_append, term_even, rows_even, are_even, never_open}

@@ -1,9 +1,9 @@
 pub mod Passes
-pub mod Standing
+pub mod StateLemmas
 pub mod Viability
 pub mod Exact
 pub mod Records
-pub mod Parsing
+pub mod ParserLemmas
 pub mod TextCharacters
 pub mod Balance
 pub mod Places

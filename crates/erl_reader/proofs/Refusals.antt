@@ -19,7 +19,7 @@ use Rattle.erl_reader.specs.Machine.{Level, State, Progress, kind_of, bracket_of
 use Rattle.erl_reader.specs.Machine.State.{begun, whole, inside}
 use Rattle.erl_reader.specs.Machine.Kind.{leaf}
 use Rattle.erl_reader.proofs.Passes.{progress, reading, closes, kind_of-closes, next_leaf, next_closing, bracket_of-with_member}
-use Rattle.erl_reader.proofs.Standing.{same_bracket}
+use Rattle.erl_reader.proofs.StateLemmas.{same_bracket}
 use Rattle.erl_reader.proofs.Viability.{plain, zero_adds, runs_on, viable_front, may_come, may_not_come}
 
 -- Members and ends of brackets

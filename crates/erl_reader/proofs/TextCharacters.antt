@@ -16,7 +16,7 @@ use Rattle.erl_reader.specs.Grammar.{numbers}
 use Rattle.erl_reader.specs.Machine.{bytes_of}
 use Rattle.erl_reader.specs.Views.{IsAdded}
 use Rattle.erl_token.proofs.Pieces.{chars_around}
-use Rattle.erl_reader.proofs.Parsing.{values_of-numbers, bytes_of-all}
+use Rattle.erl_reader.proofs.ParserLemmas.{values_of-numbers, bytes_of-all}
 
 -- the members of a text, as a list
 pub text_members : (vs : List Value) (s : List ℕ) → vs ≡ character_values s → values_of vs ≡ numbers (chars s)

@@ -12,7 +12,7 @@ use Rattle.erl_reader.specs.Value.Value.{int}
 use Rattle.erl_reader.specs.Machine.{Level, State, Progress, bracket_of, with_member, is_binary, added, open_levels, put, enclosed, next, or_refusal, and_then, run, nothing_read}
 use Rattle.erl_reader.specs.Machine.State.{begun, whole, inside}
 use Rattle.erl_reader.proofs.Passes.{progress, reading, tokens_split, run-append, goes, worth, next_leaf, next_closing, closes, behind, dot_ends, reads_terms}
-use Rattle.erl_reader.proofs.Standing.{run_stands, nothing_stands}
+use Rattle.erl_reader.proofs.StateLemmas.{run_stands, nothing_stands}
 
 -- terms with their dots, as tokens
 pub terms_are_rows : (limit : ℕ) (is : List Item) (rs : List Reading) → AreTerms limit is rs → (ps : List Phrase) × Fit limit ps × (tokens is ≡ rows ps)

@@ -15,7 +15,7 @@ use Rattle.erl_token.specs.Numbers.Numeral.{whole, faulty as faulty_number}
 use Rattle.erl_token.specs.Quotes.{Quoted, quoted, behind, escaped}
 use Rattle.erl_token.specs.Quotes.Quoted.{closed, faulty}
 use Rattle.erl_token.proofs.Sizes.{CharacterHolds, itself_holds, NumeralHolds, numeral_holds}
-use Rattle.erl_token.proofs.Cutting.{stop, nil_of, front_stays, drop_stays, escape_stays, itself_stays}
+use Rattle.erl_token.proofs.CutLemmas.{stop, nil_of, front_stays, drop_stays, escape_stays, itself_stays}
 
 -- Rows of digits
 

@@ -18,10 +18,10 @@ use Rattle.erl_token.specs.Views.{seal}
 use Rattle.erl_token.specs.Tiling.{is_gap, Tile}
 use Rattle.erl_token.specs.Rows.{is_of_term, first_from, last_to, moved_item, moved, RowsStandAlone}
 use Rattle.erl_token.proofs.Sizes.{spelling_holds, comment_fits}
-use Rattle.erl_token.proofs.Tiling.{lex_tiles}
-use Rattle.erl_token.proofs.Cutting.{stop}
+use Rattle.erl_token.proofs.TilingLemmas.{lex_tiles}
+use Rattle.erl_token.proofs.CutLemmas.{stop}
 use Rattle.erl_token.proofs.TokenCuts.{spelling_stays}
-use Rattle.erl_token.proofs.Joining.{joined-no_text}
+use Rattle.erl_token.proofs.JoinLemmas.{joined-no_text}
 use Rattle.erl_token.proofs.Parts.{byte_valid}
 use Rattle.erl_token.proofs.Runs.{sealed-IsUtf8}
 

@@ -14,7 +14,7 @@ use Rattle.erl_token.specs.Quotes.Quoted.{closed, faulty}
 use Rattle.erl_token.specs.Lexing.{Token, Spelling, alone, some_name, some_number, is_bare_name_byte, name_spelling, bare, name_in_quotes, text_in_quotes, is_int, in_range, numbered, sign_of, signed, doubled, ends_a_term, spelling}
 use Rattle.erl_token.specs.Lexing.Token.{open_binary, close_binary, name, number, dot, stray, broken}
 use Rattle.erl_token.specs.Rows.{is_of_term}
-use Rattle.erl_token.proofs.Cutting.{stop, front_stays, drop_stays}
+use Rattle.erl_token.proofs.CutLemmas.{stop, front_stays, drop_stays}
 use Rattle.erl_token.proofs.NumberCuts.{numeral_stays, quoted_stays}
 
 abbrev IsGood : Spelling → Type 0

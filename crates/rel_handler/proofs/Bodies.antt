@@ -17,7 +17,7 @@ use Rattle.rel_handler.specs.Parts.{parts_in, fault_of_text, fault_of_release}
 use Rattle.rel_handler.specs.Records.{Record, makes, adds, record_term, word_of, release_in, Spells}
 use Rattle.rel_handler.specs.declared.records.RecordFault.{RecordFault}
 use Rattle.rel_handler.specs.declared.records.RecordFault.TheVariants.{Bad}
-use Rattle.rel_handler.proofs.Reading.{one_term}
+use Rattle.rel_handler.proofs.BodyLemmas.{one_term}
 
 -- what is printed within the limit, with a dot behind it, has the term
 pub read_back : (limit : ℕ) (out text : List ℕ) (v w : Value) → v ≡ w → IsWithin limit w → (IsWithin limit v → ReadsAs limit text v) → out ≡ text ++ 46 ∷ [] → HasTerm limit out w

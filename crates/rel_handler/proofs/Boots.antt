@@ -23,8 +23,8 @@ use Rattle.rel_handler.specs.State.{IsSound}
 use Rattle.rel_handler.specs.declared.error.BootError.{BootError}
 use Rattle.rel_handler.specs.declared.error.BootError.TheVariants as boot
 use Rattle.rel_handler.proofs.Images.{first_record, while_creating}
-use Rattle.rel_handler.proofs.Making.{makes_not_bad}
-use Rattle.rel_handler.proofs.Standing.{settled_made}
+use Rattle.rel_handler.proofs.ListLemmas.{makes_not_bad}
+use Rattle.rel_handler.proofs.RecordPlaces.{settled_made}
 
 -- what was read from records is as it is behind a boot
 pub as_booted : (bodies : List (List ℕ)) (es : Releases) → Makes bodies es → booted es ≡ es

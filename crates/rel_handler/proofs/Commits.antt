@@ -28,7 +28,7 @@ use Rattle.rel_handler.specs.State.{disk_in, list_in, is_dead, end_in, IsSound}
 use Rattle.rel_handler.specs.Taking.{commanded}
 use Rattle.rel_handler.specs.declared.handler.Handler.{Handler}
 use Rattle.rel_handler.proofs.Images.{each_image, stored_before, while_unpacking, with_record}
-use Rattle.rel_handler.proofs.Unpacking.{with_it, unpacks}
+use Rattle.rel_handler.proofs.UnpackLemmas.{with_it, unpacks}
 
 -- what holds of a call that didn't fail
 pub opened : {T E : Type 0} (r : Result T E) (P : Type 0) → false ≡ is_err r → OnOk r P → P

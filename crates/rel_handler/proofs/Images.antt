@@ -22,8 +22,8 @@ use Rattle.rel_handler.specs.Records.{makes, adds, Spells, with_one_permanent, a
 use Rattle.rel_handler.specs.Taking.{allowed, commanded}
 use Rattle.rel_handler.specs.declared.error.HandlerError.TheVariants.{TooMany, Exists}
 use Rattle.rel_handler.proofs.Lists.{list_after-push}
-use Rattle.rel_handler.proofs.Making.{makes-push, makes_once}
-use Rattle.rel_handler.proofs.Unpacking.{unpacked_behind_a_boot, steps}
+use Rattle.rel_handler.proofs.ListLemmas.{makes-push, makes_once}
+use Rattle.rel_handler.proofs.UnpackLemmas.{unpacked_behind_a_boot, steps}
 
 -- where a store ends, by its base and its records
 ends_so : (bytes : List ℕ) (bodies : List (List ℕ)) (base : ℕ) → records_of bytes ≡ Ok bodies → base_of bytes ≡ base → end_of bytes ≡ (base + space bodies) + 1

@@ -1,9 +1,9 @@
 pub mod Lists
-pub mod Reading
+pub mod BodyLemmas
 pub mod Bodies
-pub mod Making
-pub mod Unpacking
-pub mod Standing
+pub mod ListLemmas
+pub mod UnpackLemmas
+pub mod RecordPlaces
 pub mod Progress
 pub mod Images
 pub mod Commits

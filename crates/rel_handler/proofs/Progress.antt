@@ -5,8 +5,8 @@ use Rattle.std.proofs.lemmas.List.{map_push, map-append, take_more, drop_more, t
 use Rattle.rel_list.specs.Releases.{Releases}
 use Rattle.rel_handler.specs.Limits.{has_one_permanent}
 use Rattle.rel_handler.specs.Records.{Record, Spells, assigned, MakesFrom, Makes, CannotStand, IsBadRecord, none_at_all, bad_after}
-use Rattle.rel_handler.proofs.Making.{makes-push}
-use Rattle.rel_handler.proofs.Standing.{one_behind}
+use Rattle.rel_handler.proofs.ListLemmas.{makes-push}
+use Rattle.rel_handler.proofs.RecordPlaces.{one_behind}
 
 abbrev pub bodies_in : List (Vec ℕ Global) → List (List ℕ)
 bodies_in records = map (λ (v : Vec ℕ Global). v.items) records

@@ -27,9 +27,12 @@ use std::alloc::Global;
 pub fn boot<D: Disk>(alloc: Global, disk: D) -> Result<Handler<D>, (BootError, D)>
     ensures sound { IfOk result (IsSound D.seen D.may_leave) }
     ensures works { IfOk result (λ handler. is_dead handler ≡ false) }
-    ensures same { MatchResult result (λ handler. D.seen (disk_in handler) ≡ D.seen disk) (λ e. (e.0 ≡ BootError.Device) ⊎ (D.seen e.1 ≡ D.seen disk)) }
-    ensures image { IfOk result (λ handler. IsImageOf (D.seen disk) (list_in handler) × (booted (list_in handler) ≡ list_in handler)) }
-    ensures acknowledged { IfOk result (λ handler. (c : List ℕ) → D.may_leave (disk_in handler) c → IsImageAt c (list_in handler) (end_in handler)) }
+    ensures same { MatchResult result (λ handler. D.seen (disk_in handler) ≡ D.seen disk)
+        (λ e. (e.0 ≡ BootError.Device) ⊎ (D.seen e.1 ≡ D.seen disk)) }
+    ensures image { IfOk result (λ handler. IsImageOf (D.seen disk) (list_in handler)
+        × (booted (list_in handler) ≡ list_in handler)) }
+    ensures acknowledged { IfOk result (λ handler. (c : List ℕ) → D.may_leave (disk_in handler) c
+        → IsImageAt c (list_in handler) (end_in handler)) }
     ensures end { IfOk result (λ handler. end_in handler ≡ end_of (D.seen disk)) }
 
     // A disk that stands for a list is booted to that list.
@@ -46,7 +49,8 @@ pub fn boot<D: Disk>(alloc: Global, disk: D) -> Result<Handler<D>, (BootError, D
     ensures synced { IsSynced D.seen D.may_leave D.moment D.left_since disk result }
 
     ensures counted { D.failures disk ≤ D.failures (disk_of result) }
-    ensures refused { IfErr result (λ e. BootRefused (D.seen disk) (D.failures disk) (D.failures e.1) e.0) }
+    ensures refused { IfErr result (λ e. BootRefused (D.seen disk) (D.failures disk)
+        (D.failures e.1) e.0) }
 {
     match Store::open_disk(alloc, disk) {
         Ok(store) => match read_list(alloc, store.records()) {
@@ -64,7 +68,9 @@ pub fn boot<D: Disk>(alloc: Global, disk: D) -> Result<Handler<D>, (BootError, D
 // The list that these records make.
 fn read_list(alloc: Global, records: &[Vec<u8>]) -> Result<ReleaseList, BootError>
     ensures made { IfOk result (Makes (map (λ v. v.items) records.now)) }
-    ensures bad { IfErr result (λ e. (e ≡ BootError.NoMemory) ⊎ ((i : ℕ) × (e ≡ BootError.BadRecord i) × IsBadRecord (map (λ v. v.items) records.now) i)) }
+    ensures bad { IfErr result (λ e. (e ≡ BootError.NoMemory)
+        ⊎ ((i : ℕ) × (e ≡ BootError.BadRecord i)
+        × IsBadRecord (map (λ v. v.items) records.now) i)) }
 {
     let mut list = ReleaseList::new(alloc);
     for (i, body) in records.iter().enumerate() {

@@ -38,17 +38,27 @@ impl<D: Disk> Handler<D> {
         ensures sound { IfOk result (IsSound D.seen D.may_leave) }
         ensures works { IfOk result (λ handler. is_dead handler ≡ false) }
         ensures small { OnOk result (is_small (release_of file.release) ≡ true) }
-        ensures list { IfOk result (λ handler. list_in handler ≡ entry (release_of file.release) Permanent ∷ []) }
-        ensures acknowledged { IfOk result (λ handler. (c : List ℕ) → D.may_leave (disk_in handler) c → IsImageAt c (list_in handler) (end_in handler)) }
-        ensures start { IfOk result (λ handler. start_in D.seen handler ≡ slot_with (start_text (release_of file.release))) }
-        ensures fits { OnOk result (Fits 289 (length (body_of (word_of (makes (release_of file.release))) (value_of file.term)))) }
-        ensures end { IfOk result (λ handler. end_in handler ≡ 289 + (5 + length (body_of (word_of (makes (release_of file.release))) (value_of file.term)))) }
+        ensures list { IfOk result (λ handler. list_in handler
+            ≡ entry (release_of file.release) Permanent ∷ []) }
+        ensures acknowledged { IfOk result (λ handler. (c : List ℕ)
+            → D.may_leave (disk_in handler) c → IsImageAt c (list_in handler) (end_in handler)) }
+        ensures start { IfOk result (λ handler. start_in D.seen handler
+            ≡ slot_with (start_text (release_of file.release))) }
+        ensures fits { OnOk result (Fits 289
+            (length (body_of (word_of (makes (release_of file.release))) (value_of file.term)))) }
+        ensures end { IfOk result (λ handler. end_in handler ≡ 289
+            + (5 + length (body_of (word_of (makes (release_of file.release)))
+            (value_of file.term)))) }
 
         // A crash at any moment from the first sync on leaves no store, or one that stands for the list with the release.
-        ensures any_moment { Begins D.seen D.may_leave D.moment D.left_since (doubted [] (made (release_of file.release))) disk (disk_of result) }
-        ensures begun { OnOk result ((at : D) × BeginsAt D.seen D.may_leave D.moment D.left_since (doubted [] (made (release_of file.release))) disk (disk_of result) at) }
+        ensures any_moment { Begins D.seen D.may_leave D.moment D.left_since
+            (doubted [] (made (release_of file.release))) disk (disk_of result) }
+        ensures begun { OnOk result ((at : D)
+            × BeginsAt D.seen D.may_leave D.moment D.left_since
+            (doubted [] (made (release_of file.release))) disk (disk_of result) at) }
 
-        ensures taken { has_magic (D.seen disk) ≡ true → IfErr result (λ e. IsUnwritten D.seen D.may_leave D.moment D.left_since disk e.1) × IsErr result }
+        ensures taken { has_magic (D.seen disk) ≡ true → IfErr result
+            (λ e. IsUnwritten D.seen D.may_leave D.moment D.left_since disk e.1) × IsErr result }
         ensures counted { D.failures disk ≤ D.failures (disk_of result) }
         ensures refused { IfErr result (λ e. CreateRefused (D.seen disk) (release_of file.release)
             (length (body_of (word_of (makes (release_of file.release))) (value_of file.term))) (D.failures disk) (D.failures e.1)
@@ -84,10 +94,14 @@ impl NewNode {
     // All of it, or nothing where memory is refused.
     fn of(alloc: Global, file: RelFile) -> Result<NewNode, AllocError>
         requires { IsRelFile file }
-        ensures body { IfOk result (λ new. string_bytes new.body ≡ body_of (codes "made") (value_of file.term)) }
-        ensures read_back { IfOk result (λ new. HasTerm 72 (string_bytes new.body) (record_term (codes "made") (value_of file.term))) }
-        ensures start { IfOk result (λ new. string_bytes new.start ≡ start_text (release_of file.release)) }
-        ensures list { IfOk result (λ new. new.list ≡ entry (release_of file.release) Permanent ∷ []) }
+        ensures body { IfOk result (λ new. string_bytes new.body
+            ≡ body_of (codes "made") (value_of file.term)) }
+        ensures read_back { IfOk result (λ new. HasTerm 72 (string_bytes new.body)
+            (record_term (codes "made") (value_of file.term))) }
+        ensures start { IfOk result (λ new. string_bytes new.start
+            ≡ start_text (release_of file.release)) }
+        ensures list { IfOk result (λ new.
+            new.list ≡ entry (release_of file.release) Permanent ∷ []) }
     {
         let start = start_text(alloc, &file.release)?;
         let body = spell(alloc, MADE, file.term)?;

@@ -54,7 +54,9 @@ impl<D: Disk> Handler<D> {
 
     /// The releases of the node, in order of coming.
     pub fn which_releases(&self) -> Result<&ReleaseList, HandlerError>
-        ensures { MatchResult result (λ list. (is_dead self.now ≡ false) × (list.now ≡ list_in self.now)) (λ e. (e ≡ HandlerError.Dead) × (is_dead self.now ≡ true)) }
+        ensures { MatchResult result (λ list. (is_dead self.now ≡ false)
+            × (list.now ≡ list_in self.now))
+            (λ e. (e ≡ HandlerError.Dead) × (is_dead self.now ≡ true)) }
     {
         if self.dead {
             Err(HandlerError::Dead)
@@ -75,21 +77,28 @@ impl<D: Disk> Handler<D> {
         requires file { IsRelFile file }
         ensures sound { IsSound D.seen D.may_leave self.new }
         ensures works { OnOk result (is_dead self.new ≡ false) }
-        ensures accepted { OnOk result (commanded (unpacked (release_of file.release)) (list_in self.old) ≡ Ok (list_in self.new)) }
-        ensures acknowledged { OnOk result ((c : List ℕ) → D.may_leave (disk_in self.new) c → IsImageAt c (list_in self.new) (end_in self.new)) }
+        ensures accepted { OnOk result (commanded (unpacked (release_of file.release))
+            (list_in self.old) ≡ Ok (list_in self.new)) }
+        ensures acknowledged { OnOk result ((c : List ℕ) → D.may_leave (disk_in self.new) c
+            → IsImageAt c (list_in self.new) (end_in self.new)) }
         ensures start { OnOk result (start_in D.seen self.new ≡ start_in D.seen self.old) }
-        ensures fits { OnOk result (Fits (end_in self.old) (length (body_of (word_of (adds (release_of file.release))) (value_of file.term)))) }
-        ensures end { OnOk result (end_in self.new ≡ end_in self.old + (5 + length (body_of (word_of (adds (release_of file.release))) (value_of file.term)))) }
+        ensures fits { OnOk result (Fits (end_in self.old)
+            (length (body_of (word_of (adds (release_of file.release))) (value_of file.term)))) }
+        ensures end { OnOk result (end_in self.new ≡ end_in self.old
+            + (5 + length (body_of (word_of (adds (release_of file.release)))
+            (value_of file.term)))) }
 
         // Whatever the events so far, a crash at any moment of the call leaves the store of their list, or of the list with
         // this one, which is in doubt.
-        ensures any_moment { is_dead self.old ≡ false → (events : Events) → list_after events ≡ Some (list_in self.old)
+        ensures any_moment { is_dead self.old ≡ false
+            → (events : Events) → list_after events ≡ Some (list_in self.old)
             → LeavesOnly D.moment D.left_since (disk_in self.old) (disk_in self.new)
             (IsStoredAs (uncertain events (end_in self.old) (unpacked (release_of file.release))
             (length (body_of (word_of (adds (release_of file.release))) (value_of file.term))))) }
 
         ensures counted { D.failures (disk_in self.old) ≤ D.failures (disk_in self.new) }
-        ensures refused { IfErr result (CommandRefused D.failures (unpacked (release_of file.release))
+        ensures refused { IfErr result (CommandRefused D.failures
+            (unpacked (release_of file.release))
             (length (body_of (word_of (adds (release_of file.release))) (value_of file.term))) self.old self.new) }
     {
         if self.dead {

@@ -78,7 +78,8 @@ fn record_term(alloc: Global, word: &str, rel: Term) -> Result<Term, AllocError>
 pub(crate) fn spell(alloc: Global, word: &str, rel: Term) -> Result<String, AllocError>
     requires { IsWithin 72 (record_term word.now (value_of rel)) }
     ensures printed { IfOk result (λ body. string_bytes body ≡ body_of word.now (value_of rel)) }
-    ensures read_back { IfOk result (λ body. HasTerm 72 (string_bytes body) (record_term word.now (value_of rel))) }
+    ensures read_back { IfOk result (λ body. HasTerm 72 (string_bytes body)
+        (record_term word.now (value_of rel))) }
 {
     let term = record_term(alloc, word, rel)?;
     let mut body = print(alloc, &term)?;
@@ -87,7 +88,9 @@ pub(crate) fn spell(alloc: Global, word: &str, rel: Term) -> Result<String, Allo
 }
 
 fn four_in(term: &Term) -> Option<(&Term, &Term, &Term, &Term)>
-    ensures { option_map (λ p. (value_of p.0.now, value_of p.1.now, value_of p.2.now, value_of p.3.now)) result ≡ four_in (value_of term.now) }
+    ensures { option_map
+        (λ p. (value_of p.0.now, value_of p.1.now, value_of p.2.now, value_of p.3.now)) result
+        ≡ four_in (value_of term.now) }
 {
     let Term::Tuple(members) = term else {
         return None;
@@ -197,7 +200,8 @@ pub(crate) fn take_record(
     body: &[u8],
 ) -> Result<(), RecordFault>
     requires { (list.old ≡ []) ⊎ (has_one_permanent list.old ≡ true) }
-    ensures taken { OnOk result ((r : Record) × Spells body.now r × (assigned r list.old ≡ Some list.new)) }
+    ensures taken { OnOk result ((r : Record) × Spells body.now r
+        × (assigned r list.old ≡ Some list.new)) }
     ensures bad { IsErrOf result RecordFault.Bad → CannotStand body.now list.old }
 {
     match event_in(alloc, body) {

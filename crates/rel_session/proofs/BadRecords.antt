@@ -36,9 +36,9 @@ use Rattle.rel_handler.specs.Image.{IsImageOf}
 use Rattle.rel_handler.specs.Parts.{parts_in, name_in, is_empty_list}
 use Rattle.rel_handler.specs.Records.{Record, makes, adds, record_term, word_of, release_in as release_of_record, Spells, assigned, MakesFrom, Makes, IsBadRecord, none_at_all, bad_after}
 use Rattle.rel_handler.proofs.Boots.{image_so}
-use Rattle.rel_handler.proofs.Making.{makes-push, cannot_stand}
-use Rattle.rel_handler.proofs.Reading.{one_term, one_word, one_rel}
-use Rattle.rel_handler.proofs.Standing.{one_behind}
+use Rattle.rel_handler.proofs.ListLemmas.{makes-push, cannot_stand}
+use Rattle.rel_handler.proofs.BodyLemmas.{one_term, one_word, one_rel}
+use Rattle.rel_handler.proofs.RecordPlaces.{one_behind}
 use Rattle.rel_session.specs.Transition.{IsBootRefusal}
 
 -- A term says a release, or none.

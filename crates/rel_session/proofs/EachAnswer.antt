@@ -20,7 +20,7 @@ use Rattle.rel_handler.specs.Image.{IsImageOf}
 use Rattle.rel_handler.specs.Records.{body_of}
 use Rattle.rel_handler.specs.Taking.{commanded}
 use Rattle.rel_handler.proofs.Lists.{list_after-push}
-use Rattle.rel_handler.proofs.Unpacking.{steps}
+use Rattle.rel_handler.proofs.UnpackLemmas.{steps}
 use Rattle.rel_session.specs.Commands.{Command, File}
 use Rattle.rel_session.specs.Commands.Command.{file, create, set_unpacked, boot, releases, quit, bad}
 use Rattle.rel_session.specs.Commands.File.{bytes, too_large}
@@ -35,7 +35,7 @@ use Rattle.rel_session.specs.AnswerLaws.{IsCertain, HasList, HasAnswer, EachHasA
 use Rattle.rel_session.specs.Transition
 use Rattle.rel_session.proofs.BadRecords.{boots_or_not}
 use Rattle.rel_session.proofs.Histories.{events_of_image}
-use Rattle.rel_session.proofs.Looping.{replies_next}
+use Rattle.rel_session.proofs.LoopLemmas.{replies_next}
 
 -- Each path has a release or a refusal.
 each_found : (path : List ℕ) (f : Option File) → (found : Result Found Refusal) × IsFound path f found

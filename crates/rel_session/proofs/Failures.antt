@@ -20,7 +20,7 @@ use Rattle.rel_session.specs.Refusals.Refusal.{device}
 use Rattle.rel_session.specs.Run.{Leads}
 use Rattle.rel_session.specs.AnswerLaws.{FailsOnlyWithTheDevice, TellsDoubt}
 use Rattle.rel_session.specs.Transition
-use Rattle.rel_session.proofs.Lasting.{first_answered}
+use Rattle.rel_session.proofs.AcknowledgedEvents.{first_answered}
 
 -- Nothing is in doubt, or the device failed and that is told.
 abbrev IsPlain : Reply → Type 0

@@ -18,8 +18,8 @@ use Rattle.rel_handler.specs.Image.{IsImageOf}
 use Rattle.rel_handler.specs.Records.{Makes, body_of}
 use Rattle.rel_handler.specs.Taking.{commanded}
 use Rattle.rel_handler.proofs.Images.{booted_image}
-use Rattle.rel_handler.proofs.Making.{makes_not_bad}
-use Rattle.rel_handler.proofs.Reading.{one_term}
+use Rattle.rel_handler.proofs.ListLemmas.{makes_not_bad}
+use Rattle.rel_handler.proofs.BodyLemmas.{one_term}
 use Rattle.rel_session.specs.Commands.{Command, File}
 use Rattle.rel_session.specs.Commands.Command.{file, create, set_unpacked, boot, releases, quit, bad}
 use Rattle.rel_session.specs.Commands.File.{bytes, too_large}
@@ -35,7 +35,7 @@ use Rattle.rel_session.specs.Run.Ending.{ended, cut_off, early}
 use Rattle.rel_session.specs.AnswerLaws.{IsCertain, AreSame, HaveOneAnswer}
 use Rattle.rel_session.specs.RunLaws.{NoneFails}
 use Rattle.rel_session.specs.Transition
-use Rattle.rel_session.proofs.Lasting.{next_answered, none_left}
+use Rattle.rel_session.proofs.AcknowledgedEvents.{next_answered, none_left}
 
 -- A file says one thing.
 one_saying : (bs : List ℕ) (a b : Result Found Fault) → Says bs a → Says bs b → a ≡ b

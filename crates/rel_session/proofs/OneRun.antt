@@ -9,9 +9,9 @@ use Rattle.rel_session.specs.Node.{Place, Reply}
 use Rattle.rel_session.specs.Run.{Replies, Ending, answers_of}
 use Rattle.rel_session.specs.Run.Ending.{early}
 use Rattle.rel_session.specs.AnswerLaws.{HaveLinePaths, HasVersionsAt, AreSame, TellsOneRun}
-use Rattle.rel_session.proofs.Lasting.{next_answered, none_left}
+use Rattle.rel_session.proofs.AcknowledgedEvents.{next_answered, none_left}
 use Rattle.rel_session.proofs.OneAnswer.{ends, one_end, never_goes_on}
-use Rattle.rel_session.proofs.Telling.{Effect, kind_of, one_effect}
+use Rattle.rel_session.proofs.AnswerEvents.{Effect, kind_of, one_effect}
 use Rattle.rel_session.proofs.Versions.{HasLinePath, each_good}
 use Rattle.rel_session.proofs.Whole.{one_front}
 

@@ -33,7 +33,7 @@ use Rattle.rel_store.specs.State.{Fits}
 use Rattle.rel_store.specs.Creation.{IsUnwritten}
 use Rattle.rel_handler.specs.Events.{doubted}
 use Rattle.rel_handler.specs.Records.{body_of}
-use Rattle.rel_handler.proofs.Unpacking.{steps}
+use Rattle.rel_handler.proofs.UnpackLemmas.{steps}
 use Rattle.rel_list.specs.declared.status.Status.TheVariants.{Permanent}
 use Rattle.rel_session.proofs.Prefixes.{has_a_store}
 use Rattle.rel_session.specs.Device.{Device, LeavesOnly, HasFailed}

@@ -27,13 +27,16 @@ pub fn session<D: Disk, R: Read + Drop, W: Write + Drop>(
     // The session is a run of transitions over the commands of its input, from the disk that it took to the one that it
     // hands back. What it wrote are the answers: all of them at the end of the input or at `quit`, and where more of the
     // input was needed than may be taken.
-    ensures ended { OnOk result.1 (IsSession D.Disk ended (left_in R.remaining input.old) disk result.0
+    ensures ended { OnOk result.1 (IsSession D.Disk ended
+        (left_in R.remaining input.old) disk result.0
         (held_by W.contents output.old) (held_by W.contents output.new)) }
-    ensures cut { IsErrOf result.1 SessionError.Limit → IsSession D.Disk cut_off (left_in R.remaining input.old) disk result.0
+    ensures cut { IsErrOf result.1 SessionError.Limit
+        → IsSession D.Disk cut_off (left_in R.remaining input.old) disk result.0
         (held_by W.contents output.old) (held_by W.contents output.new) }
 
     // After any error it is such a run up to some command, whose answer may not be written whole.
-    ensures broken { OnErr result.1 (IsSession D.Disk early (left_in R.remaining input.old) disk result.0
+    ensures broken { OnErr result.1 (IsSession D.Disk early
+        (left_in R.remaining input.old) disk result.0
         (held_by W.contents output.old) (held_by W.contents output.new)) }
 
     // Each error but want of memory has its cause in this call.

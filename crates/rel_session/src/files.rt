@@ -51,10 +51,12 @@ impl Files {
 
     /// The release in the file of this path.
     pub fn release(&self, alloc: Global, path: &str) -> Result<RelFile, Refusal>
-        ensures found { IfOk result (λ file. IsFound path.now (files_of self.now path.now) (Ok (found_of file))) }
+        ensures found { IfOk result (λ file. IsFound path.now (files_of self.now path.now)
+            (Ok (found_of file))) }
         ensures file { IfOk result IsRelFile }
         ensures small { IfOk result (λ file. is_small (release_of file.release) ≡ true) }
-        ensures refused { IfErr result (λ r. r ≢ Refusal.NoMemory → IsFound path.now (files_of self.now path.now) (Err (refusal_of r))) }
+        ensures refused { IfErr result (λ r. r ≢ Refusal.NoMemory
+            → IsFound path.now (files_of self.now path.now) (Err (refusal_of r))) }
     {
         match self.given.get(path) {
             Some(GivenFile::Bytes(bytes)) => release_in(alloc, path, bytes),
@@ -66,10 +68,12 @@ impl Files {
 
 /// The release in the bytes of a `.rel` file.
 fn release_in(alloc: Global, path: &str, bytes: &[u8]) -> Result<RelFile, Refusal>
-    ensures found { IfOk result (λ file. IsFound path.now (Some (kept bytes.now)) (Ok (found_of file))) }
+    ensures found { IfOk result (λ file. IsFound path.now (Some (kept bytes.now))
+        (Ok (found_of file))) }
     ensures file { IfOk result IsRelFile }
     ensures small { IfOk result (λ file. is_small (release_of file.release) ≡ true) }
-    ensures refused { IfErr result (λ r. r ≢ Refusal.NoMemory → IsFound path.now (Some (kept bytes.now)) (Err (refusal_of r))) }
+    ensures refused { IfErr result (λ r. r ≢ Refusal.NoMemory
+        → IsFound path.now (Some (kept bytes.now)) (Err (refusal_of r))) }
 {
     match read_rel_file(alloc, bytes) {
         Ok(file) if file.release.apps.as_slice().len() <= MOST_APPLICATIONS => Ok(file),

@@ -1,17 +1,18 @@
 //! A session of a node: the commands of an input are followed on a disk, and their answers are written.
 //!
-//! What [`session`] writes is a stated function of the list that its disk stands for and of what it reads:
-//! `IsAnswer` in `specs/Answers.antt` says what it is, command by command, and the functions of [`laws`] that
-//! no input has two answers. As far as the device doesn't fail, a session that answers `Ok` has written that
-//! and nothing else, or has reported that the store is full; one that gives up has written a prefix of it. It
-//! reports a failed read, a failed write and an input that is too long only where one was. It takes at most
-//! 16,777,216 bytes of its input, and each answer is written once its command was read.
+//! The contract of [`session`] is one statement, `IsSession`: the session is a run of transitions over the commands of
+//! its input. Four files tell it, in this order:
+//! - specs/Node: where a disk stands, and what a reply is: an answer, the events that it acknowledges, at most one event
+//!   in doubt, and where the disk stands then;
+//! - specs/Transition: the replies to each command, from each place;
+//! - specs/Run: how replies lead a disk from place to place, and what a crash leaves at each moment: the list of a prefix
+//!   of the events so far that holds every acknowledged one;
+//! - specs/Ended: what is written, and how a session ends.
 //!
-//! At each moment of a session a crash leaves its disk with every event that an answer has acknowledged, where the
-//! device fails too: `Runs` and `TellsAll` in `specs/Runs.antt` say how, and the laws what follows for whole runs.
+//! A failed read, a failed write and an input that is too long are reported only where one was. At most 16,777,216 bytes
+//! of the input are taken, and each answer is written once its command was read.
 //!
-//! A command is added by a clause of `said_in` (what is typed), one of `Follows` (what it answers), a
-//! variant of `Command` and a function of `Node`.
+//! The functions of [`laws`] say what follows for whole runs. docs/ARCHITECTURE.md tells what a further command takes.
 #![tactic(auto)]
 
 mod ahead;

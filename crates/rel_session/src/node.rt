@@ -82,7 +82,8 @@ impl<D: Disk> Node<D> {
         file: GivenFile,
     ) -> (Node<D>, Result<Option<String>, SessionError>)
         ensures place { result.0.place ≡ self.place }
-        ensures followed { Follows D.Disk (file_given (string_bytes path) (given_of file)) result.1 self result.0 }
+        ensures followed { Follows D.Disk
+            (file_given (string_bytes path) (given_of file)) result.1 self result.0 }
         ensures memory { IfErr result.1 (λ e. e ≡ SessionError.NoMemory) }
     {
         let Node { place, mut files } = self;
@@ -178,7 +179,8 @@ fn unpack<D: Disk>(
 ) -> Result<String, Refusal>
     requires { IsSound D.seen D.may_leave handler.old }
     ensures sound { IsSound D.seen D.may_leave handler.new }
-    ensures unpacked { Answers D.Disk (λ p a. SetsUnpacked (files_of files.now) path.now p a) result (Made handler.old) (Made handler.new) }
+    ensures unpacked { Answers D.Disk (λ p a. SetsUnpacked (files_of files.now) path.now p a) result
+        (Made handler.old) (Made handler.new) }
 {
     if handler.is_dead() {
         return Err(Refusal::Dead);

@@ -77,7 +77,8 @@ impl<D: Disk> Place<D> {
 
     /// The lines that list the releases.
     pub fn releases(&self, alloc: Global) -> Result<String, AllocError>
-        ensures { IfOk result (λ text. (p : SomePlace) → IsAt D.Disk self.now p → string_bytes text ≡ listed p) }
+        ensures { IfOk result (λ text.
+            (p : SomePlace) → IsAt D.Disk self.now p → string_bytes text ≡ listed p) }
     {
         let Place::Made(handler) = self else {
             return Refusal::Dead.line(alloc);
@@ -92,7 +93,8 @@ impl<D: Disk> Place<D> {
 /// The line that tells of a node that was booted: the version of the release that runs.
 fn booted_line<D: Disk>(alloc: Global, handler: &Handler<D>) -> Result<String, AllocError>
     requires { is_dead handler.now ≡ false }
-    ensures { IfOk result (λ text. string_bytes text ≡ ok_line (version_of (running (list_in handler.now)))) }
+    ensures { IfOk result (λ text. string_bytes text
+        ≡ ok_line (version_of (running (list_in handler.now)))) }
 {
     let Ok(list) = handler.which_releases() else {
         unreachable!();

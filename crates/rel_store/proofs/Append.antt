@@ -7,7 +7,7 @@ use Rattle.rel_disk.specs.Damage.{overwritten, Torn, Only}
 use Rattle.rel_store.specs.Layout.{base_of}
 use Rattle.rel_store.specs.Moments.{IsTornFrom}
 use Rattle.rel_store.specs.Records.{record_bytes, Stands, StandsEither, space}
-use Rattle.rel_store.proofs.Reading.{length-record}
+use Rattle.rel_store.proofs.ReadLemmas.{length-record}
 use Rattle.rel_store.proofs.Whole.{Head, Split, split, stands, grown}
 
 -- one byte, any

@@ -4,7 +4,7 @@ pub mod Moments
 pub mod NewStore
 pub mod OnlyReads
 pub mod Ownership
-pub mod Reading
+pub mod ReadLemmas
 pub mod Scan
 pub mod Slots
 pub mod Spelled

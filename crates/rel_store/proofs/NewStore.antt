@@ -16,7 +16,7 @@ use Rattle.rel_store.specs.declared.error.StoreError.TheVariants.{NotAStore, Dam
 use Rattle.rel_store.specs.Changed.{IsInNewStore}
 use Rattle.rel_store.proofs.Append.{one}
 use Rattle.rel_store.proofs.Ownership.{Owns, one_write, two_writes}
-use Rattle.rel_store.proofs.Reading.{length-record}
+use Rattle.rel_store.proofs.ReadLemmas.{length-record}
 use Rattle.rel_store.proofs.Whole.{Head, readable, stands, grown}
 
 -- bytes that begin with a closed gate are no store

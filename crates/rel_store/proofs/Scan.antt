@@ -12,7 +12,7 @@ use Rattle.rel_store.specs.Layout.{base_of}
 use Rattle.rel_store.specs.Records.{told_length, told_body, is_whole, onto, records_from, space}
 use Rattle.rel_store.specs.declared.error.StoreError.{StoreError}
 use Rattle.rel_store.specs.declared.error.StoreError.TheVariants.{NotAStore, Damaged, Exists, Full, Device, NoMemory, MustReopen}
-use Rattle.rel_store.proofs.Reading.{onto_all, onto_all-push, onto_all-none, closed, more}
+use Rattle.rel_store.proofs.ReadLemmas.{onto_all, onto_all-push, onto_all-none, closed, more}
 use Rattle.rel_store.proofs.Whole.{Sound, readable}
 
 -- the bodies that vectors hold

@@ -10,7 +10,7 @@ use Rattle.rel_store.specs.Layout.{magic, part, selected, start_slot, base_slot,
 use Rattle.rel_store.specs.Moments.{IsTornFrom}
 use Rattle.rel_store.specs.Records.{records_from, records_of, Stands, StandsWithEither}
 use Rattle.rel_store.proofs.Append.{one}
-use Rattle.rel_store.proofs.Reading.{onto_all-none, onto_all, closed, held}
+use Rattle.rel_store.proofs.ReadLemmas.{onto_all-none, onto_all, closed, held}
 use Rattle.rel_store.proofs.Whole.{readable, sound, part-same, index-same, selected-le}
 
 -- These bytes are others with n of them written over at this place, and a tail.

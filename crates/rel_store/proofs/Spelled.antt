@@ -8,7 +8,7 @@ use Rattle.std.proofs.lemmas.Slice.Eq.{bytes_eq-Decides}
 use Rattle.rel_store.specs.Layout.{magic, base_of}
 use Rattle.rel_store.specs.Records.{record_bytes, records_bytes, onto, told_length, told_body, records_from, records_of}
 use Rattle.rel_store.specs.Spelled.{AreShort, IsSpelled, AreBytes}
-use Rattle.rel_store.proofs.Reading.{closed, read-record, opened}
+use Rattle.rel_store.proofs.ReadLemmas.{closed, read-record, opened}
 use Rattle.rel_store.proofs.Whole.{readable, sound}
 
 -- records that are spelled are read

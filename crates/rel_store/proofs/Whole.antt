@@ -8,7 +8,7 @@ use Rattle.std.proofs.lemmas.List.{drop_at, length-take-le, take-append-le, take
 use Rattle.rel_store.specs.Layout.{magic, part, has_magic, selected, start_slot, text_of, base_slot, base_of}
 use Rattle.rel_store.specs.Records.{record_bytes, records_from, records_of, Stands, space}
 use Rattle.rel_store.specs.declared.error.StoreError.TheVariants.{NotAStore, Damaged}
-use Rattle.rel_store.proofs.Reading.{onto_all, onto_all-push, onto_all-none, closed, read-record, length-record, held}
+use Rattle.rel_store.proofs.ReadLemmas.{onto_all, onto_all-push, onto_all-none, closed, read-record, length-record, held}
 
 -- an open store whose base is within it
 pub record Sound (bytes : List ℕ) : Type 0 where

@@ -4,7 +4,7 @@ use Rattle.std.proofs.lemmas.List.{map-id}
 use Rattle.std.proofs.lemmas.Iterator.{YieldsList-from_chars}
 use Rattle.std.proofs.lemmas.Iterator.Consumers.{YieldsList-end, YieldsList-turn}
 use Rattle.erl_reader.specs.Views.{IsAdded}
-use Rattle.erl_reader.proofs.Parsing.{bytes_of-but}
+use Rattle.erl_reader.proofs.ParserLemmas.{bytes_of-but}
 use Rattle.erl_reader.proofs.TextCharacters.{no_byte}
 use Rattle.erl_reader.proofs.character.push_part.Goals as goal
 

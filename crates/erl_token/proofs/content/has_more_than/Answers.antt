@@ -1,4 +1,4 @@
-use Rattle.erl_token.proofs.Naming.{few_bytes}
+use Rattle.erl_token.proofs.NameLemmas.{few_bytes}
 use Rattle.erl_token.proofs.content.has_more_than.Goals as goal
 
 pub returns-else-part-limit : goal.returns-else-part-limit

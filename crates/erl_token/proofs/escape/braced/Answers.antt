@@ -1,7 +1,7 @@
 use Rattle.std.proofs.Common.{◌≡◌, ◌+◌, ◌-◌, Some, slice_get, ◌∙◌, sym, arith, rules}
 use Rattle.erl_token.specs.Views.{text_bytes}
 use Rattle.erl_token.specs.Scanned.{byte_in}
-use Rattle.erl_token.proofs.Escaping.{hex_here, braced_end, braced_closed, braced_other, braced_empty}
+use Rattle.erl_token.proofs.EscapeLemmas.{hex_here, braced_end, braced_closed, braced_other, braced_empty}
 use Rattle.erl_token.proofs.escape.braced.Goals as goal
 
 pub returns-in-Some-eq125-clause-is : goal.returns-in-Some-eq125-clause-is

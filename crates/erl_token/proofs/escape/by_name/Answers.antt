@@ -3,7 +3,7 @@ use Rattle.std.proofs.lemmas.Option.{get_or_from_slice_get}
 use Rattle.erl_token.specs.Escapes.{letter_character, by_name}
 use Rattle.erl_token.specs.Views.{text_bytes}
 use Rattle.erl_token.proofs.DigitRows.{slice_get_byte}
-use Rattle.erl_token.proofs.Escaping.{named_small}
+use Rattle.erl_token.proofs.EscapeLemmas.{named_small}
 use Rattle.erl_token.proofs.escape.by_name.Goals as goal
 
 pub returns-in-Some-clause-ends : goal.returns-in-Some-clause-ends

@@ -1,6 +1,6 @@
 use Rattle.std.proofs.Common.{◌+◌, ◌-◌, sym, arith, rules}
 use Rattle.erl_token.specs.Views.{text_bytes}
-use Rattle.erl_token.proofs.Escaping.{caret_end, caret_letter, caret_other}
+use Rattle.erl_token.proofs.EscapeLemmas.{caret_end, caret_letter, caret_other}
 use Rattle.erl_token.proofs.escape.caret.Goals as goal
 
 pub returns-in_default-clause-is : goal.returns-in_default-clause-is

@@ -1,6 +1,6 @@
 use Rattle.std.proofs.Common.{◌∙◌, sym}
 use Rattle.erl_token.specs.Views.{text_bytes}
-use Rattle.erl_token.proofs.Escaping.{escape_end, escape_hexadecimal, escape_caret, escape_name}
+use Rattle.erl_token.proofs.EscapeLemmas.{escape_end, escape_hexadecimal, escape_caret, escape_name}
 use Rattle.erl_token.proofs.escape.escape_at.Goals as goal
 
 pub returns-in-Some-eq120-clause-is : goal.returns-in-Some-eq120-clause-is

@@ -1,6 +1,6 @@
 use Rattle.std.proofs.Common.{◌∙◌, sym, rules}
 use Rattle.erl_token.specs.Views.{text_bytes}
-use Rattle.erl_token.proofs.Escaping.{hexadecimal_end, hexadecimal_brace, hexadecimal_pair, hexadecimal_other}
+use Rattle.erl_token.proofs.EscapeLemmas.{hexadecimal_end, hexadecimal_brace, hexadecimal_pair, hexadecimal_other}
 use Rattle.erl_token.proofs.escape.hexadecimal.Goals as goal
 
 pub returns-in-Some-eq123-clause-is : goal.returns-in-Some-eq123-clause-is

@@ -1,6 +1,6 @@
 use Rattle.std.proofs.Common.{◌∙◌, ◌+◌, ◌-◌, ◌*◌, sym, arith}
 use Rattle.erl_token.specs.Views.{text_bytes}
-use Rattle.erl_token.proofs.Escaping.{octal_one, octal_two, octal_three}
+use Rattle.erl_token.proofs.EscapeLemmas.{octal_one, octal_two, octal_three}
 use Rattle.erl_token.proofs.escape.octal.Goals as goal
 
 pub returns-in_default-clause-is : goal.returns-in_default-clause-is

@@ -1,6 +1,6 @@
 use Rattle.std.proofs.Common.{◌+◌, ◌-◌, get_or, sym, arith, rules}
 use Rattle.erl_token.specs.Views.{text_bytes}
-use Rattle.erl_token.proofs.Escaping.{paired_end, paired_digit, paired_other}
+use Rattle.erl_token.proofs.EscapeLemmas.{paired_end, paired_digit, paired_other}
 use Rattle.erl_token.proofs.escape.paired.Goals as goal
 
 pub returns-in_default-clause-is : goal.returns-in_default-clause-is

@@ -1,4 +1,4 @@
-use Rattle.erl_token.proofs.Tiling.{items_tile}
+use Rattle.erl_token.proofs.TilingLemmas.{items_tile}
 use Rattle.erl_token.proofs.laws.items_tile_a_text.Goals as goal
 
 pub returns : goal.returns

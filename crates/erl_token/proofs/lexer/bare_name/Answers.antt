@@ -2,7 +2,7 @@ use Rattle.std.proofs.Common.{◌≡◌, sym, ◌∙◌, true, false}
 use Rattle.std.specs.Prelude.{codes}
 use Rattle.std.specs.Str.{bytes_eq}
 use Rattle.erl_token.proofs.Parts.{name_run, name_ends, name_part, name_size}
-use Rattle.erl_token.proofs.Naming.{bare_fun, bare_named}
+use Rattle.erl_token.proofs.NameLemmas.{bare_fun, bare_named}
 use Rattle.erl_token.proofs.lexer.bare_name.Goals as goal
 
 pub part-name-requires-clause-ends : goal.part-name-requires-clause-ends

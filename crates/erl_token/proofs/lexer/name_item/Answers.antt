@@ -1,7 +1,7 @@
 use Rattle.std.proofs.Common.{◌≡◌, ◌∙◌, nat_lt, true, false, length, sym}
 use Rattle.std.specs.Str.{chars}
 use Rattle.erl_token.specs.Contents.{content_bytes}
-use Rattle.erl_token.proofs.Naming.{named_long, named_short}
+use Rattle.erl_token.proofs.NameLemmas.{named_long, named_short}
 use Rattle.erl_token.proofs.lexer.name_item.Goals as goal
 
 pub returns-then-is_longer_than : goal.returns-then-is_longer_than

@@ -5,7 +5,7 @@ use Rattle.erl_token.specs.Views.{text_bytes, items_from, item_value, token_valu
 use Rattle.erl_token.specs.declared.token.Token.{Token}
 use Rattle.erl_token.specs.declared.class.Class.TheVariants.{Other}
 use Rattle.erl_token.proofs.Lexemes.{no_item}
-use Rattle.erl_token.proofs.Joining.{is_whole_text, put_item-other, no_whole_text, first_item}
+use Rattle.erl_token.proofs.JoinLemmas.{is_whole_text, put_item-other, no_whole_text, first_item}
 use Rattle.erl_token.proofs.lexer.next_item.Goals as goal
 
 pub returns-in-End : goal.returns-in-End

@@ -2,7 +2,7 @@ use Rattle.std.proofs.Common.{◌-◌, length}
 use Rattle.std.specs.Str.{IsCharBoundary}
 use Rattle.erl_token.specs.Views.{text_bytes}
 use Rattle.erl_token.specs.Contents.{content_bytes}
-use Rattle.erl_token.proofs.Quoting.{IsRead}
+use Rattle.erl_token.proofs.QuoteLemmas.{IsRead}
 use Rattle.erl_token.proofs.quote.quoted_from.Given as goal
 
 abbrev pub invariant-loop-at : goal.invariant-loop-at

@@ -1,4 +1,4 @@
-use Rattle.erl_token.proofs.Quoting.{unclosed_bad, unclosed_open}
+use Rattle.erl_token.proofs.QuoteLemmas.{unclosed_bad, unclosed_open}
 use Rattle.erl_token.proofs.quote.unclosed.Goals as goal
 
 pub returns-in-Some : goal.returns-in-Some

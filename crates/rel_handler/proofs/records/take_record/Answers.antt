@@ -1,6 +1,6 @@
 use Rattle.std.proofs.Common.{◌≡◌, Err, ap}
 use Rattle.rel_handler.specs.declared.records.RecordFault.TheVariants.{Bad}
-use Rattle.rel_handler.proofs.Making.{cannot_stand}
+use Rattle.rel_handler.proofs.ListLemmas.{cannot_stand}
 use Rattle.rel_handler.proofs.records.take_record.Goals as goal
 
 pub returns-in-Ok-clause-bad : goal.returns-in-Ok-clause-bad

@@ -2,7 +2,7 @@ use Rattle.std.proofs.Common.{ap, length}
 use Rattle.std.specs.Prelude.{Ok, Err}
 use Rattle.rel_files.specs.Fault.{fault_of}
 use Rattle.rel_session.specs.InMemory.{found_of}
-use Rattle.rel_session.proofs.Handling.{usable_release, unusable_release, small_release, rel_file}
+use Rattle.rel_session.proofs.ReleaseLemmas.{usable_release, unusable_release, small_release, rel_file}
 use Rattle.rel_session.proofs.files.release_in.Goals as goal
 
 pub returns-in-Ok-clause-found : goal.returns-in-Ok-clause-found

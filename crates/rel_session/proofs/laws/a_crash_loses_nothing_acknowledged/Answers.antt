@@ -1,4 +1,4 @@
-use Rattle.rel_session.proofs.Lasting.{of_accepted, loses_nothing}
+use Rattle.rel_session.proofs.AcknowledgedEvents.{of_accepted, loses_nothing}
 use Rattle.rel_session.proofs.Replies.{IsDevice}
 use Rattle.rel_session.proofs.Transitions.{each_keeps}
 use Rattle.rel_session.proofs.laws.a_crash_loses_nothing_acknowledged.Goals as goal

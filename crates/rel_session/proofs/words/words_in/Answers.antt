@@ -1,5 +1,5 @@
 use Rattle.std.proofs.Common.{rules}
-use Rattle.rel_session.proofs.Splitting.{one_off, last_one}
+use Rattle.rel_session.proofs.WordLemmas.{one_off, last_one}
 use Rattle.rel_session.proofs.words.words_in.Goals as goal
 
 pub loop-word-preserved : goal.loop-word-preserved

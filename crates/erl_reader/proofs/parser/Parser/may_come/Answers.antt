@@ -2,7 +2,7 @@ use Rattle.std.proofs.Common.{◌∙◌, ap, sym}
 use Rattle.erl_reader.specs.Machine.{comes}
 use Rattle.erl_token.specs.Views.{like_value}
 use Rattle.erl_reader.specs.Views.{progress_of}
-use Rattle.erl_reader.proofs.Parsing.{comes_text}
+use Rattle.erl_reader.proofs.ParserLemmas.{comes_text}
 use Rattle.erl_reader.proofs.parser.Parser.may_come.Goals as goal
 
 pub returns-in-Text : goal.returns-in-Text

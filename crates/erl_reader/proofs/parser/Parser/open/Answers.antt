@@ -5,7 +5,7 @@ use Rattle.erl_reader.specs.Machine.State.{inside}
 use Rattle.erl_token.specs.Views.{item_value}
 use Rattle.erl_reader.specs.Views.{progress_of, state_of, level_of, all_levels}
 use Rattle.erl_reader.proofs.Passes.{progress}
-use Rattle.erl_reader.proofs.Parsing.{opening_is_read, opening_steps, levels_more}
+use Rattle.erl_reader.proofs.ParserLemmas.{opening_is_read, opening_steps, levels_more}
 use Rattle.erl_reader.proofs.parser.Parser.open.Goals as goal
 
 pub returns-in_ok-push-in-Inside-clause-step : goal.returns-in_ok-push-in-Inside-clause-step

@@ -9,7 +9,7 @@ use Rattle.rel_handler.specs.Limits.{is_small}
 use Rattle.rel_handler.specs.State.{list_in}
 use Rattle.rel_handler.proofs.Commits.{opened, spelled_so, allowed_so, accepted_so, failed_so, resting, reserved_works, committing, committed}
 use Rattle.rel_handler.proofs.Images.{each_image}
-use Rattle.rel_handler.proofs.Unpacking.{with_it}
+use Rattle.rel_handler.proofs.UnpackLemmas.{with_it}
 use Rattle.rel_handler.proofs.Within.{within-unpacked}
 use Rattle.rel_handler.proofs.handler.Handler.set_unpacked.Goals as goal
 

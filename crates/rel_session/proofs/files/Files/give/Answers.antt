@@ -1,4 +1,4 @@
-use Rattle.rel_session.proofs.Giving.{given_more}
+use Rattle.rel_session.proofs.GivenFiles.{given_more}
 use Rattle.rel_session.proofs.files.Files.give.Goals as goal
 
 pub returns : goal.returns

@@ -1,6 +1,6 @@
 use Rattle.std.proofs.Common.{rules, arith}
 use Rattle.rel_session.specs.Commands.{most_file}
-use Rattle.rel_session.proofs.Commanding.{no_lines, one_more_line, ends_file, ends_within, error_inside}
+use Rattle.rel_session.proofs.CommandLemmas.{no_lines, one_more_line, ends_file, ends_within, error_inside}
 use Rattle.rel_session.proofs.input.Input.file_at.Goals as goal
 
 pub loop-file-init : goal.loop-file-init

@@ -1,6 +1,6 @@
 use Rattle.std.proofs.Common.{◌≡◌, ◌≤◌, string_bytes}
 use Rattle.rel_session.specs.Input.{left, lines_left, file_left}
-use Rattle.rel_session.proofs.Commanding.{IsWithin}
+use Rattle.rel_session.proofs.CommandLemmas.{IsWithin}
 use Rattle.rel_session.proofs.input.Input.file_at.Given as goal
 
 abbrev pub invariant-loop-file : goal.invariant-loop-file

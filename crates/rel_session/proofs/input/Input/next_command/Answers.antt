@@ -1,6 +1,6 @@
 use Rattle.std.proofs.Common.{rules, arith, refl}
 use Rattle.rel_session.specs.Commands.{most_line}
-use Rattle.rel_session.proofs.Commanding.{unread, says_command, opens_file, no_command, error_before}
+use Rattle.rel_session.proofs.CommandLemmas.{unread, says_command, opens_file, no_command, error_before}
 use Rattle.rel_session.proofs.input.Input.next_command.Goals as goal
 
 pub loop-line-init : goal.loop-line-init

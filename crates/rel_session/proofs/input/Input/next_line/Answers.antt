@@ -1,5 +1,5 @@
 use Rattle.std.proofs.Common.{rules, arith}
-use Rattle.rel_session.proofs.Lining.{one_more, ends_at_newline, ends_at_end, error_passes}
+use Rattle.rel_session.proofs.LineLemmas.{one_more, ends_at_newline, ends_at_end, error_passes}
 use Rattle.rel_session.proofs.input.Input.next_line.Goals as goal
 
 pub returns-in_err-byte-clause-line : goal.returns-in_err-byte-clause-line

@@ -1,6 +1,6 @@
 use Rattle.std.proofs.Common.{◌≡◌, ◌<◌, ◌≤◌, true}
 use Rattle.rel_session.specs.Input.{left, lines_left}
-use Rattle.rel_session.proofs.Lining.{IsSoFar}
+use Rattle.rel_session.proofs.LineLemmas.{IsSoFar}
 use Rattle.rel_session.proofs.input.Input.next_line.Given as goal
 
 abbrev pub invariant-loop-line : goal.invariant-loop-line

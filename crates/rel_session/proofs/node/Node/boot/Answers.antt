@@ -1,7 +1,7 @@
 use Rattle.std.proofs.Common.{refl}
 use Rattle.rel_session.specs.Commands.Command.{boot}
 use Rattle.rel_session.specs.Transition.{Boots}
-use Rattle.rel_session.proofs.Following.{follows_line}
+use Rattle.rel_session.proofs.ReplyTexts.{follows_line}
 use Rattle.rel_session.proofs.node.Node.boot.Goals as goal
 
 pub returns-clause-followed : goal.returns-clause-followed

@@ -3,7 +3,7 @@ use Rattle.rel_session.specs.Commands.Command.{create}
 use Rattle.rel_session.specs.InMemory.{found_of}
 use Rattle.rel_session.specs.Transition.{Makes, Creates}
 use Rattle.rel_session.specs.Files.{files_of}
-use Rattle.rel_session.proofs.Following.{follows}
+use Rattle.rel_session.proofs.ReplyTexts.{follows}
 use Rattle.rel_session.proofs.Replies.{IsDevice, creates_none}
 use Rattle.rel_session.proofs.node.Node.create.Goals as goal
 

@@ -4,7 +4,7 @@ use Rattle.rel_session.specs.Commands.{command_of}
 use Rattle.rel_session.specs.Commands.Command.{releases, bad}
 use Rattle.rel_session.specs.InMemory.{Follows}
 use Rattle.rel_session.specs.Transition.{listed}
-use Rattle.rel_session.proofs.Following.{follows_still, says_line}
+use Rattle.rel_session.proofs.ReplyTexts.{follows_still, says_line}
 use Rattle.rel_session.proofs.Replies.{IsDevice}
 use Rattle.rel_session.proofs.node.Node.follow.Goals as goal
 

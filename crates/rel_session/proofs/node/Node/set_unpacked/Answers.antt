@@ -4,7 +4,7 @@ use Rattle.rel_session.specs.Transition.{SetsUnpacked}
 use Rattle.rel_session.specs.Files.{files_of}
 use Rattle.rel_session.specs.declared.place.Place.TheVariants as memory
 use Rattle.rel_session.specs.declared.refusal.Refusal.TheVariants as refusal
-use Rattle.rel_session.proofs.Following.{follows}
+use Rattle.rel_session.proofs.ReplyTexts.{follows}
 use Rattle.rel_session.proofs.Replies.{IsDevice, from_there, unpacks_nowhere}
 use Rattle.rel_session.proofs.node.Node.set_unpacked.Goals as goal
 

@@ -10,7 +10,7 @@ use Rattle.rel_store.specs.State.{records_in}
 use Rattle.rel_store.proofs.Append.{gate_within, staged_within}
 use Rattle.rel_store.proofs.Moments.{stands_now, resting, after_first, staged_now, after_second, appended_now}
 use Rattle.rel_store.proofs.Ownership.{Owns, at_rest, one_write, two_writes, overwritten_in_two}
-use Rattle.rel_store.proofs.Reading.{length-record}
+use Rattle.rel_store.proofs.ReadLemmas.{length-record}
 use Rattle.rel_store.proofs.store.Store.append.Goals as goal
 
 -- what stands behind the gate in a record's bytes

@@ -13,7 +13,7 @@ use Rattle.rel_session.specs.Refusals.{Refusal}
 use Rattle.rel_session.specs.Run.{Leads, Replies, Ending}
 use Rattle.rel_session.specs.RunLaws.{acknowledged_at, BecomesKnown, NoneFails, NoneAcknowledged, BeginsWithAMaking}
 use Rattle.rel_session.specs.Transition
-use Rattle.rel_session.proofs.Lasting.{first_answered, loses_nothing}
+use Rattle.rel_session.proofs.AcknowledgedEvents.{first_answered, loses_nothing}
 use Rattle.rel_session.proofs.Replies.{IsDevice}
 
 -- A reply on an empty disk leaves it empty, or the device failed, or a release was made.

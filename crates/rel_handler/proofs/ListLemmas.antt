@@ -3,7 +3,7 @@ use Rattle.std.proofs.Common.{◌≡◌, ℕ, List, [], ◌∷◌, ◌++◌, Opt
 use Rattle.rel_list.specs.Releases.{Releases}
 use Rattle.rel_handler.specs.Limits.{has_one_permanent}
 use Rattle.rel_handler.specs.Records.{Record, Spells, assigned, MakesFrom, Makes, CannotStand, IsBadRecord, none_at_all, bad_after}
-use Rattle.rel_handler.proofs.Reading.{spells_once}
+use Rattle.rel_handler.proofs.BodyLemmas.{spells_once}
 
 the_same : {A : Type 0} (o : Option A) (x y : A) → o ≡ Some x → o ≡ Some y → x ≡ y
 the_same o x y p q = cc

@@ -13,7 +13,7 @@ use Rattle.rel_handler.specs.Taking.{allowed, commanded}
 use Rattle.rel_handler.specs.declared.error.HandlerError.{HandlerError}
 use Rattle.rel_handler.specs.declared.error.HandlerError.TheVariants.{TooMany, Exists}
 use Rattle.rel_handler.proofs.Lists.{booted-push}
-use Rattle.rel_handler.proofs.Unpacking.{unpacked_so}
+use Rattle.rel_handler.proofs.UnpackLemmas.{unpacked_so}
 
 -- what a record makes, its command makes, and it has one permanent release
 allowed_so : (o : Result Releases HandlerError) (next : Releases) → with_one_permanent (result_ok o) ≡ Some next → (o ≡ Ok next) × (has_one_permanent next ≡ true)
