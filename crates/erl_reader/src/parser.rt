@@ -156,7 +156,7 @@ impl Parser {
     }
 
     /// A token that begins so may stand here.
-    #[tactic(auto, using(crate::proofs::Parsing::comes_name, crate::proofs::Parsing::comes_number, crate::proofs::Parsing::comes_text, crate::proofs::Parsing::comes_open_binary, crate::proofs::Parsing::comes_close_binary))]
+    #[tactic(auto, using(crate::proofs::ParserLemmas::comes_name, crate::proofs::ParserLemmas::comes_number, crate::proofs::ParserLemmas::comes_text, crate::proofs::ParserLemmas::comes_open_binary, crate::proofs::ParserLemmas::comes_close_binary))]
     fn may_come(&self, like: Like) -> bool
         ensures { result ≡ comes self.now.limit (progress_of self.now) (like_value like) }
     {
