@@ -1,7 +1,8 @@
--- What a disk stands for.
-use Rattle.std.specs.Prelude.{◌≡◌, ℕ, List, Ok}
+-- What a disk stands for, where its store ends, and what fits behind it.
+use Rattle.std.specs.Prelude.{◌≡◌, ℕ, ◌+◌, ◌≤◌, Bool, List, Ok}
 use Rattle.rel_list.specs.Releases.{Releases}
 use Rattle.rel_list.specs.Event.{booted}
+use Rattle.rel_store.specs.Layout.{has_magic}
 use Rattle.rel_store.specs.Records.{records_of, end_of}
 use Rattle.rel_handler.specs.Records.{Makes}
 
@@ -15,3 +16,19 @@ pub record IsImageOf (image : List ℕ) (es : Releases) : Type 0 where
 pub record IsImageAt (image : List ℕ) (es : Releases) (end : ℕ) : Type 0 where
   pub image_of : IsImageOf image es
   pub ends : end_of image ≡ end
+
+-- The bytes begin as those of a store do, whole or damaged. No node is made on such a disk.
+abbrev pub holds_a_store : List ℕ → Bool
+holds_a_store bytes = has_magic bytes
+
+-- where a store ends behind one record more, whose body has so many bytes
+abbrev pub end_behind : ℕ → ℕ → ℕ
+end_behind end size = end + (5 + size)
+
+-- where a store without records ends
+abbrev pub first_end : ℕ
+first_end = 289
+
+-- a record with a body of so many bytes fits into a store that ends here
+abbrev pub HasSpace : ℕ → ℕ → Type 0
+HasSpace end size = (size ≤ 16777216) × (end_behind end size ≤ 67108864)

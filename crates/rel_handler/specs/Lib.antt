@@ -8,3 +8,4 @@ pub mod Events
 pub mod State
 pub mod Refusals
 pub mod Moments
+pub mod Laws

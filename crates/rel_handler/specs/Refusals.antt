@@ -52,13 +52,18 @@ CreateRefused bytes r size before now unwritten NoMemory = (is_small r ≡ true)
 CreateRefused bytes r size before now unwritten Device = (is_small r ≡ true) × HasFailed before now
 CreateRefused bytes r size before now unwritten _ = ⊥
 
--- Why a boot refuses a disk with these bytes: what they tell, a failure of the device, or want of memory.
+-- Why a boot refuses these bytes: they are no store, a record of theirs is damaged, or no command could have written one.
+abbrev pub IsBootRefusal : List ℕ → BootError → Type 0
+IsBootRefusal bytes boot.NotAStore = records_of bytes ≡ Err store.NotAStore
+IsBootRefusal bytes (boot.Damaged at) = records_of bytes ≡ Err (store.Damaged at)
+IsBootRefusal bytes (boot.BadRecord i) = (bodies : List (List ℕ)) × (records_of bytes ≡ Ok bodies) × IsBadRecord bodies i
+IsBootRefusal bytes e = ⊥
+
+-- Why a boot refuses a disk with these bytes: for them, for a failure of the device, or out of memory.
 abbrev pub BootRefused : List ℕ → ℕ → ℕ → BootError → Type 0
-BootRefused bytes before now boot.NotAStore = records_of bytes ≡ Err store.NotAStore
-BootRefused bytes before now (boot.Damaged at) = records_of bytes ≡ Err (store.Damaged at)
 BootRefused bytes before now boot.Device = HasFailed before now
 BootRefused bytes before now boot.NoMemory = Unit {0}
-BootRefused bytes before now (boot.BadRecord i) = (bodies : List (List ℕ)) × (records_of bytes ≡ Ok bodies) × IsBadRecord bodies i
+BootRefused bytes before now why = IsBootRefusal bytes why
 
 -- what a boot tells of a store that isn't opened
 abbrev pub told_boot : StoreError → BootError

@@ -17,6 +17,7 @@ mod booting;
 mod creation;
 mod error;
 mod handler;
+pub mod laws;
 mod limits;
 mod records;
 
