@@ -17,6 +17,10 @@ pub record IsImageAt (image : List ℕ) (es : Releases) (end : ℕ) : Type 0 whe
   pub image_of : IsImageOf image es
   pub ends : end_of image ≡ end
 
+-- where the store of these bytes ends
+abbrev pub store_end : List ℕ → ℕ
+store_end image = end_of image
+
 -- The bytes begin as those of a store do, whole or damaged. No node is made on such a disk.
 abbrev pub holds_a_store : List ℕ → Bool
 holds_a_store bytes = has_magic bytes

@@ -1,11 +1,9 @@
 -- No moment of a session loses an acknowledged event.
 use Rattle.std.proofs.Common.{◌≡◌, ◌≢◌, ◌⊎◌, inl, inr, ℕ, zero, suc, List, [], ◌∷◌, ◌++◌, Option, Some, None, refl, sym, ap, ◌∙◌, subst, append-nil, append_assoc, arith}
-use Rattle.rel_disk.proofs.Moments.{started, weakened, joined}
 use Rattle.rel_list.specs.Event.{Event, list_after}
-use Rattle.rel_store.specs.Records.{end_of}
+use Rattle.rel_handler.specs.Image.{store_end}
 use Rattle.rel_handler.specs.Events.{Known, Events, Stored, settled, certain, with_doubt, IsStoredAs}
 use Rattle.rel_session.specs.Commands.{Command}
-use Rattle.rel_session.specs.Commands.Command.{file, create, set_unpacked, boot, releases, quit, bad}
 use Rattle.rel_session.specs.Device.{Device, LeavesOnly}
 use Rattle.rel_session.specs.Feed.{Feed}
 use Rattle.rel_session.specs.Feed.Feed.{over, cut, next}
@@ -17,42 +15,18 @@ use Rattle.rel_session.specs.Run.Ending.{ended, cut_off, early}
 use Rattle.rel_session.specs.RunLaws.{acknowledged_at, IsKnown, Finds, Keeps, place_after, HaveAll, StandsForAll, BecomesKnown, LosesNothing, IsOfAccepted, at_rest, BeginsWhereOneEnded, BeginsBehindACrash, IsNextDisk, Lasts, LosesNothingEver}
 use Rattle.rel_session.specs.Transition.{Transition}
 use Rattle.rel_session.proofs.Prefixes.{prefix_of}
-use Rattle.rel_session.proofs.Replies.{IsDevice}
+use Rattle.rel_session.proofs.DeviceLemmas.{IsDevice, weakened, joined, still}
 use Rattle.rel_session.proofs.Transitions.{each_keeps}
 
 -- the first of some replies is that to the first command, and the others are those to the commands behind it
 pub next_answered : (files : Files) (p : Place) (c : Command) (rest : Feed Command) (ending : Ending) (a : Reply) (more : List Reply) → Replies files p (next c rest) ending (a ∷ more)
     → Transition files p c a × Replies (files_behind files c) a.after rest ending more
-next_answered files p (file path f) rest ended a more right = right
-next_answered files p (create path) rest ended a more right = right
-next_answered files p (set_unpacked path) rest ended a more right = right
-next_answered files p boot rest ended a more right = right
-next_answered files p releases rest ended a more right = right
-next_answered files p bad rest ended a more right = right
-next_answered files p quit rest ended a more right = right
-next_answered files p (file path f) rest cut_off a more right = right
-next_answered files p (create path) rest cut_off a more right = right
-next_answered files p (set_unpacked path) rest cut_off a more right = right
-next_answered files p boot rest cut_off a more right = right
-next_answered files p releases rest cut_off a more right = right
-next_answered files p bad rest cut_off a more right = right
-next_answered files p quit rest cut_off a more right = right
-next_answered files p (file path f) rest early a more right = right
-next_answered files p (create path) rest early a more right = right
-next_answered files p (set_unpacked path) rest early a more right = right
-next_answered files p boot rest early a more right = right
-next_answered files p releases rest early a more right = right
-next_answered files p bad rest early a more right = right
-next_answered files p quit rest early a more right = right
+next_answered files p c rest ending a more right = right
 
 -- where no command is left there is none
 pub none_left : (files : Files) (p : Place) (commands : Feed Command) (ending : Ending) (a : Reply) (more : List Reply) → (commands ≡ over) ⊎ (commands ≡ cut) → Replies files p commands ending (a ∷ more) → ⊥
-none_left files p over ended a more none right = right
-none_left files p over cut_off a more none right = right
-none_left files p over early a more none right = right
-none_left files p cut ended a more none right = right
-none_left files p cut cut_off a more none right = right
-none_left files p cut early a more none right = right
+none_left files p over ending a more none right = right
+none_left files p cut ending a more none right = right
 none_left files p (next c rest) ending a more (inl none) right = cc none
 none_left files p (next c rest) ending a more (inr none) right = cc none
 
@@ -146,11 +120,11 @@ stays_known files p commands ending (a ∷ more) right known =
     )
 
 pub of_accepted : IsOfAccepted
-of_accepted s image of = record { events = of.events; prefix = prefix_of s of.events (end_of image) of.list of.has of.after; list = of.list; after = of.after; image_of = of.image_of }
+of_accepted s image of = record { events = of.events; prefix = prefix_of s of.events (store_end image) of.list of.has of.after; list = of.list; after = of.after; image_of = of.image_of }
 
 stands_for : (s : Stored) (image : List ℕ) → IsStoredAs s image → StandsForAll s.known.acknowledged image
 stands_for s image of =
-    let prefix = prefix_of s of.events (end_of image) of.list of.has of.after in
+    let prefix = prefix_of s of.events (store_end image) of.list of.has of.after in
     record { more = prefix.more; list = of.list; after = ap list_after (sym prefix.holds) ∙ of.after; image_of = of.image_of }
 
 stands_for_reached : (k : Known) (command : Events) (image : List ℕ) → IsReached k command image → StandsForAll k.acknowledged image
@@ -172,28 +146,28 @@ module _ {D : Type 0} (v : Device D) (laws : IsDevice v) where
   -- and at each moment of a command
   command_images : (p : Place) (o : Outcome) (old new : D) → IsKnown p → Moments v p o old new → LeavesOnly v old new (StandsForAll (acknowledged_at p))
   command_images (raw bytes) o old new known moments = absurd known
-  command_images (closed s) o old new known moments = weakened v.moment v.left_since old new _ _ (stands_for_reached s.known (events_of o)) moments
-  command_images (running events end) o old new known moments = weakened v.moment v.left_since old new _ _ (stands_for_reached (settled events) (events_of o)) moments
-  command_images (dead s) o old new known moments = weakened v.moment v.left_since old new _ _ (stands_for_reached s.known (events_of o)) moments
+  command_images (closed s) o old new known moments = weakened v old new _ _ (stands_for_reached s.known (events_of o)) moments
+  command_images (running events end) o old new known moments = weakened v old new _ _ (stands_for_reached (settled events) (events_of o)) moments
+  command_images (dead s) o old new known moments = weakened v old new _ _ (stands_for_reached s.known (events_of o)) moments
 
   -- and so at each moment of a session
   pub session_images : (files : Files) (p : Place) (commands : Feed Command) (ending : Ending) (replies : List Reply) (old new : D) → Replies files p commands ending replies
       → IsKnown p → Holds v p old → Leads v p replies old new → LeavesOnly v old new (StandsForAll (acknowledged_at p))
   session_images files p commands ending [] old new right known holds (leaves, then, counted) =
-      weakened v.moment v.left_since old new (v.may_leave old) (StandsForAll (acknowledged_at p)) (held_images p old known holds) leaves
+      weakened v old new (v.may_leave old) (StandsForAll (acknowledged_at p)) (held_images p old known holds) leaves
   session_images files p commands ending (a ∷ more) old new right known holds (mid, happens, leads) =
       let n = first_answered files p commands ending a more right in
       let keeps = each_keeps files p n.command a n.is in
       let (between, is) = keeps_more p a keeps in
-      joined v.moment v.left_since old mid new (StandsForAll (acknowledged_at p)) (command_images p a.outcome old mid known happens.moments)
-      (weakened v.moment v.left_since mid new (StandsForAll (acknowledged_at a.after)) (StandsForAll (acknowledged_at p))
+      joined v old mid new (StandsForAll (acknowledged_at p)) (command_images p a.outcome old mid known happens.moments)
+      (weakened v mid new (StandsForAll (acknowledged_at a.after)) (StandsForAll (acknowledged_at p))
       (λ c. stands_for_more (acknowledged_at p) (between ++ a.outcome.acknowledged) (acknowledged_at a.after) c is)
       (session_images (files_behind files n.command) a.after n.rest ending more mid new n.right (keeps.known (inl known)) happens.holds leads))
 
   -- a session in two parts
   parts : (p : Place) (first rest : List Reply) (old new : D) → Holds v p old → Leads v p (first ++ rest) old new
       → (mid : D) × Leads v p first old mid × Leads v (place_after p first) rest mid new × Holds v (place_after p first) mid
-  parts p [] rest old new holds leads = (old, (started v.moment v.left_since old (v.may_leave old) (laws.only_now old), holds, omega arith), leads, holds)
+  parts p [] rest old new holds leads = (old, (still v laws old, holds, omega arith), leads, holds)
   parts p (a ∷ first) rest old new holds (here, happens, leads) =
       let (mid, before, behind, then) = parts a.after first rest here new happens.holds leads in
       (mid, (here, happens, before), behind, then)
@@ -229,7 +203,7 @@ module _ {D : Type 0} (v : Device D) (laws : IsDevice v) where
   pub begins_behind_a_crash : BeginsBehindACrash v
   begins_behind_a_crash events image disk of only = (
     of.more,
-    λ c now. subst (IsStoredAs (certain (events ++ of.more) (end_of image))) (sym (only c now))
+    λ c now. subst (IsStoredAs (certain (events ++ of.more) (store_end image))) (sym (only c now))
         (record { events = events ++ of.more; has = inl (refl, refl); list = of.list; after = of.after; image_of = of.image_of }),
   )
 
@@ -251,7 +225,7 @@ module _ {D : Type 0} (v : Device D) (laws : IsDevice v) where
       (s, more, subst (λ q. Starts v q later) rests starts, are ∙ is)
   next_disk p replies mid new later moments still holds (inr (image, left, only)) =
       let (more, starts) = begins_behind_a_crash (acknowledged_at p) image later (moments.each image left) only in
-      (certain (acknowledged_at p ++ more) (end_of image), more, starts, refl)
+      (certain (acknowledged_at p ++ more) (store_end image), more, starts, refl)
 
   lasts : (n : ℕ) (events : Events) (disk : D) → IsOn events disk → Lasts v n events disk
   lasts zero events disk on = on

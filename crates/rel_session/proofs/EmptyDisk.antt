@@ -3,18 +3,17 @@ use Rattle.std.proofs.Common.{◌≡◌, ◌≢◌, ◌⊎◌, inl, inr, ⊎_eli
 use Rattle.rel_files.specs.Release.{Release}
 use Rattle.rel_list.specs.Event.Event.{made, boot as booting}
 use Rattle.rel_session.specs.Commands.{Command}
-use Rattle.rel_session.specs.Commands.Command.{file, create, set_unpacked, boot, releases, quit, bad}
 use Rattle.rel_session.specs.Device.{Device}
 use Rattle.rel_session.specs.Feed.{Feed}
 use Rattle.rel_session.specs.Files.{Files, files_behind, Found}
 use Rattle.rel_session.specs.Node.{Place, Reply}
 use Rattle.rel_session.specs.Node.Place.{raw}
-use Rattle.rel_session.specs.Refusals.{Refusal}
 use Rattle.rel_session.specs.Run.{Leads, Replies, Ending}
 use Rattle.rel_session.specs.RunLaws.{acknowledged_at, BecomesKnown, NoneFails, NoneAcknowledged, BeginsWithAMaking}
 use Rattle.rel_session.specs.Transition
+use Rattle.rel_session.specs.Transition.Action.{answers, makes_node, changes_node, boots_node}
 use Rattle.rel_session.proofs.AcknowledgedEvents.{first_answered, loses_nothing}
-use Rattle.rel_session.proofs.Replies.{IsDevice}
+use Rattle.rel_session.proofs.DeviceLemmas.{IsDevice}
 
 -- A reply on an empty disk leaves it empty, or the device failed, or a release was made.
 pub record IsMade (a : Reply) : Type 0 where
@@ -28,25 +27,21 @@ OnEmpty a = ((a.outcome.acknowledged ≡ []) × ((a.after ≡ raw []) ⊎ (a.out
 on_empty_as : (a b : Reply) → a ≡ b → OnEmpty b → OnEmpty a
 on_empty_as a b is of = subst OnEmpty (sym is) of
 
-makes_found : (found : Result Found Refusal) (a : Reply) → Transition.MakesFound (raw []) found a → OnEmpty a
-makes_found (Err why) a is = on_empty_as a _ is (inl (refl, inl refl))
-makes_found (Ok found) a (inl (inl (fits, is))) = on_empty_as a _ is (inr (record { release = found.release; acknowledged = refl; after = refl }))
-makes_found (Ok found) a (inl (inr (over_it, is))) = on_empty_as a _ is (inl (refl, inl refl))
-makes_found (Ok found) a (inr (torn, is)) = on_empty_as a _ is (inl (refl, inr refl))
+makes : (found : Found) (a : Reply) → Transition.MakesNode (raw []) found a → OnEmpty a
+makes found a (inl (inl (fits, is))) = on_empty_as a _ is (inr (record { release = found.release; acknowledged = refl; after = refl }))
+makes found a (inl (inr (over_it, is))) = on_empty_as a _ is (inl (refl, inl refl))
+makes found a (inr (torn, is)) = on_empty_as a _ is (inl (refl, inr refl))
 
 boots : (a : Reply) → Transition.BootsBytes [] a → OnEmpty a
-boots a (inl (events, list, after, image, is)) = cc image.store
+boots a (inl (events, list, end, after, image, is)) = cc image.image_of.store
 boots a (inr (inl (why, told, is))) = on_empty_as a _ is (inl (refl, inl refl))
 boots a (inr (inr (torn, is))) = on_empty_as a _ is (inl (refl, inr refl))
 
 on_empty : (files : Files) (c : Command) (a : Reply) → Transition.Transition files (raw []) c a → OnEmpty a
-on_empty files (file path f) a is = on_empty_as a _ is (inl (refl, inl refl))
-on_empty files (create path) a (found, there, is) = makes_found found a is
-on_empty files (set_unpacked path) a is = on_empty_as a _ is (inl (refl, inl refl))
-on_empty files boot a is = boots a is
-on_empty files releases a is = on_empty_as a _ is (inl (refl, inl refl))
-on_empty files quit a is = absurd is
-on_empty files bad a is = on_empty_as a _ is (inl (refl, inl refl))
+on_empty files c a (answers text, comes, is) = on_empty_as a _ is (inl (refl, inl refl))
+on_empty files c a (makes_node found, comes, is) = makes found a is
+on_empty files c a (changes_node change, comes, is) = on_empty_as a _ is (inl (refl, inl refl))
+on_empty files c a (boots_node, comes, is) = boots a is
 
 -- where it was left empty
 still_empty : (a : Reply) → OnEmpty a → a.outcome.failed ≡ false → a.outcome.acknowledged ≡ [] → a.after ≡ raw []

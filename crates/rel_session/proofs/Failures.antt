@@ -3,14 +3,12 @@ use Rattle.std.proofs.Common.{◌≡◌, ◌⊎◌, inl, inr, ⊎_elim, ℕ, ◌
 use Rattle.std.proofs.lemmas.Bool.{cases_lt}
 use Rattle.rel_list.specs.Releases.{Releases}
 use Rattle.rel_list.specs.Event.{Event}
-use Rattle.rel_list.specs.Event.Event.{unpacked}
-use Rattle.rel_store.specs.Layout.{has_magic}
 use Rattle.rel_handler.specs.declared.error.HandlerError.{HandlerError}
 use Rattle.rel_handler.specs.Events.{Events, Stored, certain}
+use Rattle.rel_handler.specs.Image.{holds_a_store}
 use Rattle.rel_handler.specs.Records.{body_of}
 use Rattle.rel_handler.specs.Taking.{commanded}
 use Rattle.rel_session.specs.Commands.{Command}
-use Rattle.rel_session.specs.Commands.Command.{file, create, set_unpacked, boot, releases, quit, bad}
 use Rattle.rel_session.specs.Device.{Device, HasFailed}
 use Rattle.rel_session.specs.Files.{Files, files_behind, Found}
 use Rattle.rel_session.specs.Node.{Place, Reply, releases_after}
@@ -20,6 +18,7 @@ use Rattle.rel_session.specs.Refusals.Refusal.{device}
 use Rattle.rel_session.specs.Run.{Leads}
 use Rattle.rel_session.specs.AnswerLaws.{FailsOnlyWithTheDevice, TellsDoubt}
 use Rattle.rel_session.specs.Transition
+use Rattle.rel_session.specs.Transition.Action.{answers, makes_node, changes_node, boots_node}
 use Rattle.rel_session.proofs.AcknowledgedEvents.{first_answered}
 
 -- Nothing is in doubt, or the device failed and that is told.
@@ -29,22 +28,11 @@ IsPlain a = (a.outcome.in_doubt ≡ None) ⊎ ((a.outcome.failed ≡ true) × (a
 plain : (a b : Reply) → a ≡ b → IsPlain b → IsPlain a
 plain a b is of = subst IsPlain (sym is) of
 
-brings : (events : Events) (end : ℕ) (e : Event) (size : ℕ) (vsn : List ℕ) (o : Result Releases HandlerError) (a : Reply) → Transition.Brings events end e size vsn o a → IsPlain a
-brings events end e size vsn (Err why) a is = plain a _ is (inl refl)
-brings events end e size vsn (Ok list) a (inl (fits, inl is)) = plain a _ is (inl refl)
-brings events end e size vsn (Ok list) a (inl (fits, inr is)) = plain a _ is (inr (refl, refl))
-brings events end e size vsn (Ok list) a (inr (over, is)) = plain a _ is (inl refl)
-
-unpacks : (events : Events) (end : ℕ) (found : Result Found Refusal) (a : Reply) → Transition.Unpacks events end found a → IsPlain a
-unpacks events end (Err why) a is = plain a _ is (inl refl)
-unpacks events end (Ok found) a is =
-    brings events end (unpacked found.release) (length (body_of (codes "unpacked") found.term)) found.release.vsn (commanded (unpacked found.release) (releases_after events)) a is
-
-sets_unpacked : (files : Files) (path : List ℕ) (p : Place) (a : Reply) → Transition.SetsUnpacked files path p a → IsPlain a
-sets_unpacked files path (raw bytes) a is = plain a _ is (inl refl)
-sets_unpacked files path (closed s) a is = plain a _ is (inl refl)
-sets_unpacked files path (running events end) a (found, there, is) = unpacks events end found a is
-sets_unpacked files path (dead s) a is = plain a _ is (inl refl)
+changes : (events : Events) (end : ℕ) (c : Transition.Change) (o : Result Releases HandlerError) (a : Reply) → Transition.Changes events end c o a → IsPlain a
+changes events end c (Err why) a is = plain a _ is (inl refl)
+changes events end c (Ok list) a (inl (fits, inl is)) = plain a _ is (inl refl)
+changes events end c (Ok list) a (inl (fits, inr is)) = plain a _ is (inr (refl, refl))
+changes events end c (Ok list) a (inr (over, is)) = plain a _ is (inl refl)
 
 makes_on : (bytes : List ℕ) (found : Found) (size : ℕ) (b : Bool) (a : Reply) → Transition.MakesOn bytes found.release size b a → IsPlain a
 makes_on bytes found size true a is = plain a _ is (inl refl)
@@ -52,37 +40,36 @@ makes_on bytes found size false a (inl (fits, is)) = plain a _ is (inl refl)
 makes_on bytes found size false a (inr (over, is)) = plain a _ is (inl refl)
 
 makes : (p : Place) (found : Found) (a : Reply) → Transition.MakesNode p found a → IsPlain a
-makes (raw bytes) found a (inl is) = makes_on bytes found (length (body_of (codes "made") found.term)) (has_magic bytes) a is
+makes (raw bytes) found a (inl is) = makes_on bytes found (length (body_of (codes "made") found.term)) (holds_a_store bytes) a is
 makes (raw bytes) found a (inr (torn, is)) = plain a _ is (inr (refl, refl))
 makes (closed s) found a (inl is) = plain a _ is (inl refl)
 makes (closed s) found a (inr is) = plain a _ is (inr (refl, refl))
 makes (running events end) found a is = plain a _ is (inl refl)
 makes (dead s) found a is = plain a _ is (inl refl)
 
-makes_found : (p : Place) (found : Result Found Refusal) (a : Reply) → Transition.MakesFound p found a → IsPlain a
-makes_found p (Err why) a is = plain a _ is (inl refl)
-makes_found p (Ok found) a is = makes p found a is
-
 boots_store : (s : Stored) (a : Reply) → Transition.BootsStore s a → IsPlain a
 boots_store s a (inl (events, end, has, (list, after, is))) = plain a _ is (inl refl)
 boots_store s a (inr is) = plain a _ is (inl refl)
 
 boots : (p : Place) (a : Reply) → Transition.Boots p a → IsPlain a
-boots (raw bytes) a (inl (events, list, after, image, (list_then, after_then, is))) = plain a _ is (inl refl)
+boots (raw bytes) a (inl (events, list, end, after, image, (list_then, after_then, is))) = plain a _ is (inl refl)
 boots (raw bytes) a (inr (inl (why, told, is))) = plain a _ is (inl refl)
 boots (raw bytes) a (inr (inr (torn, is))) = plain a _ is (inl refl)
 boots (closed s) a is = boots_store s a is
 boots (running events end) a is = boots_store (certain events end) a is
 boots (dead s) a is = boots_store s a is
 
+acts : (p : Place) (does : Transition.Action) (a : Reply) → Transition.Acts p does a → IsPlain a
+acts p (answers text) a is = plain a _ is (inl refl)
+acts p (makes_node found) a is = makes p found a is
+acts (raw bytes) (changes_node c) a is = plain a _ is (inl refl)
+acts (closed s) (changes_node c) a is = plain a _ is (inl refl)
+acts (running events end) (changes_node c) a is = changes events end c (commanded c.event (releases_after events)) a is
+acts (dead s) (changes_node c) a is = plain a _ is (inl refl)
+acts p boots_node a is = boots p a is
+
 is_plain : (files : Files) (p : Place) (c : Command) (a : Reply) → Transition.Transition files p c a → IsPlain a
-is_plain files p (file path f) a is = plain a _ is (inl refl)
-is_plain files p (create path) a (found, there, is) = makes_found p found a is
-is_plain files p (set_unpacked path) a is = sets_unpacked files path p a is
-is_plain files p boot a is = boots p a is
-is_plain files p releases a is = plain a _ is (inl refl)
-is_plain files p quit a is = absurd is
-is_plain files p bad a is = plain a _ is (inl refl)
+is_plain files p c a (does, comes, is) = acts p does a is
 
 pub tells_doubt : TellsDoubt
 tells_doubt files p c a e is doubt = go (is_plain files p c a is)

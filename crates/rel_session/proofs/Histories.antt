@@ -1,40 +1,34 @@
 -- The events behind a list that a store's records make.
-use Rattle.std.proofs.Common.{◌≡◌, ℕ, Bool, true, false, List, [], ◌∷◌, ◌++◌, Option, Some, None, Ok, Err, refl, sym, ap, ◌∙◌, length}
-use Rattle.std.specs.Prelude.{if◌then◌else◌, nat_le}
+use Rattle.std.proofs.Common.{◌≡◌, ℕ, Bool, true, false, List, [], ◌∷◌, ◌++◌, Option, Some, None, Result, Ok, Err, refl, sym, ap, ◌∙◌, length}
+use Rattle.std.specs.Prelude.{if◌then◌else◌}
 use Rattle.std.specs.Result.{result_ok}
 use Rattle.rel_list.specs.Releases.{Releases}
 use Rattle.rel_list.specs.Event.{Event, booted, step, list_after}
 use Rattle.rel_list.specs.Event.Event.{made, unpacked, boot as booting}
 use Rattle.rel_handler.specs.Events.{Events}
 use Rattle.rel_handler.specs.Image.{IsImageOf}
-use Rattle.rel_handler.specs.Limits.{has_one_permanent, is_small, most_releases}
+use Rattle.rel_handler.specs.Limits.{has_one_permanent}
 use Rattle.rel_handler.specs.Records.{Record, makes, adds, with_one_permanent, assigned, MakesFrom}
-use Rattle.rel_handler.specs.Taking.{allowed}
+use Rattle.rel_handler.specs.Taking.{commanded}
 use Rattle.rel_handler.specs.declared.error.HandlerError.{HandlerError}
-use Rattle.rel_handler.specs.declared.error.HandlerError.TheVariants.{TooMany, Exists, ExistingRelease}
-use Rattle.rel_handler.proofs.Lists.{list_after-push}
+use Rattle.rel_session.proofs.ListLemmas.{list_after-push, commanded_step}
 
 abbrev pub event_in : Record → Event
 event_in (makes r) = made r
 event_in (adds r) = unpacked r
 
--- A list that a command made is the one that its event makes.
-allowed_so : (refusal : HandlerError) (small : Bool) (o : Option Releases) (end : Releases) → with_one_permanent (result_ok (if small then allowed refusal o else Err TooMany)) ≡ Some end → o ≡ Some end
-allowed_so refusal false o end e = absurd cc
-allowed_so refusal true None end e = absurd cc
-allowed_so refusal true (Some es) end e = by_length (nat_le (length es) most_releases) e
+-- What the list behind a record was made by.
+taken_so : (o : Result Releases HandlerError) (end : Releases) → with_one_permanent (result_ok o) ≡ Some end → o ≡ Ok end
+taken_so (Err why) end e = absurd cc
+taken_so (Ok es) end e = by_one (has_one_permanent es) e
   where
-    by_one : (b : Bool) → (if b then Some es else None) ≡ Some end → Some es ≡ Some end
-    by_one true e = e
+    by_one : (b : Bool) → (if b then Some es else None) ≡ Some end → Ok es ≡ Ok end
+    by_one true e = let same : es ≡ end = cc in ap (λ (l : Releases). Ok l) same
     by_one false e = absurd cc
 
-    by_length : (b : Bool) → with_one_permanent (result_ok (if b then Ok es else Err TooMany)) ≡ Some end → Some es ≡ Some end
-    by_length true e = by_one (has_one_permanent es) e
-    by_length false e = absurd cc
-
 pub stepped : (r : Record) (es next : Releases) → assigned r es ≡ Some next → step (event_in r) es ≡ Some next
-stepped (makes r) es next e = allowed_so Exists (is_small r) (step (made r) es) next e
-stepped (adds r) es next e = allowed_so ExistingRelease (is_small r) (step (unpacked r) es) next e
+stepped (makes r) es next e = commanded_step (made r) es next (taken_so (commanded (made r) es) next e)
+stepped (adds r) es next e = commanded_step (unpacked r) es next (taken_so (commanded (unpacked r) es) next e)
 
 events_behind : (events : Events) (es : Releases) (bodies : List (List ℕ)) (end : Releases) → list_after events ≡ Some es → MakesFrom es bodies end → (all : Events) × (list_after all ≡ Some end)
 events_behind events es [] end after is = (events, after ∙ ap (λ l. Some l) (sym is))

@@ -5,6 +5,8 @@ pub mod Said
 pub mod CommandLemmas
 pub mod Mapped
 pub mod ReleaseLemmas
+pub mod DeviceLemmas
+pub mod ListLemmas
 pub mod Prefixes
 pub mod Replies
 pub mod ReplyTexts
@@ -14,12 +16,12 @@ pub mod Histories
 pub mod Transitions
 pub mod AcknowledgedEvents
 pub mod Failures
-pub mod OneAnswer
 pub mod EmptyDisk
-pub mod BadRecords
+pub mod Whole
+pub mod ActionLemmas
+pub mod OneAnswer
 pub mod EachAnswer
 pub mod AnswerEvents
-pub mod Whole
 pub mod Versions
 pub mod OneRun
 pub mod LinePaths

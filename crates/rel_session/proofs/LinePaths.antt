@@ -5,7 +5,7 @@ use Rattle.std.specs.List.{onto_first}
 use Rattle.std.specs.Str.{bytes_eq, is_utf8}
 use Rattle.rel_list.specs.Releases.{Releases}
 use Rattle.rel_list.specs.Event.{list_after, booted}
-use Rattle.rel_store.specs.Records.{end_of}
+use Rattle.rel_handler.specs.Image.{store_end}
 use Rattle.rel_handler.specs.Events.{Events, MayHave, IsStoredAs, certain}
 use Rattle.rel_session.specs.Commands.{Command, Saying, said_in, said_by, said_alone, said_with_path, is_blank, words_of, is_end, file_of, most_line, put_saying, commands_of, commands_behind}
 use Rattle.rel_session.specs.Commands.Command.{file, create, set_unpacked, boot, releases, quit, bad}
@@ -16,10 +16,10 @@ use Rattle.rel_session.specs.Feed.Feed.{over, cut, next}
 use Rattle.rel_session.specs.Input.{most_bytes}
 use Rattle.rel_session.specs.Lines.{onto, lines_of}
 use Rattle.rel_session.specs.Node.Place.{raw, closed, running, dead}
-use Rattle.rel_session.specs.AnswerLaws.{is_one_line, HaveLinePaths, ReadsLinePaths, HaveVersions, HasVersionsAt, KeepsVersions}
+use Rattle.rel_session.specs.AnswerLaws.{is_one_line, HasLinePath, HaveLinePaths, ReadsLinePaths, HaveVersions, HasVersionsAt, KeepsVersions}
 use Rattle.rel_session.specs.RunLaws.{MayBe}
-use Rattle.rel_session.proofs.Replies.{IsDevice}
-use Rattle.rel_session.proofs.Versions.{HasLinePath, record_versions, unbooted}
+use Rattle.rel_session.proofs.DeviceLemmas.{IsDevice}
+use Rattle.rel_session.proofs.Versions.{record_versions, unbooted}
 use Rattle.rel_session.proofs.Whole.{ArePlain, parts, joined}
 
 abbrev AreLines : Feed (List ℕ) → Type 0
@@ -82,18 +82,9 @@ saying_plain : (l : List ℕ) → is_one_line l ≡ true → IsPlainSaying (said
 saying_plain l line =
     either (nat_lt most_line (length l)) (tells bad) _ tt (either (is_blank l) nothing _ tt (either (is_utf8 l) (said_by (words_of l)) (tells bad) (words_plain (words_of l) (split_plain l line)) tt))
 
-one_more : (c : Command) (rest : Feed Command) → HasLinePath c → HaveLinePaths rest → HaveLinePaths (next c rest)
-one_more (file path f) rest line lines = lines
-one_more (create path) rest line lines = (line, lines)
-one_more (set_unpacked path) rest line lines = (line, lines)
-one_more boot rest line lines = lines
-one_more releases rest line lines = lines
-one_more quit rest line lines = lines
-one_more bad rest line lines = lines
-
 -- the commands of lines, and those behind a file that began
 commands_plain : (ls : Feed (List ℕ)) → AreLines ls → HaveLinePaths (commands_of ls) × ((path bs : List ℕ) → HaveLinePaths (commands_behind path bs ls))
-commands_plain over lines = (tt, λ path bs. tt)
+commands_plain over lines = (tt, λ path bs. (tt, tt))
 commands_plain cut lines = (tt, λ path bs. tt)
 commands_plain (next l ls) (line, lines) =
     let (rest, behind) = commands_plain ls lines in
@@ -102,11 +93,11 @@ commands_plain (next l ls) (line, lines) =
     put : (said : Saying) → IsPlainSaying said → HaveLinePaths (commands_of ls) → ((path : List ℕ) → HaveLinePaths (commands_behind path [] ls)) → HaveLinePaths (put_saying said (commands_of ls) (λ path. commands_behind path [] ls))
     put nothing plain rest behind = rest
     put (opens path) plain rest behind = behind path
-    put (tells c) plain rest behind = one_more c (commands_of ls) plain rest
+    put (tells c) plain rest behind = (plain, rest)
 
     ending : (path bs : List ℕ) (b : Bool) → HaveLinePaths (commands_of ls) → HaveLinePaths (commands_behind path (bs ++ (l ++ 10 ∷ [])) ls)
         → HaveLinePaths (if b then next (file path (file_of bs)) (commands_of ls) else commands_behind path (bs ++ (l ++ 10 ∷ [])) ls)
-    ending path bs true rest behind = rest
+    ending path bs true rest behind = (tt, rest)
     ending path bs false rest behind = behind
 
 pub reads_line_paths : ReadsLinePaths
@@ -120,7 +111,7 @@ image_versions events end c of list after =
     let one : of.list ≡ list = cc in
     subst HaveVersions one versions
   where
-    only : MayHave (certain events end) of.events (end_of c) → of.events ≡ events
+    only : MayHave (certain events end) of.events (store_end c) → of.events ≡ events
     only (inl has) = has.0
     only (inr has) = has.0
 

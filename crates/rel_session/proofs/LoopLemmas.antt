@@ -10,7 +10,7 @@ use Rattle.rel_session.specs.declared.input.Input.{Input}
 use Rattle.rel_session.specs.declared.node.Node.{Node}
 use Rattle.rel_session.specs.declared.place.Place.TheVariants as memory
 use Rattle.rel_session.specs.Commands.{Command, commands_of}
-use Rattle.rel_session.specs.Commands.Command.{file, create, set_unpacked, boot, releases, quit, bad}
+use Rattle.rel_session.specs.Commands.Command.{quit}
 use Rattle.rel_session.specs.Device.{Device}
 use Rattle.rel_session.specs.Ended.{AreCommands, IsSession}
 use Rattle.rel_session.specs.Feed.{Feed, Gives, EndsAs, IsNext, bytes_within}
@@ -22,12 +22,12 @@ use Rattle.rel_session.specs.Lines.{lines_of}
 use Rattle.rel_session.specs.Node.{Place, Reply}
 use Rattle.rel_session.specs.Node.Place.{raw, closed, running, dead}
 use Rattle.counted_io.specs.Prefixes.{AppendsPrefix}
-use Rattle.counted_io.proofs.WriteLemmas.{Appends-nothing, Appends-twice}
 use Rattle.rel_session.specs.Written.{Writes}
 use Rattle.rel_session.specs.Run.{Starts, Leads, Replies, Ending, IsTextOf, IsRun, answers_of, commands_in}
 use Rattle.rel_session.specs.Run.Ending.{ended, cut_off, early}
 use Rattle.rel_session.specs.Transition.{Transition}
-use Rattle.rel_session.proofs.Replies.{IsDevice, held, still}
+use Rattle.rel_session.proofs.DeviceLemmas.{IsDevice, still}
+use Rattle.rel_session.proofs.Replies.{held}
 
 all_left : (known : Option (List ℕ)) → option_map commands_of (option_map lines_of (option_map (bytes_within most_bytes) (prepend_known [] known))) ≡ option_map commands_in known
 all_left None = refl
@@ -70,25 +70,7 @@ are_all (Some input) commands left = left
 -- a reply to the first of these commands
 pub replies_next : (files : Files) (p : Place) (c : Command) (rest : Feed Command) (ending : Ending) (a : Reply) (more : List Reply) → Transition files p c a
     → Replies (files_behind files c) a.after rest ending more → Replies files p (next c rest) ending (a ∷ more)
-replies_next files p (file path f) rest ended a more is right = (is, right)
-replies_next files p (create path) rest ended a more is right = (is, right)
-replies_next files p (set_unpacked path) rest ended a more is right = (is, right)
-replies_next files p boot rest ended a more is right = (is, right)
-replies_next files p releases rest ended a more is right = (is, right)
-replies_next files p bad rest ended a more is right = (is, right)
-replies_next files p quit rest ending a more is right = absurd is
-replies_next files p (file path f) rest cut_off a more is right = (is, right)
-replies_next files p (create path) rest cut_off a more is right = (is, right)
-replies_next files p (set_unpacked path) rest cut_off a more is right = (is, right)
-replies_next files p boot rest cut_off a more is right = (is, right)
-replies_next files p releases rest cut_off a more is right = (is, right)
-replies_next files p bad rest cut_off a more is right = (is, right)
-replies_next files p (file path f) rest early a more is right = (is, right)
-replies_next files p (create path) rest early a more is right = (is, right)
-replies_next files p (set_unpacked path) rest early a more is right = (is, right)
-replies_next files p boot rest early a more is right = (is, right)
-replies_next files p releases rest early a more is right = (is, right)
-replies_next files p bad rest early a more is right = (is, right)
+replies_next files p c rest ending a more is right = (is, right)
 
 -- none of them has one
 replies_none : (files : Files) (p : Place) (commands : Feed Command) → Replies files p commands early []
@@ -104,6 +86,16 @@ written_next early a more text (inl is) = inl (ap (λ (l : List ℕ). a.answer +
 written_next early a more text (inr (first, last, part, left, are, parts, is)) =
     inr (a ∷ first, last, part, left, ap (λ (l : List Reply). a ∷ l) are, parts, ap (λ (l : List ℕ). a.answer ++ l) is ∙ sym (append_assoc a.answer (answers_of first) part))
 
+Appends-nothing : (old : Option (List ℕ)) → Appends old old []
+Appends-nothing None = tt
+Appends-nothing (Some xs) = sym (append-nil xs)
+
+Appends-twice : (old mid new : Option (List ℕ)) (xs ys : List ℕ) → Appends old mid xs → Appends mid new ys → Appends old new (xs ++ ys)
+Appends-twice None mid new xs ys a b = tt
+Appends-twice (Some o) None new xs ys a b = absurd a
+Appends-twice (Some o) (Some m) None xs ys a b = absurd b
+Appends-twice (Some o) (Some m) (Some n) xs ys a b = b ∙ ap (λ k. k ++ ys) a ∙ append_assoc o xs ys
+
 module _ {D : Type 0} (v : Device D) where
   -- Where the node stands, what was written, and how a run of the commands that are left completes that of all.
   pub record Reached (start : Place) (all left : Option (Feed Command)) (disk : D) (node : Node D) (old now : Option (List ℕ)) : Type 0 where
@@ -113,7 +105,7 @@ module _ {D : Type 0} (v : Device D) where
     pub appended : Appends old now written
     pub completes : (ending : Ending) (rest : Feed Command) (replies : List Reply) (new : D) (text : List ℕ) → AreLeft left rest
         → Replies (files_of node.files) here rest ending replies → Leads v here replies (disk_of node) new → IsTextOf ending replies text
-        → (commands : Feed Command) × AreLeft all commands × IsRun v (λ path. None) start commands ending disk new (written ++ text)
+        → (commands : Feed Command) × AreLeft all commands × IsRun v no_files start commands ending disk new (written ++ text)
 
   abbrev pub Goes : Option (Feed Command) → Option (Feed Command) → D → Node D → Option (List ℕ) → Option (List ℕ) → Type 0
   Goes all left disk node old now = (start : Place) → Starts v start disk → Reached start all left disk node old now
@@ -126,7 +118,7 @@ module _ {D : Type 0} (v : Device D) (laws : IsDevice v) where
   starts_at (dead s) disk starts = absurd starts
 
   -- before the first command
-  pub begins : (all left : Option (Feed Command)) (disk : D) (node : Node D) (old : Option (List ℕ)) → left ≡ all → node.place ≡ memory.Bare disk → files_of node.files ≡ (λ path. None) → Goes v all left disk node old old
+  pub begins : (all left : Option (Feed Command)) (disk : D) (node : Node D) (old : Option (List ℕ)) → left ≡ all → node.place ≡ memory.Bare disk → files_of node.files ≡ no_files → Goes v all left disk node old old
   begins all left disk node old same place files start starts = record {
     here = start;
     at = subst (λ q. IsAt v q start) (sym place) (starts_at start disk starts);
@@ -165,69 +157,69 @@ module _ {D : Type 0} (v : Device D) (laws : IsDevice v) where
               (replies_next (files_of node.files) r.here c rest ending a.given replies a.right.0 (subst (λ fs. Replies fs a.given.after rest ending replies) files right))
               (disk_of later, a.happens, leads) (written_next ending a.given replies more written) in
               let same : r.written ++ (a.given.answer ++ more) ≡ (r.written ++ string_bytes text) ++ more = ap (λ (l : List ℕ). r.written ++ (l ++ more)) a.right.1 ∙ sym (append_assoc r.written (string_bytes text) more) in
-              (whole.0, whole.1, subst (λ t. IsRun v (λ path. None) start whole.0 ending disk final t) same whole.2);
+              (whole.0, whole.1, subst (λ t. IsRun v no_files start whole.0 ending disk final t) same whole.2);
         }
 
     -- the session ended there
     ends_with : (ending : Ending) (rest : Feed Command) (final : D) → AreLeft now rest → final ≡ disk_of node → ((files : Files) (p : Place) → Replies files p rest ending []) → IsTextOf ending [] []
-        → (start : Place) → Starts v start disk → (commands : Feed Command) × AreLeft all commands × Writes old mid (λ text. IsRun v (λ path. None) start commands ending disk final text)
+        → (start : Place) → Starts v start disk → (commands : Feed Command) × AreLeft all commands × Writes old mid (λ text. IsRun v no_files start commands ending disk final text)
     ends_with ending rest final are is right written start starts =
         let r = goes start starts in
         let whole = r.completes ending rest [] (disk_of node) [] are (right (files_of node.files) r.here) (nothing_more r.here node r.at) written in
-        (whole.0, whole.1, (r.written, r.appended, subst (λ t. IsRun v (λ path. None) start whole.0 ending disk final t) (append-nil r.written) (subst (λ d. IsRun v (λ path. None) start whole.0 ending disk d (r.written ++ [])) (sym is) whole.2)))
+        (whole.0, whole.1, (r.written, r.appended, subst (λ t. IsRun v no_files start whole.0 ending disk final t) (append-nil r.written) (subst (λ d. IsRun v no_files start whole.0 ending disk d (r.written ++ [])) (sym is) whole.2)))
 
     pub ends : (final : D) → final ≡ disk_of node → EndsAs over now new → (start : Place) → Starts v start disk
-        → (commands : Feed Command) × AreLeft all commands × Writes old mid (λ text. IsRun v (λ path. None) start commands ended disk final text)
-    ends final is gone = ends_with ended over final (are_ended now new over gone) is (λ files p. refl) refl
+        → (commands : Feed Command) × AreLeft all commands × Writes old mid (λ text. IsRun v no_files start commands ended disk final text)
+    ends final is gone = ends_with ended over final (are_ended now new over gone) is (λ files p. (refl, refl)) refl
 
     pub ends_cut : (final : D) → final ≡ disk_of node → EndsAs cut now new → (start : Place) → Starts v start disk
-        → (commands : Feed Command) × AreLeft all commands × Writes old mid (λ text. IsRun v (λ path. None) start commands cut_off disk final text)
-    ends_cut final is gone = ends_with cut_off cut final (are_ended now new cut gone) is (λ files p. refl) refl
+        → (commands : Feed Command) × AreLeft all commands × Writes old mid (λ text. IsRun v no_files start commands cut_off disk final text)
+    ends_cut final is gone = ends_with cut_off cut final (are_ended now new cut gone) is (λ files p. (refl, refl)) refl
 
     pub ends_early : (final : D) → final ≡ disk_of node → (start : Place) → Starts v start disk
-        → (commands : Feed Command) × AreLeft all commands × Writes old mid (λ text. IsRun v (λ path. None) start commands early disk final text)
+        → (commands : Feed Command) × AreLeft all commands × Writes old mid (λ text. IsRun v no_files start commands early disk final text)
     ends_early final is = ends_with early (some_left now) final (are_some now) is (λ files p. replies_none files p (some_left now)) (inl refl)
 
     -- at `quit`
     pub quits : (c : Command) (later : Node D) (final : D) → final ≡ disk_of later → Gives now new (λ d. c ≡ d) → FollowsCommand v c (Ok None) node later → (start : Place) → Starts v start disk
-        → (commands : Feed Command) × AreLeft all commands × Writes old mid (λ text. IsRun v (λ path. None) start commands ended disk final text)
+        → (commands : Feed Command) × AreLeft all commands × Writes old mid (λ text. IsRun v no_files start commands ended disk final text)
     quits c later final is gives (quitting, same) =
-        ends_with ended (next quit (some_left new)) final (subst (λ d. AreLeft now (next d (some_left new))) quitting (are_next now new c (some_left new) gives (are_some new))) (is ∙ ap disk_at same) (λ files p. refl) refl
+        ends_with ended (next quit (some_left new)) final (subst (λ d. AreLeft now (next d (some_left new))) quitting (are_next now new c (some_left new) gives (are_some new))) (is ∙ ap disk_at same) (λ files p. (refl, refl)) refl
 
     -- a command's answer was not written whole
     pub stops_within : (c : Command) (text : String Global) (later : Node D) (final : D) (mid' : Option (List ℕ)) → final ≡ disk_of later → Gives now new (λ d. c ≡ d) → FollowsCommand v c (Ok (Some text)) node later
         → AppendsPrefix mid mid' (string_bytes text) → (start : Place) → Starts v start disk
-        → (commands : Feed Command) × AreLeft all commands × Writes old mid' (λ t. IsRun v (λ path. None) start commands early disk final t)
+        → (commands : Feed Command) × AreLeft all commands × Writes old mid' (λ t. IsRun v no_files start commands early disk final t)
     stops_within c text later final mid' is gives (files, follows) (part, left, parts, appended) start starts =
         let r = goes start starts in
         let a = follows r.here r.at in
         let whole = r.completes early (next c (some_left new)) (a.given ∷ []) (disk_of later) part (are_next now new c (some_left new) gives (are_some new))
         (replies_next (files_of node.files) r.here c (some_left new) early a.given [] a.right.0 (replies_none (files_behind (files_of node.files) c) a.given.after (some_left new)))
         (disk_of later, a.happens, nothing_more a.given.after later a.at) (inr ([], a.given, part, left, refl, parts ∙ sym a.right.1, refl)) in
-        (whole.0, whole.1, (r.written ++ part, Appends-twice old mid mid' r.written part r.appended appended, subst (λ d. IsRun v (λ path. None) start whole.0 early disk d (r.written ++ part)) (sym is) whole.2))
+        (whole.0, whole.1, (r.written ++ part, Appends-twice old mid mid' r.written part r.appended appended, subst (λ d. IsRun v no_files start whole.0 early disk d (r.written ++ part)) (sym is) whole.2))
 
     -- or not at all, since memory was refused
     pub stops_before : (c : Command) (e : SessionError) (later : Node D) (final : D) → final ≡ disk_of later → Gives now new (λ d. c ≡ d) → FollowsCommand v c (Err e) node later → (start : Place) → Starts v start disk
-        → (commands : Feed Command) × AreLeft all commands × Writes old mid (λ t. IsRun v (λ path. None) start commands early disk final t)
+        → (commands : Feed Command) × AreLeft all commands × Writes old mid (λ t. IsRun v no_files start commands early disk final t)
     stops_before c e later final is gives follows start starts = by_outcome (follows r.here r.at)
       where
         r : Reached v start all now disk node old mid
         r = goes start starts
 
         by_outcome : Replied v r.here (λ a. Transition (files_of node.files) r.here c a) node.place later.place ⊎ Lapsed v r.here node.place later.place
-            → (commands : Feed Command) × AreLeft all commands × Writes old mid (λ t. IsRun v (λ path. None) start commands early disk final t)
+            → (commands : Feed Command) × AreLeft all commands × Writes old mid (λ t. IsRun v no_files start commands early disk final t)
         by_outcome (inl a) =
             let whole = r.completes early (next c (some_left new)) (a.given ∷ []) (disk_of later) [] (are_next now new c (some_left new) gives (are_some new))
             (replies_next (files_of node.files) r.here c (some_left new) early a.given [] a.right (replies_none (files_behind (files_of node.files) c) a.given.after (some_left new)))
             (disk_of later, a.happens, nothing_more a.given.after later a.at) (inr ([], a.given, [], a.given.answer, refl, refl, refl)) in
-            (whole.0, whole.1, (r.written, r.appended, subst (λ t. IsRun v (λ path. None) start whole.0 early disk final t) (append-nil r.written) (subst (λ d. IsRun v (λ path. None) start whole.0 early disk d (r.written ++ [])) (sym is) whole.2)))
+            (whole.0, whole.1, (r.written, r.appended, subst (λ t. IsRun v no_files start whole.0 early disk final t) (append-nil r.written) (subst (λ d. IsRun v no_files start whole.0 early disk d (r.written ++ [])) (sym is) whole.2)))
         by_outcome (inr lapsed) =
             let whole = r.completes early (some_left now) [] (disk_of later) [] (are_some now) (replies_none (files_of node.files) r.here (some_left now)) (lapsed.nothing_new, lapsed.holds, lapsed.counted) (inl refl) in
-            (whole.0, whole.1, (r.written, r.appended, subst (λ t. IsRun v (λ path. None) start whole.0 early disk final t) (append-nil r.written) (subst (λ d. IsRun v (λ path. None) start whole.0 early disk d (r.written ++ [])) (sym is) whole.2)))
+            (whole.0, whole.1, (r.written, r.appended, subst (λ t. IsRun v no_files start whole.0 early disk final t) (append-nil r.written) (subst (λ d. IsRun v no_files start whole.0 early disk d (r.written ++ [])) (sym is) whole.2)))
 
   -- of the commands that were left at first, to those of the input
   pub sessions : (known : Option (List ℕ)) (all : Option (Feed Command)) (ending : Ending) (disk final : D) (old now : Option (List ℕ)) → all ≡ option_map commands_in known
-      → ((start : Place) → Starts v start disk → (commands : Feed Command) × AreLeft all commands × Writes old now (λ text. IsRun v (λ path. None) start commands ending disk final text))
+      → ((start : Place) → Starts v start disk → (commands : Feed Command) × AreLeft all commands × Writes old now (λ text. IsRun v no_files start commands ending disk final text))
       → IsSession v ending known disk final old now
   sessions known all ending disk final old now same run start starts =
       let (commands, are, text) = run start starts in

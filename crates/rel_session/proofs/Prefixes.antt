@@ -5,10 +5,7 @@ use Rattle.std.proofs.lemmas.List.{append-nil}
 use Rattle.rel_list.specs.Releases.{Releases}
 use Rattle.rel_list.specs.Event.{Event, list_after}
 use Rattle.rel_handler.specs.Events.{Events, settled, with_doubt, accepted, IsPrefix, Stored, certain, uncertain, MayHave, IsStoredAs}
-use Rattle.rel_handler.specs.Image.{IsImageOf, IsImageAt}
-use Rattle.rel_store.specs.Records.{end_of}
-use Rattle.rel_store.specs.Layout.{has_magic}
-use Rattle.rel_store.proofs.Whole.{sound}
+use Rattle.rel_handler.specs.Image.{IsImageAt}
 use Rattle.rel_session.specs.Run.{IsReached}
 
 abbrev doubt_of : Option Event → Events
@@ -63,7 +60,7 @@ reached s command c of = record {
 
 -- and with its event
 pub reached_with : (events : Events) (end : ℕ) (e : Event) (size : ℕ) (c : List ℕ) → IsStoredAs (uncertain events end e size) c → IsReached (settled events) (e ∷ []) c
-reached_with events end e size c of = by_events of.has
+reached_with events end e size c of = by_events _ of.has
   where
     settled-accepted : (l : Events) → accepted (settled l) ≡ l ++ []
     settled-accepted l = go (is_some (list_after l))
@@ -72,8 +69,8 @@ reached_with events end e size c of = by_events of.has
         go true = sym (append-nil l)
         go false = sym (append-nil l)
 
-    by_events : MayHave (uncertain events end e size) of.events (end_of c) → IsReached (settled events) (e ∷ []) c
-    by_events (inl (is, at)) = record {
+    by_events : (n : ℕ) → MayHave (uncertain events end e size) of.events n → IsReached (settled events) (e ∷ []) c
+    by_events n (inl (is, at)) = record {
       events = events;
       prefix = prefix_so events None events of.list (inl refl) (subst (λ (l : Events). list_after l ≡ Some of.list) is of.after);
       more = [];
@@ -83,7 +80,7 @@ reached_with events end e size c of = by_events of.has
       after = ap list_after (append-nil events ∙ sym is) ∙ of.after;
       image_of = of.image_of;
     }
-    by_events (inr (is, at)) = record {
+    by_events n (inr (is, at)) = record {
       events = events;
       prefix = record { lacks = []; of_accepted = settled-accepted events; more = []; holds = sym (append-nil events) };
       more = e ∷ [];
@@ -97,7 +94,3 @@ reached_with events end e size c of = by_events of.has
 -- an image of a handler's list is a store of its events
 pub stored : (events : Events) (end : ℕ) (list : Releases) (c : List ℕ) → list_after events ≡ Some list → IsImageAt c list end → IsStoredAs (certain events end) c
 stored events end list c after image = record { events = events; has = inl (refl, image.ends); list = list; after = after; image_of = image.image_of }
-
--- a disk that stands for a list has a store
-pub has_a_store : (bytes : List ℕ) (es : Releases) → IsImageOf bytes es → has_magic bytes ≡ true
-has_a_store bytes es image = (sound bytes image.bodies image.store).begins

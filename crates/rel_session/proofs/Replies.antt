@@ -4,38 +4,29 @@ use Rattle.std.specs.Result.{IsErrAnd}
 use Rattle.std.specs.Prelude.{IfOk, IsErr, String, string_bytes, codes, length}
 use Rattle.std.specs.declared.alloc.Global.{Global}
 use Rattle.std.specs.declared.alloc.AllocError.{AllocError}
-use Rattle.rel_disk.proofs.Moments.{started, weakened}
-use Rattle.rel_session.proofs.Prefixes.{reached, reached_with, stored}
-use Rattle.rel_session.specs.declared.place.Place.{Place as PlaceInMemory}
-use Rattle.rel_session.specs.declared.place.Place.TheVariants as memory
-use Rattle.rel_session.specs.declared.refusal.Refusal.{Refusal as RefusalInMemory}
-use Rattle.rel_session.specs.declared.refusal.Refusal.TheVariants as refusal
+use Rattle.rel_list.specs.Releases.{Releases, running as running_release}
+use Rattle.rel_list.specs.Event.{list_after, booted, entry}
+use Rattle.rel_list.specs.Event.Event.{made, boot as booting}
+use Rattle.rel_list.specs.declared.status.Status.TheVariants.{Permanent}
+use Rattle.rel_store.specs.Creation.{IsUnwritten}
 use Rattle.rel_handler.specs.declared.error.HandlerError.{HandlerError}
 use Rattle.rel_handler.specs.declared.error.HandlerError.TheVariants as handler_error
 use Rattle.rel_handler.specs.declared.error.BootError.{BootError}
 use Rattle.rel_handler.specs.declared.error.BootError.TheVariants as boot_error
 use Rattle.rel_handler.specs.declared.handler.Handler.{Handler}
-use Rattle.rel_handler.specs.Events.{Events, Stored, certain, uncertain, IsStoredAs, settled}
-use Rattle.rel_handler.specs.Image.{IsImageOf, IsImageAt}
+use Rattle.rel_handler.specs.Events.{Events, Stored, MayHave, certain, uncertain, IsStoredAs, settled, doubted}
+use Rattle.rel_handler.specs.Image.{IsImageOf, IsImageAt, holds_a_store, first_end, end_behind, HasSpace}
+use Rattle.rel_handler.specs.Limits.{is_small}
+use Rattle.rel_handler.specs.Moments.{Begins, BeginsAt}
+use Rattle.rel_handler.specs.Records.{body_of}
+use Rattle.rel_handler.specs.Refusals.{CommandRefused, CreateRefused, BootRefused, IsBootRefusal}
 use Rattle.rel_handler.specs.State.{disk_in, list_in, is_dead, end_in, IsSame}
 use Rattle.rel_handler.specs.Taking.{commanded}
-use Rattle.rel_handler.specs.Refusals.{CommandRefused, CreateRefused, BootRefused}
-use Rattle.rel_handler.specs.Moments.{Begins, BeginsAt}
-use Rattle.rel_handler.specs.Limits.{is_small}
-use Rattle.rel_handler.proofs.Lists.{list_after-push}
-use Rattle.rel_store.specs.Records.{end_of}
-use Rattle.rel_session.proofs.Histories.{events_of_image}
-use Rattle.rel_list.specs.Releases.{Releases, running as running_release}
-use Rattle.rel_list.specs.Event.{list_after, booted, entry}
-use Rattle.rel_list.specs.Event.Event.{made, unpacked, boot as booting}
-use Rattle.rel_store.specs.Layout.{has_magic}
-use Rattle.rel_store.specs.State.{Fits}
-use Rattle.rel_store.specs.Creation.{IsUnwritten}
-use Rattle.rel_handler.specs.Events.{doubted}
-use Rattle.rel_handler.specs.Records.{body_of}
-use Rattle.rel_handler.proofs.UnpackLemmas.{steps}
-use Rattle.rel_list.specs.declared.status.Status.TheVariants.{Permanent}
-use Rattle.rel_session.proofs.Prefixes.{has_a_store}
+use Rattle.rel_session.specs.declared.place.Place.{Place as PlaceInMemory}
+use Rattle.rel_session.specs.declared.place.Place.TheVariants as memory
+use Rattle.rel_session.specs.declared.refusal.Refusal.{Refusal as RefusalInMemory}
+use Rattle.rel_session.specs.declared.refusal.Refusal.TheVariants as refusal
+use Rattle.rel_session.specs.Commands.Command.{create, set_unpacked}
 use Rattle.rel_session.specs.Device.{Device, LeavesOnly, HasFailed}
 use Rattle.rel_session.specs.Files.{Files, Found, IsFound}
 use Rattle.rel_session.specs.InMemory.{disk_at, IsAt, Replied, Lapsed, Answers, TellsReply}
@@ -45,12 +36,11 @@ use Rattle.rel_session.specs.Refusals.{Refusal, refusal_of, refusal_line, handle
 use Rattle.rel_session.specs.Refusals.Refusal.{full, exists, device, dead as dead_node}
 use Rattle.rel_session.specs.Run.{IsReached, Holds, Moments}
 use Rattle.rel_session.specs.Transition
-
--- What the laws of a device give, of those of the trait that are used here.
-pub record IsDevice {D : Type 0} (v : Device D) : Type 0 where
-  pub reads_an_image : (disk : D) → v.may_leave disk (v.seen disk)
-  pub counts_now : (disk : D) (t : ℕ) (c : List ℕ) → t ≤ v.moment disk → v.may_leave disk c → v.left_since disk t c
-  pub only_now : (disk : D) (c : List ℕ) → v.left_since disk (v.moment disk) c → v.may_leave disk c
+use Rattle.rel_session.specs.Transition.Action.{changes_node}
+use Rattle.rel_session.proofs.DeviceLemmas.{IsDevice, weakened, still}
+use Rattle.rel_session.proofs.Histories.{events_of_image}
+use Rattle.rel_session.proofs.ListLemmas.{list_after-push, commanded_step}
+use Rattle.rel_session.proofs.Prefixes.{reached, reached_with, stored}
 
 -- what an error became is the refusal
 pub told_so : (r : Result (String Global) RefusalInMemory) (why : RefusalInMemory) → IsErrAnd r (λ e. e ≡ why) → r ≡ Err why
@@ -69,10 +59,6 @@ module _ {D : Type 0} (v : Device D) (laws : IsDevice v) where
   held (memory.Made h) (running events end) at = at.0
   held (memory.Made h) (dead s) at = at.0
 
-  -- no call at all
-  pub still : (disk : D) → LeavesOnly v disk disk (v.may_leave disk)
-  still disk = started v.moment v.left_since disk (v.may_leave disk) (laws.only_now disk)
-
   -- calls that leave nothing new keep what is known of a store
   pub kept : (s : Stored) (old new : D) → ((c : List ℕ) → v.may_leave old c → IsStoredAs s c) → LeavesOnly v old new (v.may_leave old)
       → (c : List ℕ) → v.may_leave new c → IsStoredAs s c
@@ -81,7 +67,7 @@ module _ {D : Type 0} (v : Device D) (laws : IsDevice v) where
   -- and are the moments of any command on it
   pub quiet : (s : Stored) (command : Events) (old new : D) → ((c : List ℕ) → v.may_leave old c → IsStoredAs s c) → LeavesOnly v old new (v.may_leave old)
       → LeavesOnly v old new (IsReached s.known command)
-  quiet s command old new here leaves = weakened v.moment v.left_since old new (v.may_leave old) _ (λ c now. reached s command c (here c now)) leaves
+  quiet s command old new here leaves = weakened v old new (v.may_leave old) _ (λ c now. reached s command c (here c now)) leaves
 
   -- a command without an event that leaves nothing new
   pub moments_of_nothing : (p : Place) (b : Bool) (old new : D) → Holds v p old → LeavesOnly v old new (v.may_leave old) → Moments v p (record { acknowledged = []; in_doubt = None; failed = b }) old new
@@ -100,7 +86,7 @@ module _ {D : Type 0} (v : Device D) (laws : IsDevice v) where
     right = right;
     at = then;
     happens = record {
-      moments = moments_of_nothing p false (disk_at old) (disk_at new) (held old p at) (subst (λ d. LeavesOnly v (disk_at old) d (v.may_leave (disk_at old))) (sym same) (still (disk_at old)));
+      moments = moments_of_nothing p false (disk_at old) (disk_at new) (held old p at) (subst (λ d. LeavesOnly v (disk_at old) d (v.may_leave (disk_at old))) (sym same) (still v laws (disk_at old)));
       holds = held new p then;
       cause = λ e. never e;
       counted = subst (λ d. v.failures (disk_at old) ≤ v.failures d) (sym same) (omega arith);
@@ -109,7 +95,7 @@ module _ {D : Type 0} (v : Device D) (laws : IsDevice v) where
 
   pub lapses : (p : Place) (old new : PlaceInMemory D) → disk_at new ≡ disk_at old → IsAt v new p → Lapsed v p old new
   lapses p old new same then = record {
-    nothing_new = subst (λ d. LeavesOnly v (disk_at old) d (v.may_leave (disk_at old))) (sym same) (still (disk_at old));
+    nothing_new = subst (λ d. LeavesOnly v (disk_at old) d (v.may_leave (disk_at old))) (sym same) (still v laws (disk_at old));
     holds = held new p then;
     counted = subst (λ d. v.failures (disk_at old) ≤ v.failures d) (sym same) (omega arith);
   }
@@ -143,7 +129,7 @@ module _ {D : Type 0} (v : Device D) (laws : IsDevice v) where
 
   -- a boot that is done
   module _ (old : PlaceInMemory D) (disk : D) (taken : disk ≡ disk_at old) (h : Handler D) (alive : is_dead h ≡ false)
-      (image : IsImageOf (v.seen disk) (list_in h)) (again : booted (list_in h) ≡ list_in h) (ends : end_in h ≡ end_of (v.seen disk))
+      (image : IsImageAt (v.seen disk) (list_in h) (end_in h)) (again : booted (list_in h) ≡ list_in h)
       (images : (c : List ℕ) → v.may_leave (disk_in h) c → IsImageAt c (list_in h) (end_in h))
       (only : (es : Releases) → IsImageOf (v.seen disk) es → list_in h ≡ booted es)
       (leaves : LeavesOnly v disk (disk_in h) (v.may_leave disk)) (counted : v.failures disk ≤ v.failures (disk_in h)) where
@@ -170,16 +156,16 @@ module _ {D : Type 0} (v : Device D) (laws : IsDevice v) where
         → Replied v p (λ a. Transition.BootsStore s a × (a.answer ≡ Transition.ok_line (Transition.version_of (running_release (list_in h))))) old (memory.Made h)
     boots_store p s here moments =
         let of = here (v.seen disk) (laws.reads_an_image disk) in
-        boots_with p of.events (end_of (v.seen disk)) ends
+        boots_with p of.events (end_in h) refl
         (list_after-push of.events booting of.list (booted of.list) of.after refl ∙ ap (λ l. Some l) (sym (only of.list of.image_of)))
-        (moments (quiet s (booting ∷ []) disk (disk_in h) here leaves)) (Transition.BootsStore s) (λ a is. inl (of.events, end_of (v.seen disk), of.has, is))
+        (moments (quiet s (booting ∷ []) disk (disk_in h) here leaves)) (Transition.BootsStore s) (λ a is. inl (of.events, end_in h, subst (MayHave s of.events) image.ends of.has, is))
 
     boots_at : (p : Place) → Holds v p disk
         → Replied v p (λ a. Transition.Boots p a × (a.answer ≡ Transition.ok_line (Transition.version_of (running_release (list_in h))))) old (memory.Made h)
     boots_at (raw bytes) here =
-        let (events, before, after) = events_of_image (v.seen disk) (list_in h) image again in
-        boots_with (raw bytes) events (end_of bytes) (ends ∙ ap end_of here) after leaves (Transition.Boots (raw bytes))
-        (λ a is. inl (events, list_in h, before, subst (λ b. IsImageOf b (list_in h)) here image, is))
+        let (events, before, after) = events_of_image (v.seen disk) (list_in h) image.image_of again in
+        boots_with (raw bytes) events (end_in h) refl after leaves (Transition.Boots (raw bytes))
+        (λ a is. inl (events, list_in h, end_in h, before, subst (λ b. IsImageAt b (list_in h) (end_in h)) here image, is))
     boots_at (closed s) here = boots_store (closed s) s here (λ m. m)
     boots_at (running events end) here = boots_store (running events end) (certain events end) here (λ m. m)
     boots_at (dead s) here = boots_store (dead s) s here (λ m. m)
@@ -223,9 +209,9 @@ module _ {D : Type 0} (v : Device D) (laws : IsDevice v) where
       by_bytes : (bytes : List ℕ) → v.seen disk ≡ bytes → Replied v (raw bytes) (λ a. Transition.BootsBytes bytes a × (a.answer ≡ boot_line why)) old (memory.Bare new)
       by_bytes bytes here = go why refl is
         where
-          plainly : (w : BootError) → why ≡ w → w ≢ boot_error.Device → Transition.IsBootRefusal (v.seen disk) w → Replied v (raw bytes) (λ a. Transition.BootsBytes bytes a × (a.answer ≡ boot_line why)) old (memory.Bare new)
+          plainly : (w : BootError) → why ≡ w → w ≢ boot_error.Device → IsBootRefusal (v.seen disk) w → Replied v (raw bytes) (λ a. Transition.BootsBytes bytes a × (a.answer ≡ boot_line why)) old (memory.Bare new)
           plainly w e other told = refused_at (raw bytes) (raw bytes) (boot_line why) false (Transition.BootsBytes bytes) here (same (λ d. other (sym e ∙ d)) ∙ here) (λ f. never f)
-              (inr (inl (why, subst (λ b. Transition.IsBootRefusal b why) here (subst (Transition.IsBootRefusal (v.seen disk)) (sym e) told), refl)))
+              (inr (inl (why, subst (λ b. IsBootRefusal b why) here (subst (IsBootRefusal (v.seen disk)) (sym e) told), refl)))
 
           go : (w : BootError) → why ≡ w → BootRefused (v.seen disk) (v.failures disk) (v.failures new) w → Replied v (raw bytes) (λ a. Transition.BootsBytes bytes a × (a.answer ≡ boot_line why)) old (memory.Bare new)
           go boot_error.NotAStore e told = plainly boot_error.NotAStore e (λ f. cc f) told
@@ -276,42 +262,42 @@ module _ {D : Type 0} (v : Device D) (laws : IsDevice v) where
         go (inr known) = boot_refused why is same only known (Err e) told
 
   -- A node is made on a disk.
-  module _ (disk : D) (found : Found) where
+  module _ (disk : D) (found : Found) (stores : (es : Releases) → IsImageOf (v.seen disk) es → holds_a_store (v.seen disk) ≡ true) where
     abbrev size : ℕ
     size = length (body_of (codes "made") found.term)
 
-    on_raw : (bytes : List ℕ) (b : Bool) (a : Reply) → has_magic bytes ≡ b → Transition.MakesOn bytes found.release size b a → Transition.MakesNode (raw bytes) found a
-    on_raw bytes b a magic makes = inl (subst (λ m. Transition.MakesOn bytes found.release size m a) (sym magic) makes)
+    on_raw : (bytes : List ℕ) (b : Bool) (a : Reply) → holds_a_store bytes ≡ b → Transition.MakesOn bytes found.release size b a → Transition.MakesNode (raw bytes) found a
+    on_raw bytes b a stored_there makes = inl (subst (λ m. Transition.MakesOn bytes found.release size m a) (sym stored_there) makes)
 
-    store_there : (s : Stored) → ((c : List ℕ) → v.may_leave disk c → IsStoredAs s c) → has_magic (v.seen disk) ≡ true
-    store_there s here = let of = here (v.seen disk) (laws.reads_an_image disk) in has_a_store (v.seen disk) of.list of.image_of
+    store_there : (s : Stored) → ((c : List ℕ) → v.may_leave disk c → IsStoredAs s c) → holds_a_store (v.seen disk) ≡ true
+    store_there s here = let of = here (v.seen disk) (laws.reads_an_image disk) in stores of.list of.image_of
 
     pub makes : (h : Handler D) → ((at : D) × BeginsAt v.seen v.may_leave v.moment v.left_since (doubted [] (made found.release)) disk (disk_in h) at)
-        → ((c : List ℕ) → v.may_leave (disk_in h) c → IsImageAt c (list_in h) (end_in h)) → list_in h ≡ entry found.release Permanent ∷ [] → is_dead h ≡ false → (has_magic (v.seen disk) ≡ true → ⊥)
-        → Fits 289 size → end_in h ≡ 289 + (5 + size) → v.failures disk ≤ v.failures (disk_in h) → (vsn : List ℕ) → vsn ≡ found.release.vsn
+        → ((c : List ℕ) → v.may_leave (disk_in h) c → IsImageAt c (list_in h) (end_in h)) → list_in h ≡ entry found.release Permanent ∷ [] → is_dead h ≡ false → (holds_a_store (v.seen disk) ≡ true → ⊥)
+        → HasSpace first_end size → end_in h ≡ end_behind first_end size → v.failures disk ≤ v.failures (disk_in h) → (vsn : List ℕ) → vsn ≡ found.release.vsn
         → (p : Place) → IsAt v (memory.Bare disk) p → Replied v p (λ a. Transition.MakesNode p found a × (a.answer ≡ Transition.ok_line vsn)) (memory.Bare disk) (memory.Made h)
     makes h begun images list alive free fits ends counted vsn is (closed s) at = absurd (free (store_there s at))
     makes h begun images list alive free fits ends counted vsn is (running events end) at = absurd at
     makes h begun images list alive free fits ends counted vsn is (dead s) at = absurd at
     makes h begun images list alive free fits ends counted vsn is (raw bytes) at =
         let events = made found.release ∷ booting ∷ [] in
-        let place = runs_at h events (289 + (5 + size)) alive (ap (λ l. Some l) (sym list)) ends images in
-        let a = reply (Transition.ok_line found.release.vsn) (done events) (running events (289 + (5 + size))) in
+        let place = runs_at h events (end_behind first_end size) alive (ap (λ l. Some l) (sym list)) ends images in
+        let a = reply (Transition.ok_line found.release.vsn) (done events) (running events (end_behind first_end size)) in
         record {
           given = a;
-          right = (on_raw bytes false a (no_magic (has_magic bytes) refl) (inl (fits, refl)), ap Transition.ok_line (sym is));
+          right = (on_raw bytes false a (no_store (holds_a_store bytes) refl) (inl (fits, refl)), ap Transition.ok_line (sym is));
           at = place;
           happens = record { moments = begun; holds = place.0; cause = λ e. never e; counted = counted };
         }
       where
-        no_magic : (b : Bool) → has_magic bytes ≡ b → has_magic bytes ≡ false
-        no_magic true e = absurd (free (ap has_magic at ∙ e))
-        no_magic false e = e
+        no_store : (b : Bool) → holds_a_store bytes ≡ b → holds_a_store bytes ≡ false
+        no_store true e = absurd (free (ap holds_a_store at ∙ e))
+        no_store false e = e
 
     -- It isn't.
     module _ (new : D) (small : is_small found.release ≡ true) (counted : v.failures disk ≤ v.failures new)
         (begins : Begins v.seen v.may_leave v.moment v.left_since (doubted [] (made found.release)) disk new)
-        (taken : has_magic (v.seen disk) ≡ true → IsUnwritten v.seen v.may_leave v.moment v.left_since disk new) where
+        (taken : holds_a_store (v.seen disk) ≡ true → IsUnwritten v.seen v.may_leave v.moment v.left_since disk new) where
       unwritten_at : (p : Place) → IsAt v (memory.Bare disk) p → IsUnwritten v.seen v.may_leave v.moment v.left_since disk new → IsAt v (memory.Bare new) p
       unwritten_at (raw bytes) at u = u.same ∙ at
       unwritten_at (closed s) at u = kept s disk new at u.any_moment
@@ -350,17 +336,17 @@ module _ {D : Type 0} (v : Device D) (laws : IsDevice v) where
       device_fails cause (running events end) at = absurd at
       device_fails cause (dead s) at = absurd at
 
-      exists_there : has_magic (v.seen disk) ≡ true → (p : Place) → IsAt v (memory.Bare disk) p → Transition.MakesNode p found (refused exists p)
-      exists_there magic (raw bytes) at = on_raw bytes true (refused exists (raw bytes)) (ap has_magic (sym at) ∙ magic) refl
-      exists_there magic (closed s) at = inl refl
-      exists_there magic (running events end) at = absurd at
-      exists_there magic (dead s) at = absurd at
+      exists_there : holds_a_store (v.seen disk) ≡ true → (p : Place) → IsAt v (memory.Bare disk) p → Transition.MakesNode p found (refused exists p)
+      exists_there stored_there (raw bytes) at = on_raw bytes true (refused exists (raw bytes)) (ap holds_a_store (sym at) ∙ stored_there) refl
+      exists_there stored_there (closed s) at = inl refl
+      exists_there stored_there (running events end) at = absurd at
+      exists_there stored_there (dead s) at = absurd at
 
-      full_there : has_magic (v.seen disk) ≡ false → (Fits 289 size → ⊥) → (p : Place) → IsAt v (memory.Bare disk) p → Transition.MakesNode p found (refused full p)
-      full_there magic over (raw bytes) at = on_raw bytes false (refused full (raw bytes)) (ap has_magic (sym at) ∙ magic) (inr (over, refl))
-      full_there magic over (closed s) at = never (sym magic ∙ store_there s at)
-      full_there magic over (running events end) at = absurd at
-      full_there magic over (dead s) at = absurd at
+      full_there : holds_a_store (v.seen disk) ≡ false → (HasSpace first_end size → ⊥) → (p : Place) → IsAt v (memory.Bare disk) p → Transition.MakesNode p found (refused full p)
+      full_there stored_there over (raw bytes) at = on_raw bytes false (refused full (raw bytes)) (ap holds_a_store (sym at) ∙ stored_there) (inr (over, refl))
+      full_there stored_there over (closed s) at = never (sym stored_there ∙ store_there s at)
+      full_there stored_there over (running events end) at = absurd at
+      full_there stored_there over (dead s) at = absurd at
 
       pub makes_none : (e : HandlerError) (told : RefusalInMemory)
           → CreateRefused (v.seen disk) found.release size (v.failures disk) (v.failures new) (IsUnwritten v.seen v.may_leave v.moment v.left_since disk new) e → told ≡ handler_refusal e
@@ -371,8 +357,8 @@ module _ {D : Type 0} (v : Device D) (laws : IsDevice v) where
               → Answers v (λ p a. Transition.MakesNode p found a) (Err (handler_refusal e)) (memory.Bare disk) (memory.Bare new)
           by_error handler_error.Device (small_too, cause) = device_fails cause
           by_error handler_error.TooMany (big, u) = never (sym big ∙ small)
-          by_error handler_error.Exists (small_too, magic, u) = λ p at. refuses p exists at u (exists_there magic p at)
-          by_error handler_error.Full (small_too, magic, over, u) = λ p at. refuses p full at u (full_there magic over p at)
+          by_error handler_error.Exists (small_too, stored_there, u) = λ p at. refuses p exists at u (exists_there stored_there p at)
+          by_error handler_error.Full (small_too, stored_there, over, u) = λ p at. refuses p full at u (full_there stored_there over p at)
           by_error handler_error.NoMemory (small_too, u) = λ p at. record { nothing_new = u.any_moment; holds = held (memory.Bare new) p (unwritten_at p at u); counted = counted }
           by_error handler_error.ExistingRelease gone = absurd gone
           by_error handler_error.Dead gone = absurd gone
@@ -388,144 +374,133 @@ module _ {D : Type 0} (v : Device D) (laws : IsDevice v) where
   makes_again h found (running events end) at = stays (running events end) (refusal_line exists) _ (memory.Made h) (memory.Made h) at refl at (refl, refl)
   makes_again h found (dead s) at = stays (dead s) (refusal_line exists) _ (memory.Made h) (memory.Made h) at refl at (refl, refl)
 
-  -- A release comes in as unpacked.
-  module _ (files : Files) (path : List ℕ) (h : Handler D) where
-    abbrev Sets : Place → Reply → Type 0
-    Sets p a = Transition.SetsUnpacked files path p a
+  -- A refusal is told, unless memory was refused.
+  refuses : (P : Place → Reply → Type 0) (why : RefusalInMemory) (old new : PlaceInMemory D)
+      → (why ≢ refusal.NoMemory → (p : Place) → IsAt v old p → Replied v p (λ a. P p a × (a.answer ≡ refusal_line (refusal_of why))) old new)
+      → ((p : Place) → IsAt v old p → Lapsed v p old new) → Answers v P (Err why) old new
+  refuses P refusal.ExistingRelease old new told lapsed = told (λ e. cc e)
+  refuses P (refusal.BadFile q f) old new told lapsed = told (λ e. cc e)
+  refuses P (refusal.MissingFile q) old new told lapsed = told (λ e. cc e)
+  refuses P refusal.TooMany old new told lapsed = told (λ e. cc e)
+  refuses P refusal.Device old new told lapsed = told (λ e. cc e)
+  refuses P refusal.Full old new told lapsed = told (λ e. cc e)
+  refuses P refusal.Dead old new told lapsed = told (λ e. cc e)
+  refuses P refusal.NoMemory old new told lapsed = lapsed
+  refuses P refusal.Exists old new told lapsed = told (λ e. cc e)
 
-    -- not on a node that is dead, or on none
-    pub unpacks_dead : is_dead h ≡ true → Answers v Sets (Err refusal.Dead) (memory.Made h) (memory.Made h)
-    unpacks_dead gone (raw bytes) at = absurd at
-    unpacks_dead gone (closed s) at = absurd at
-    unpacks_dead gone (running events end) at = never (sym at.1 ∙ gone)
-    unpacks_dead gone (dead s) at = stays (dead s) (refusal_line dead_node) _ (memory.Made h) (memory.Made h) at refl at (refl, refl)
-
-    -- nor where memory is refused
-    pub unpacks_no_memory : Answers v Sets (Err refusal.NoMemory) (memory.Made h) (memory.Made h)
-    unpacks_no_memory p at = lapses p (memory.Made h) (memory.Made h) refl at
-
-    -- nor a file that isn't that of a release
-    pub unpacks_no_file : is_dead h ≡ false → (why : RefusalInMemory) → (why ≢ refusal.NoMemory → IsFound path (files path) (Err (refusal_of why))) → Answers v Sets (Err why) (memory.Made h) (memory.Made h)
-    unpacks_no_file alive why found = by_cases why found
+  -- A command changes the node that runs: P has what it replies there.
+  module _ (P : Place → Reply → Type 0) (h : Handler D) (alive : is_dead h ≡ false) where
+    -- it is refused before the node was asked
+    pub refuses_running : (why : RefusalInMemory) → (why ≢ refusal.NoMemory → (events : Events) (end : ℕ) → P (running events end) (refused (refusal_of why) (running events end)))
+        → Answers v P (Err why) (memory.Made h) (memory.Made h)
+    refuses_running why right = refuses P why (memory.Made h) (memory.Made h) (λ known p at. stands known p at) (λ p at. lapses p (memory.Made h) (memory.Made h) refl at)
       where
-        stands : (w : RefusalInMemory) → IsFound path (files path) (Err (refusal_of w)) → (p : Place) → IsAt v (memory.Made h) p
-            → Replied v p (λ a. Sets p a × (a.answer ≡ refusal_line (refusal_of w))) (memory.Made h) (memory.Made h)
-        stands w found (raw bytes) at = absurd at
-        stands w found (closed s) at = absurd at
-        stands w found (running events end) at = stays (running events end) (refusal_line (refusal_of w)) _ (memory.Made h) (memory.Made h) at refl at ((Err (refusal_of w), found, refl), refl)
-        stands w found (dead s) at = never (sym alive ∙ at.1)
+        stands : why ≢ refusal.NoMemory → (p : Place) → IsAt v (memory.Made h) p → Replied v p (λ a. P p a × (a.answer ≡ refusal_line (refusal_of why))) (memory.Made h) (memory.Made h)
+        stands known (raw bytes) at = absurd at
+        stands known (closed s) at = absurd at
+        stands known (running events end) at = stays (running events end) (refusal_line (refusal_of why)) _ (memory.Made h) (memory.Made h) at refl at (right known events end, refl)
+        stands known (dead s) at = never (sym alive ∙ at.1)
 
-        by_cases : (w : RefusalInMemory) → (w ≢ refusal.NoMemory → IsFound path (files path) (Err (refusal_of w))) → Answers v Sets (Err w) (memory.Made h) (memory.Made h)
-        by_cases refusal.ExistingRelease found = stands refusal.ExistingRelease (found (λ e. cc e))
-        by_cases (refusal.BadFile q f) found = stands (refusal.BadFile q f) (found (λ e. cc e))
-        by_cases (refusal.MissingFile q) found = stands (refusal.MissingFile q) (found (λ e. cc e))
-        by_cases refusal.TooMany found = stands refusal.TooMany (found (λ e. cc e))
-        by_cases refusal.Device found = stands refusal.Device (found (λ e. cc e))
-        by_cases refusal.Full found = stands refusal.Full (found (λ e. cc e))
-        by_cases refusal.Dead found = stands refusal.Dead (found (λ e. cc e))
-        by_cases refusal.NoMemory found = unpacks_no_memory
-        by_cases refusal.Exists found = stands refusal.Exists (found (λ e. cc e))
-
-    module _ (alive : is_dead h ≡ false) (found : Found) (there : IsFound path (files path) (Ok found)) (new : Handler D) (counted : v.failures (disk_in h) ≤ v.failures (disk_in new))
-        (moments : is_dead h ≡ false → (events : Events) → list_after events ≡ Some (list_in h) → LeavesOnly v (disk_in h) (disk_in new)
-        (IsStoredAs (uncertain events (end_in h) (unpacked found.release) (length (body_of (codes "unpacked") found.term))))) where
-      abbrev length_of : ℕ
-      length_of = length (body_of (codes "unpacked") found.term)
-
+    module _ (change : Transition.Change) (right : (events : Events) (end : ℕ) (a : Reply) → Transition.Acts (running events end) (changes_node change) a → P (running events end) a)
+        (new : Handler D) (counted : v.failures (disk_in h) ≤ v.failures (disk_in new))
+        (moments : is_dead h ≡ false → (events : Events) → list_after events ≡ Some (list_in h) → LeavesOnly v (disk_in h) (disk_in new) (IsStoredAs (uncertain events (end_in h) change.event change.size))) where
       -- what the list allows, said of the events
-      of_list : (events : Events) (o : Result Releases HandlerError) → list_after events ≡ Some (list_in h) → commanded (unpacked found.release) (list_in h) ≡ o
-          → commanded (unpacked found.release) (releases_after events) ≡ o
-      of_list events o after is = ap (λ l. commanded (unpacked found.release) (list_or_none l)) after ∙ is
+      right_for : (events : Events) (end : ℕ) (o : Result Releases HandlerError) (a : Reply) → list_after events ≡ Some (list_in h) → commanded change.event (list_in h) ≡ o
+          → Transition.Changes events end change o a → P (running events end) a
+      right_for events end o a after is done_so =
+          let of_list : commanded change.event (releases_after events) ≡ o = ap (λ l. commanded change.event (list_or_none l)) after ∙ is in
+          right events end a (subst (λ r. Transition.Changes events end change r a) (sym of_list) done_so)
 
-      brings : (events : Events) (end : ℕ) (o : Result Releases HandlerError) (a : Reply) → list_after events ≡ Some (list_in h) → commanded (unpacked found.release) (list_in h) ≡ o
-          → Transition.Brings events end (unpacked found.release) length_of found.release.vsn o a → Sets (running events end) a
-      brings events end o a after is right = (Ok found, there, subst (λ r. Transition.Brings events end (unpacked found.release) length_of found.release.vsn r a) (sym (of_list events o after is)) right)
+      moments_at : (events : Events) → list_after events ≡ Some (list_in h) → LeavesOnly v (disk_in h) (disk_in new) (IsReached (settled events) (change.event ∷ []))
+      moments_at events after = weakened v (disk_in h) (disk_in new) _ _ (reached_with events (end_in h) change.event change.size) (moments alive events after)
 
-      moments_at : (events : Events) → list_after events ≡ Some (list_in h) → LeavesOnly v (disk_in h) (disk_in new) (IsReached (settled events) (unpacked found.release ∷ []))
-      moments_at events after = weakened v.moment v.left_since (disk_in h) (disk_in new) _ _ (reached_with events (end_in h) (unpacked found.release) length_of) (moments alive events after)
-
-      pub unpacks : is_dead new ≡ false → commanded (unpacked found.release) (list_in h) ≡ Ok (list_in new) → ((c : List ℕ) → v.may_leave (disk_in new) c → IsImageAt c (list_in new) (end_in new))
-          → Fits (end_in h) length_of → end_in new ≡ end_in h + (5 + length_of) → (vsn : String Global) → string_bytes vsn ≡ found.release.vsn → Answers v Sets (Ok vsn) (memory.Made h) (memory.Made new)
-      unpacks works accepted images fits ends vsn is (raw bytes) at = absurd at
-      unpacks works accepted images fits ends vsn is (closed s) at = absurd at
-      unpacks works accepted images fits ends vsn is (dead s) at = never (sym alive ∙ at.1)
-      unpacks works accepted images fits ends vsn is (running events end) (here, living, after, stop) =
-          let then = events ++ unpacked found.release ∷ [] in
-          let end_then = end + (5 + length_of) in
-          let place = runs_at new then end_then works (list_after-push events (unpacked found.release) (list_in h) (list_in new) after (steps found.release (list_in h) (list_in new) accepted)) (ends ∙ ap (λ n. n + (5 + length_of)) stop) images in
-          let a = reply (Transition.ok_line found.release.vsn) (done (unpacked found.release ∷ [])) (running then end_then) in
+      pub changes : is_dead new ≡ false → commanded change.event (list_in h) ≡ Ok (list_in new) → ((c : List ℕ) → v.may_leave (disk_in new) c → IsImageAt c (list_in new) (end_in new))
+          → HasSpace (end_in h) change.size → end_in new ≡ end_behind (end_in h) change.size → (vsn : String Global) → string_bytes vsn ≡ change.vsn → Answers v P (Ok vsn) (memory.Made h) (memory.Made new)
+      changes works accepted images fits ends vsn is (raw bytes) at = absurd at
+      changes works accepted images fits ends vsn is (closed s) at = absurd at
+      changes works accepted images fits ends vsn is (dead s) at = never (sym alive ∙ at.1)
+      changes works accepted images fits ends vsn is (running events end) (here, living, after, stop) =
+          let then = events ++ change.event ∷ [] in
+          let end_then = end_behind end change.size in
+          let place = runs_at new then end_then works (list_after-push events change.event (list_in h) (list_in new) after (commanded_step change.event (list_in h) (list_in new) accepted))
+              (ends ∙ ap (λ n. end_behind n change.size) stop) images in
+          let a = reply (Transition.ok_line change.vsn) (done (change.event ∷ [])) (running then end_then) in
           record {
             given = a;
-            right = (brings events end (Ok (list_in new)) a after accepted (inl (subst (λ n. Fits n length_of) stop fits, inl refl)), ap Transition.ok_line (sym is));
+            right = (right_for events end (Ok (list_in new)) a after accepted (inl (subst (λ n. HasSpace n change.size) stop fits, inl refl)), ap Transition.ok_line (sym is));
             at = place;
             happens = record { moments = moments_at events after; holds = place.0; cause = λ e. never e; counted = counted };
           }
 
       -- It doesn't.
-      device_failed : (list : Releases) → commanded (unpacked found.release) (list_in h) ≡ Ok list → Fits (end_in h) length_of → HasFailed v (disk_in h) (disk_in new) → is_dead new ≡ true
-          → (p : Place) → IsAt v (memory.Made h) p → Replied v p (λ a. Sets p a × (a.answer ≡ refusal_line device)) (memory.Made h) (memory.Made new)
+      device_failed : (list : Releases) → commanded change.event (list_in h) ≡ Ok list → HasSpace (end_in h) change.size → HasFailed v (disk_in h) (disk_in new) → is_dead new ≡ true
+          → (p : Place) → IsAt v (memory.Made h) p → Replied v p (λ a. P p a × (a.answer ≡ refusal_line device)) (memory.Made h) (memory.Made new)
       device_failed list allowed fits cause gone (raw bytes) at = absurd at
       device_failed list allowed fits cause gone (closed s) at = absurd at
       device_failed list allowed fits cause gone (dead s) at = never (sym alive ∙ at.1)
       device_failed list allowed fits cause gone (running events end) (here, living, after, stop) =
-          let s = uncertain events end (unpacked found.release) length_of in
-          let leaves = subst (λ n. LeavesOnly v (disk_in h) (disk_in new) (IsStoredAs (uncertain events n (unpacked found.release) length_of))) stop (moments alive events after) in
+          let s = uncertain events end change.event change.size in
+          let leaves = subst (λ n. LeavesOnly v (disk_in h) (disk_in new) (IsStoredAs (uncertain events n change.event change.size))) stop (moments alive events after) in
           let holds : Holds v (dead s) (disk_in new) = λ c now. leaves.each c (laws.counts_now (disk_in new) (v.moment (disk_in h)) c leaves.later now) in
-          let a = failed (Some (unpacked found.release)) (dead s) in
+          let a = failed (Some change.event) (dead s) in
           record {
             given = a;
-            right = (brings events end (Ok list) a after allowed (inl (subst (λ n. Fits n length_of) stop fits, inr refl)), refl);
+            right = (right_for events end (Ok list) a after allowed (inl (subst (λ n. HasSpace n change.size) stop fits, inr refl)), refl);
             at = (holds, gone);
             happens = record { moments = moments_at events after; holds = holds; cause = λ e. cause; counted = counted };
           }
 
-      same_reply : (why : Refusal) (o : Result Releases HandlerError) → commanded (unpacked found.release) (list_in h) ≡ o → IsSame h new
-          → ((events : Events) (end : ℕ) → end_in h ≡ end → Transition.Brings events end (unpacked found.release) length_of found.release.vsn o (refused why (running events end)))
-          → (p : Place) → IsAt v (memory.Made h) p → Replied v p (λ a. Sets p a × (a.answer ≡ refusal_line why)) (memory.Made h) (memory.Made new)
-      same_reply why o is same right (raw bytes) at = absurd at
-      same_reply why o is same right (closed s) at = absurd at
-      same_reply why o is same right (dead s) at = never (sym alive ∙ at.1)
-      same_reply why o is same right (running events end) at =
+      same_reply : (why : Refusal) (o : Result Releases HandlerError) → commanded change.event (list_in h) ≡ o → IsSame h new
+          → ((events : Events) (end : ℕ) → end_in h ≡ end → Transition.Changes events end change o (refused why (running events end)))
+          → (p : Place) → IsAt v (memory.Made h) p → Replied v p (λ a. P p a × (a.answer ≡ refusal_line why)) (memory.Made h) (memory.Made new)
+      same_reply why o is same barred (raw bytes) at = absurd at
+      same_reply why o is same barred (closed s) at = absurd at
+      same_reply why o is same barred (dead s) at = never (sym alive ∙ at.1)
+      same_reply why o is same barred (running events end) at =
           stays (running events end) (refusal_line why) _ (memory.Made h) (memory.Made new) at same.disk (same_at h new (running events end) same at)
-          (brings events end o _ at.2 is (right events end at.3), refl)
+          (right_for events end o _ at.2 is (barred events end at.3), refl)
 
-      pub unpacks_none : (e : HandlerError) (told : RefusalInMemory) → CommandRefused v.failures (unpacked found.release) length_of h new e → told ≡ handler_refusal e
-          → Answers v Sets (Err told) (memory.Made h) (memory.Made new)
-      unpacks_none e told why is = subst (λ t. Answers v Sets (Err t) (memory.Made h) (memory.Made new)) (sym is) (by_error e why)
+      pub changes_none : (e : HandlerError) (told : RefusalInMemory) → CommandRefused v.failures change.event change.size h new e → told ≡ handler_refusal e
+          → Answers v P (Err told) (memory.Made h) (memory.Made new)
+      changes_none e told why is = subst (λ t. Answers v P (Err t) (memory.Made h) (memory.Made new)) (sym is) (by_error e why)
         where
-          by_error : (e : HandlerError) → CommandRefused v.failures (unpacked found.release) length_of h new e → Answers v Sets (Err (handler_refusal e)) (memory.Made h) (memory.Made new)
+          by_error : (e : HandlerError) → CommandRefused v.failures change.event change.size h new e → Answers v P (Err (handler_refusal e)) (memory.Made h) (memory.Made new)
           by_error handler_error.Dead (gone, same) = never (sym alive ∙ gone)
           by_error handler_error.ExistingRelease ((living, barred), same) = same_reply (refusal_of refusal.ExistingRelease) (Err handler_error.ExistingRelease) barred same (λ events end at. refl)
           by_error handler_error.TooMany ((living, barred), same) = same_reply (refusal_of refusal.TooMany) (Err handler_error.TooMany) barred same (λ events end at. refl)
           by_error handler_error.Full ((living, (list, allowed)), over, same) =
-              same_reply full (Ok list) allowed same (λ events end at. inr (subst (λ n. Fits n length_of → ⊥) at over, refl))
+              same_reply full (Ok list) allowed same (λ events end at. inr (subst (λ n. HasSpace n change.size → ⊥) at over, refl))
           by_error handler_error.NoMemory (living, same) = λ p at. lapses p (memory.Made h) (memory.Made new) same.disk (same_at h new p same at)
           by_error handler_error.Device ((living, (list, allowed), fits), cause, gone) = device_failed list allowed fits cause gone
           by_error handler_error.Exists gone = absurd gone
 
-  -- nor on a disk without a node
-  pub unpacks_nowhere : (files : Files) (path : List ℕ) (disk : D) → Answers v (Transition.SetsUnpacked files path) (Err refusal.Dead) (memory.Bare disk) (memory.Bare disk)
-  unpacks_nowhere files path disk (raw bytes) at = stays (raw bytes) (refusal_line dead_node) _ (memory.Bare disk) (memory.Bare disk) at refl at (refl, refl)
-  unpacks_nowhere files path disk (closed s) at = stays (closed s) (refusal_line dead_node) _ (memory.Bare disk) (memory.Bare disk) at refl at (refl, refl)
-  unpacks_nowhere files path disk (running events end) at = absurd at
-  unpacks_nowhere files path disk (dead s) at = absurd at
+  -- Where no node runs, a command that would change one is refused.
+  module _ (P : Place → Reply → Type 0) (right : (p : Place) → ((events : Events) (end : ℕ) → p ≡ running events end → ⊥) → P p (refused dead_node p)) where
+    pub changes_dead : (h : Handler D) → is_dead h ≡ true → Answers v P (Err refusal.Dead) (memory.Made h) (memory.Made h)
+    changes_dead h gone (raw bytes) at = absurd at
+    changes_dead h gone (closed s) at = absurd at
+    changes_dead h gone (running events end) at = never (sym at.1 ∙ gone)
+    changes_dead h gone (dead s) at = stays (dead s) (refusal_line dead_node) _ (memory.Made h) (memory.Made h) at refl at (right (dead s) (λ es n e. cc e), refl)
 
-  -- No node is made of a file that isn't that of a release.
-  pub creates_none : (files : Files) (path : List ℕ) (place : PlaceInMemory D) (why : RefusalInMemory) → (why ≢ refusal.NoMemory → IsFound path (files path) (Err (refusal_of why)))
-      → Answers v (Transition.CreatesNode files path) (Err why) place place
-  creates_none files path place why found = by_cases why found
-    where
-      stands : (w : RefusalInMemory) → IsFound path (files path) (Err (refusal_of w)) → (p : Place) → IsAt v place p
-          → Replied v p (λ a. Transition.CreatesNode files path p a × (a.answer ≡ refusal_line (refusal_of w))) place place
-      stands w there p at = stays p (refusal_line (refusal_of w)) _ place place at refl at ((Err (refusal_of w), there, refl), refl)
+    pub changes_nowhere : (disk : D) → Answers v P (Err refusal.Dead) (memory.Bare disk) (memory.Bare disk)
+    changes_nowhere disk (raw bytes) at = stays (raw bytes) (refusal_line dead_node) _ (memory.Bare disk) (memory.Bare disk) at refl at (right (raw bytes) (λ es n e. cc e), refl)
+    changes_nowhere disk (closed s) at = stays (closed s) (refusal_line dead_node) _ (memory.Bare disk) (memory.Bare disk) at refl at (right (closed s) (λ es n e. cc e), refl)
+    changes_nowhere disk (running events end) at = absurd at
+    changes_nowhere disk (dead s) at = absurd at
 
-      by_cases : (w : RefusalInMemory) → (w ≢ refusal.NoMemory → IsFound path (files path) (Err (refusal_of w))) → Answers v (Transition.CreatesNode files path) (Err w) place place
-      by_cases refusal.ExistingRelease there = stands refusal.ExistingRelease (there (λ e. cc e))
-      by_cases (refusal.BadFile q f) there = stands (refusal.BadFile q f) (there (λ e. cc e))
-      by_cases (refusal.MissingFile q) there = stands (refusal.MissingFile q) (there (λ e. cc e))
-      by_cases refusal.TooMany there = stands refusal.TooMany (there (λ e. cc e))
-      by_cases refusal.Device there = stands refusal.Device (there (λ e. cc e))
-      by_cases refusal.Full there = stands refusal.Full (there (λ e. cc e))
-      by_cases refusal.Dead there = stands refusal.Dead (there (λ e. cc e))
-      by_cases refusal.NoMemory there = λ p at. lapses p place place refl at
-      by_cases refusal.Exists there = stands refusal.Exists (there (λ e. cc e))
+  -- where memory is refused
+  pub changes_no_memory : (P : Place → Reply → Type 0) (place : PlaceInMemory D) → Answers v P (Err refusal.NoMemory) place place
+  changes_no_memory P place p at = lapses p place place refl at
+
+  -- A command is refused wherever the disk stands, before the node was asked.
+  pub refuses_anywhere : (P : Place → Reply → Type 0) (place : PlaceInMemory D) (why : RefusalInMemory)
+      → (why ≢ refusal.NoMemory → (p : Place) → P p (refused (refusal_of why) p)) → Answers v P (Err why) place place
+  refuses_anywhere P place why right =
+      refuses P why place place (λ known p at. stays p (refusal_line (refusal_of why)) _ place place at refl at (right known p, refl)) (λ p at. lapses p place place refl at)
+
+  -- `set_unpacked` where no node runs
+  pub idle_sets : (files : Files) (path : List ℕ) (p : Place) → ((events : Events) (end : ℕ) → p ≡ running events end → ⊥) → Transition.Transition files p (set_unpacked path) (refused dead_node p)
+  idle_sets files path (raw bytes) idle = (Transition.refuses dead_node, refl, refl)
+  idle_sets files path (closed s) idle = (Transition.refuses dead_node, refl, refl)
+  idle_sets files path (running events end) idle = absurd (idle events end refl)
+  idle_sets files path (dead s) idle = (Transition.refuses dead_node, refl, refl)

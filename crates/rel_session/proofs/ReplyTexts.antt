@@ -17,7 +17,9 @@ use Rattle.rel_session.specs.InMemory.{disk_at, IsAt, Replied, Lapsed, Answers, 
 use Rattle.rel_session.specs.Node.{Place, Reply, reply, nothing}
 use Rattle.rel_session.specs.Refusals.{refusal_of, refusal_line}
 use Rattle.rel_session.specs.Transition.{Transition, ok_line}
-use Rattle.rel_session.proofs.Replies.{IsDevice, stays, lapses}
+use Rattle.rel_session.specs.Transition.Action.{answers}
+use Rattle.rel_session.proofs.DeviceLemmas.{IsDevice}
+use Rattle.rel_session.proofs.Replies.{stays, lapses}
 
 module _ {D : Type 0} (v : Device D) (old new : Node D) (command : Command) (same : files_of new.files ≡ files_behind (files_of old.files) command) where
   -- a reply of which this holds too
@@ -39,27 +41,27 @@ module _ {D : Type 0} (v : Device D) (old new : Node D) (command : Command) (sam
 
     -- a command that was done, or refused
     pub follows : (r : Result (String Global) RefusalInMemory) (line : Result (Option (String Global)) SessionError) → IfOk line (λ text. IsLine r text) → Answers v P r old.place new.place → FollowsCommand v command line old new
-    follows r (Ok None) is answers = absurd is
-    follows (Ok vsn) (Ok (Some text)) is answers = with_text (ok_line (string_bytes vsn)) text is answers
-    follows (Ok vsn) (Err e) is answers = without (ok_line (string_bytes vsn)) answers
-    follows (Err refusal.NoMemory) (Ok (Some text)) is answers = absurd is
-    follows (Err refusal.NoMemory) (Err e) is answers = λ p at. inr (answers p at)
-    follows (Err refusal.ExistingRelease) (Ok (Some text)) is answers = with_text (refusal_line (refusal_of refusal.ExistingRelease)) text is answers
-    follows (Err (refusal.BadFile q f)) (Ok (Some text)) is answers = with_text (refusal_line (refusal_of (refusal.BadFile q f))) text is answers
-    follows (Err (refusal.MissingFile q)) (Ok (Some text)) is answers = with_text (refusal_line (refusal_of (refusal.MissingFile q))) text is answers
-    follows (Err refusal.TooMany) (Ok (Some text)) is answers = with_text (refusal_line (refusal_of refusal.TooMany)) text is answers
-    follows (Err refusal.Device) (Ok (Some text)) is answers = with_text (refusal_line (refusal_of refusal.Device)) text is answers
-    follows (Err refusal.Full) (Ok (Some text)) is answers = with_text (refusal_line (refusal_of refusal.Full)) text is answers
-    follows (Err refusal.Dead) (Ok (Some text)) is answers = with_text (refusal_line (refusal_of refusal.Dead)) text is answers
-    follows (Err refusal.Exists) (Ok (Some text)) is answers = with_text (refusal_line (refusal_of refusal.Exists)) text is answers
-    follows (Err refusal.ExistingRelease) (Err e) is answers = without (refusal_line (refusal_of refusal.ExistingRelease)) answers
-    follows (Err (refusal.BadFile q f)) (Err e) is answers = without (refusal_line (refusal_of (refusal.BadFile q f))) answers
-    follows (Err (refusal.MissingFile q)) (Err e) is answers = without (refusal_line (refusal_of (refusal.MissingFile q))) answers
-    follows (Err refusal.TooMany) (Err e) is answers = without (refusal_line (refusal_of refusal.TooMany)) answers
-    follows (Err refusal.Device) (Err e) is answers = without (refusal_line (refusal_of refusal.Device)) answers
-    follows (Err refusal.Full) (Err e) is answers = without (refusal_line (refusal_of refusal.Full)) answers
-    follows (Err refusal.Dead) (Err e) is answers = without (refusal_line (refusal_of refusal.Dead)) answers
-    follows (Err refusal.Exists) (Err e) is answers = without (refusal_line (refusal_of refusal.Exists)) answers
+    follows r (Ok None) is given = absurd is
+    follows (Ok vsn) (Ok (Some text)) is given = with_text (ok_line (string_bytes vsn)) text is given
+    follows (Ok vsn) (Err e) is given = without (ok_line (string_bytes vsn)) given
+    follows (Err refusal.NoMemory) (Ok (Some text)) is given = absurd is
+    follows (Err refusal.NoMemory) (Err e) is given = λ p at. inr (answers p at)
+    follows (Err refusal.ExistingRelease) (Ok (Some text)) is given = with_text (refusal_line (refusal_of refusal.ExistingRelease)) text is given
+    follows (Err (refusal.BadFile q f)) (Ok (Some text)) is given = with_text (refusal_line (refusal_of (refusal.BadFile q f))) text is given
+    follows (Err (refusal.MissingFile q)) (Ok (Some text)) is given = with_text (refusal_line (refusal_of (refusal.MissingFile q))) text is given
+    follows (Err refusal.TooMany) (Ok (Some text)) is given = with_text (refusal_line (refusal_of refusal.TooMany)) text is given
+    follows (Err refusal.Device) (Ok (Some text)) is given = with_text (refusal_line (refusal_of refusal.Device)) text is given
+    follows (Err refusal.Full) (Ok (Some text)) is given = with_text (refusal_line (refusal_of refusal.Full)) text is given
+    follows (Err refusal.Dead) (Ok (Some text)) is given = with_text (refusal_line (refusal_of refusal.Dead)) text is given
+    follows (Err refusal.Exists) (Ok (Some text)) is given = with_text (refusal_line (refusal_of refusal.Exists)) text is given
+    follows (Err refusal.ExistingRelease) (Err e) is given = without (refusal_line (refusal_of refusal.ExistingRelease)) given
+    follows (Err (refusal.BadFile q f)) (Err e) is given = without (refusal_line (refusal_of (refusal.BadFile q f))) given
+    follows (Err (refusal.MissingFile q)) (Err e) is given = without (refusal_line (refusal_of (refusal.MissingFile q))) given
+    follows (Err refusal.TooMany) (Err e) is given = without (refusal_line (refusal_of refusal.TooMany)) given
+    follows (Err refusal.Device) (Err e) is given = without (refusal_line (refusal_of refusal.Device)) given
+    follows (Err refusal.Full) (Err e) is given = without (refusal_line (refusal_of refusal.Full)) given
+    follows (Err refusal.Dead) (Err e) is given = without (refusal_line (refusal_of refusal.Dead)) given
+    follows (Err refusal.Exists) (Err e) is given = without (refusal_line (refusal_of refusal.Exists)) given
 
     -- one that gave a line
     pub follows_line : (line : Result (String Global) AllocError) (text : Result (Option (String Global)) SessionError) → MatchResult line (λ s. text ≡ Ok (Some s)) (λ _. text ≡ Err NoMemory)
@@ -102,5 +104,6 @@ pub gives : {D : Type 0} (v : Device D) (laws : IsDevice v) (old : Node D) (file
     → OnOk text (files_of files ≡ give (files_of old.files) path f) → IfOk text (λ t. IsText t (codes "ok\n")) → FollowsCommand v (file path f) text old (record { place = old.place; files = files })
 gives {D} v laws old files path f (Ok text) kept told =
     let new : Node D = record { place = old.place; files = files } in
-    follows_still v old new (file path f) kept laws refl (λ p. codes "ok\n") (λ p. refl) (Ok text) (says_text v old new (file path f) kept laws refl (λ p. codes "ok\n") (λ p. refl) (Ok text) (codes "ok\n") told (λ p. refl))
+    let done : (p : Place) → Transition (files_of old.files) p (file path f) (reply (codes "ok\n") nothing p) = λ p. (answers (codes "ok\n"), refl, refl) in
+    follows_still v old new (file path f) kept laws refl (λ p. codes "ok\n") done (Ok text) (says_text v old new (file path f) kept laws refl (λ p. codes "ok\n") done (Ok text) (codes "ok\n") told (λ p. refl))
 gives v laws old files path f (Err e) kept told = λ p at. inr (lapses v laws p old.place old.place refl at)

@@ -2,21 +2,19 @@
 use Rattle.std.proofs.Common.{◌≡◌, ◌≢◌, ◌⊎◌, inl, inr, ⊎_elim, ℕ, Bool, true, false, List, [], ◌++◌, length, codes, Option, None, Result, Ok, Err, refl, sym, ap, ◌∙◌, subst, append-nil}
 use Rattle.rel_list.specs.Releases.{Releases}
 use Rattle.rel_list.specs.Event.{Event}
-use Rattle.rel_list.specs.Event.Event.{unpacked}
-use Rattle.rel_store.specs.Layout.{has_magic}
-use Rattle.rel_store.specs.Records.{end_of}
 use Rattle.rel_handler.specs.declared.error.HandlerError.{HandlerError}
 use Rattle.rel_handler.specs.Events.{Events, Stored, MayHave, certain}
+use Rattle.rel_handler.specs.Image.{holds_a_store}
 use Rattle.rel_handler.specs.Records.{body_of}
 use Rattle.rel_handler.specs.Taking.{commanded}
 use Rattle.rel_session.specs.Commands.{Command}
-use Rattle.rel_session.specs.Commands.Command.{file, create, set_unpacked, boot, releases, quit, bad}
 use Rattle.rel_session.specs.Files.{Files, Found}
 use Rattle.rel_session.specs.Node.{Place, Reply, reply, nothing, releases_after}
 use Rattle.rel_session.specs.Node.Place.{raw, closed, running, dead}
 use Rattle.rel_session.specs.Refusals.{Refusal}
 use Rattle.rel_session.specs.RunLaws.{MayBe, acknowledged_at, IsKnown, Finds, Keeps}
 use Rattle.rel_session.specs.Transition
+use Rattle.rel_session.specs.Transition.Action.{answers, makes_node, changes_node, boots_node}
 
 same_known : (p : Place) (es : Events) → es ≡ [] → IsKnown p ⊎ (es ≢ []) → IsKnown p
 same_known p es none (inl known) = known
@@ -48,22 +46,11 @@ still_as p answer a is = keeps_as p a (reply answer nothing p) is (keeps_still p
 keeps_known : (p : Place) (a : Reply) (found : Events) → Finds p found → acknowledged_at a.after ≡ found ++ a.outcome.acknowledged → IsKnown a.after → Keeps p a
 keeps_known p a found finds are known = record { found = found; finds = finds; are = are; known = λ k. known }
 
-brings : (events : Events) (end : ℕ) (e : Event) (size : ℕ) (vsn : List ℕ) (o : Result Releases HandlerError) (a : Reply) → Transition.Brings events end e size vsn o a → Keeps (running events end) a
-brings events end e size vsn (Err why) a is = still_as (running events end) _ a is
-brings events end e size vsn (Ok list) a (inl (fits, inl is)) = keeps_as (running events end) a _ is (keeps_known (running events end) _ events refl refl tt)
-brings events end e size vsn (Ok list) a (inl (fits, inr is)) = keeps_as (running events end) a _ is (keeps_known (running events end) _ events refl (sym (append-nil events)) tt)
-brings events end e size vsn (Ok list) a (inr (over, is)) = still_as (running events end) _ a is
-
-unpacks : (events : Events) (end : ℕ) (found : Result Found Refusal) (a : Reply) → Transition.Unpacks events end found a → Keeps (running events end) a
-unpacks events end (Err why) a is = still_as (running events end) _ a is
-unpacks events end (Ok found) a is =
-    brings events end (unpacked found.release) (length (body_of (codes "unpacked") found.term)) found.release.vsn (commanded (unpacked found.release) (releases_after events)) a is
-
-sets_unpacked : (files : Files) (path : List ℕ) (p : Place) (a : Reply) → Transition.SetsUnpacked files path p a → Keeps p a
-sets_unpacked files path (raw bytes) a is = still_as (raw bytes) _ a is
-sets_unpacked files path (closed s) a is = still_as (closed s) _ a is
-sets_unpacked files path (running events end) a (found, there, is) = unpacks events end found a is
-sets_unpacked files path (dead s) a is = still_as (dead s) _ a is
+changes : (events : Events) (end : ℕ) (c : Transition.Change) (o : Result Releases HandlerError) (a : Reply) → Transition.Changes events end c o a → Keeps (running events end) a
+changes events end c (Err why) a is = still_as (running events end) _ a is
+changes events end c (Ok list) a (inl (fits, inl is)) = keeps_as (running events end) a _ is (keeps_known (running events end) _ events refl refl tt)
+changes events end c (Ok list) a (inl (fits, inr is)) = keeps_as (running events end) a _ is (keeps_known (running events end) _ events refl (sym (append-nil events)) tt)
+changes events end c (Ok list) a (inr (over, is)) = still_as (running events end) _ a is
 
 makes_on : (bytes : List ℕ) (found : Found) (size : ℕ) (b : Bool) (a : Reply) → Transition.MakesOn bytes found.release size b a → Keeps (raw bytes) a
 makes_on bytes found size true a is = still_as (raw bytes) _ a is
@@ -78,16 +65,12 @@ failed_as : (s : Stored) (answer : List ℕ) (doubt : Option Event) (p : Place) 
 failed_as s answer doubt p a finds is = keeps_as p a _ is (keeps_known p _ s.known.acknowledged finds (sym (append-nil s.known.acknowledged)) tt)
 
 makes : (p : Place) (found : Found) (a : Reply) → Transition.MakesNode p found a → Keeps p a
-makes (raw bytes) found a (inl is) = makes_on bytes found (length (body_of (codes "made") found.term)) (has_magic bytes) a is
+makes (raw bytes) found a (inl is) = makes_on bytes found (length (body_of (codes "made") found.term)) (holds_a_store bytes) a is
 makes (raw bytes) found a (inr (torn, is)) = torn_as bytes torn _ _ a is
 makes (closed s) found a (inl is) = still_as (closed s) _ a is
 makes (closed s) found a (inr is) = failed_as s _ _ (closed s) a (inl refl) is
 makes (running events end) found a is = still_as (running events end) _ a is
 makes (dead s) found a is = still_as (dead s) _ a is
-
-makes_found : (p : Place) (found : Result Found Refusal) (a : Reply) → Transition.MakesFound p found a → Keeps p a
-makes_found p (Err why) a is = still_as p _ a is
-makes_found p (Ok found) a is = makes p found a is
 
 booted : (p : Place) (events : Events) (end : ℕ) (a : Reply) → Finds p events → Transition.IsBooted events end a → Keeps p a
 booted p events end a finds (list, after, is) = keeps_as p a _ is (keeps_known p _ events finds refl tt)
@@ -102,18 +85,21 @@ boots_store p s a finds here (inl (events, end, has, is)) = booted p events end 
 boots_store p s a finds here (inr is) = failed_as s _ None p a here is
 
 boots : (p : Place) (a : Reply) → Transition.Boots p a → Keeps p a
-boots (raw bytes) a (inl (events, list, after, image, is)) = booted (raw bytes) events (end_of bytes) a (inr (list, after, image)) is
+boots (raw bytes) a (inl (events, list, end, after, image, is)) = booted (raw bytes) events end a (inr (list, after, image.image_of)) is
 boots (raw bytes) a (inr (inl (why, told, is))) = still_as (raw bytes) _ a is
 boots (raw bytes) a (inr (inr (torn, is))) = torn_as bytes torn _ None a is
 boots (closed s) a is = boots_store (closed s) s a (may_have s) (inl refl) is
 boots (running events end) a is = boots_store (running events end) (certain events end) a (λ es n has. ⊎_elim (λ e. e) (λ e. e) (may_have (certain events end) es n has)) refl is
 boots (dead s) a is = boots_store (dead s) s a (may_have s) (inl refl) is
 
+acts : (p : Place) (does : Transition.Action) (a : Reply) → Transition.Acts p does a → Keeps p a
+acts p (answers text) a is = still_as p _ a is
+acts p (makes_node found) a is = makes p found a is
+acts (raw bytes) (changes_node c) a is = still_as (raw bytes) _ a is
+acts (closed s) (changes_node c) a is = still_as (closed s) _ a is
+acts (running events end) (changes_node c) a is = changes events end c (commanded c.event (releases_after events)) a is
+acts (dead s) (changes_node c) a is = still_as (dead s) _ a is
+acts p boots_node a is = boots p a is
+
 pub each_keeps : (files : Files) (p : Place) (c : Command) (a : Reply) → Transition.Transition files p c a → Keeps p a
-each_keeps files p (file path f) a is = still_as p _ a is
-each_keeps files p (create path) a (found, there, is) = makes_found p found a is
-each_keeps files p (set_unpacked path) a is = sets_unpacked files path p a is
-each_keeps files p boot a is = boots p a is
-each_keeps files p releases a is = still_as p _ a is
-each_keeps files p quit a is = absurd is
-each_keeps files p bad a is = still_as p _ a is
+each_keeps files p c a (does, comes, is) = acts p does a is

@@ -14,46 +14,27 @@ use Rattle.rel_list.specs.Status.{is_current, is_permanent}
 use Rattle.rel_list.specs.Event.{Event, step, list_after, booted, entry}
 use Rattle.rel_list.specs.declared.status.Status.TheVariants.{Unpacked, Permanent}
 use Rattle.rel_list.specs.Event.Event.{made, unpacked, boot as booting}
-use Rattle.rel_store.specs.Layout.{has_magic}
-use Rattle.rel_store.specs.Records.{end_of}
 use Rattle.rel_handler.specs.declared.error.HandlerError.{HandlerError}
 use Rattle.rel_handler.specs.declared.error.HandlerError.TheVariants as handler_error
 use Rattle.rel_handler.specs.Events.{Events, Stored, MayHave, certain, uncertain}
-use Rattle.rel_handler.specs.Limits.{is_small}
+use Rattle.rel_handler.specs.Image.{holds_a_store}
 use Rattle.rel_handler.specs.Records.{Record, makes as makes_record, adds, release_in, MakesFrom, body_of}
 use Rattle.rel_handler.specs.Taking.{commanded}
-use Rattle.rel_session.specs.Commands.{Command, File}
-use Rattle.rel_session.specs.Commands.Command.{file, create, set_unpacked, boot, releases, quit, bad}
-use Rattle.rel_session.specs.Commands.File.{bytes, too_large}
-use Rattle.rel_session.specs.Files.{Files, Found, Says, usable, IsFound}
+use Rattle.rel_session.specs.Commands.{Command}
+use Rattle.rel_session.specs.Files.{Files, Found}
 use Rattle.rel_session.specs.Node.{Place, Reply, releases_after}
 use Rattle.rel_session.specs.Node.Place.{raw, closed, running, dead}
-use Rattle.rel_session.specs.Refusals.{Refusal, refusal_of, refusal_line, handler_refusal}
-use Rattle.rel_session.specs.Refusals.Refusal.{too_many, device}
-use Rattle.rel_session.specs.AnswerLaws.{is_one_line, HaveVersions, HasVersionsAt}
+use Rattle.rel_session.specs.Refusals.{refusal_of, refusal_line, handler_refusal}
+use Rattle.rel_session.specs.Refusals.Refusal.{device}
+use Rattle.rel_session.specs.AnswerLaws.{is_one_line, HasLinePath, HaveVersions, HasVersionsAt}
 use Rattle.rel_session.specs.RunLaws.{MayBe}
 use Rattle.rel_session.specs.Transition
+use Rattle.rel_session.specs.Transition.Action.{answers, makes_node, changes_node, boots_node}
 use Rattle.rel_session.proofs.Histories.{event_in, stepped}
-use Rattle.rel_session.proofs.OneAnswer.{list_from-more}
+use Rattle.rel_session.proofs.ActionLemmas.{OfEvent, one_line, IsGoodAction, good_action}
+use Rattle.rel_session.proofs.ListLemmas.{list_after-more}
 use Rattle.rel_session.proofs.Transitions.{may_have}
-use Rattle.rel_session.proofs.Whole.{parts, joined, IsWhole, HasLine, ok_whole, refusal_whole, boot_line_whole, listing_whole}
-
--- a version has no newline
-version_line : (s : List ℕ) → list_all (is_in 0x21 0x7E) s ≡ true → is_one_line s ≡ true
-version_line [] all = refl
-version_line (b ∷ s) all =
-    let (here, more) = parts (is_in 0x21 0x7E b) (list_all (is_in 0x21 0x7E) s) all in
-    let plain : not (b == 10) ≡ true = grind (arith, nat_tests) in
-    joined (not (b == 10)) (is_one_line s) plain (version_line s more)
-
-one_line : (s : List ℕ) → IsVersion s → is_one_line s ≡ true
-one_line s version = version_line s (parts (is_in 1 62 (length s)) (list_all (is_in 0x21 0x7E) s) version).1
-
--- the versions of an event's release
-abbrev OfEvent : Event → Type 0
-OfEvent (made r) = HasVersions r
-OfEvent (unpacked r) = HasVersions r
-OfEvent booting = Unit {0}
+use Rattle.rel_session.proofs.Whole.{IsWhole, ok_whole, boot_line_whole}
 
 more_versions : (es : Releases) (e : Entry) → HaveVersions es → HasVersions e.release → HaveVersions (es ++ e ∷ [])
 more_versions [] e all one = (one, tt)
@@ -78,7 +59,7 @@ abbrev pub OfList : Events → Type 0
 OfList events = (list : Releases) → list_after events ≡ Some list → HaveVersions list
 
 list_versions : (events : Events) (e : Event) → OfEvent e → OfList events → OfList (events ++ e ∷ [])
-list_versions events e of all list is = go (list_after events) refl (sym (list_from-more [] events e) ∙ is)
+list_versions events e of all list is = go (list_after events) refl (sym (list_after-more events e) ∙ is)
   where
     go : (o : Option Releases) → list_after events ≡ o → option_and_then (step e) o ≡ Some list → HaveVersions list
     go None after is = absurd cc
@@ -126,24 +107,6 @@ IsGood a = IsWhole a.answer × HasVersionsAt a.after
 good_as : (a b : Reply) → a ≡ b → IsGood b → IsGood a
 good_as a b is good = subst IsGood (sym is) good
 
--- what is found in a file
-abbrev IsGoodFound : Result Found Refusal → Type 0
-IsGoodFound (Ok found) = HasVersions found.release
-IsGoodFound (Err why) = HasLine why
-
-good_usable : (path bs : List ℕ) (said : Result Found Fault) → is_one_line path ≡ true → Says bs said → IsGoodFound (usable path said)
-good_usable path bs (Err fault) line says = line
-good_usable path bs (Ok found) line says = go (is_small found.release)
-  where
-    go : (b : Bool) → IsGoodFound (if b then Ok found else Err too_many)
-    go true = says.1.versions
-    go false = tt
-
-good_found : (path : List ℕ) (f : Option File) (found : Result Found Refusal) → is_one_line path ≡ true → IsFound path f found → IsGoodFound found
-good_found path None found line is = subst IsGoodFound (sym is) line
-good_found path (Some too_large) found line is = subst IsGoodFound (sym is) tt
-good_found path (Some (bytes bs)) found line (said, says, is) = subst IsGoodFound (sym is) (good_usable path bs said line says)
-
 handler_line : (e : HandlerError) → IsWhole (refusal_line (refusal_of (handler_refusal e)))
 handler_line handler_error.ExistingRelease behind = refl
 handler_line handler_error.TooMany behind = refl
@@ -156,40 +119,28 @@ handler_line handler_error.Exists behind = refl
 device_line : IsWhole (refusal_line device)
 device_line behind = refl
 
-brings : (events : Events) (end : ℕ) (r : Release) (size : ℕ) (o : Result Releases HandlerError) → HasVersions r → OfList events → (a : Reply) → Transition.Brings events end (unpacked r) size r.vsn o a → IsGood a
-brings events end r size (Err why) of all a is = good_as a _ is (handler_line why, all)
-brings events end r size (Ok list) of all a (inl (fits, inl is)) = good_as a _ is (ok_whole r.vsn (one_line r.vsn of.own), list_versions events (unpacked r) of all)
-brings events end r size (Ok list) of all a (inl (fits, inr is)) = good_as a _ is (device_line, either_way)
+changes : (events : Events) (end : ℕ) (c : Transition.Change) (o : Result Releases HandlerError) → OfEvent c.event → is_one_line c.vsn ≡ true → OfList events → (a : Reply) → Transition.Changes events end c o a → IsGood a
+changes events end c (Err why) of line all a is = good_as a _ is (handler_line why, all)
+changes events end c (Ok list) of line all a (inl (fits, inl is)) = good_as a _ is (ok_whole c.vsn line, list_versions events c.event of all)
+changes events end c (Ok list) of line all a (inl (fits, inr is)) = good_as a _ is (device_line, either_way)
   where
-    either_way : (es : Events) (l : Releases) → MayBe (uncertain events end (unpacked r) size) es → list_after es ≡ Some l → HaveVersions l
+    either_way : (es : Events) (l : Releases) → MayBe (uncertain events end c.event c.size) es → list_after es ≡ Some l → HaveVersions l
     either_way es l (inl same) after = all l (ap list_after (sym same) ∙ after)
-    either_way es l (inr same) after = list_versions events (unpacked r) of all l (ap list_after (sym same) ∙ after)
-brings events end r size (Ok list) of all a (inr (over_it, is)) = good_as a _ is ((λ behind. refl), all)
-
-sets_unpacked : (files : Files) (path : List ℕ) (p : Place) → is_one_line path ≡ true → HasVersionsAt p → (a : Reply) → Transition.SetsUnpacked files path p a → IsGood a
-sets_unpacked files path (raw x) line all a is = good_as a _ is ((λ behind. refl), all)
-sets_unpacked files path (closed s) line all a is = good_as a _ is ((λ behind. refl), all)
-sets_unpacked files path (dead s) line all a is = good_as a _ is ((λ behind. refl), all)
-sets_unpacked files path (running events end) line all a (found, there, is) = go found (good_found path (files path) found line there) is
-  where
-    go : (found : Result Found Refusal) → IsGoodFound found → Transition.Unpacks events end found a → IsGood a
-    go (Err why) good is = good_as a _ is (refusal_whole why good, all)
-    go (Ok found) good is =
-        brings events end found.release (length (body_of (codes "unpacked") found.term)) (commanded (unpacked found.release) (releases_after events)) good all a is
+    either_way es l (inr same) after = list_versions events c.event of all l (ap list_after (sym same) ∙ after)
+changes events end c (Ok list) of line all a (inr (over_it, is)) = good_as a _ is ((λ behind. refl), all)
 
 makes_on : (x : List ℕ) (r : Release) (size : ℕ) (b : Bool) → HasVersions r → (a : Reply) → Transition.MakesOn x r size b a → IsGood a
 makes_on x r size true of a is = good_as a _ is ((λ behind. refl), tt)
 makes_on x r size false of a (inl (fits, is)) = good_as a _ is (ok_whole r.vsn (one_line r.vsn of.own), list_versions (made r ∷ []) booting tt (list_versions [] (made r) of (λ l e. let same : [] ≡ l = cc in subst HaveVersions same tt)))
 makes_on x r size false of a (inr (over_it, is)) = good_as a _ is ((λ behind. refl), tt)
 
-makes : (p : Place) (found : Result Found Refusal) → IsGoodFound found → HasVersionsAt p → (a : Reply) → Transition.MakesFound p found a → IsGood a
-makes p (Err why) good all a is = good_as a _ is (refusal_whole why good, all)
-makes (raw x) (Ok found) good all a (inl is) = makes_on x found.release (length (body_of (codes "made") found.term)) (has_magic x) good a is
-makes (raw x) (Ok found) good all a (inr (torn, is)) = good_as a _ is ((λ behind. refl), tt)
-makes (closed s) (Ok found) good all a (inl is) = good_as a _ is ((λ behind. refl), all)
-makes (closed s) (Ok found) good all a (inr is) = good_as a _ is ((λ behind. refl), all)
-makes (running events end) (Ok found) good all a is = good_as a _ is ((λ behind. refl), all)
-makes (dead s) (Ok found) good all a is = good_as a _ is ((λ behind. refl), all)
+makes : (p : Place) (found : Found) → HasVersions found.release → HasVersionsAt p → (a : Reply) → Transition.MakesNode p found a → IsGood a
+makes (raw x) found good all a (inl is) = makes_on x found.release (length (body_of (codes "made") found.term)) (holds_a_store x) good a is
+makes (raw x) found good all a (inr (torn, is)) = good_as a _ is ((λ behind. refl), tt)
+makes (closed s) found good all a (inl is) = good_as a _ is ((λ behind. refl), all)
+makes (closed s) found good all a (inr is) = good_as a _ is ((λ behind. refl), all)
+makes (running events end) found good all a is = good_as a _ is ((λ behind. refl), all)
+makes (dead s) found good all a is = good_as a _ is ((λ behind. refl), all)
 
 boots_to : (events : Events) (end : ℕ) → OfList events → (a : Reply) → Transition.IsBooted events end a → IsGood a
 boots_to events end all a (list, after, is) =
@@ -201,9 +152,9 @@ boots_store s all a (inl (events, end, has, is)) = boots_to events end (stored_v
 boots_store s all a (inr is) = good_as a _ is ((λ behind. refl), all)
 
 boots : (p : Place) → HasVersionsAt p → (a : Reply) → Transition.Boots p a → IsGood a
-boots (raw x) all a (inl (events, list, after, image, is)) =
-    let versions = unbooted list (record_versions [] image.bodies (booted list) tt image.list.0) in
-    boots_to events (end_of x) (λ l e. let same : list ≡ l = cc in subst HaveVersions same versions) a is
+boots (raw x) all a (inl (events, list, end, after, image, is)) =
+    let versions = unbooted list (record_versions [] image.image_of.bodies (booted list) tt image.image_of.list.0) in
+    boots_to events end (λ l e. let same : list ≡ l = cc in subst HaveVersions same versions) a is
 boots (raw x) all a (inr (inl (why, refusal, is))) = good_as a _ is (boot_line_whole why, tt)
 boots (raw x) all a (inr (inr (torn, is))) = good_as a _ is ((λ behind. refl), tt)
 boots (closed s) all a is = boots_store s all a is
@@ -214,23 +165,14 @@ boots (running events end) all a is = boots_store (certain events end) only a is
     only es l (inr same) after = all l (ap list_after (sym same) ∙ after)
 boots (dead s) all a is = boots_store s all a is
 
-listed : (p : Place) → IsWhole (Transition.listed p)
-listed (raw x) behind = refl
-listed (closed s) behind = refl
-listed (running events end) behind = listing_whole (releases_after events) behind
-listed (dead s) behind = refl
-
--- the paths of a command
-abbrev pub HasLinePath : Command → Type 0
-HasLinePath (create path) = is_one_line path ≡ true
-HasLinePath (set_unpacked path) = is_one_line path ≡ true
-HasLinePath c = Unit {0}
+acts : (p : Place) (does : Transition.Action) → IsGoodAction does → HasVersionsAt p → (a : Reply) → Transition.Acts p does a → IsGood a
+acts p (answers text) good all a is = good_as a _ is (good, all)
+acts p (makes_node found) good all a is = makes p found good all a is
+acts (running events end) (changes_node c) good all a is = changes events end c (commanded c.event (releases_after events)) good.0 good.1 all a is
+acts (raw x) (changes_node c) good all a is = good_as a _ is ((λ behind. refl), all)
+acts (closed s) (changes_node c) good all a is = good_as a _ is ((λ behind. refl), all)
+acts (dead s) (changes_node c) good all a is = good_as a _ is ((λ behind. refl), all)
+acts p boots_node good all a is = boots p all a is
 
 pub each_good : (files : Files) (p : Place) (c : Command) → HasLinePath c → HasVersionsAt p → (a : Reply) → Transition.Transition files p c a → IsGood a
-each_good files p (file path f) line all a is = good_as a _ is ((λ behind. refl), all)
-each_good files p (create path) line all a (found, there, is) = makes p found (good_found path (files path) found line there) all a is
-each_good files p (set_unpacked path) line all a is = sets_unpacked files path p line all a is
-each_good files p boot line all a is = boots p all a is
-each_good files p releases line all a is = good_as a _ is (listed p, all)
-each_good files p quit line all a is = absurd is
-each_good files p bad line all a is = good_as a _ is ((λ behind. refl), all)
+each_good files p c line all a (does, comes, is) = acts p does (good_action files p c does line comes) all a is

@@ -92,11 +92,15 @@ EachHasAnAnswer =
 abbrev pub is_one_line : List ℕ → Bool
 is_one_line s = list_all (λ b. not (b == 10)) s
 
+-- the path of a command that names one in its answer
+abbrev pub HasLinePath : Command → Type 0
+HasLinePath (create path) = is_one_line path ≡ true
+HasLinePath (set_unpacked path) = is_one_line path ≡ true
+HasLinePath c = Unit {0}
+
 -- each path of these commands is one
 abbrev pub HaveLinePaths : Feed Command → Type 0
-HaveLinePaths (next (create path) rest) = (is_one_line path ≡ true) × HaveLinePaths rest
-HaveLinePaths (next (set_unpacked path) rest) = (is_one_line path ≡ true) × HaveLinePaths rest
-HaveLinePaths (next c rest) = HaveLinePaths rest
+HaveLinePaths (next c rest) = HasLinePath c × HaveLinePaths rest
 HaveLinePaths commands = Unit {0}
 
 -- each release of the list has the versions of a file

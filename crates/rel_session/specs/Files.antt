@@ -19,6 +19,10 @@ use Rattle.rel_session.specs.Refusals.Refusal.{bad_file, missing_file, too_many}
 abbrev pub Files : Type 0
 Files = List ℕ → Option File
 
+-- A session has no files until they are given.
+abbrev pub no_files : Files
+no_files = λ path. None
+
 abbrev pub give : Files → List ℕ → File → Files
 give files path f = λ q. if bytes_eq path q then Some f else files q
 

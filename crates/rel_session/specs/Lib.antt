@@ -18,3 +18,4 @@ pub mod RunLaws
 pub mod Saying
 pub mod Transition
 pub mod Written
+pub mod LawsBelow

@@ -82,14 +82,14 @@ pub data Ending : Type 0 where
   cut_off : Ending
   early : Ending
 
--- These are the replies to the commands, in order: to each up to the end, or to the first of them.
+-- These are the replies to the commands, in order: to each up to the end or `quit`, or to the first of them.
 abbrev pub Replies : Files → Place → Feed Command → Ending → List Reply → Type 0
+Replies files p (next c commands) ending (a ∷ more) =
+    Transition files p c a × Replies (files_behind files c) a.after commands ending more
 Replies files p commands early [] = Unit {0}
 Replies files p over ending [] = ending ≡ ended
 Replies files p cut ending [] = ending ≡ cut_off
-Replies files p (next quit commands) ending [] = ending ≡ ended
-Replies files p (next c commands) ending (a ∷ more) =
-    Transition files p c a × Replies (files_behind files c) a.after commands ending more
+Replies files p (next c commands) ending [] = (c ≡ quit) × (ending ≡ ended)
 Replies files p commands ending replies = ⊥
 
 -- their answers, one after another

@@ -5,9 +5,8 @@ use Rattle.rel_files.specs.Release.{Release}
 use Rattle.rel_list.specs.Releases.{Releases}
 use Rattle.rel_list.specs.Event.{list_after}
 use Rattle.rel_list.specs.Event.Event.{made, boot as booting}
-use Rattle.rel_store.specs.Records.{end_of}
 use Rattle.rel_handler.specs.Events.{Events, Stored, with_doubt, certain, IsStoredAs, IsOfPrefix}
-use Rattle.rel_handler.specs.Image.{IsImageOf}
+use Rattle.rel_handler.specs.Image.{IsImageOf, store_end}
 use Rattle.rel_session.specs.Commands.{Command}
 use Rattle.rel_session.specs.Device.{Device, LeavesOnly}
 use Rattle.rel_session.specs.Feed.{Feed}
@@ -116,7 +115,7 @@ BeginsWhereOneEnded {D} v =
 abbrev pub BeginsBehindACrash : {D : Type 0} → Device D → Type 0
 BeginsBehindACrash {D} v =
     (events : Events) (image : List ℕ) (disk : D) → StandsForAll events image → Only image (v.may_leave disk)
-    → (more : Events) × Starts v (closed (certain (events ++ more) (end_of image))) disk
+    → (more : Events) × Starts v (closed (certain (events ++ more) (store_end image))) disk
 
 -- A next session begins on this disk: it is the one that was handed back, or holds what a crash left at some moment.
 abbrev pub IsNextDisk : {D : Type 0} → Device D → D → D → D → Type 0

@@ -1,19 +1,16 @@
--- What a node replies to a command.
-use Rattle.std.specs.Prelude.{◌≡◌, ◌⊎◌, ℕ, ◌+◌, Bool, true, false, List, [], ◌∷◌, ◌++◌, length, codes, Option, None, Some, Result, Ok, Err}
+-- What a node replies to a command: what the command comes to, and what the node does then.
+use Rattle.std.specs.Prelude.{◌≡◌, ◌⊎◌, ℕ, Bool, true, false, List, [], ◌∷◌, ◌++◌, length, codes, Option, None, Some, Result, Ok, Err}
 use Rattle.rel_files.specs.Release.{Release}
 use Rattle.rel_list.specs.Releases.{Releases, running as running_release}
 use Rattle.rel_list.specs.Event.{Event, list_after}
 use Rattle.rel_list.specs.Event.Event.{made, unpacked, boot as booting}
-use Rattle.rel_store.specs.Layout.{has_magic}
-use Rattle.rel_store.specs.Records.{records_of, end_of}
-use Rattle.rel_store.specs.State.{Fits}
-use Rattle.rel_store.specs.declared.error.StoreError.TheVariants as store
 use Rattle.rel_handler.specs.declared.error.BootError.{BootError}
 use Rattle.rel_handler.specs.declared.error.BootError.TheVariants as boot_error
 use Rattle.rel_handler.specs.declared.error.HandlerError.{HandlerError}
 use Rattle.rel_handler.specs.Events.{Events, Stored, MayHave, certain, uncertain}
-use Rattle.rel_handler.specs.Image.{IsImageOf}
-use Rattle.rel_handler.specs.Records.{IsBadRecord, body_of}
+use Rattle.rel_handler.specs.Image.{IsImageOf, IsImageAt, holds_a_store, first_end, end_behind, HasSpace}
+use Rattle.rel_handler.specs.Records.{body_of}
+use Rattle.rel_handler.specs.Refusals.{IsBootRefusal}
 use Rattle.rel_handler.specs.Taking.{commanded}
 use Rattle.rel_session.specs.Commands.{Command}
 use Rattle.rel_session.specs.Commands.Command.{file, create, set_unpacked, boot, releases, quit, bad}
@@ -37,54 +34,82 @@ abbrev pub listed : Place → List ℕ
 listed (running events end) = listing (releases_after events)
 listed p = refusal_line dead_node
 
--- A command brings an event to a node, with a record whose body has so many bytes. It is done where the record fits and
--- the device does not fail.
-abbrev pub Brings : Events → ℕ → Event → ℕ → List ℕ → Result Releases HandlerError → Reply → Type 0
-Brings events end e size vsn (Err why) a = a ≡ refused (refusal_of (handler_refusal why)) (running events end)
-Brings events end e size vsn (Ok list) a =
-    (Fits end size × ((a ≡ reply (ok_line vsn) (done (e ∷ [])) (running (events ++ e ∷ []) (end + (5 + size))))
-    ⊎ (a ≡ failed (Some e) (dead (uncertain events end e size)))))
-    ⊎ ((Fits end size → ⊥) × (a ≡ refused full (running events end)))
+-- An event that a command brings to a node, how many bytes the body of its record has, and the version that the answer
+-- names.
+pub record Change : Type 0 where
+  pub event : Event
+  pub size : ℕ
+  pub vsn : List ℕ
 
--- `set_unpacked PATH`
-abbrev pub Unpacks : Events → ℕ → Result Found Refusal → Reply → Type 0
-Unpacks events end (Err why) a = a ≡ refused why (running events end)
-Unpacks events end (Ok found) a =
-    Brings events end (unpacked found.release) (length (body_of (codes "unpacked") found.term)) found.release.vsn
-    (commanded (unpacked found.release) (releases_after events)) a
+-- What a command comes to, once its words and its file are known: an answer alone, or one of three things that a node does.
+pub data Action : Type 0 where
+  answers : List ℕ → Action
+  makes_node : Found → Action
+  changes_node : Change → Action
+  boots_node : Action
 
-abbrev pub SetsUnpacked : Files → List ℕ → Place → Reply → Type 0
-SetsUnpacked files path (running events end) a = (found : Result Found Refusal) × IsFound path (files path) found × Unpacks events end found a
-SetsUnpacked files path p a = a ≡ refused dead_node p
+abbrev pub refuses : Refusal → Action
+refuses why = answers (refusal_line why)
 
--- `create PATH` on a disk with these bytes. It is made and booted.
+-- `create`, by what is found in the file
+abbrev pub creation : Result Found Refusal → Action
+creation (Err why) = refuses why
+creation (Ok found) = makes_node found
+
+-- a release comes in as unpacked
+abbrev pub unpacked_change : Found → Change
+unpacked_change found = record {
+  event = unpacked found.release;
+  size = length (body_of (codes "unpacked") found.term);
+  vsn = found.release.vsn;
+}
+
+-- `set_unpacked`, by what is found in the file
+abbrev pub unpacking : Result Found Refusal → Action
+unpacking (Err why) = refuses why
+unpacking (Ok found) = changes_node (unpacked_change found)
+
+-- a command that reads its file only where a node runs
+abbrev pub OnNode : Place → (Action → Type 0) → Action → Type 0
+OnNode (running events end) P does = P does
+OnNode p P does = does ≡ refuses dead_node
+
+-- What each command comes to where the disk stands; `quit` comes to nothing.
+abbrev pub ComesTo : Files → Place → Command → Action → Type 0
+ComesTo files p (file path f) does = does ≡ answers (codes "ok\n")
+ComesTo files p (create path) does =
+    (found : Result Found Refusal) × IsFound path (files path) found × (does ≡ creation found)
+ComesTo files p (set_unpacked path) does =
+    OnNode p (λ does. (found : Result Found Refusal) × IsFound path (files path) found × (does ≡ unpacking found)) does
+ComesTo files p boot does = does ≡ boots_node
+ComesTo files p releases does = does ≡ answers (listed p)
+ComesTo files p bad does = does ≡ answers (codes "error session 1 BadCommand\n")
+ComesTo files p quit does = ⊥
+
+-- The list takes a change, or refuses it. It is done where its record fits and the device does not fail.
+abbrev pub Changes : Events → ℕ → Change → Result Releases HandlerError → Reply → Type 0
+Changes events end c (Err why) a = a ≡ refused (refusal_of (handler_refusal why)) (running events end)
+Changes events end c (Ok list) a =
+    (HasSpace end c.size
+    × ((a ≡ reply (ok_line c.vsn) (done (c.event ∷ [])) (running (events ++ c.event ∷ []) (end_behind end c.size)))
+    ⊎ (a ≡ failed (Some c.event) (dead (uncertain events end c.event c.size)))))
+    ⊎ ((HasSpace end c.size → ⊥) × (a ≡ refused full (running events end)))
+
+-- A node is made on a disk with these bytes, and booted, unless they hold a store or the record does not fit.
 abbrev pub MakesOn : List ℕ → Release → ℕ → Bool → Reply → Type 0
 MakesOn bytes r size true a = a ≡ refused exists (raw bytes)
 MakesOn bytes r size false a =
-    (Fits 289 size × (a ≡ reply (ok_line r.vsn) (done (made r ∷ booting ∷ [])) (running (made r ∷ booting ∷ []) (289 + (5 + size)))))
-    ⊎ ((Fits 289 size → ⊥) × (a ≡ refused full (raw bytes)))
+    (HasSpace first_end size
+    × (a ≡ reply (ok_line r.vsn) (done (made r ∷ booting ∷ [])) (running (made r ∷ booting ∷ []) (end_behind first_end size))))
+    ⊎ ((HasSpace first_end size → ⊥) × (a ≡ refused full (raw bytes)))
 
 -- Where the device fails in it, the event is in doubt.
 abbrev pub MakesNode : Place → Found → Reply → Type 0
 MakesNode (raw bytes) found a =
-    MakesOn bytes found.release (length (body_of (codes "made") found.term)) (has_magic bytes) a
+    MakesOn bytes found.release (length (body_of (codes "made") found.term)) (holds_a_store bytes) a
     ⊎ ((torn : List ℕ) × (a ≡ failed (Some (made found.release)) (raw torn)))
 MakesNode (closed s) found a = (a ≡ refused exists (closed s)) ⊎ (a ≡ failed (Some (made found.release)) (closed s))
 MakesNode p found a = a ≡ refused exists p
-
-abbrev pub MakesFound : Place → Result Found Refusal → Reply → Type 0
-MakesFound p (Err why) a = a ≡ refused why p
-MakesFound p (Ok found) a = MakesNode p found a
-
-abbrev pub CreatesNode : Files → List ℕ → Place → Reply → Type 0
-CreatesNode files path p a = (found : Result Found Refusal) × IsFound path (files path) found × MakesFound p found a
-
--- why a boot refuses these bytes
-abbrev pub IsBootRefusal : List ℕ → BootError → Type 0
-IsBootRefusal bytes boot_error.NotAStore = records_of bytes ≡ Err store.NotAStore
-IsBootRefusal bytes (boot_error.Damaged at) = records_of bytes ≡ Err (store.Damaged at)
-IsBootRefusal bytes (boot_error.BadRecord i) = (bodies : List (List ℕ)) × (records_of bytes ≡ Ok bodies) × IsBadRecord bodies i
-IsBootRefusal bytes e = ⊥
 
 -- A boot of a store with these events is done. The answer names the version of the release that runs.
 abbrev pub IsBooted : Events → ℕ → Reply → Type 0
@@ -96,14 +121,15 @@ IsBooted events end a =
 abbrev pub boot_failed : Place → Reply
 boot_failed p = reply (boot_line boot_error.Device) (failed_with None) p
 
--- `boot` of a disk with these bytes
+-- A boot of a disk with these bytes: they stand for the list of some events, or are refused, or the device failed.
 abbrev pub BootsBytes : List ℕ → Reply → Type 0
 BootsBytes bytes a =
-    ((events : Events) × (list : Releases) × (list_after events ≡ Some list) × IsImageOf bytes list × IsBooted events (end_of bytes) a)
+    ((events : Events) × (list : Releases) × (end : ℕ) × (list_after events ≡ Some list) × IsImageAt bytes list end
+    × IsBooted events end a)
     ⊎ (((why : BootError) × IsBootRefusal bytes why × (a ≡ reply (boot_line why) nothing (raw bytes)))
     ⊎ ((torn : List ℕ) × (a ≡ boot_failed (raw torn))))
 
--- `boot` of a store: it has the acknowledged events, with the one in doubt or without
+-- A boot of a store: it has the acknowledged events, with the one in doubt or without.
 abbrev pub BootsStore : Stored → Reply → Type 0
 BootsStore s a =
     ((events : Events) × (end : ℕ) × MayHave s events end × IsBooted events end a)
@@ -115,12 +141,14 @@ Boots (closed s) a = BootsStore s a
 Boots (running events end) a = BootsStore (certain events end) a
 Boots (dead s) a = BootsStore s a
 
--- What a node replies to a command; `quit` has no reply.
+-- What the node replies then.
+abbrev pub Acts : Place → Action → Reply → Type 0
+Acts p (answers text) a = a ≡ reply text nothing p
+Acts p (makes_node found) a = MakesNode p found a
+Acts (running events end) (changes_node c) a = Changes events end c (commanded c.event (releases_after events)) a
+Acts p (changes_node c) a = a ≡ refused dead_node p
+Acts p boots_node a = Boots p a
+
+-- The reply to a command.
 abbrev pub Transition : Files → Place → Command → Reply → Type 0
-Transition files p (file path f) a = a ≡ reply (codes "ok\n") nothing p
-Transition files p (create path) a = CreatesNode files path p a
-Transition files p (set_unpacked path) a = SetsUnpacked files path p a
-Transition files p boot a = Boots p a
-Transition files p releases a = a ≡ reply (listed p) nothing p
-Transition files p bad a = a ≡ reply (codes "error session 1 BadCommand\n") nothing p
-Transition files p quit a = ⊥
+Transition files p c a = (does : Action) × ComesTo files p c does × Acts p does a

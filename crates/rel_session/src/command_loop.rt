@@ -3,6 +3,7 @@ ghost use Rattle.std.specs.Prelude.{◌≡◌, ◌≤◌, None, IsErrOf, OnOk, O
 ghost use Rattle.counted_io.specs.Counted.{held_by, failed_writes};
 ghost use Rattle.counted_io.specs.Failures.{HasRisen};
 ghost use Rattle.rel_session.specs.Ended.{IsSession};
+ghost use Rattle.rel_session.specs.Files.{no_files};
 ghost use Rattle.rel_session.specs.Input.{IsFresh, left_in, taken, failed_reads, most_bytes};
 ghost use Rattle.rel_session.specs.Run.Ending.{ended, cut_off, early};
 
@@ -27,15 +28,15 @@ pub fn session<D: Disk, R: Read + Drop, W: Write + Drop>(
     // The session is a run of transitions over the commands of its input, from the disk that it took to the one that it
     // hands back. What it wrote are the answers: all of them at the end of the input or at `quit`, and where more of the
     // input was needed than may be taken.
-    ensures ended { OnOk result.1 (IsSession D.Disk ended
+    ensures ended { OnOk result.1 (IsSession D.Disk no_files ended
         (left_in R.remaining input.old) disk result.0
         (held_by W.contents output.old) (held_by W.contents output.new)) }
     ensures cut { IsErrOf result.1 SessionError.Limit
-        → IsSession D.Disk cut_off (left_in R.remaining input.old) disk result.0
+        → IsSession D.Disk no_files cut_off (left_in R.remaining input.old) disk result.0
         (held_by W.contents output.old) (held_by W.contents output.new) }
 
     // After any error it is such a run up to some command, whose answer may not be written whole.
-    ensures broken { OnErr result.1 (IsSession D.Disk early
+    ensures broken { OnErr result.1 (IsSession D.Disk no_files early
         (left_in R.remaining input.old) disk result.0
         (held_by W.contents output.old) (held_by W.contents output.new)) }
 

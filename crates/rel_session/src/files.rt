@@ -2,7 +2,7 @@
 ghost use Rattle.std.specs.Prelude.{◌≡◌, ◌≢◌, true, None, Some, Ok, Err, string_bytes, IfOk, IfErr, OnOk};
 ghost use Rattle.rel_session.specs.Commands.{given_of};
 ghost use Rattle.rel_session.specs.Commands.File.{bytes as kept};
-ghost use Rattle.rel_session.specs.Files.{give, IsFound};
+ghost use Rattle.rel_session.specs.Files.{give, no_files, IsFound};
 ghost use Rattle.rel_session.specs.InMemory.{found_of};
 ghost use Rattle.rel_session.specs.Refusals.{refusal_of};
 ghost use Rattle.rel_session.specs.Refusals.Refusal.{bad_file};
@@ -29,7 +29,7 @@ impl Files {
 
     /// No file was given.
     pub fn new(alloc: Global) -> Files
-        ensures { files_of result ≡ (λ path. None) }
+        ensures { files_of result ≡ no_files }
     {
         Files {
             given: IndexMap::new(alloc),

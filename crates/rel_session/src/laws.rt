@@ -1,8 +1,33 @@
-//! Laws of sessions. Each function does nothing: its contract is the law.
+//! Laws of sessions. Each function does nothing: its contract is the law, and the laws that it calls are what it rests on.
 ghost use Rattle.rel_session.specs.AnswerLaws.{FailsOnlyWithTheDevice, TellsDoubt, HaveOneAnswer, HaveOneText, EachHasAnAnswer, TellsOneRun, ReadsLinePaths, KeepsVersions};
+ghost use Rattle.rel_session.specs.LawsBelow.{FileLaws, BootLaws};
 ghost use Rattle.rel_session.specs.RunLaws.{EachKeeps, IsOfAccepted, LosesNothing, BeginsWhereOneEnded, BeginsBehindACrash, LosesNothingEver, BeginsWithAMaking};
 
+use erl_reader::laws::no_text_has_two_readings;
 use rel_disk::Disk;
+use rel_files::laws::{
+    a_file_has_one_fault, each_file_says_a_release_or_has_a_fault,
+    no_file_says_a_release_and_has_a_fault, no_file_says_two_releases,
+};
+use rel_handler::laws::a_disk_boots_or_is_refused;
+
+/// A release file says one release or has one fault.
+fn a_file_says_one_thing()
+    ensures { FileLaws }
+{
+    no_text_has_two_readings();
+    no_file_says_two_releases();
+    a_file_has_one_fault();
+    no_file_says_a_release_and_has_a_fault();
+    each_file_says_a_release_or_has_a_fault();
+}
+
+/// A disk stands for one list, or a boot refuses it.
+fn a_disk_stands_for_one_list()
+    ensures { BootLaws }
+{
+    a_disk_boots_or_is_refused();
+}
 
 /// Each reply keeps the acknowledged events. At each moment of a session, ended or broken off, a crash leaves the list
 /// of events that begin with all those acknowledged before that moment.
@@ -36,7 +61,10 @@ pub fn an_input_has_one_answer<D: Disk>()
     ensures one { HaveOneAnswer }
     ensures written { HaveOneText D.Disk }
     ensures some { EachHasAnAnswer }
-{}
+{
+    a_file_says_one_thing();
+    a_disk_stands_for_one_list();
+}
 
 /// On an empty disk of a device that has not failed, the first event that is acknowledged is that a release was made.
 /// From then on no acknowledged event is lost, whatever fails.
@@ -52,4 +80,6 @@ pub fn a_text_tells_one_run<D: Disk>()
     // The paths of an input's commands and the versions of a store are as it asks.
     ensures paths { ReadsLinePaths }
     ensures versions { KeepsVersions D.Disk }
-{}
+{
+    a_file_says_one_thing();
+}

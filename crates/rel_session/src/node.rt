@@ -2,9 +2,9 @@
 ghost use Rattle.std.specs.Prelude.{◌≡◌, codes, None, Some, Ok, Err, string_bytes, IfOk, IfErr, OnOk, MatchResult};
 ghost use Rattle.rel_session.specs.Commands.{command_of, given_of};
 ghost use Rattle.rel_session.specs.Commands.Command.{file as file_given, create, set_unpacked, boot};
-ghost use Rattle.rel_session.specs.Files.{files_of, give};
+ghost use Rattle.rel_session.specs.Files.{files_of, no_files, give};
 ghost use Rattle.rel_session.specs.InMemory.{Answers, IsLine, IsText};
-ghost use Rattle.rel_session.specs.Transition.{SetsUnpacked};
+ghost use Rattle.rel_session.specs.Transition.{Transition};
 ghost use Rattle.rel_session.specs.declared.place.Place.TheVariants.{Bare, Made};
 ghost use Rattle.rel_handler.specs.State.{IsSound};
 
@@ -30,7 +30,7 @@ impl<D: Disk> Node<D> {
     /// No node was made or booted on the disk yet, and no file was given.
     pub fn new(alloc: Global, disk: D) -> Node<D>
         ensures place { result.place ≡ Bare disk }
-        ensures files { files_of result.files ≡ (λ path. None) }
+        ensures files { files_of result.files ≡ no_files }
     {
         Node {
             place: Place::Bare(disk),
@@ -179,7 +179,8 @@ fn unpack<D: Disk>(
 ) -> Result<String, Refusal>
     requires { IsSound D.seen D.may_leave handler.old }
     ensures sound { IsSound D.seen D.may_leave handler.new }
-    ensures unpacked { Answers D.Disk (λ p a. SetsUnpacked (files_of files.now) path.now p a) result
+    ensures unpacked { Answers D.Disk
+        (λ p a. Transition (files_of files.now) p (set_unpacked path.now) a) result
         (Made handler.old) (Made handler.new) }
 {
     if handler.is_dead() {

@@ -6,7 +6,7 @@ use Rattle.rel_session.specs.Input.{commands_left}
 use Rattle.rel_session.specs.Run.{commands_in}
 use Rattle.rel_session.specs.Run.Ending.{ended, cut_off, early}
 use Rattle.rel_session.proofs.LoopLemmas.{fresh_left, begins, goes_on, ends, ends_cut, ends_early, quits, stops_within, stops_before, sessions, cut_told}
-use Rattle.rel_session.proofs.Replies.{IsDevice}
+use Rattle.rel_session.proofs.DeviceLemmas.{IsDevice}
 use Rattle.rel_session.proofs.command_loop.session.Goals as goal
 
 pub loop-command-init : goal.loop-command-init

@@ -1,5 +1,5 @@
 use Rattle.rel_session.proofs.AcknowledgedEvents.{of_accepted, loses_nothing}
-use Rattle.rel_session.proofs.Replies.{IsDevice}
+use Rattle.rel_session.proofs.DeviceLemmas.{IsDevice}
 use Rattle.rel_session.proofs.Transitions.{each_keeps}
 use Rattle.rel_session.proofs.laws.a_crash_loses_nothing_acknowledged.Goals as goal
 

@@ -1,5 +1,5 @@
 use Rattle.rel_session.proofs.AcknowledgedEvents.{begins_where_one_ended, begins_behind_a_crash, loses_nothing_ever}
-use Rattle.rel_session.proofs.Replies.{IsDevice}
+use Rattle.rel_session.proofs.DeviceLemmas.{IsDevice}
 use Rattle.rel_session.proofs.laws.a_session_begins_where_another_ended.Goals as goal
 
 pub returns-clause-ended : goal.returns-clause-ended

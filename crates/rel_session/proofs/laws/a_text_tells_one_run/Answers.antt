@@ -1,6 +1,6 @@
 use Rattle.rel_session.proofs.LinePaths.{reads_line_paths, keeps_versions}
 use Rattle.rel_session.proofs.OneRun.{tells_one_run}
-use Rattle.rel_session.proofs.Replies.{IsDevice}
+use Rattle.rel_session.proofs.DeviceLemmas.{IsDevice}
 use Rattle.rel_session.proofs.laws.a_text_tells_one_run.Goals as goal
 
 pub returns-clause-one : goal.returns-clause-one

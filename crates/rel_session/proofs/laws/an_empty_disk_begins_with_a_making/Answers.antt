@@ -1,5 +1,5 @@
 use Rattle.rel_session.proofs.EmptyDisk.{begins_with_a_making}
-use Rattle.rel_session.proofs.Replies.{IsDevice}
+use Rattle.rel_session.proofs.DeviceLemmas.{IsDevice}
 use Rattle.rel_session.proofs.laws.an_empty_disk_begins_with_a_making.Goals as goal
 
 pub returns : goal.returns

@@ -1,7 +1,7 @@
 use Rattle.std.specs.Prelude.{string_bytes}
 use Rattle.rel_session.specs.Commands.{given_of}
 use Rattle.rel_session.proofs.ReplyTexts.{gives}
-use Rattle.rel_session.proofs.Replies.{IsDevice}
+use Rattle.rel_session.proofs.DeviceLemmas.{IsDevice}
 use Rattle.rel_session.proofs.node.Node.give.Goals as goal
 
 pub returns-clause-followed : goal.returns-clause-followed
