@@ -12,10 +12,11 @@ use Rattle.rel_store.specs.Creation.{IsNoneOrNew}
 use Rattle.rel_store.specs.Records.{records_of, StandsEither, space, records_or_none, end_of}
 use Rattle.rel_store.specs.Layout.{base_of}
 use Rattle.rel_store.proofs.Scan.{space-push}
+use Rattle.rel_store.proofs.Whole.{sound}
 use Rattle.rel_store.specs.State.{records_in, end_in, IsSettled}
 use Rattle.rel_store.specs.declared.store.Store.{Store}
 use Rattle.rel_handler.specs.Events.{Known, doubted, IsPrefix, IsOfPrefix, IsNoneOrOfPrefix, uncertain, IsStoredAs}
-use Rattle.rel_handler.specs.Image.{IsImageOf, IsImageAt}
+use Rattle.rel_handler.specs.Image.{IsImageOf, IsImageAt, holds_a_store}
 use Rattle.rel_handler.specs.Limits.{is_small}
 use Rattle.rel_handler.specs.Moments.{BootsTo}
 use Rattle.rel_handler.specs.Records.{makes, adds, Spells, with_one_permanent, assigned, MakesFrom, Makes}
@@ -114,6 +115,10 @@ pub while_creating : (r : Release) (body start : List ℕ) → is_small r ≡ tr
 while_creating r body start small spelled c (inl none) = inl none
 while_creating r body start small spelled c (inr stands) =
     inr (as_after [] (made r) [] (entry r Permanent ∷ []) c refl refl (record { bodies = body ∷ []; store = stands.records; list = first_record r body small spelled }))
+
+-- bytes that stand for a list hold a store
+pub has_a_store : (bytes : List ℕ) (es : Releases) → IsImageOf bytes es → holds_a_store bytes ≡ true
+has_a_store bytes es image = (sound bytes image.bodies image.store).begins
 
 -- A disk that stands for a list is booted to it.
 pub booted_image : (c : List ℕ) (bodies : List (List ℕ)) (found es : Releases) → records_of c ≡ Ok bodies → Makes bodies found → IsImageOf c es → found ≡ booted es

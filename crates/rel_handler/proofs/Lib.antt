@@ -9,3 +9,5 @@ pub mod Images
 pub mod Commits
 pub mod Boots
 pub mod Within
+pub mod TermLemmas
+pub mod BadRecords

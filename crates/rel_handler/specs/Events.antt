@@ -1,10 +1,10 @@
 -- Crash safety: which lists a node may boot to.
-use Rattle.std.specs.Prelude.{◌≡◌, ◌⊎◌, ℕ, ◌+◌, List, [], ◌∷◌, ◌++◌, is_some, if◌then◌else◌, Option, None, Some, Err}
+use Rattle.std.specs.Prelude.{◌≡◌, ◌⊎◌, ℕ, List, [], ◌∷◌, ◌++◌, is_some, if◌then◌else◌, Option, None, Some, Err}
 use Rattle.rel_list.specs.Releases.{Releases}
 use Rattle.rel_list.specs.Event.{Event, list_after}
 use Rattle.rel_store.specs.Records.{records_of, end_of}
 use Rattle.rel_store.specs.declared.error.StoreError.TheVariants.{NotAStore}
-use Rattle.rel_handler.specs.Image.{IsImageOf}
+use Rattle.rel_handler.specs.Image.{IsImageOf, end_behind}
 
 abbrev pub Events : Type 0
 Events = List Event
@@ -63,7 +63,7 @@ certain events end = record { known = settled events; end = end; end_with_doubt 
 
 -- Behind these events, where the store ends here, one is in doubt, whose record has a body of so many bytes.
 abbrev pub uncertain : Events → ℕ → Event → ℕ → Stored
-uncertain events end e size = record { known = doubted events e; end = end; end_with_doubt = end + (5 + size) }
+uncertain events end e size = record { known = doubted events e; end = end; end_with_doubt = end_behind end size }
 
 -- The store has these events and ends here: the acknowledged ones, or those with the one in doubt.
 abbrev pub MayHave : Stored → Events → ℕ → Type 0

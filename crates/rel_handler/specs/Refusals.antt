@@ -4,11 +4,10 @@ use Rattle.rel_disk.specs.Moments.{HasFailed}
 use Rattle.rel_files.specs.Release.{Release}
 use Rattle.rel_list.specs.Releases.{Releases}
 use Rattle.rel_list.specs.Event.{Event}
-use Rattle.rel_store.specs.Layout.{has_magic}
 use Rattle.rel_store.specs.Records.{records_of}
-use Rattle.rel_store.specs.State.{Fits}
 use Rattle.rel_store.specs.declared.error.StoreError.{StoreError}
 use Rattle.rel_store.specs.declared.error.StoreError.TheVariants as store
+use Rattle.rel_handler.specs.Image.{holds_a_store, first_end, HasSpace}
 use Rattle.rel_handler.specs.Limits.{is_small}
 use Rattle.rel_handler.specs.Records.{IsBadRecord}
 use Rattle.rel_handler.specs.State.{disk_in, list_in, is_dead, end_in, IsSame}
@@ -29,7 +28,7 @@ IsAllowed e old = (is_dead old ≡ false) × ((es : Releases) × (commanded e (l
 
 -- the list allows the event, and the store has room for a record with a body of so many bytes
 abbrev pub IsPossible : {D : Type 0} → Event → ℕ → Handler D → Type 0
-IsPossible e size old = (is_dead old ≡ false) × ((es : Releases) × (commanded e (list_in old) ≡ Ok es)) × Fits (end_in old) size
+IsPossible e size old = (is_dead old ≡ false) × ((es : Releases) × (commanded e (list_in old) ≡ Ok es)) × HasSpace (end_in old) size
 
 -- Why a command is refused that brings a release with this event, and a record with a body of so many bytes. Nothing has
 -- changed then, unless the device failed: then the handler is dead.
@@ -37,7 +36,7 @@ abbrev pub CommandRefused : {D : Type 0} → (D → ℕ) → Event → ℕ → H
 CommandRefused failures e size old new Dead = (is_dead old ≡ true) × IsSame old new
 CommandRefused failures e size old new ExistingRelease = IsRefused e old ExistingRelease × IsSame old new
 CommandRefused failures e size old new TooMany = IsRefused e old TooMany × IsSame old new
-CommandRefused failures e size old new Full = IsAllowed e old × (Fits (end_in old) size → ⊥) × IsSame old new
+CommandRefused failures e size old new Full = IsAllowed e old × (HasSpace (end_in old) size → ⊥) × IsSame old new
 CommandRefused failures e size old new NoMemory = (is_dead old ≡ false) × IsSame old new
 CommandRefused failures e size old new Device = IsPossible e size old × HasFailed (failures (disk_in old)) (failures (disk_in new)) × (is_dead new ≡ true)
 CommandRefused failures e size old new Exists = ⊥
@@ -46,8 +45,8 @@ CommandRefused failures e size old new Exists = ⊥
 -- written then, unless the device failed.
 abbrev pub CreateRefused : List ℕ → Release → ℕ → ℕ → ℕ → Type 0 → HandlerError → Type 0
 CreateRefused bytes r size before now unwritten TooMany = (is_small r ≡ false) × unwritten
-CreateRefused bytes r size before now unwritten Exists = (is_small r ≡ true) × (has_magic bytes ≡ true) × unwritten
-CreateRefused bytes r size before now unwritten Full = (is_small r ≡ true) × (has_magic bytes ≡ false) × (Fits 289 size → ⊥) × unwritten
+CreateRefused bytes r size before now unwritten Exists = (is_small r ≡ true) × (holds_a_store bytes ≡ true) × unwritten
+CreateRefused bytes r size before now unwritten Full = (is_small r ≡ true) × (holds_a_store bytes ≡ false) × (HasSpace first_end size → ⊥) × unwritten
 CreateRefused bytes r size before now unwritten NoMemory = (is_small r ≡ true) × unwritten
 CreateRefused bytes r size before now unwritten Device = (is_small r ≡ true) × HasFailed before now
 CreateRefused bytes r size before now unwritten _ = ⊥

@@ -1,16 +1,16 @@
 // A node is made.
-ghost use Rattle.std.specs.Prelude.{◌≡◌, ℕ, ◌≤◌, ◌+◌, List, [], ◌∷◌, ◌++◌, length, true, false, codes, string_bytes, IfOk, IfErr, OnOk, IsErr};
+ghost use Rattle.std.specs.Prelude.{◌≡◌, ℕ, ◌≤◌, List, [], ◌∷◌, ◌++◌, length, true, false, codes, string_bytes, IfOk, IfErr, OnOk, IsErr};
 ghost use Rattle.erl_term.specs.OneTerm.{HasTerm};
 ghost use Rattle.erl_term.specs.Value.{value_of};
 ghost use Rattle.rel_files.specs.Release.{release_of};
+ghost use Rattle.rel_list.specs.Releases.{Releases};
 ghost use Rattle.rel_list.specs.Event.{entry};
 ghost use Rattle.rel_list.specs.Event.Event.{made};
 ghost use Rattle.rel_store.specs.Creation.{IsUnwritten};
-ghost use Rattle.rel_store.specs.Layout.{has_magic, slot_with};
-ghost use Rattle.rel_store.specs.State.{Fits};
+ghost use Rattle.rel_store.specs.Layout.{slot_with};
 ghost use Rattle.rel_handler.specs.Events.{doubted};
 ghost use Rattle.rel_handler.specs.Files.{IsRelFile, start_text};
-ghost use Rattle.rel_handler.specs.Image.{IsImageAt};
+ghost use Rattle.rel_handler.specs.Image.{IsImageOf, IsImageAt, holds_a_store, end_behind, first_end, HasSpace};
 ghost use Rattle.rel_handler.specs.Limits.{is_small};
 ghost use Rattle.rel_handler.specs.Moments.{Begins, BeginsAt};
 ghost use Rattle.rel_handler.specs.Records.{body_of, record_term, word_of, makes};
@@ -44,11 +44,10 @@ impl<D: Disk> Handler<D> {
             → D.may_leave (disk_in handler) c → IsImageAt c (list_in handler) (end_in handler)) }
         ensures start { IfOk result (λ handler. start_in D.seen handler
             ≡ slot_with (start_text (release_of file.release))) }
-        ensures fits { OnOk result (Fits 289
+        ensures fits { OnOk result (HasSpace first_end
             (length (body_of (word_of (makes (release_of file.release))) (value_of file.term)))) }
-        ensures end { IfOk result (λ handler. end_in handler ≡ 289
-            + (5 + length (body_of (word_of (makes (release_of file.release)))
-            (value_of file.term)))) }
+        ensures end { IfOk result (λ handler. end_in handler ≡ end_behind first_end
+            (length (body_of (word_of (makes (release_of file.release))) (value_of file.term)))) }
 
         // A crash at any moment from the first sync on leaves no store, or one that stands for the list with the release.
         ensures any_moment { Begins D.seen D.may_leave D.moment D.left_since
@@ -57,8 +56,13 @@ impl<D: Disk> Handler<D> {
             × BeginsAt D.seen D.may_leave D.moment D.left_since
             (doubted [] (made (release_of file.release))) disk (disk_of result) at) }
 
-        ensures taken { has_magic (D.seen disk) ≡ true → IfErr result
+        ensures taken { holds_a_store (D.seen disk) ≡ true → IfErr result
             (λ e. IsUnwritten D.seen D.may_leave D.moment D.left_since disk e.1) × IsErr result }
+
+        // Bytes that stand for a list hold a store, so no node is made over one.
+        ensures node { (es : Releases) → IsImageOf (D.seen disk) es
+            → holds_a_store (D.seen disk) ≡ true }
+
         ensures counted { D.failures disk ≤ D.failures (disk_of result) }
         ensures refused { IfErr result (λ e. CreateRefused (D.seen disk) (release_of file.release)
             (length (body_of (word_of (makes (release_of file.release))) (value_of file.term))) (D.failures disk) (D.failures e.1)

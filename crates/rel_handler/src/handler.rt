@@ -1,13 +1,12 @@
 // A node's releases on a disk, and the commands on them.
-ghost use Rattle.std.specs.Prelude.{◌≡◌, ℕ, ◌≤◌, ◌+◌, List, length, true, false, Some, Ok, string_bytes, IfErr, OnOk, MatchResult};
+ghost use Rattle.std.specs.Prelude.{◌≡◌, ℕ, ◌≤◌, List, length, true, false, Some, Ok, string_bytes, IfErr, OnOk, MatchResult};
 ghost use Rattle.erl_term.specs.Value.{value_of};
 ghost use Rattle.rel_disk.specs.Moments.{LeavesOnly};
 ghost use Rattle.rel_files.specs.Release.{release_of};
 ghost use Rattle.rel_list.specs.Event.{list_after};
 ghost use Rattle.rel_list.specs.Event.Event.{unpacked};
-ghost use Rattle.rel_store.specs.State.{Fits};
 ghost use Rattle.rel_handler.specs.Events.{Events, IsStoredAs, uncertain};
-ghost use Rattle.rel_handler.specs.Image.{IsImageAt};
+ghost use Rattle.rel_handler.specs.Image.{IsImageAt, end_behind, HasSpace};
 ghost use Rattle.rel_handler.specs.Records.{body_of, word_of, adds};
 ghost use Rattle.rel_handler.specs.Refusals.{CommandRefused};
 ghost use Rattle.rel_handler.specs.State.{disk_in, list_in, is_dead, end_in, start_in, IsSound};
@@ -82,11 +81,10 @@ impl<D: Disk> Handler<D> {
         ensures acknowledged { OnOk result ((c : List ℕ) → D.may_leave (disk_in self.new) c
             → IsImageAt c (list_in self.new) (end_in self.new)) }
         ensures start { OnOk result (start_in D.seen self.new ≡ start_in D.seen self.old) }
-        ensures fits { OnOk result (Fits (end_in self.old)
+        ensures fits { OnOk result (HasSpace (end_in self.old)
             (length (body_of (word_of (adds (release_of file.release))) (value_of file.term)))) }
-        ensures end { OnOk result (end_in self.new ≡ end_in self.old
-            + (5 + length (body_of (word_of (adds (release_of file.release)))
-            (value_of file.term)))) }
+        ensures end { OnOk result (end_in self.new ≡ end_behind (end_in self.old)
+            (length (body_of (word_of (adds (release_of file.release))) (value_of file.term)))) }
 
         // Whatever the events so far, a crash at any moment of the call leaves the store of their list, or of the list with
         // this one, which is in doubt.

@@ -9,8 +9,10 @@
 //! the device alone. After an `Ok` the disk stands for the list with the command's event. A refusal changes nothing, but
 //! after `Device` the handler is dead until the next boot.
 //!
-//! The clauses speak of the bytes of a store as a whole (`IsImageOf`) and of its records as terms (`Spells`): no proof here
-//! is about single bytes.
+//! The law `a_disk_boots_or_is_refused` says of all bytes that they stand for one list or a boot refuses them, never both.
+//!
+//! The clauses speak of the bytes of a store as a whole (`IsImageOf`) and of its records as terms (`Spells`). One proof is
+//! about single bytes: that a store refuses bytes as `NotAStore` or `Damaged` alone (`BadRecords`).
 #![tactic(auto)]
 
 mod booting;

@@ -3,7 +3,7 @@ use Rattle.erl_term.specs.Value.{value_of}
 use Rattle.rel_files.specs.Release.{release_of}
 use Rattle.rel_handler.specs.Limits.{is_small}
 use Rattle.rel_handler.proofs.Boots.{sound_so, begins_at, begins, made_new, spelled_made}
-use Rattle.rel_handler.proofs.Images.{each_image}
+use Rattle.rel_handler.proofs.Images.{each_image, has_a_store}
 use Rattle.rel_handler.proofs.handler.Handler.create.Goals as goal
 
 pub returns-in-Ok-create-clause-sound : goal.returns-in-Ok-create-clause-sound
@@ -36,3 +36,10 @@ returns-clause-any_moment g c =
     let small : is_small (release_of c.args.file.release) ≡ true = search rules in
     let spelled = spelled_made c.as_bytes.result.now (string_bytes c.in-Ok.new.body) (value_of c.args.file.term) (release_of c.args.file.release) c.as_bytes.ensures.value c.in-Ok.ensures.read_back c.requires.says in
     begins g.D.Disk.seen g.D.Disk.may_leave g.D.Disk.moment g.D.Disk.left_since (release_of c.args.file.release) c.as_bytes.result.now c.as_bytes-2.result.now small spelled c.args.disk _ c.in-Err.ensures.any_moment
+
+-- no node is made over one
+pub returns-in-Ok-create-clause-node : goal.returns-in-Ok-create-clause-node
+returns-in-Ok-create-clause-node g c = has_a_store (g.D.Disk.seen c.args.disk)
+
+pub returns-clause-node : goal.returns-clause-node
+returns-clause-node g c = has_a_store (g.D.Disk.seen c.args.disk)
