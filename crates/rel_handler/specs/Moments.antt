@@ -5,6 +5,7 @@ use Rattle.rel_disk.specs.Moments.{LeavesOnly}
 use Rattle.rel_list.specs.Releases.{Releases}
 use Rattle.rel_list.specs.Event.{Event, list_after}
 use Rattle.rel_list.specs.Event.Event.{boot}
+use Rattle.rel_store.specs.Creation.{IsUnwritten}
 use Rattle.rel_store.specs.Moments.{IsTornFrom}
 use Rattle.rel_handler.specs.Events.{Known, IsPrefix, IsNoneOrOfPrefix}
 use Rattle.rel_store.specs.Contents.{IsSyncedAt}
@@ -24,6 +25,10 @@ pub record BeginsAt {D : Type 0} (seen : D → List ℕ) (may_leave : D → List
 abbrev pub Begins : {D : Type 0} → (D → List ℕ) → (D → List ℕ → Type 0) → (D → ℕ) → (D → ℕ → List ℕ → Type 0) → Known → D → D → Type 0
 Begins {D = D} seen may_leave moment left_since k old new =
     LeavesOnly moment left_since old new (IsTornFrom (may_leave old) 0 1) ⊎ ((at : D) × BeginsAt seen may_leave moment left_since k old new at)
+
+-- A creation wrote nothing: a read gives what it gave, and a crash in it leaves nothing new.
+abbrev pub WritesNothing : {D : Type 0} → (D → List ℕ) → (D → List ℕ → Type 0) → (D → ℕ) → (D → ℕ → List ℕ → Type 0) → D → D → Type 0
+WritesNothing seen may_leave moment left_since old new = IsUnwritten seen may_leave moment left_since old new
 
 -- The list is that of such a prefix, with a boot behind it.
 pub record BootsTo (k : Known) (es : Releases) : Type 0 where

@@ -37,12 +37,14 @@ pub fn boot<D: Disk>(alloc: Global, disk: D) -> Result<Handler<D>, (BootError, D
 
     // A disk that stands for a list is booted to that list.
     ensures only { (es : Releases) → IsImageOf (D.seen disk) es
-        → MatchResult result (λ handler. list_in handler ≡ booted es) (λ e. (e.0 ≡ BootError.Device) ⊎ (e.0 ≡ BootError.NoMemory)) }
+        → MatchResult result (λ handler. list_in handler ≡ booted es)
+        (λ e. (e.0 ≡ BootError.Device) ⊎ (e.0 ≡ BootError.NoMemory)) }
 
     // So whatever a crash left of a node is booted to the list of a prefix of its accepted events that holds every
     // acknowledged one.
     ensures recovers { (k : Known) → ((c : List ℕ) → D.may_leave disk c → IsOfPrefix k c)
-        → MatchResult result (λ handler. BootsTo k (list_in handler)) (λ e. (e.0 ≡ BootError.Device) ⊎ (e.0 ≡ BootError.NoMemory)) }
+        → MatchResult result (λ handler. BootsTo k (list_in handler))
+        (λ e. (e.0 ≡ BootError.Device) ⊎ (e.0 ≡ BootError.NoMemory)) }
 
     // No crash in the call leaves anything that none before it would have left.
     ensures any_moment { LeavesOnly D.moment D.left_since disk (disk_of result) (D.may_leave disk) }

@@ -6,13 +6,12 @@ ghost use Rattle.rel_files.specs.Release.{release_of};
 ghost use Rattle.rel_list.specs.Releases.{Releases};
 ghost use Rattle.rel_list.specs.Event.{entry};
 ghost use Rattle.rel_list.specs.Event.Event.{made};
-ghost use Rattle.rel_store.specs.Creation.{IsUnwritten};
 ghost use Rattle.rel_store.specs.Layout.{slot_with};
 ghost use Rattle.rel_handler.specs.Events.{doubted};
 ghost use Rattle.rel_handler.specs.Files.{IsRelFile, start_text};
 ghost use Rattle.rel_handler.specs.Image.{IsImageOf, IsImageAt, holds_a_store, end_behind, first_end, HasSpace};
 ghost use Rattle.rel_handler.specs.Limits.{is_small};
-ghost use Rattle.rel_handler.specs.Moments.{Begins, BeginsAt};
+ghost use Rattle.rel_handler.specs.Moments.{Begins, BeginsAt, WritesNothing};
 ghost use Rattle.rel_handler.specs.Records.{body_of, record_term, word_of, makes};
 ghost use Rattle.rel_handler.specs.Refusals.{CreateRefused, told_create, IsCreateError};
 ghost use Rattle.rel_handler.specs.State.{disk_in, disk_of, list_in, is_dead, end_in, start_in, IsSound};
@@ -57,7 +56,7 @@ impl<D: Disk> Handler<D> {
             (doubted [] (made (release_of file.release))) disk (disk_of result) at) }
 
         ensures taken { holds_a_store (D.seen disk) ≡ true → IfErr result
-            (λ e. IsUnwritten D.seen D.may_leave D.moment D.left_since disk e.1) × IsErr result }
+            (λ e. WritesNothing D.seen D.may_leave D.moment D.left_since disk e.1) × IsErr result }
 
         // Bytes that stand for a list hold a store, so no node is made over one.
         ensures node { (es : Releases) → IsImageOf (D.seen disk) es
@@ -65,8 +64,9 @@ impl<D: Disk> Handler<D> {
 
         ensures counted { D.failures disk ≤ D.failures (disk_of result) }
         ensures refused { IfErr result (λ e. CreateRefused (D.seen disk) (release_of file.release)
-            (length (body_of (word_of (makes (release_of file.release))) (value_of file.term))) (D.failures disk) (D.failures e.1)
-            (IsUnwritten D.seen D.may_leave D.moment D.left_since disk e.1) e.0) }
+            (length (body_of (word_of (makes (release_of file.release))) (value_of file.term)))
+            (D.failures disk) (D.failures e.1)
+            (WritesNothing D.seen D.may_leave D.moment D.left_since disk e.1) e.0) }
     {
         if !is_small(&file.release) {
             return Err((HandlerError::TooMany, disk));

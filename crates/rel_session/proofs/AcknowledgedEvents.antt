@@ -25,8 +25,12 @@ next_answered files p c rest ending a more right = right
 
 -- where no command is left there is none
 pub none_left : (files : Files) (p : Place) (commands : Feed Command) (ending : Ending) (a : Reply) (more : List Reply) → (commands ≡ over) ⊎ (commands ≡ cut) → Replies files p commands ending (a ∷ more) → ⊥
-none_left files p over ending a more none right = right
-none_left files p cut ending a more none right = right
+none_left files p over ended a more none right = right
+none_left files p over cut_off a more none right = right
+none_left files p over early a more none right = right
+none_left files p cut ended a more none right = right
+none_left files p cut cut_off a more none right = right
+none_left files p cut early a more none right = right
 none_left files p (next c rest) ending a more (inl none) right = cc none
 none_left files p (next c rest) ending a more (inr none) right = cc none
 

@@ -1,5 +1,5 @@
 -- What commands come to: each to one action, and to one at least, whose texts are whole lines.
-use Rattle.std.proofs.Common.{◌≡◌, ◌≢◌, ◌⊎◌, inl, inr, ℕ, Bool, true, false, not, List, [], ◌∷◌, ◌++◌, length, Option, Some, None, Result, Ok, Err, refl, sym, ap, ◌∙◌, subst, arith}
+use Rattle.std.proofs.Common.{◌≡◌, ◌⊎◌, inl, inr, ℕ, Bool, true, false, not, List, [], ◌∷◌, length, Option, Some, None, Result, Ok, Err, refl, sym, ap, ◌∙◌, subst, arith}
 use Rattle.std.specs.Prelude.{if◌then◌else◌, ◌==◌}
 use Rattle.std.specs.List.{list_all}
 use Rattle.std.proofs.lemmas.Bool.Decides.{nat_tests}
@@ -20,9 +20,9 @@ use Rattle.rel_session.specs.Files.{Files, Found, Says, usable, IsFound}
 use Rattle.rel_session.specs.LawsBelow.{FileLaws}
 use Rattle.rel_session.specs.Node.{Place, releases_after}
 use Rattle.rel_session.specs.Node.Place.{raw, closed, running, dead}
-use Rattle.rel_session.specs.Refusals.{Refusal, refusal_line}
+use Rattle.rel_session.specs.Refusals.{Refusal}
 use Rattle.rel_session.specs.Refusals.Refusal.{too_many}
-use Rattle.rel_session.specs.Transition.{Action, ComesTo, OnNode, listed, creation, unpacking, refuses}
+use Rattle.rel_session.specs.Transition.{Action, ComesTo, OnNode, listed, creation, unpacking}
 use Rattle.rel_session.specs.Transition.Action.{answers, makes_node, changes_node, boots_node}
 use Rattle.rel_session.proofs.Whole.{parts, joined, IsWhole, HasLine, refusal_whole, listing_whole}
 
@@ -79,24 +79,24 @@ pub one_action : FileLaws → (files : Files) (p q : Place) (c : Command) (x y :
 one_action laws files p q (file path f) x y kinds is also = inl (is ∙ sym also)
 one_action laws files p q (create path) x y kinds (found, there, is) (again, there_too, also) = inl (is ∙ ap creation (one_found laws path (files path) found again there there_too) ∙ sym also)
 one_action laws files p q (set_unpacked path) x y kinds is also =
-    inl (on_node _ x y p q kinds (λ here here_too. here.1.1 ∙ ap unpacking (one_found laws path (files path) here.0 here_too.0 here.1.0 here_too.1.0) ∙ sym here_too.1.1) is also)
+    inl (on_node _ x y p q kinds (λ here here_too. here.2 ∙ ap unpacking (one_found laws path (files path) here.0 here_too.0 here.1 here_too.1) ∙ sym here_too.2) is also)
 one_action laws files p q boot x y kinds is also = inl (is ∙ sym also)
 one_action laws files p q releases x y kinds is also = inr (is, also)
 one_action laws files p q quit x y kinds is also = absurd is
 one_action laws files p q bad x y kinds is also = inl (is ∙ sym also)
 
 -- Each command but `quit` comes to an action.
-pub some_action : FileLaws → (files : Files) (p : Place) (c : Command) → c ≢ quit → (does : Action) × ComesTo files p c does
-some_action laws files p (file path f) goes_on = (_, refl)
-some_action laws files p (create path) goes_on = let (found, there) = each_found laws path (files path) in (creation found, found, there, refl)
-some_action laws files (running events end) (set_unpacked path) goes_on = let (found, there) = each_found laws path (files path) in (unpacking found, found, there, refl)
-some_action laws files (raw x) (set_unpacked path) goes_on = (_, refl)
-some_action laws files (closed s) (set_unpacked path) goes_on = (_, refl)
-some_action laws files (dead s) (set_unpacked path) goes_on = (_, refl)
-some_action laws files p boot goes_on = (_, refl)
-some_action laws files p releases goes_on = (_, refl)
-some_action laws files p quit goes_on = absurd (goes_on refl)
-some_action laws files p bad goes_on = (_, refl)
+pub some_action : FileLaws → (files : Files) (p : Place) (c : Command) → (c ≡ quit) ⊎ ((does : Action) × ComesTo files p c does)
+some_action laws files p (file path f) = inr (_, refl)
+some_action laws files p (create path) = let (found, there) = each_found laws path (files path) in inr (creation found, (found, there, refl))
+some_action laws files (running events end) (set_unpacked path) = let (found, there) = each_found laws path (files path) in inr (unpacking found, (found, there, refl))
+some_action laws files (raw x) (set_unpacked path) = inr (_, refl)
+some_action laws files (closed s) (set_unpacked path) = inr (_, refl)
+some_action laws files (dead s) (set_unpacked path) = inr (_, refl)
+some_action laws files p boot = inr (_, refl)
+some_action laws files p releases = inr (_, refl)
+some_action laws files p quit = inl refl
+some_action laws files p bad = inr (_, refl)
 
 -- a version has no newline
 version_line : (s : List ℕ) → list_all (is_in 0x21 0x7E) s ≡ true → is_one_line s ≡ true

@@ -1,5 +1,5 @@
 -- Each input has an answer in which the device does not fail.
-use Rattle.std.proofs.Common.{◌≡◌, ◌⊎◌, inl, inr, ℕ, ◌+◌, ◌<◌, ◌≤◌, Bool, true, false, List, [], ◌∷◌, ◌++◌, length, codes, Option, Some, None, Result, Ok, Err, refl, sym, ap, ◌∙◌, subst, arith}
+use Rattle.std.proofs.Common.{◌≡◌, ◌⊎◌, inl, inr, ℕ, ◌+◌, ◌<◌, ◌≤◌, Bool, true, false, List, [], ◌∷◌, ◌++◌, length, codes, Some, Result, Ok, Err, refl, sym, ap, ◌∙◌, subst, arith}
 use Rattle.std.proofs.lemmas.Bool.{cases_lt}
 use Rattle.rel_files.specs.Release.{Release}
 use Rattle.rel_list.specs.Releases.{Releases}
@@ -15,7 +15,7 @@ use Rattle.rel_handler.specs.Records.{body_of}
 use Rattle.rel_handler.specs.Refusals.{IsBootRefusal}
 use Rattle.rel_handler.specs.Taking.{commanded}
 use Rattle.rel_session.specs.Commands.{Command}
-use Rattle.rel_session.specs.Commands.Command.{file, create, set_unpacked, boot, releases, quit, bad}
+use Rattle.rel_session.specs.Commands.Command.{quit}
 use Rattle.rel_session.specs.Feed.{Feed}
 use Rattle.rel_session.specs.Feed.Feed.{over, cut, next}
 use Rattle.rel_session.specs.Files.{Files, files_behind, Found}
@@ -122,7 +122,7 @@ acts laws p (makes_node found) fair = makes p found fair
 acts laws p (changes_node c) fair = changed p c fair
 acts laws p boots_node fair = boots laws p fair
 
--- Each command but `quit` has a reply, and what follows it an answer.
+-- A reply to the first command, and what follows it.
 one_more : (files : Files) (p : Place) (c : Command) (rest : Feed Command) (a : Reply) → Transition.Transition files p c a → a.outcome.failed ≡ false → HasAnswer (files_behind files c) a.after rest → HasAnswer files p (next c rest)
 one_more files p c rest a is works behind = record {
   ending = behind.ending;
@@ -132,26 +132,16 @@ one_more files p c rest a is works behind = record {
   right = replies_next files p c rest behind.ending a behind.replies is behind.right;
 }
 
-is_quit : (c : Command) → (c ≡ quit) ⊎ (c ≢ quit)
-is_quit quit = inl refl
-is_quit (file path f) = inr (λ e. cc e)
-is_quit (create path) = inr (λ e. cc e)
-is_quit (set_unpacked path) = inr (λ e. cc e)
-is_quit boot = inr (λ e. cc e)
-is_quit releases = inr (λ e. cc e)
-is_quit bad = inr (λ e. cc e)
-
 each : FileLaws → BootLaws → (files : Files) (p : Place) (commands : Feed Command) → IsFair p → HasAnswer files p commands
 each texts laws files p over fair = record { ending = ended; whole = λ e. cc e; replies = []; works = tt; right = refl }
 each texts laws files p cut fair = record { ending = cut_off; whole = λ e. cc e; replies = []; works = tt; right = refl }
-each texts laws files p (next c rest) fair = go (is_quit c)
+each texts laws files p (next c rest) fair = by_action (some_action texts files p c) (λ next_files q there. each texts laws next_files q rest there)
   where
-    go : (c ≡ quit) ⊎ (c ≢ quit) → HasAnswer files p (next c rest)
-    go (inl is) = record { ending = ended; whole = λ e. cc e; replies = []; works = tt; right = (is, refl) }
-    go (inr goes_on) =
-        let (does, comes) = some_action texts files p c goes_on in
+    by_action : (c ≡ quit) ⊎ ((does : Transition.Action) × Transition.ComesTo files p c does) → ((next_files : Files) (q : Place) → IsFair q → HasAnswer next_files q rest) → HasAnswer files p (next c rest)
+    by_action (inl is) behind = record { ending = ended; whole = λ e. cc e; replies = []; works = tt; right = (is, refl) }
+    by_action (inr (does, comes)) behind =
         let has = acts laws p does fair in
-        one_more files p c rest has.given (does, comes, has.is) has.works (each texts laws (files_behind files c) has.given.after rest has.fair)
+        one_more files p c rest has.given (does, comes, has.is) has.works (behind (files_behind files c) has.given.after has.fair)
 
 fair_place : (p : Place) → IsCertain p → HasList p → IsFair p
 fair_place (raw x) sure has = bare x

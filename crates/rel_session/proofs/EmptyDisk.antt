@@ -1,5 +1,5 @@
 -- A session on an empty disk.
-use Rattle.std.proofs.Common.{◌≡◌, ◌≢◌, ◌⊎◌, inl, inr, ⊎_elim, true, false, List, [], ◌∷◌, ◌++◌, Result, Ok, Err, refl, sym, ◌∙◌, subst, append_assoc}
+use Rattle.std.proofs.Common.{◌≡◌, ◌≢◌, ◌⊎◌, inl, inr, ⊎_elim, true, false, List, [], ◌∷◌, ◌++◌, refl, sym, ◌∙◌, subst, append_assoc}
 use Rattle.rel_files.specs.Release.{Release}
 use Rattle.rel_list.specs.Event.Event.{made, boot as booting}
 use Rattle.rel_session.specs.Commands.{Command}

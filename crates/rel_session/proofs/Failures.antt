@@ -2,7 +2,6 @@
 use Rattle.std.proofs.Common.{◌≡◌, ◌⊎◌, inl, inr, ⊎_elim, ℕ, ◌≤◌, Bool, true, false, List, [], ◌∷◌, length, codes, Some, None, Result, Ok, Err, refl, sym, ◌∙◌, subst, arith}
 use Rattle.std.proofs.lemmas.Bool.{cases_lt}
 use Rattle.rel_list.specs.Releases.{Releases}
-use Rattle.rel_list.specs.Event.{Event}
 use Rattle.rel_handler.specs.declared.error.HandlerError.{HandlerError}
 use Rattle.rel_handler.specs.Events.{Events, Stored, certain}
 use Rattle.rel_handler.specs.Image.{holds_a_store}
@@ -13,7 +12,7 @@ use Rattle.rel_session.specs.Device.{Device, HasFailed}
 use Rattle.rel_session.specs.Files.{Files, files_behind, Found}
 use Rattle.rel_session.specs.Node.{Place, Reply, releases_after}
 use Rattle.rel_session.specs.Node.Place.{raw, closed, running, dead}
-use Rattle.rel_session.specs.Refusals.{Refusal, refusal_line}
+use Rattle.rel_session.specs.Refusals.{refusal_line}
 use Rattle.rel_session.specs.Refusals.Refusal.{device}
 use Rattle.rel_session.specs.Run.{Leads}
 use Rattle.rel_session.specs.AnswerLaws.{FailsOnlyWithTheDevice, TellsDoubt}

@@ -1,5 +1,5 @@
 -- The events behind a list that a store's records make.
-use Rattle.std.proofs.Common.{◌≡◌, ℕ, Bool, true, false, List, [], ◌∷◌, ◌++◌, Option, Some, None, Result, Ok, Err, refl, sym, ap, ◌∙◌, length}
+use Rattle.std.proofs.Common.{◌≡◌, ℕ, Bool, true, false, List, [], ◌∷◌, ◌++◌, Some, None, Result, Ok, Err, refl, sym, ap, ◌∙◌}
 use Rattle.std.specs.Prelude.{if◌then◌else◌}
 use Rattle.std.specs.Result.{result_ok}
 use Rattle.rel_list.specs.Releases.{Releases}
@@ -17,13 +17,16 @@ abbrev pub event_in : Record → Event
 event_in (makes r) = made r
 event_in (adds r) = unpacked r
 
--- What the list behind a record was made by.
+abbrev taken : Releases → Result Releases HandlerError
+taken es = Ok es
+
+-- what the list behind a record was made by
 taken_so : (o : Result Releases HandlerError) (end : Releases) → with_one_permanent (result_ok o) ≡ Some end → o ≡ Ok end
 taken_so (Err why) end e = absurd cc
 taken_so (Ok es) end e = by_one (has_one_permanent es) e
   where
-    by_one : (b : Bool) → (if b then Some es else None) ≡ Some end → Ok es ≡ Ok end
-    by_one true e = let same : es ≡ end = cc in ap (λ (l : Releases). Ok l) same
+    by_one : (b : Bool) → (if b then Some es else None) ≡ Some end → taken es ≡ taken end
+    by_one true e = let same : es ≡ end = cc in ap taken same
     by_one false e = absurd cc
 
 pub stepped : (r : Record) (es next : Releases) → assigned r es ≡ Some next → step (event_in r) es ≡ Some next

@@ -7,7 +7,7 @@ use Rattle.rel_list.specs.Releases.{Releases}
 use Rattle.rel_list.specs.Event.{list_after, booted}
 use Rattle.rel_handler.specs.Image.{store_end}
 use Rattle.rel_handler.specs.Events.{Events, MayHave, IsStoredAs, certain}
-use Rattle.rel_session.specs.Commands.{Command, Saying, said_in, said_by, said_alone, said_with_path, is_blank, words_of, is_end, file_of, most_line, put_saying, commands_of, commands_behind}
+use Rattle.rel_session.specs.Commands.{Command, Saying, said_in, said_by, said_of, said_with, alone, path_in, is_blank, words_of, is_end, file_of, most_line, put_saying, commands_of, commands_behind}
 use Rattle.rel_session.specs.Commands.Command.{file, create, set_unpacked, boot, releases, quit, bad}
 use Rattle.rel_session.specs.Commands.Saying.{nothing, opens, tells}
 use Rattle.rel_session.specs.Device.{Device}
@@ -63,20 +63,28 @@ either : (b : Bool) (x y : Saying) → IsPlainSaying x → IsPlainSaying y → I
 either true x y p q = p
 either false x y p q = q
 
-alone_plain : (word : List ℕ) → IsPlainSaying (said_alone word)
-alone_plain word = either (bytes_eq word (codes "boot")) (tells boot) _ tt (either (bytes_eq word (codes "releases")) (tells releases) _ tt (either (bytes_eq word (codes "quit")) (tells quit) (tells bad) tt tt))
+alone_plain : (words : List (List ℕ)) (c : Command) → HasLinePath c → IsPlainSaying (alone words (tells c))
+alone_plain [] c line = line
+alone_plain (word ∷ words) c line = tt
 
-path_plain : (word path : List ℕ) → is_one_line path ≡ true → IsPlainSaying (said_with_path word path)
-path_plain word path line =
-    either (bytes_eq word (codes "file")) (opens path) _ tt (either (bytes_eq word (codes "create")) (tells (create path)) _ line (either (bytes_eq word (codes "set_unpacked")) (tells (set_unpacked path)) (tells bad) line tt))
+path_plain : (words : List (List ℕ)) (said : List ℕ → Saying) → ArePlain words → ((path : List ℕ) → is_one_line path ≡ true → IsPlainSaying (said path)) → IsPlainSaying (said_with (path_in words) said)
+path_plain [] said plain each = tt
+path_plain ([] ∷ words) said plain each = tt
+path_plain ((b ∷ path) ∷ []) said plain each = each (b ∷ path) plain.0
+path_plain ((b ∷ path) ∷ word ∷ words) said plain each = tt
+
+word_plain : (word : List ℕ) (words : List (List ℕ)) → ArePlain words → IsPlainSaying (said_of word words)
+word_plain word words plain =
+    either (bytes_eq word (codes "boot")) (alone words (tells boot)) _ (alone_plain words boot tt)
+    (either (bytes_eq word (codes "releases")) (alone words (tells releases)) _ (alone_plain words releases tt)
+    (either (bytes_eq word (codes "quit")) (alone words (tells quit)) _ (alone_plain words quit tt)
+    (either (bytes_eq word (codes "file")) (said_with (path_in words) opens) _ (path_plain words opens plain (λ path line. tt))
+    (either (bytes_eq word (codes "create")) (said_with (path_in words) (λ path. tells (create path))) _ (path_plain words (λ path. tells (create path)) plain (λ path line. line))
+    (either (bytes_eq word (codes "set_unpacked")) (said_with (path_in words) (λ path. tells (set_unpacked path))) (tells bad) (path_plain words (λ path. tells (set_unpacked path)) plain (λ path line. line)) tt)))))
 
 words_plain : (words : List (List ℕ)) → ArePlain words → IsPlainSaying (said_by words)
 words_plain [] plain = tt
-words_plain (word ∷ []) plain = alone_plain word
-words_plain (word ∷ [] ∷ []) plain = tt
-words_plain (word ∷ (x ∷ path) ∷ []) plain = path_plain word (x ∷ path) plain.1.0
-words_plain (word ∷ [] ∷ other ∷ more) plain = tt
-words_plain (word ∷ (x ∷ path) ∷ other ∷ more) plain = tt
+words_plain (word ∷ words) plain = word_plain word words plain.1
 
 saying_plain : (l : List ℕ) → is_one_line l ≡ true → IsPlainSaying (said_in l)
 saying_plain l line =

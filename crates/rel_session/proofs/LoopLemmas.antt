@@ -15,7 +15,7 @@ use Rattle.rel_session.specs.Device.{Device}
 use Rattle.rel_session.specs.Ended.{AreCommands, IsSession}
 use Rattle.rel_session.specs.Feed.{Feed, Gives, EndsAs, IsNext, bytes_within}
 use Rattle.rel_session.specs.Feed.Feed.{over, cut, next}
-use Rattle.rel_session.specs.Files.{Files, files_of, files_behind}
+use Rattle.rel_session.specs.Files.{Files, no_files, files_of, files_behind}
 use Rattle.rel_session.specs.InMemory.{IsAt, Replied, Lapsed, FollowsCommand, disk_at, disk_of}
 use Rattle.rel_session.specs.Input.{IsFresh, commands_left, most_bytes}
 use Rattle.rel_session.specs.Lines.{lines_of}
@@ -170,11 +170,11 @@ module _ {D : Type 0} (v : Device D) (laws : IsDevice v) where
 
     pub ends : (final : D) → final ≡ disk_of node → EndsAs over now new → (start : Place) → Starts v start disk
         → (commands : Feed Command) × AreLeft all commands × Writes old mid (λ text. IsRun v no_files start commands ended disk final text)
-    ends final is gone = ends_with ended over final (are_ended now new over gone) is (λ files p. (refl, refl)) refl
+    ends final is gone = ends_with ended over final (are_ended now new over gone) is (λ files p. refl) refl
 
     pub ends_cut : (final : D) → final ≡ disk_of node → EndsAs cut now new → (start : Place) → Starts v start disk
         → (commands : Feed Command) × AreLeft all commands × Writes old mid (λ text. IsRun v no_files start commands cut_off disk final text)
-    ends_cut final is gone = ends_with cut_off cut final (are_ended now new cut gone) is (λ files p. (refl, refl)) refl
+    ends_cut final is gone = ends_with cut_off cut final (are_ended now new cut gone) is (λ files p. refl) refl
 
     pub ends_early : (final : D) → final ≡ disk_of node → (start : Place) → Starts v start disk
         → (commands : Feed Command) × AreLeft all commands × Writes old mid (λ text. IsRun v no_files start commands early disk final text)
@@ -220,7 +220,7 @@ module _ {D : Type 0} (v : Device D) (laws : IsDevice v) where
   -- of the commands that were left at first, to those of the input
   pub sessions : (known : Option (List ℕ)) (all : Option (Feed Command)) (ending : Ending) (disk final : D) (old now : Option (List ℕ)) → all ≡ option_map commands_in known
       → ((start : Place) → Starts v start disk → (commands : Feed Command) × AreLeft all commands × Writes old now (λ text. IsRun v no_files start commands ending disk final text))
-      → IsSession v ending known disk final old now
+      → IsSession v no_files ending known disk final old now
   sessions known all ending disk final old now same run start starts =
       let (commands, are, text) = run start starts in
       (commands, are_all known commands (subst (λ l. AreLeft l commands) same are), text)

@@ -1,8 +1,8 @@
 -- A device that does not fail leaves one answer to each command.
-use Rattle.std.proofs.Common.{◌≡◌, ◌≢◌, ◌⊎◌, inl, inr, ℕ, ◌+◌, Bool, true, false, List, [], ◌∷◌, ◌++◌, length, codes, Option, Some, None, Result, Ok, Err, refl, sym, ap, ◌∙◌, subst}
+use Rattle.std.proofs.Common.{◌≡◌, ◌≢◌, ◌⊎◌, inl, inr, ℕ, Bool, true, false, List, [], ◌∷◌, ◌++◌, length, codes, Some, Result, Ok, Err, refl, sym, ap, ◌∙◌, subst}
 use Rattle.std.specs.Option.{option_and_then}
 use Rattle.rel_list.specs.Releases.{Releases, running as running_release}
-use Rattle.rel_list.specs.Event.{Event, list_after, step, booted}
+use Rattle.rel_list.specs.Event.{list_after, step, booted}
 use Rattle.rel_list.specs.Event.Event.{made, boot as booting}
 use Rattle.rel_handler.specs.declared.error.BootError.{BootError}
 use Rattle.rel_handler.specs.declared.error.BootError.TheVariants as boot_error
@@ -211,9 +211,9 @@ one_run texts laws files p q cut a b (r ∷ first) (s ∷ second) alike not_a no
 one_run texts laws files p q (next c rest) a b (r ∷ first) (s ∷ second) alike not_a not_b (works, all) (works_too, all_too) right right_too =
     let (is, behind) = next_answered files p c rest a r first right in
     let (also, behind_too) = next_answered files q c rest b s second right_too in
-    let (answers, outcomes, then) = one_reply r s (works, works_too) texts laws files p q c alike is also in
+    let (told, outcomes, then) = one_reply r s (works, works_too) texts laws files p q c alike is also in
     let (end, same) = one_run texts laws (files_behind files c) r.after s.after rest a b first second then not_a not_b all all_too behind behind_too in
-    (end, (answers, outcomes, same))
+    (end, (told, outcomes, same))
 
 pub have_one_answer : FileLaws → BootLaws → HaveOneAnswer
 have_one_answer texts laws files p commands a b first second sure = one_run texts laws files p p commands a b first second (alike_itself p sure)

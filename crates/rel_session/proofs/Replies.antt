@@ -1,5 +1,5 @@
 -- What each command replies, wherever the disk stands, as the handler's clauses give it.
-use Rattle.std.proofs.Common.{◌≡◌, ◌≢◌, ◌⊎◌, inl, inr, ℕ, ◌+◌, ◌≤◌, Bool, true, false, List, [], ◌∷◌, ◌++◌, Some, None, Result, Ok, Err, refl, sym, ap, ◌∙◌, subst, arith}
+use Rattle.std.proofs.Common.{◌≡◌, ◌≢◌, ◌⊎◌, inl, inr, ℕ, ◌≤◌, Bool, true, false, List, [], ◌∷◌, ◌++◌, Some, None, Result, Ok, Err, refl, sym, ap, ◌∙◌, subst, arith}
 use Rattle.std.specs.Result.{IsErrAnd}
 use Rattle.std.specs.Prelude.{IfOk, IsErr, String, string_bytes, codes, length}
 use Rattle.std.specs.declared.alloc.Global.{Global}
@@ -8,7 +8,6 @@ use Rattle.rel_list.specs.Releases.{Releases, running as running_release}
 use Rattle.rel_list.specs.Event.{list_after, booted, entry}
 use Rattle.rel_list.specs.Event.Event.{made, boot as booting}
 use Rattle.rel_list.specs.declared.status.Status.TheVariants.{Permanent}
-use Rattle.rel_store.specs.Creation.{IsUnwritten}
 use Rattle.rel_handler.specs.declared.error.HandlerError.{HandlerError}
 use Rattle.rel_handler.specs.declared.error.HandlerError.TheVariants as handler_error
 use Rattle.rel_handler.specs.declared.error.BootError.{BootError}
@@ -17,7 +16,7 @@ use Rattle.rel_handler.specs.declared.handler.Handler.{Handler}
 use Rattle.rel_handler.specs.Events.{Events, Stored, MayHave, certain, uncertain, IsStoredAs, settled, doubted}
 use Rattle.rel_handler.specs.Image.{IsImageOf, IsImageAt, holds_a_store, first_end, end_behind, HasSpace}
 use Rattle.rel_handler.specs.Limits.{is_small}
-use Rattle.rel_handler.specs.Moments.{Begins, BeginsAt}
+use Rattle.rel_handler.specs.Moments.{Begins, BeginsAt, WritesNothing}
 use Rattle.rel_handler.specs.Records.{body_of}
 use Rattle.rel_handler.specs.Refusals.{CommandRefused, CreateRefused, BootRefused, IsBootRefusal}
 use Rattle.rel_handler.specs.State.{disk_in, list_in, is_dead, end_in, IsSame}
@@ -26,9 +25,9 @@ use Rattle.rel_session.specs.declared.place.Place.{Place as PlaceInMemory}
 use Rattle.rel_session.specs.declared.place.Place.TheVariants as memory
 use Rattle.rel_session.specs.declared.refusal.Refusal.{Refusal as RefusalInMemory}
 use Rattle.rel_session.specs.declared.refusal.Refusal.TheVariants as refusal
-use Rattle.rel_session.specs.Commands.Command.{create, set_unpacked}
+use Rattle.rel_session.specs.Commands.Command.{set_unpacked}
 use Rattle.rel_session.specs.Device.{Device, LeavesOnly, HasFailed}
-use Rattle.rel_session.specs.Files.{Files, Found, IsFound}
+use Rattle.rel_session.specs.Files.{Files, Found}
 use Rattle.rel_session.specs.InMemory.{disk_at, IsAt, Replied, Lapsed, Answers, TellsReply}
 use Rattle.rel_session.specs.Node.{Place, Reply, reply, refused, failed, nothing, done, failed_with, releases_after, list_or_none}
 use Rattle.rel_session.specs.Node.Place.{raw, closed, running, dead}
@@ -297,14 +296,14 @@ module _ {D : Type 0} (v : Device D) (laws : IsDevice v) where
     -- It isn't.
     module _ (new : D) (small : is_small found.release ≡ true) (counted : v.failures disk ≤ v.failures new)
         (begins : Begins v.seen v.may_leave v.moment v.left_since (doubted [] (made found.release)) disk new)
-        (taken : holds_a_store (v.seen disk) ≡ true → IsUnwritten v.seen v.may_leave v.moment v.left_since disk new) where
-      unwritten_at : (p : Place) → IsAt v (memory.Bare disk) p → IsUnwritten v.seen v.may_leave v.moment v.left_since disk new → IsAt v (memory.Bare new) p
+        (taken : holds_a_store (v.seen disk) ≡ true → WritesNothing v.seen v.may_leave v.moment v.left_since disk new) where
+      unwritten_at : (p : Place) → IsAt v (memory.Bare disk) p → WritesNothing v.seen v.may_leave v.moment v.left_since disk new → IsAt v (memory.Bare new) p
       unwritten_at (raw bytes) at u = u.same ∙ at
       unwritten_at (closed s) at u = kept s disk new at u.any_moment
       unwritten_at (running events end) at u = absurd at
       unwritten_at (dead s) at u = absurd at
 
-      refuses : (p : Place) (why : Refusal) → IsAt v (memory.Bare disk) p → IsUnwritten v.seen v.may_leave v.moment v.left_since disk new → Transition.MakesNode p found (refused why p)
+      refuses : (p : Place) (why : Refusal) → IsAt v (memory.Bare disk) p → WritesNothing v.seen v.may_leave v.moment v.left_since disk new → Transition.MakesNode p found (refused why p)
           → Replied v p (λ a. Transition.MakesNode p found a × (a.answer ≡ refusal_line why)) (memory.Bare disk) (memory.Bare new)
       refuses p why at u right = record {
         given = refused why p;
@@ -349,11 +348,11 @@ module _ {D : Type 0} (v : Device D) (laws : IsDevice v) where
       full_there stored_there over (dead s) at = absurd at
 
       pub makes_none : (e : HandlerError) (told : RefusalInMemory)
-          → CreateRefused (v.seen disk) found.release size (v.failures disk) (v.failures new) (IsUnwritten v.seen v.may_leave v.moment v.left_since disk new) e → told ≡ handler_refusal e
+          → CreateRefused (v.seen disk) found.release size (v.failures disk) (v.failures new) (WritesNothing v.seen v.may_leave v.moment v.left_since disk new) e → told ≡ handler_refusal e
           → Answers v (λ p a. Transition.MakesNode p found a) (Err told) (memory.Bare disk) (memory.Bare new)
       makes_none e told why is = subst (λ t. Answers v (λ p a. Transition.MakesNode p found a) (Err t) (memory.Bare disk) (memory.Bare new)) (sym is) (by_error e why)
         where
-          by_error : (e : HandlerError) → CreateRefused (v.seen disk) found.release size (v.failures disk) (v.failures new) (IsUnwritten v.seen v.may_leave v.moment v.left_since disk new) e
+          by_error : (e : HandlerError) → CreateRefused (v.seen disk) found.release size (v.failures disk) (v.failures new) (WritesNothing v.seen v.may_leave v.moment v.left_since disk new) e
               → Answers v (λ p a. Transition.MakesNode p found a) (Err (handler_refusal e)) (memory.Bare disk) (memory.Bare new)
           by_error handler_error.Device (small_too, cause) = device_fails cause
           by_error handler_error.TooMany (big, u) = never (sym big ∙ small)
@@ -375,25 +374,25 @@ module _ {D : Type 0} (v : Device D) (laws : IsDevice v) where
   makes_again h found (dead s) at = stays (dead s) (refusal_line exists) _ (memory.Made h) (memory.Made h) at refl at (refl, refl)
 
   -- A refusal is told, unless memory was refused.
-  refuses : (P : Place → Reply → Type 0) (why : RefusalInMemory) (old new : PlaceInMemory D)
+  tells_refusal : (P : Place → Reply → Type 0) (why : RefusalInMemory) (old new : PlaceInMemory D)
       → (why ≢ refusal.NoMemory → (p : Place) → IsAt v old p → Replied v p (λ a. P p a × (a.answer ≡ refusal_line (refusal_of why))) old new)
       → ((p : Place) → IsAt v old p → Lapsed v p old new) → Answers v P (Err why) old new
-  refuses P refusal.ExistingRelease old new told lapsed = told (λ e. cc e)
-  refuses P (refusal.BadFile q f) old new told lapsed = told (λ e. cc e)
-  refuses P (refusal.MissingFile q) old new told lapsed = told (λ e. cc e)
-  refuses P refusal.TooMany old new told lapsed = told (λ e. cc e)
-  refuses P refusal.Device old new told lapsed = told (λ e. cc e)
-  refuses P refusal.Full old new told lapsed = told (λ e. cc e)
-  refuses P refusal.Dead old new told lapsed = told (λ e. cc e)
-  refuses P refusal.NoMemory old new told lapsed = lapsed
-  refuses P refusal.Exists old new told lapsed = told (λ e. cc e)
+  tells_refusal P refusal.ExistingRelease old new told lapsed = told (λ e. cc e)
+  tells_refusal P (refusal.BadFile q f) old new told lapsed = told (λ e. cc e)
+  tells_refusal P (refusal.MissingFile q) old new told lapsed = told (λ e. cc e)
+  tells_refusal P refusal.TooMany old new told lapsed = told (λ e. cc e)
+  tells_refusal P refusal.Device old new told lapsed = told (λ e. cc e)
+  tells_refusal P refusal.Full old new told lapsed = told (λ e. cc e)
+  tells_refusal P refusal.Dead old new told lapsed = told (λ e. cc e)
+  tells_refusal P refusal.NoMemory old new told lapsed = lapsed
+  tells_refusal P refusal.Exists old new told lapsed = told (λ e. cc e)
 
   -- A command changes the node that runs: P has what it replies there.
   module _ (P : Place → Reply → Type 0) (h : Handler D) (alive : is_dead h ≡ false) where
     -- it is refused before the node was asked
     pub refuses_running : (why : RefusalInMemory) → (why ≢ refusal.NoMemory → (events : Events) (end : ℕ) → P (running events end) (refused (refusal_of why) (running events end)))
         → Answers v P (Err why) (memory.Made h) (memory.Made h)
-    refuses_running why right = refuses P why (memory.Made h) (memory.Made h) (λ known p at. stands known p at) (λ p at. lapses p (memory.Made h) (memory.Made h) refl at)
+    refuses_running why right = tells_refusal P why (memory.Made h) (memory.Made h) (λ known p at. stands known p at) (λ p at. lapses p (memory.Made h) (memory.Made h) refl at)
       where
         stands : why ≢ refusal.NoMemory → (p : Place) → IsAt v (memory.Made h) p → Replied v p (λ a. P p a × (a.answer ≡ refusal_line (refusal_of why))) (memory.Made h) (memory.Made h)
         stands known (raw bytes) at = absurd at
@@ -423,7 +422,7 @@ module _ {D : Type 0} (v : Device D) (laws : IsDevice v) where
           let then = events ++ change.event ∷ [] in
           let end_then = end_behind end change.size in
           let place = runs_at new then end_then works (list_after-push events change.event (list_in h) (list_in new) after (commanded_step change.event (list_in h) (list_in new) accepted))
-              (ends ∙ ap (λ n. end_behind n change.size) stop) images in
+          (ends ∙ ap (λ n. end_behind n change.size) stop) images in
           let a = reply (Transition.ok_line change.vsn) (done (change.event ∷ [])) (running then end_then) in
           record {
             given = a;
@@ -496,7 +495,7 @@ module _ {D : Type 0} (v : Device D) (laws : IsDevice v) where
   pub refuses_anywhere : (P : Place → Reply → Type 0) (place : PlaceInMemory D) (why : RefusalInMemory)
       → (why ≢ refusal.NoMemory → (p : Place) → P p (refused (refusal_of why) p)) → Answers v P (Err why) place place
   refuses_anywhere P place why right =
-      refuses P why place place (λ known p at. stays p (refusal_line (refusal_of why)) _ place place at refl at (right known p, refl)) (λ p at. lapses p place place refl at)
+      tells_refusal P why place place (λ known p at. stays p (refusal_line (refusal_of why)) _ place place at refl at (right known p, refl)) (λ p at. lapses p place place refl at)
 
   -- `set_unpacked` where no node runs
   pub idle_sets : (files : Files) (path : List ℕ) (p : Place) → ((events : Events) (end : ℕ) → p ≡ running events end → ⊥) → Transition.Transition files p (set_unpacked path) (refused dead_node p)

@@ -45,7 +45,7 @@ module _ {D : Type 0} (v : Device D) (old new : Node D) (command : Command) (sam
     follows (Ok vsn) (Ok (Some text)) is given = with_text (ok_line (string_bytes vsn)) text is given
     follows (Ok vsn) (Err e) is given = without (ok_line (string_bytes vsn)) given
     follows (Err refusal.NoMemory) (Ok (Some text)) is given = absurd is
-    follows (Err refusal.NoMemory) (Err e) is given = λ p at. inr (answers p at)
+    follows (Err refusal.NoMemory) (Err e) is given = λ p at. inr (given p at)
     follows (Err refusal.ExistingRelease) (Ok (Some text)) is given = with_text (refusal_line (refusal_of refusal.ExistingRelease)) text is given
     follows (Err (refusal.BadFile q f)) (Ok (Some text)) is given = with_text (refusal_line (refusal_of (refusal.BadFile q f))) text is given
     follows (Err (refusal.MissingFile q)) (Ok (Some text)) is given = with_text (refusal_line (refusal_of (refusal.MissingFile q))) text is given

@@ -11,7 +11,6 @@ use Rattle.rel_session.specs.Commands.{Command}
 use Rattle.rel_session.specs.Files.{Files, Found}
 use Rattle.rel_session.specs.Node.{Place, Reply, reply, nothing, releases_after}
 use Rattle.rel_session.specs.Node.Place.{raw, closed, running, dead}
-use Rattle.rel_session.specs.Refusals.{Refusal}
 use Rattle.rel_session.specs.RunLaws.{MayBe, acknowledged_at, IsKnown, Finds, Keeps}
 use Rattle.rel_session.specs.Transition
 use Rattle.rel_session.specs.Transition.Action.{answers, makes_node, changes_node, boots_node}

@@ -1,13 +1,8 @@
 -- The versions that a session tells are those of files that were read, so that no answer has a newline within.
-use Rattle.std.proofs.Common.{◌≡◌, inl, inr, ℕ, Bool, true, false, not, List, [], ◌∷◌, ◌++◌, length, codes, find, Option, Some, None, Result, Ok, Err, refl, sym, ap, ◌∙◌, subst, arith}
-use Rattle.std.specs.Prelude.{if◌then◌else◌, ◌==◌, is_some}
-use Rattle.std.specs.List.{list_all}
+use Rattle.std.proofs.Common.{◌≡◌, inl, inr, ℕ, Bool, true, false, List, [], ◌∷◌, ◌++◌, length, codes, find, Option, Some, None, Result, Ok, Err, refl, sym, ap, ◌∙◌, subst}
+use Rattle.std.specs.Prelude.{if◌then◌else◌, is_some}
 use Rattle.std.specs.Option.{option_and_then, option_map, option_or}
-use Rattle.std.proofs.lemmas.Bool.Decides.{nat_tests}
-use Rattle.erl_term.specs.Lexing.{is_in}
-use Rattle.rel_files.specs.Fault.{Fault}
 use Rattle.rel_files.specs.File.{HasVersions}
-use Rattle.rel_files.specs.Name.{IsVersion}
 use Rattle.rel_files.specs.Release.{Release}
 use Rattle.rel_list.specs.Releases.{Releases, Entry, status_of, permanent, current, running as running_release}
 use Rattle.rel_list.specs.Status.{is_current, is_permanent}

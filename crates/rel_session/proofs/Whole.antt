@@ -8,12 +8,12 @@ use Rattle.std.proofs.lemmas.Bool.Decides.{nat_tests}
 use Rattle.std.proofs.lemmas.List.Folds.{list_all-append}
 use Rattle.std.proofs.lemmas.Str.{encode_ascii}
 use Rattle.erl_term.specs.Grammar.{numbers}
-use Rattle.erl_term.specs.Printing.{text_of, texts_of, characters_of, is_printable, string_character, list_text, with_commas}
+use Rattle.erl_term.specs.Printing.{text_of, texts_of, character_of, characters_of, put_character, is_printable, string_character, list_text, with_commas}
 use Rattle.erl_term.specs.TermFault.{TermFault}
 use Rattle.erl_term.specs.TermFault.TheVariants as term
-use Rattle.erl_term.specs.Value.{Values, values_of}
-use Rattle.erl_term.specs.Value.Value.{atom, list}
-use Rattle.erl_term.proofs.Characters.{values-characters_of}
+use Rattle.erl_term.specs.Value.{Value, Values, values_of}
+use Rattle.erl_term.specs.Value.Value.{int, atom, list}
+use Rattle.erl_term.specs.Value.Values.{no_values, value}
 use Rattle.rel_files.specs.Fault.{Fault}
 use Rattle.rel_files.specs.Fault.Fault.{bad_term, bad_shape, duplicate, bad_version, no_memory as out_of_memory}
 use Rattle.rel_files.specs.Release.{Application}
@@ -192,6 +192,27 @@ string_plain (c ∷ cs) p =
     let (first, more) = parts (is_printable c) (list_all is_printable cs) p in
     append_plain (string_character c) (flat_map string_character cs) (character_plain c first) (string_plain cs more)
 
+-- the characters of a list are printable
+printable_one : (v : Value) (c : ℕ) → character_of v ≡ Some c → is_printable c ≡ true
+printable_one (int (pos n)) c e = go (is_printable n) refl e
+  where
+    go : (b : Bool) → is_printable n ≡ b → (if b then Some n else None) ≡ Some c → is_printable c ≡ true
+    go true p e = let same : n ≡ c = cc in subst (λ k. is_printable k ≡ true) same p
+    go false p e = absurd cc
+printable_one v c e = absurd cc
+
+printable_all : (vs : Values) (cs : List ℕ) → characters_of vs ≡ Some cs → list_all is_printable cs ≡ true
+printable_all no_values cs e = let same : [] ≡ cs = cc in subst (λ xs. list_all is_printable xs ≡ true) same refl
+printable_all (value v vs) cs e = go (character_of v) (characters_of vs) (printable_one v) (printable_all vs) e
+  where
+    go : (o : Option ℕ) (os : Option (List ℕ)) → ((c : ℕ) → o ≡ Some c → is_printable c ≡ true) → ((ds : List ℕ) → os ≡ Some ds → list_all is_printable ds ≡ true)
+        → put_character o os ≡ Some cs → list_all is_printable cs ≡ true
+    go (Some c) (Some ds) first others e =
+        let same : c ∷ ds ≡ cs = cc in
+        subst (λ xs. list_all is_printable xs ≡ true) same (joined (is_printable c) (list_all is_printable ds) (first c refl) (others ds refl))
+    go (Some c) None first others e = absurd cc
+    go None os first others e = absurd cc
+
 list_plain : (vs : Values) → ArePlain (texts_of vs) → is_one_line (text_of (list vs)) ≡ true
 list_plain vs plain = go (characters_of vs) refl
   where
@@ -201,7 +222,7 @@ list_plain vs plain = go (characters_of vs) refl
     go : (o : Option (List ℕ)) → characters_of vs ≡ o → is_one_line (list_text o (texts_of vs)) ≡ true
     go None e = members
     go (Some []) e = members
-    go (Some (c ∷ cs)) e = append_plain (flat_map string_character (c ∷ cs)) (codes "\"") (string_plain (c ∷ cs) (values-characters_of vs (c ∷ cs) e).1) refl
+    go (Some (c ∷ cs)) e = append_plain (flat_map string_character (c ∷ cs)) (codes "\"") (string_plain (c ∷ cs) (printable_all vs (c ∷ cs) e)) refl
 
 numbers_plain : (s : List ℕ) → ArePlain (texts_of (numbers s))
 numbers_plain [] = tt

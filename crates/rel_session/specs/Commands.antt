@@ -1,5 +1,5 @@
 -- The commands of an input.
-use Rattle.std.specs.Prelude.{◌≡◌, ℕ, ◌<◌, ◌≤◌, Bool, List, [], ◌∷◌, ◌++◌, length, nat_lt, nat_le, ◌==◌, if◌then◌else◌, codes, string_bytes}
+use Rattle.std.specs.Prelude.{◌≡◌, ℕ, ◌<◌, ◌≤◌, Bool, List, [], ◌∷◌, ◌++◌, Option, None, Some, length, nat_lt, nat_le, ◌==◌, if◌then◌else◌, codes, string_bytes}
 use Rattle.std.specs.List.{list_all, slice_split}
 use Rattle.std.specs.Str.{bytes_eq, is_utf8}
 use Rattle.rel_session.specs.declared.given.GivenFile.{GivenFile}
@@ -40,28 +40,35 @@ pub data Saying : Type 0 where
   opens : List ℕ → Saying
   tells : Command → Saying
 
--- what a word says alone
-abbrev pub said_alone : List ℕ → Saying
-said_alone word =
-    if bytes_eq word (codes "boot") then tells boot
-    else if bytes_eq word (codes "releases") then tells releases
-    else if bytes_eq word (codes "quit") then tells quit
+-- The words behind a command's own, by their kind: none, or one path. A path is not empty.
+abbrev pub alone : List (List ℕ) → Saying → Saying
+alone [] said = said
+alone words said = tells bad
+
+abbrev pub path_in : List (List ℕ) → Option (List ℕ)
+path_in ((b ∷ path) ∷ []) = Some (b ∷ path)
+path_in words = None
+
+-- what is said with a word of some kind, where there is one
+abbrev pub said_with : Option (List ℕ) → (List ℕ → Saying) → Saying
+said_with None said = tells bad
+said_with (Some word) said = said word
+
+-- what a command's word says with the words behind it
+abbrev pub said_of : List ℕ → List (List ℕ) → Saying
+said_of word words =
+    if bytes_eq word (codes "boot") then alone words (tells boot)
+    else if bytes_eq word (codes "releases") then alone words (tells releases)
+    else if bytes_eq word (codes "quit") then alone words (tells quit)
+    else if bytes_eq word (codes "file") then said_with (path_in words) opens
+    else if bytes_eq word (codes "create") then said_with (path_in words) (λ path. tells (create path))
+    else if bytes_eq word (codes "set_unpacked") then said_with (path_in words) (λ path. tells (set_unpacked path))
     else tells bad
 
--- what a word says with a path
-abbrev pub said_with_path : List ℕ → List ℕ → Saying
-said_with_path word path =
-    if bytes_eq word (codes "file") then opens path
-    else if bytes_eq word (codes "create") then tells (create path)
-    else if bytes_eq word (codes "set_unpacked") then tells (set_unpacked path)
-    else tells bad
-
--- what words say; an empty word is no path
+-- what words say
 abbrev pub said_by : List (List ℕ) → Saying
-said_by (word ∷ []) = said_alone word
-said_by (word ∷ [] ∷ []) = tells bad
-said_by (word ∷ path ∷ []) = said_with_path word path
-said_by words = tells bad
+said_by [] = tells bad
+said_by (word ∷ words) = said_of word words
 
 -- what stands between single spaces
 abbrev pub words_of : List ℕ → List (List ℕ)

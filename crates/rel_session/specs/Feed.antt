@@ -33,7 +33,8 @@ EndsAs end (Some old) None = ⊥
 EndsAs end (Some old) (Some new) = (old ≡ end) × (new ≡ end)
 
 -- The answer of a call that takes the next one: it, or that there is none, or that more is needed than is read.
-abbrev pub IsNext : {A V : Type 0} → (V → A → Type 0) → Result (Option V) SessionError → Option (Feed A) → Option (Feed A) → Type 0
+abbrev pub IsNext : {A V : Type 0} → (V → A → Type 0) → Result (Option V) SessionError → Option (Feed A) → Option (Feed A)
+    → Type 0
 IsNext Shows (Ok (Some v)) old new = Gives old new (Shows v)
 IsNext Shows (Ok None) old new = EndsAs over old new
 IsNext Shows (Err Limit) old new = EndsAs cut old new

@@ -61,19 +61,24 @@ pub record Lapsed {D : Type 0} (v : Device D) (p : Place) (old new : PlaceInMemo
   pub counted : v.failures (disk_at old) ≤ v.failures (disk_at new)
 
 -- A command gave this result, wherever it began: a version, or why it was refused. P says which replies are right.
-abbrev pub Answers : {D : Type 0} → Device D → (Place → Reply → Type 0) → Result (String Global) RefusalInMemory → PlaceInMemory D → PlaceInMemory D → Type 0
-Answers v P (Ok vsn) old new = (p : Place) → IsAt v old p → Replied v p (λ a. P p a × (a.answer ≡ ok_line (string_bytes vsn))) old new
+abbrev pub Answers : {D : Type 0} → Device D → (Place → Reply → Type 0) → Result (String Global) RefusalInMemory
+    → PlaceInMemory D → PlaceInMemory D → Type 0
+Answers v P (Ok vsn) old new =
+    (p : Place) → IsAt v old p → Replied v p (λ a. P p a × (a.answer ≡ ok_line (string_bytes vsn))) old new
 Answers v P (Err refusal.NoMemory) old new = (p : Place) → IsAt v old p → Lapsed v p old new
 Answers v P (Err why) old new =
     (p : Place) → IsAt v old p → Replied v p (λ a. P p a × (a.answer ≡ refusal_line (refusal_of why))) old new
 
 -- A command gave this line; where memory is refused, it may have been done.
-abbrev pub TellsReply : {D : Type 0} → Device D → (Place → Reply → Type 0) → Result (String Global) AllocError → PlaceInMemory D → PlaceInMemory D → Type 0
-TellsReply v P (Ok text) old new = (p : Place) → IsAt v old p → Replied v p (λ a. P p a × (a.answer ≡ string_bytes text)) old new
+abbrev pub TellsReply : {D : Type 0} → Device D → (Place → Reply → Type 0) → Result (String Global) AllocError
+    → PlaceInMemory D → PlaceInMemory D → Type 0
+TellsReply v P (Ok text) old new =
+    (p : Place) → IsAt v old p → Replied v p (λ a. P p a × (a.answer ≡ string_bytes text)) old new
 TellsReply v P (Err e) old new = (p : Place) → IsAt v old p → Replied v p (P p) old new ⊎ Lapsed v p old new
 
 -- A command was followed. Its text is its answer; there is none where the session ends.
-abbrev pub FollowsCommand : {D : Type 0} → Device D → Command → Result (Option (String Global)) SessionError → Node D → Node D → Type 0
+abbrev pub FollowsCommand : {D : Type 0} → Device D → Command → Result (Option (String Global)) SessionError
+    → Node D → Node D → Type 0
 FollowsCommand v command (Ok (Some text)) old new =
     (files_of new.files ≡ files_behind (files_of old.files) command)
     × ((p : Place) → IsAt v old.place p

@@ -53,7 +53,8 @@ commands_left remaining i = option_map commands_of (lines_left remaining i)
 abbrev pub file_left : {R : Type 0} → (R → Option (List ℕ)) → List ℕ → Input R → Option (Feed Command)
 file_left remaining path i = option_map (commands_behind path []) (lines_left remaining i)
 
--- Why a call gave up: a read failed in it, or all bytes were taken that may be; it writes nothing. Where it didn't, no read has failed.
+-- Why a call gave up: a read failed in it, or all bytes were taken that may be; it writes nothing. Where it didn't, no
+-- read has failed.
 abbrev pub HasCause : {R V : Type 0} → Result V SessionError → Input R → Input R → Type 0
 HasCause (Err Read) old new = HasRisen (failed_reads old) (failed_reads new)
 HasCause (Err Limit) old new = taken new ≡ most_bytes

@@ -23,7 +23,8 @@ pub data Refusal : Type 0 where
 -- the line that tells a refusal: its number, its name and its detail
 abbrev pub refusal_line : Refusal → List ℕ
 refusal_line existing_release = codes "error handler 2 ExistingRelease\n"
-refusal_line (bad_file path fault) = codes "error handler 8 BadFile " ++ (path ++ (codes " " ++ (file_fault_text fault ++ codes "\n")))
+refusal_line (bad_file path fault) =
+    codes "error handler 8 BadFile " ++ (path ++ (codes " " ++ (file_fault_text fault ++ codes "\n")))
 refusal_line (missing_file path) = codes "error handler 9 MissingFile " ++ (path ++ codes "\n")
 refusal_line too_many = codes "error handler 12 TooMany\n"
 refusal_line device = codes "error handler 16 Device\n"

@@ -109,7 +109,8 @@ abbrev pub commands_in : List ℕ → Feed Command
 commands_in input = commands_of (lines_of (bytes_within most_bytes input))
 
 -- A session with these commands ended so, on this disk, and this was written.
-pub record IsRun {D : Type 0} (v : Device D) (files : Files) (p : Place) (commands : Feed Command) (ending : Ending) (old new : D) (text : List ℕ) : Type 0 where
+pub record IsRun {D : Type 0} (v : Device D) (files : Files) (p : Place) (commands : Feed Command) (ending : Ending)
+    (old new : D) (text : List ℕ) : Type 0 where
   pub replies : List Reply
   pub right : Replies files p commands ending replies
   pub leads : Leads v p replies old new

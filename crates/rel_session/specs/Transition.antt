@@ -8,7 +8,7 @@ use Rattle.rel_handler.specs.declared.error.BootError.{BootError}
 use Rattle.rel_handler.specs.declared.error.BootError.TheVariants as boot_error
 use Rattle.rel_handler.specs.declared.error.HandlerError.{HandlerError}
 use Rattle.rel_handler.specs.Events.{Events, Stored, MayHave, certain, uncertain}
-use Rattle.rel_handler.specs.Image.{IsImageOf, IsImageAt, holds_a_store, first_end, end_behind, HasSpace}
+use Rattle.rel_handler.specs.Image.{IsImageAt, holds_a_store, first_end, end_behind, HasSpace}
 use Rattle.rel_handler.specs.Records.{body_of}
 use Rattle.rel_handler.specs.Refusals.{IsBootRefusal}
 use Rattle.rel_handler.specs.Taking.{commanded}

@@ -1,6 +1,7 @@
 //! What a line says where a command may stand.
-ghost use Rattle.std.specs.Prelude.{◌≡◌, ℕ, List, map, IfOk};
-ghost use Rattle.rel_session.specs.Commands.{is_blank as blank};
+ghost use Rattle.std.specs.Prelude.{◌≡◌, ℕ, List, map, string_bytes, IfOk, MatchOption};
+ghost use Rattle.std.specs.Option.{option_map};
+ghost use Rattle.rel_session.specs.Commands.{is_blank as blank, path_in as path_of};
 
 use crate::command::Command;
 use crate::line::Line;
@@ -23,7 +24,9 @@ pub enum Saying {
 
 impl Saying {
     ghost use Rattle.rel_session.specs.Saying.{saying_of};
-    ghost use Rattle.rel_session.specs.Commands.{said_in, said_by, said_alone, said_with_path, words_of, most_line};
+    ghost use Rattle.rel_session.specs.Commands.{said_in, said_by, said_of, alone, command_of, words_of, most_line};
+    ghost use Rattle.rel_session.specs.Commands.Command.{bad};
+    ghost use Rattle.rel_session.specs.Commands.Saying.{tells};
     ghost use Rattle.rel_session.specs.Lines.{IsKept};
 
     /// What the line says. One that is too long says no command.
@@ -55,34 +58,62 @@ impl Saying {
             saying_of said ≡ said_by (map (λ word. word.now) words.now)) }
     {
         match words {
-            [word] => Ok(Saying::alone(word)),
-            [_, ""] => Ok(Saying::Tells(Command::Bad)),
-            [word, path] => Saying::with_path(alloc, word, path),
-            _ => Ok(Saying::Tells(Command::Bad)),
+            [] => Ok(Saying::Tells(Command::Bad)),
+            [word, words @ ..] => Saying::with(alloc, word, words),
         }
     }
 
-    fn alone(word: &str) -> Saying
-        ensures { saying_of result ≡ said_alone word.now }
+    // What a command's word says with the words behind it, each by its kind.
+    fn with(alloc: Global, word: &str, words: &[&str]) -> Result<Saying, AllocError>
+        ensures { IfOk result (λ said.
+            saying_of said ≡ said_of word.now (map (λ word. word.now) words.now)) }
     {
-        match word {
-            "boot" => Saying::Tells(Command::Boot),
-            "releases" => Saying::Tells(Command::Releases),
-            "quit" => Saying::Tells(Command::Quit),
-            _ => Saying::Tells(Command::Bad),
-        }
-    }
-
-    fn with_path(alloc: Global, word: &str, path: &str) -> Result<Saying, AllocError>
-        ensures { IfOk result (λ said. saying_of said ≡ said_with_path word.now path.now) }
-    {
-        let path = String::from_str(alloc, path)?;
         Ok(match word {
-            "file" => Saying::Opens(path),
-            "create" => Saying::Tells(Command::Create(path)),
-            "set_unpacked" => Saying::Tells(Command::SetUnpacked(path)),
+            "boot" => Saying::alone(words, Command::Boot),
+            "releases" => Saying::alone(words, Command::Releases),
+            "quit" => Saying::alone(words, Command::Quit),
+            "file" => match path_in(alloc, words)? {
+                Some(path) => Saying::Opens(path),
+                None => Saying::Tells(Command::Bad),
+            },
+            "create" => Saying::told(path_in(alloc, words)?.map(Command::Create)),
+            "set_unpacked" => Saying::told(path_in(alloc, words)?.map(Command::SetUnpacked)),
             _ => Saying::Tells(Command::Bad),
         })
+    }
+
+    // A command that takes no words.
+    fn alone(words: &[&str], command: Command) -> Saying
+        ensures { saying_of result
+            ≡ alone (map (λ word. word.now) words.now) (tells (command_of command)) }
+    {
+        match words {
+            [] => Saying::Tells(command),
+            _ => Saying::Tells(Command::Bad),
+        }
+    }
+
+    // A command whose words were of their kinds, or a bad one.
+    fn told(command: Option<Command>) -> Saying
+        ensures { MatchOption command (saying_of result ≡ tells bad)
+            (λ command. saying_of result ≡ tells (command_of command)) }
+    {
+        match command {
+            Some(command) => Saying::Tells(command),
+            None => Saying::Tells(Command::Bad),
+        }
+    }
+}
+
+// The path that these words are: one word, and not an empty one.
+fn path_in(alloc: Global, words: &[&str]) -> Result<Option<String>, AllocError>
+    ensures { IfOk result (λ path.
+        option_map string_bytes path ≡ path_of (map (λ word. word.now) words.now)) }
+{
+    match words {
+        [""] => Ok(None),
+        [path] => Ok(Some(String::from_str(alloc, path)?)),
+        _ => Ok(None),
     }
 }
 

@@ -1,4 +1,4 @@
-use Rattle.std.proofs.Common.{ℕ, refl, Err}
+use Rattle.std.proofs.Common.{refl, Err}
 use Rattle.rel_session.specs.Commands.Command.{set_unpacked}
 use Rattle.rel_session.specs.Files.{files_of}
 use Rattle.rel_session.specs.Node.{Place, Reply}
