@@ -10,7 +10,7 @@ use Rattle.rel_session.specs.Feed.Feed.{over, cut, next}
 use Rattle.rel_session.specs.Files.{Files, files_behind}
 use Rattle.rel_session.specs.Node.{Place, Outcome, Reply}
 use Rattle.rel_session.specs.Node.Place.{raw, closed, running, dead}
-use Rattle.rel_session.specs.Run.{Starts, Holds, Moments, Leads, Replies, Ending, IsReached, events_of}
+use Rattle.rel_session.specs.Run.{Starts, Holds, Moments, Executes, Replies, Ending, IsReached, events_of}
 use Rattle.rel_session.specs.Run.Ending.{ended, cut_off, early}
 use Rattle.rel_session.specs.RunLaws.{acknowledged_at, IsKnown, Finds, Keeps, place_after, HaveAll, StandsForAll, BecomesKnown, LosesNothing, IsOfAccepted, at_rest, BeginsWhereOneEnded, BeginsBehindACrash, IsNextDisk, Lasts, LosesNothingEver}
 use Rattle.rel_session.specs.Transition.{Transition}
@@ -156,7 +156,7 @@ module _ {D : Type 0} (v : Device D) (laws : IsDevice v) where
 
   -- and so at each moment of a session
   pub session_images : (files : Files) (p : Place) (commands : Feed Command) (ending : Ending) (replies : List Reply) (old new : D) → Replies files p commands ending replies
-      → IsKnown p → Holds v p old → Leads v p replies old new → LeavesOnly v old new (StandsForAll (acknowledged_at p))
+      → IsKnown p → Holds v p old → Executes v p replies old new → LeavesOnly v old new (StandsForAll (acknowledged_at p))
   session_images files p commands ending [] old new right known holds (leaves, then, counted) =
       weakened v old new (v.may_leave old) (StandsForAll (acknowledged_at p)) (held_images p old known holds) leaves
   session_images files p commands ending (a ∷ more) old new right known holds (mid, happens, leads) =
@@ -169,8 +169,8 @@ module _ {D : Type 0} (v : Device D) (laws : IsDevice v) where
       (session_images (files_behind files n.command) a.after n.rest ending more mid new n.right (keeps.known (inl known)) happens.holds leads))
 
   -- a session in two parts
-  parts : (p : Place) (first rest : List Reply) (old new : D) → Holds v p old → Leads v p (first ++ rest) old new
-      → (mid : D) × Leads v p first old mid × Leads v (place_after p first) rest mid new × Holds v (place_after p first) mid
+  parts : (p : Place) (first rest : List Reply) (old new : D) → Holds v p old → Executes v p (first ++ rest) old new
+      → (mid : D) × Executes v p first old mid × Executes v (place_after p first) rest mid new × Holds v (place_after p first) mid
   parts p [] rest old new holds leads = (old, (still v laws old, holds, omega arith), leads, holds)
   parts p (a ∷ first) rest old new holds (here, happens, leads) =
       let (mid, before, behind, then) = parts a.after first rest here new happens.holds leads in
@@ -191,7 +191,7 @@ module _ {D : Type 0} (v : Device D) (laws : IsDevice v) where
       }
 
   -- the disk behind a session
-  pub handed_back : (p : Place) (replies : List Reply) (old new : D) → Leads v p replies old new → Holds v (place_after p replies) new
+  pub handed_back : (p : Place) (replies : List Reply) (old new : D) → Executes v p replies old new → Holds v (place_after p replies) new
   handed_back p [] old new (leaves, then, counted) = then
   handed_back p (a ∷ more) old new (mid, happens, leads) = handed_back a.after more mid new leads
 

@@ -24,7 +24,7 @@ use Rattle.rel_session.specs.Refusals.{Refusal}
 use Rattle.rel_session.specs.Refusals.Refusal.{too_many}
 use Rattle.rel_session.specs.Transition.{Action, ComesTo, OnNode, listed, creation, unpacking}
 use Rattle.rel_session.specs.Transition.Action.{answers, makes_node, changes_node, boots_node}
-use Rattle.rel_session.proofs.Whole.{parts, joined, IsWhole, HasLine, refusal_whole, listing_whole}
+use Rattle.rel_session.proofs.AnswerLines.{parts, joined, IsWhole, HasLine, refusal_whole, listing_whole}
 
 module _ (laws : FileLaws) where
   -- A file says one thing.

@@ -28,14 +28,14 @@ use Rattle.rel_session.proofs.ActionLemmas.{Kind, kind_of, one_action}
 use Rattle.rel_session.proofs.ActionLemmas.Kind.{of_bytes, at_rest, runs, fails}
 
 -- what an answer tells: that the command was done, that the device failed, or that nothing was done
-data Told : Type 0 where
-  it_is_done : Told
-  it_failed : Told
-  nothing_done : Told
+data Report : Type 0 where
+  it_is_done : Report
+  it_failed : Report
+  nothing_done : Report
 
-abbrev told : List ℕ → Told
-told [] = nothing_done
-told (x ∷ s) =
+abbrev report_of : List ℕ → Report
+report_of [] = nothing_done
+report_of (x ∷ s) =
     if x == 111 then it_is_done else if bytes_eq (x ∷ s) (refusal_line device) then it_failed else if bytes_eq (x ∷ s) (boot_line boot_error.Device) then it_failed else nothing_done
 
 -- the outcome, and the kind of the place behind it
@@ -49,13 +49,13 @@ effect o k = record { outcome = o; kind = k }
 abbrev pub effect_of : Reply → Effect
 effect_of a = effect a.outcome (kind_of a.after)
 
-abbrev created : Kind → Found → Told → Effect
+abbrev created : Kind → Found → Report → Effect
 created k found it_is_done = effect (done (made found.release ∷ booting ∷ [])) runs
 created k found it_failed = effect (failed_with (Some (made found.release))) k
 created k found nothing_done = effect nothing k
 
 -- a change is done on a node that runs, and refused on any other
-abbrev changed : Kind → Transition.Change → Told → Effect
+abbrev changed : Kind → Transition.Change → Report → Effect
 changed runs c it_is_done = effect (done (c.event ∷ [])) runs
 changed runs c it_failed = effect (failed_with (Some c.event)) fails
 changed k c t = effect nothing k
@@ -65,22 +65,22 @@ abbrev left : Kind → Kind
 left of_bytes = of_bytes
 left k = at_rest
 
-abbrev booted : Kind → Told → Effect
+abbrev booted : Kind → Report → Effect
 booted k it_is_done = effect (done (booting ∷ [])) runs
 booted k it_failed = effect (failed_with None) (left k)
 booted k nothing_done = effect nothing k
 
 -- The reply has the effect that its answer tells.
-abbrev Tells : (Told → Effect) → Reply → Type 0
-Tells f a = effect_of a ≡ f (told a.answer)
+abbrev HasEffect : (Report → Effect) → Reply → Type 0
+HasEffect f a = effect_of a ≡ f (report_of a.answer)
 
-tells_as : (f : Told → Effect) (a b : Reply) → a ≡ b → Tells f b → Tells f a
-tells_as f a b is of = subst (Tells f) (sym is) of
+effect_as : (f : Report → Effect) (a b : Reply) → a ≡ b → HasEffect f b → HasEffect f a
+effect_as f a b is of = subst (HasEffect f) (sym is) of
 
 -- no list refuses an event for the device
 abbrev IsPlainList : Result Releases HandlerError → Type 0
 IsPlainList (Ok list) = Unit {0}
-IsPlainList (Err why) = told (refusal_line (refusal_of (handler_refusal why))) ≡ nothing_done
+IsPlainList (Err why) = report_of (refusal_line (refusal_of (handler_refusal why))) ≡ nothing_done
 
 plain_list : (e : Event) (es : Releases) → IsPlainList (commanded e es)
 plain_list e es = by_event e
@@ -103,68 +103,68 @@ plain_list e es = by_event e
     by_event booting = tt
 
 -- a change
-changes : (events : Events) (end : ℕ) (c : Transition.Change) (o : Result Releases HandlerError) → IsPlainList o → (a : Reply) → Transition.Changes events end c o a → Tells (changed runs c) a
-changes events end c (Err why) plain a is = tells_as (changed runs c) a _ is (ap (changed runs c) (sym plain))
-changes events end c (Ok list) plain a (inl (fits, inl is)) = tells_as (changed runs c) a _ is refl
-changes events end c (Ok list) plain a (inl (fits, inr is)) = tells_as (changed runs c) a _ is refl
-changes events end c (Ok list) plain a (inr (over_it, is)) = tells_as (changed runs c) a _ is refl
+changes : (events : Events) (end : ℕ) (c : Transition.Change) (o : Result Releases HandlerError) → IsPlainList o → (a : Reply) → Transition.Changes events end c o a → HasEffect (changed runs c) a
+changes events end c (Err why) plain a is = effect_as (changed runs c) a _ is (ap (changed runs c) (sym plain))
+changes events end c (Ok list) plain a (inl (fits, inl is)) = effect_as (changed runs c) a _ is refl
+changes events end c (Ok list) plain a (inl (fits, inr is)) = effect_as (changed runs c) a _ is refl
+changes events end c (Ok list) plain a (inr (over_it, is)) = effect_as (changed runs c) a _ is refl
 
 -- create
-makes_on : (x : List ℕ) (found : Found) (size : ℕ) (b : Bool) (a : Reply) → Transition.MakesOn x found.release size b a → Tells (created of_bytes found) a
-makes_on x found size true a is = tells_as (created of_bytes found) a _ is refl
-makes_on x found size false a (inl (fits, is)) = tells_as (created of_bytes found) a _ is refl
-makes_on x found size false a (inr (over_it, is)) = tells_as (created of_bytes found) a _ is refl
+makes_on : (x : List ℕ) (found : Found) (size : ℕ) (b : Bool) (a : Reply) → Transition.MakesOn x found.release size b a → HasEffect (created of_bytes found) a
+makes_on x found size true a is = effect_as (created of_bytes found) a _ is refl
+makes_on x found size false a (inl (fits, is)) = effect_as (created of_bytes found) a _ is refl
+makes_on x found size false a (inr (over_it, is)) = effect_as (created of_bytes found) a _ is refl
 
-makes : (p : Place) (found : Found) (a : Reply) → Transition.MakesNode p found a → Tells (created (kind_of p) found) a
+makes : (p : Place) (found : Found) (a : Reply) → Transition.MakesNode p found a → HasEffect (created (kind_of p) found) a
 makes (raw x) found a (inl is) = makes_on x found (length (body_of (codes "made") found.term)) (holds_a_store x) a is
-makes (raw x) found a (inr (torn, is)) = tells_as (created of_bytes found) a _ is refl
-makes (closed s) found a (inl is) = tells_as (created at_rest found) a _ is refl
-makes (closed s) found a (inr is) = tells_as (created at_rest found) a _ is refl
-makes (running events end) found a is = tells_as (created runs found) a _ is refl
-makes (dead s) found a is = tells_as (created fails found) a _ is refl
+makes (raw x) found a (inr (torn, is)) = effect_as (created of_bytes found) a _ is refl
+makes (closed s) found a (inl is) = effect_as (created at_rest found) a _ is refl
+makes (closed s) found a (inr is) = effect_as (created at_rest found) a _ is refl
+makes (running events end) found a is = effect_as (created runs found) a _ is refl
+makes (dead s) found a is = effect_as (created fails found) a _ is refl
 
 -- boot
-boots_store : (k : Kind) (s : Stored) (a : Reply) → left k ≡ at_rest → Transition.BootsStore s a → Tells (booted k) a
-boots_store k s a there (inl (events, end, has, (list, after, is))) = tells_as (booted k) a _ is refl
-boots_store k s a there (inr is) = tells_as (booted k) a _ is (ap (effect (failed_with None)) (sym there))
+boots_store : (k : Kind) (s : Stored) (a : Reply) → left k ≡ at_rest → Transition.BootsStore s a → HasEffect (booted k) a
+boots_store k s a there (inl (events, end, has, (list, after, is))) = effect_as (booted k) a _ is refl
+boots_store k s a there (inr is) = effect_as (booted k) a _ is (ap (effect (failed_with None)) (sym there))
 
-boots_refused : (x : List ℕ) (why : BootError) → IsBootRefusal x why → Tells (booted of_bytes) (reply (boot_line why) nothing (raw x))
+boots_refused : (x : List ℕ) (why : BootError) → IsBootRefusal x why → HasEffect (booted of_bytes) (reply (boot_line why) nothing (raw x))
 boots_refused x boot_error.NotAStore is = refl
 boots_refused x (boot_error.Damaged at) is = refl
 boots_refused x (boot_error.BadRecord i) is = refl
 boots_refused x boot_error.Device is = absurd is
 boots_refused x boot_error.NoMemory is = absurd is
 
-boots : (p : Place) (a : Reply) → Transition.Boots p a → Tells (booted (kind_of p)) a
-boots (raw x) a (inl (events, list, end, after, image, (list_then, after_then, is))) = tells_as (booted of_bytes) a _ is refl
-boots (raw x) a (inr (inl (why, refusal, is))) = tells_as (booted of_bytes) a _ is (boots_refused x why refusal)
-boots (raw x) a (inr (inr (torn, is))) = tells_as (booted of_bytes) a _ is refl
+boots : (p : Place) (a : Reply) → Transition.Boots p a → HasEffect (booted (kind_of p)) a
+boots (raw x) a (inl (events, list, end, after, image, (list_then, after_then, is))) = effect_as (booted of_bytes) a _ is refl
+boots (raw x) a (inr (inl (why, refusal, is))) = effect_as (booted of_bytes) a _ is (boots_refused x why refusal)
+boots (raw x) a (inr (inr (torn, is))) = effect_as (booted of_bytes) a _ is refl
 boots (closed s) a is = boots_store at_rest s a refl is
 boots (running events end) a is = boots_store runs (certain events end) a refl is
 boots (dead s) a is = boots_store fails s a refl is
 
 -- Two replies with the same answer, from places of one kind.
-same_effect : (f : Told → Effect) (a b : Reply) → Tells f a → Tells f b → a.answer ≡ b.answer → effect_of a ≡ effect_of b
-same_effect f a b is also same = is ∙ ap (λ s. f (told s)) same ∙ sym also
+same_effect : (f : Report → Effect) (a b : Reply) → HasEffect f a → HasEffect f b → a.answer ≡ b.answer → effect_of a ≡ effect_of b
+same_effect f a b is also same = is ∙ ap (λ s. f (report_of s)) same ∙ sym also
 
 -- one that does nothing
 idle : (a b x y : Reply) → a ≡ x → b ≡ y → effect_of x ≡ effect_of y → effect_of a ≡ effect_of b
 idle a b x y is also same = ap effect_of is ∙ same ∙ sym (ap effect_of also)
 
 -- an action has the effect that its answer tells
-abbrev acted : Kind → Transition.Action → Told → Effect
+abbrev acted : Kind → Transition.Action → Report → Effect
 acted k (answers text) t = effect nothing k
 acted k (makes_node found) t = created k found t
 acted k (changes_node c) t = changed k c t
 acted k boots_node t = booted k t
 
-acts : (p : Place) (does : Transition.Action) (a : Reply) → Transition.Acts p does a → Tells (acted (kind_of p) does) a
-acts p (answers text) a is = tells_as (acted (kind_of p) (answers text)) a _ is refl
+acts : (p : Place) (does : Transition.Action) (a : Reply) → Transition.Acts p does a → HasEffect (acted (kind_of p) does) a
+acts p (answers text) a is = effect_as (acted (kind_of p) (answers text)) a _ is refl
 acts p (makes_node found) a is = makes p found a is
 acts (running events end) (changes_node c) a is = changes events end c (commanded c.event (releases_after events)) (plain_list c.event (releases_after events)) a is
-acts (raw x) (changes_node c) a is = tells_as (changed of_bytes c) a _ is refl
-acts (closed s) (changes_node c) a is = tells_as (changed at_rest c) a _ is refl
-acts (dead s) (changes_node c) a is = tells_as (changed fails c) a _ is refl
+acts (raw x) (changes_node c) a is = effect_as (changed of_bytes c) a _ is refl
+acts (closed s) (changes_node c) a is = effect_as (changed at_rest c) a _ is refl
+acts (dead s) (changes_node c) a is = effect_as (changed fails c) a _ is refl
 acts p boots_node a is = boots p a is
 
 pub one_effect : FileLaws → (files : Files) (p q : Place) (c : Command) (a b : Reply) → kind_of p ≡ kind_of q → a.answer ≡ b.answer → Transition.Transition files p c a → Transition.Transition files q c b → effect_of a ≡ effect_of b
@@ -173,6 +173,6 @@ one_effect texts files p q c a b kinds same (x, comes, is) (y, comes_too, also) 
     go : (x ≡ y) ⊎ ((x ≡ answers (Transition.listed p)) × (y ≡ answers (Transition.listed q))) → effect_of a ≡ effect_of b
     go (inl one) =
         same_effect (acted (kind_of p) x) a b (acts p x a is)
-        (subst (λ k. Tells (acted k x) b) (sym kinds) (subst (λ z. Tells (acted (kind_of q) z) b) (sym one) (acts q y b also))) same
+        (subst (λ k. HasEffect (acted k x) b) (sym kinds) (subst (λ z. HasEffect (acted (kind_of q) z) b) (sym one) (acts q y b also))) same
     go (inr (lists, lists_too)) =
         idle a b _ _ (subst (λ z. Transition.Acts p z a) lists is) (subst (λ z. Transition.Acts q z b) lists_too also) (ap (effect nothing) kinds)

@@ -13,47 +13,47 @@ use Rattle.rel_session.specs.declared.line.Line.{Line}
 use Rattle.rel_session.specs.Feed.{Feed, Gives, Stays, EndsAs, IsNext}
 use Rattle.rel_session.specs.Feed.Feed.{over, cut, next}
 use Rattle.rel_session.specs.Lines.{IsKept}
-use Rattle.rel_session.specs.Commands.{Command, Saying, File, file_of, said_in, is_end, put_saying, commands_of, commands_behind, given_of, command_of, IsGiven, most_line, most_file}
-use Rattle.rel_session.specs.Commands.Saying.{nothing, opens, tells}
+use Rattle.rel_session.specs.Commands.{Command, ParsedLine, File, file_of, parse_line, is_end, put_parsed, commands_of, commands_behind, given_of, command_of, IsGiven, most_line, most_file}
+use Rattle.rel_session.specs.Commands.ParsedLine.{blank, file_begins, whole_command}
 use Rattle.rel_session.specs.Commands.Command.{file, bad}
 
 -- what a line of a command is
-abbrev pub Says : Saying → Line → Type 0
-Says said line = (l : List ℕ) → IsKept most_line line l → said ≡ said_in l
+abbrev pub Says : ParsedLine → Line → Type 0
+Says said line = (l : List ℕ) → IsKept most_line line l → said ≡ parse_line l
 
 pub unread : {A : Type 0} (old : Option (Feed A)) → Stays old old
 unread None = tt
 unread (Some old) = refl
 
 -- a blank line is passed over
-pub passes_blank : (line : Line) (said : Saying) (old : Option (Feed Command)) (now new : Option (Feed (List ℕ)))
-    → Stays old (option_map commands_of now) → Gives now new (IsKept most_line line) → Says said line → said ≡ nothing
+pub passes_blank : (line : Line) (said : ParsedLine) (old : Option (Feed Command)) (now new : Option (Feed (List ℕ)))
+    → Stays old (option_map commands_of now) → Gives now new (IsKept most_line line) → Says said line → said ≡ blank
     → Stays old (option_map commands_of new)
 passes_blank line said None now new s g says is = tt
 passes_blank line said (Some old) None new s g says is = absurd s
 passes_blank line said (Some old) (Some now) None s g says is = absurd g
 passes_blank line said (Some old) (Some now) (Some new) s (l, was, k) says is =
-    sym (sym s ∙ ap commands_of was ∙ ap (λ x. put_saying x (commands_of new) (λ path. commands_behind path [] new)) (sym (says l k) ∙ is))
+    sym (sym s ∙ ap commands_of was ∙ ap (λ x. put_parsed x (commands_of new) (λ path. commands_behind path [] new)) (sym (says l k) ∙ is))
 
 -- a line says a command
-pub says_command : (line : Line) (said : Saying) (c : CommandInMemory) (old : Option (Feed Command)) (now new : Option (Feed (List ℕ)))
-    → Stays old (option_map commands_of now) → Gives now new (IsKept most_line line) → Says said line → said ≡ tells (command_of c)
+pub says_command : (line : Line) (said : ParsedLine) (c : CommandInMemory) (old : Option (Feed Command)) (now new : Option (Feed (List ℕ)))
+    → Stays old (option_map commands_of now) → Gives now new (IsKept most_line line) → Says said line → said ≡ whole_command (command_of c)
     → Gives old (option_map commands_of new) (λ d. command_of c ≡ d)
 says_command line said c None now new s g says is = tt
 says_command line said c (Some old) None new s g says is = absurd s
 says_command line said c (Some old) (Some now) None s g says is = absurd g
 says_command line said c (Some old) (Some now) (Some new) s (l, was, k) says is = (
   command_of c,
-  sym s ∙ ap commands_of was ∙ ap (λ x. put_saying x (commands_of new) (λ path. commands_behind path [] new)) (sym (says l k) ∙ is),
+  sym s ∙ ap commands_of was ∙ ap (λ x. put_parsed x (commands_of new) (λ path. commands_behind path [] new)) (sym (says l k) ∙ is),
   refl,
 )
 
--- a line opens a file
-opened : (line : Line) (said : Saying) (path : List ℕ) (old : Feed Command) (now new : Feed (List ℕ))
-    → commands_of now ≡ old → (l : List ℕ) → now ≡ next l new → IsKept most_line line l → Says said line → said ≡ opens path
+-- a line file_begins a file
+opened : (line : Line) (said : ParsedLine) (path : List ℕ) (old : Feed Command) (now new : Feed (List ℕ))
+    → commands_of now ≡ old → (l : List ℕ) → now ≡ next l new → IsKept most_line line l → Says said line → said ≡ file_begins path
     → commands_behind path [] new ≡ old
 opened line said path old now new s l was k says is =
-    sym (sym s ∙ ap commands_of was ∙ ap (λ x. put_saying x (commands_of new) (λ p. commands_behind p [] new)) (sym (says l k) ∙ is))
+    sym (sym s ∙ ap commands_of was ∙ ap (λ x. put_parsed x (commands_of new) (λ p. commands_behind p [] new)) (sym (says l k) ∙ is))
 
 -- what a known feed is, another is
 same_next : {A V : Type 0} (Shows : V → A → Type 0) (r : Result (Option V) SessionError) (old mid : Feed A) (new : Option (Feed A))
@@ -68,9 +68,9 @@ nothing_known Shows (Err Read) new = tt
 nothing_known Shows (Err Write) new = tt
 nothing_known Shows (Err NoMemory) new = tt
 
-pub opens_file : {V : Type 0} (Shows : V → Command → Type 0) (r : Result (Option V) SessionError) (line : Line) (said : Saying) (path : List ℕ)
+pub opens_file : {V : Type 0} (Shows : V → Command → Type 0) (r : Result (Option V) SessionError) (line : Line) (said : ParsedLine) (path : List ℕ)
     (old : Option (Feed Command)) (now mid : Option (Feed (List ℕ))) (new : Option (Feed Command))
-    → Stays old (option_map commands_of now) → Gives now mid (IsKept most_line line) → Says said line → said ≡ opens path
+    → Stays old (option_map commands_of now) → Gives now mid (IsKept most_line line) → Says said line → said ≡ file_begins path
     → IsNext Shows r (option_map (commands_behind path []) mid) new → IsNext Shows r old new
 opens_file Shows r line said path None now mid new s g says is n = nothing_known Shows r new
 opens_file Shows r line said path (Some old) None mid new s g says is n = absurd s

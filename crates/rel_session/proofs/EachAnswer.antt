@@ -46,7 +46,7 @@ fits_or_not end size = by_size (cases_lt 16777216 size)
 
 -- Where the device does not fail, the place behind a reply is one of these again.
 pub data IsFair : Place → Type 0 where
-  bare : (x : List ℕ) → IsFair (raw x)
+  of_raw : (x : List ℕ) → IsFair (raw x)
   rests : (events : Events) (end : ℕ) (list : Releases) → list_after events ≡ Some list → IsFair (closed (certain events end))
   runs : (events : Events) (end : ℕ) (list : Releases) → list_after events ≡ Some list → IsFair (running events end)
 
@@ -77,15 +77,15 @@ changes events end list c after = by_list (commanded c.event (releases_after eve
     by_list (Ok grown) e = by_room grown e (fits_or_not end c.size)
 
 makes_on : (x : List ℕ) (r : Release) (size : ℕ) (b : Bool) → Has (Transition.MakesOn x r size b)
-makes_on x r size true = fair_reply _ _ refl refl (bare x)
+makes_on x r size true = fair_reply _ _ refl refl (of_raw x)
 makes_on x r size false = go (fits_or_not first_end size)
   where
     go : HasSpace first_end size ⊎ (HasSpace first_end size → ⊥) → Has (Transition.MakesOn x r size false)
     go (inl fits) = fair_reply _ _ (inl (fits, refl)) refl (runs (made r ∷ booting ∷ []) (end_behind first_end size) (entry r Permanent ∷ []) refl)
-    go (inr over_it) = fair_reply _ _ (inr (over_it, refl)) refl (bare x)
+    go (inr over_it) = fair_reply _ _ (inr (over_it, refl)) refl (of_raw x)
 
 makes : (p : Place) (found : Found) → IsFair p → Has (Transition.MakesNode p found)
-makes p found (bare x) =
+makes p found (of_raw x) =
     let size = length (body_of (codes "made") found.term) in
     mapped (Transition.MakesOn x found.release size (holds_a_store x)) (Transition.MakesNode (raw x) found) (λ a is. inl is) (makes_on x found.release size (holds_a_store x))
 makes p found (rests events end list after) = fair_reply _ _ (inl refl) refl (rests events end list after)
@@ -104,15 +104,15 @@ boots_bytes laws x = go (laws.either x)
         let (events, before, after) = events_of_image x es image still in
         let end = store_end x in
         mapped (Transition.IsBooted events end) (Transition.BootsBytes x) (λ a is. inl (events, es, end, before, record { image_of = image; ends = refl }, is)) (booted_there events end es before)
-    go (inr (why, is)) = fair_reply _ (reply (boot_line why) nothing (raw x)) (inr (inl (why, is, refl))) refl (bare x)
+    go (inr (why, is)) = fair_reply _ (reply (boot_line why) nothing (raw x)) (inr (inl (why, is, refl))) refl (of_raw x)
 
 boots : BootLaws → (p : Place) → IsFair p → Has (Transition.Boots p)
-boots laws p (bare x) = boots_bytes laws x
+boots laws p (of_raw x) = boots_bytes laws x
 boots laws p (rests events end list after) = mapped (Transition.IsBooted events end) (Transition.BootsStore (certain events end)) (λ a is. inl (events, end, inl (refl, refl), is)) (booted_there events end list after)
 boots laws p (runs events end list after) = mapped (Transition.IsBooted events end) (Transition.BootsStore (certain events end)) (λ a is. inl (events, end, inl (refl, refl), is)) (booted_there events end list after)
 
 changed : (p : Place) (c : Transition.Change) → IsFair p → Has (Transition.Acts p (changes_node c))
-changed p c (bare x) = fair_reply _ _ refl refl (bare x)
+changed p c (of_raw x) = fair_reply _ _ refl refl (of_raw x)
 changed p c (rests events end list after) = fair_reply _ _ refl refl (rests events end list after)
 changed p c (runs events end list after) = changes events end list c after
 
@@ -144,7 +144,7 @@ each texts laws files p (next c rest) fair = by_action (some_action texts files 
         one_more files p c rest has.given (does, comes, has.is) has.works (behind (files_behind files c) has.given.after has.fair)
 
 fair_place : (p : Place) → IsCertain p → HasList p → IsFair p
-fair_place (raw x) sure has = bare x
+fair_place (raw x) sure has = of_raw x
 fair_place (closed s) sure (list, after) = subst (λ t. IsFair (closed t)) (sym sure) (rests s.known.acknowledged s.end list after)
 fair_place (running events end) sure (list, after) = runs events end list after
 fair_place (dead s) sure has = absurd sure

@@ -8,7 +8,7 @@ use Rattle.rel_session.specs.Feed.{Feed}
 use Rattle.rel_session.specs.Files.{Files, files_behind, Found}
 use Rattle.rel_session.specs.Node.{Place, Reply}
 use Rattle.rel_session.specs.Node.Place.{raw}
-use Rattle.rel_session.specs.Run.{Leads, Replies, Ending}
+use Rattle.rel_session.specs.Run.{Executes, Replies, Ending}
 use Rattle.rel_session.specs.RunLaws.{acknowledged_at, BecomesKnown, NoneFails, NoneAcknowledged, BeginsWithAMaking}
 use Rattle.rel_session.specs.Transition
 use Rattle.rel_session.specs.Transition.Action.{answers, makes_node, changes_node, boots_node}
@@ -75,5 +75,5 @@ module _ {D : Type 0} (v : Device D) (laws : IsDevice v) where
         of.acknowledged,
         of.after,
         loses_nothing v laws files (raw []) commands ending (first ++ a ∷ []) rest old new (subst (Replies files (raw []) commands ending) same right) empty
-            (subst (λ l. Leads v (raw []) l old new) same leads) (becomes_known (raw []) first a some),
+            (subst (λ l. Executes v (raw []) l old new) same leads) (becomes_known (raw []) first a some),
       )

@@ -14,7 +14,7 @@ use Rattle.rel_session.specs.Node.{Place, Reply, releases_after}
 use Rattle.rel_session.specs.Node.Place.{raw, closed, running, dead}
 use Rattle.rel_session.specs.Refusals.{refusal_line}
 use Rattle.rel_session.specs.Refusals.Refusal.{device}
-use Rattle.rel_session.specs.Run.{Leads}
+use Rattle.rel_session.specs.Run.{Executes}
 use Rattle.rel_session.specs.AnswerLaws.{FailsOnlyWithTheDevice, TellsDoubt}
 use Rattle.rel_session.specs.Transition
 use Rattle.rel_session.specs.Transition.Action.{answers, makes_node, changes_node, boots_node}
@@ -91,7 +91,7 @@ works true P cause never = absurd (never (cause refl))
 works false P cause never = refl
 
 module _ {D : Type 0} (v : Device D) where
-  rises : (p : Place) (replies : List Reply) (old new : D) → Leads v p replies old new → v.failures old ≤ v.failures new
+  rises : (p : Place) (replies : List Reply) (old new : D) → Executes v p replies old new → v.failures old ≤ v.failures new
   rises p [] old new (leaves, then, counted) = counted
   rises p (a ∷ more) old new (mid, happens, leads) = omega (arith, happens.counted, rises a.after more mid new leads)
 

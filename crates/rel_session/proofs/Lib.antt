@@ -1,9 +1,9 @@
 pub mod Bytes
 pub mod LineLemmas
 pub mod WordLemmas
-pub mod Said
+pub mod ParsedLines
 pub mod CommandLemmas
-pub mod Mapped
+pub mod ListingLemmas
 pub mod ReleaseLemmas
 pub mod DeviceLemmas
 pub mod ListLemmas
@@ -17,7 +17,7 @@ pub mod Transitions
 pub mod AcknowledgedEvents
 pub mod Failures
 pub mod EmptyDisk
-pub mod Whole
+pub mod AnswerLines
 pub mod ActionLemmas
 pub mod OneAnswer
 pub mod EachAnswer

@@ -7,9 +7,9 @@ use Rattle.rel_list.specs.Releases.{Releases}
 use Rattle.rel_list.specs.Event.{list_after, booted}
 use Rattle.rel_handler.specs.Image.{store_end}
 use Rattle.rel_handler.specs.Events.{Events, MayHave, IsStoredAs, certain}
-use Rattle.rel_session.specs.Commands.{Command, Saying, said_in, said_by, said_of, said_with, alone, path_in, is_blank, words_of, is_end, file_of, most_line, put_saying, commands_of, commands_behind}
+use Rattle.rel_session.specs.Commands.{Command, ParsedLine, parse_line, parse_words, parse_command, with_word, without_words, path_in, is_blank, words_of, is_end, file_of, most_line, put_parsed, commands_of, commands_behind}
 use Rattle.rel_session.specs.Commands.Command.{file, create, set_unpacked, boot, releases, quit, bad}
-use Rattle.rel_session.specs.Commands.Saying.{nothing, opens, tells}
+use Rattle.rel_session.specs.Commands.ParsedLine.{blank, file_begins, whole_command}
 use Rattle.rel_session.specs.Device.{Device}
 use Rattle.rel_session.specs.Feed.{Feed, bytes_within}
 use Rattle.rel_session.specs.Feed.Feed.{over, cut, next}
@@ -20,7 +20,7 @@ use Rattle.rel_session.specs.AnswerLaws.{is_one_line, HasLinePath, HaveLinePaths
 use Rattle.rel_session.specs.RunLaws.{MayBe}
 use Rattle.rel_session.proofs.DeviceLemmas.{IsDevice}
 use Rattle.rel_session.proofs.Versions.{record_versions, unbooted}
-use Rattle.rel_session.proofs.Whole.{ArePlain, parts, joined}
+use Rattle.rel_session.proofs.AnswerLines.{ArePlain, parts, joined}
 
 abbrev AreLines : Feed (List ℕ) → Type 0
 AreLines (next l ls) = (is_one_line l ≡ true) × AreLines ls
@@ -55,40 +55,40 @@ split_plain (x ∷ l) line =
     go false ws plain words = front ws plain words
 
 -- what a line says has such a path
-abbrev IsPlainSaying : Saying → Type 0
-IsPlainSaying (tells c) = HasLinePath c
-IsPlainSaying said = Unit {0}
+abbrev IsPlainLine : ParsedLine → Type 0
+IsPlainLine (whole_command c) = HasLinePath c
+IsPlainLine said = Unit {0}
 
-either : (b : Bool) (x y : Saying) → IsPlainSaying x → IsPlainSaying y → IsPlainSaying (if b then x else y)
+either : (b : Bool) (x y : ParsedLine) → IsPlainLine x → IsPlainLine y → IsPlainLine (if b then x else y)
 either true x y p q = p
 either false x y p q = q
 
-alone_plain : (words : List (List ℕ)) (c : Command) → HasLinePath c → IsPlainSaying (alone words (tells c))
+alone_plain : (words : List (List ℕ)) (c : Command) → HasLinePath c → IsPlainLine (without_words words (whole_command c))
 alone_plain [] c line = line
 alone_plain (word ∷ words) c line = tt
 
-path_plain : (words : List (List ℕ)) (said : List ℕ → Saying) → ArePlain words → ((path : List ℕ) → is_one_line path ≡ true → IsPlainSaying (said path)) → IsPlainSaying (said_with (path_in words) said)
+path_plain : (words : List (List ℕ)) (said : List ℕ → ParsedLine) → ArePlain words → ((path : List ℕ) → is_one_line path ≡ true → IsPlainLine (said path)) → IsPlainLine (with_word (path_in words) said)
 path_plain [] said plain each = tt
 path_plain ([] ∷ words) said plain each = tt
 path_plain ((b ∷ path) ∷ []) said plain each = each (b ∷ path) plain.0
 path_plain ((b ∷ path) ∷ word ∷ words) said plain each = tt
 
-word_plain : (word : List ℕ) (words : List (List ℕ)) → ArePlain words → IsPlainSaying (said_of word words)
+word_plain : (word : List ℕ) (words : List (List ℕ)) → ArePlain words → IsPlainLine (parse_command word words)
 word_plain word words plain =
-    either (bytes_eq word (codes "boot")) (alone words (tells boot)) _ (alone_plain words boot tt)
-    (either (bytes_eq word (codes "releases")) (alone words (tells releases)) _ (alone_plain words releases tt)
-    (either (bytes_eq word (codes "quit")) (alone words (tells quit)) _ (alone_plain words quit tt)
-    (either (bytes_eq word (codes "file")) (said_with (path_in words) opens) _ (path_plain words opens plain (λ path line. tt))
-    (either (bytes_eq word (codes "create")) (said_with (path_in words) (λ path. tells (create path))) _ (path_plain words (λ path. tells (create path)) plain (λ path line. line))
-    (either (bytes_eq word (codes "set_unpacked")) (said_with (path_in words) (λ path. tells (set_unpacked path))) (tells bad) (path_plain words (λ path. tells (set_unpacked path)) plain (λ path line. line)) tt)))))
+    either (bytes_eq word (codes "boot")) (without_words words (whole_command boot)) _ (alone_plain words boot tt)
+    (either (bytes_eq word (codes "releases")) (without_words words (whole_command releases)) _ (alone_plain words releases tt)
+    (either (bytes_eq word (codes "quit")) (without_words words (whole_command quit)) _ (alone_plain words quit tt)
+    (either (bytes_eq word (codes "file")) (with_word (path_in words) file_begins) _ (path_plain words file_begins plain (λ path line. tt))
+    (either (bytes_eq word (codes "create")) (with_word (path_in words) (λ path. whole_command (create path))) _ (path_plain words (λ path. whole_command (create path)) plain (λ path line. line))
+    (either (bytes_eq word (codes "set_unpacked")) (with_word (path_in words) (λ path. whole_command (set_unpacked path))) (whole_command bad) (path_plain words (λ path. whole_command (set_unpacked path)) plain (λ path line. line)) tt)))))
 
-words_plain : (words : List (List ℕ)) → ArePlain words → IsPlainSaying (said_by words)
+words_plain : (words : List (List ℕ)) → ArePlain words → IsPlainLine (parse_words words)
 words_plain [] plain = tt
 words_plain (word ∷ words) plain = word_plain word words plain.1
 
-saying_plain : (l : List ℕ) → is_one_line l ≡ true → IsPlainSaying (said_in l)
-saying_plain l line =
-    either (nat_lt most_line (length l)) (tells bad) _ tt (either (is_blank l) nothing _ tt (either (is_utf8 l) (said_by (words_of l)) (tells bad) (words_plain (words_of l) (split_plain l line)) tt))
+line_plain : (l : List ℕ) → is_one_line l ≡ true → IsPlainLine (parse_line l)
+line_plain l line =
+    either (nat_lt most_line (length l)) (whole_command bad) _ tt (either (is_blank l) blank _ tt (either (is_utf8 l) (parse_words (words_of l)) (whole_command bad) (words_plain (words_of l) (split_plain l line)) tt))
 
 -- the commands of lines, and those behind a file that began
 commands_plain : (ls : Feed (List ℕ)) → AreLines ls → HaveLinePaths (commands_of ls) × ((path bs : List ℕ) → HaveLinePaths (commands_behind path bs ls))
@@ -96,12 +96,12 @@ commands_plain over lines = (tt, λ path bs. (tt, tt))
 commands_plain cut lines = (tt, λ path bs. tt)
 commands_plain (next l ls) (line, lines) =
     let (rest, behind) = commands_plain ls lines in
-    (put (said_in l) (saying_plain l line) rest (λ path. behind path []), λ path bs. ending path bs (is_end l) rest (behind path (bs ++ (l ++ 10 ∷ []))))
+    (put (parse_line l) (line_plain l line) rest (λ path. behind path []), λ path bs. ending path bs (is_end l) rest (behind path (bs ++ (l ++ 10 ∷ []))))
   where
-    put : (said : Saying) → IsPlainSaying said → HaveLinePaths (commands_of ls) → ((path : List ℕ) → HaveLinePaths (commands_behind path [] ls)) → HaveLinePaths (put_saying said (commands_of ls) (λ path. commands_behind path [] ls))
-    put nothing plain rest behind = rest
-    put (opens path) plain rest behind = behind path
-    put (tells c) plain rest behind = (plain, rest)
+    put : (said : ParsedLine) → IsPlainLine said → HaveLinePaths (commands_of ls) → ((path : List ℕ) → HaveLinePaths (commands_behind path [] ls)) → HaveLinePaths (put_parsed said (commands_of ls) (λ path. commands_behind path [] ls))
+    put blank plain rest behind = rest
+    put (file_begins path) plain rest behind = behind path
+    put (whole_command c) plain rest behind = (plain, rest)
 
     ending : (path bs : List ℕ) (b : Bool) → HaveLinePaths (commands_of ls) → HaveLinePaths (commands_behind path (bs ++ (l ++ 10 ∷ [])) ls)
         → HaveLinePaths (if b then next (file path (file_of bs)) (commands_of ls) else commands_behind path (bs ++ (l ++ 10 ∷ [])) ls)

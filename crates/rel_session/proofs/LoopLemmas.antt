@@ -12,18 +12,18 @@ use Rattle.rel_session.specs.declared.place.Place.TheVariants as memory
 use Rattle.rel_session.specs.Commands.{Command, commands_of}
 use Rattle.rel_session.specs.Commands.Command.{quit}
 use Rattle.rel_session.specs.Device.{Device}
-use Rattle.rel_session.specs.Ended.{AreCommands, IsSession}
+use Rattle.rel_session.specs.Session.{AreCommands, IsSession}
 use Rattle.rel_session.specs.Feed.{Feed, Gives, EndsAs, IsNext, bytes_within}
 use Rattle.rel_session.specs.Feed.Feed.{over, cut, next}
 use Rattle.rel_session.specs.Files.{Files, no_files, files_of, files_behind}
-use Rattle.rel_session.specs.InMemory.{IsAt, Replied, Lapsed, FollowsCommand, disk_at, disk_of}
+use Rattle.rel_session.specs.InMemory.{IsAt, Replied, NothingDone, FollowsCommand, disk_at, disk_of}
 use Rattle.rel_session.specs.Input.{IsFresh, commands_left, most_bytes}
 use Rattle.rel_session.specs.Lines.{lines_of}
 use Rattle.rel_session.specs.Node.{Place, Reply}
 use Rattle.rel_session.specs.Node.Place.{raw, closed, running, dead}
 use Rattle.counted_io.specs.Prefixes.{AppendsPrefix}
-use Rattle.rel_session.specs.Written.{Writes}
-use Rattle.rel_session.specs.Run.{Starts, Leads, Replies, Ending, IsTextOf, IsRun, answers_of, commands_in}
+use Rattle.rel_session.specs.Output.{Writes}
+use Rattle.rel_session.specs.Run.{Starts, Executes, Replies, Ending, IsTextOf, IsRun, answers_of, commands_in}
 use Rattle.rel_session.specs.Run.Ending.{ended, cut_off, early}
 use Rattle.rel_session.specs.Transition.{Transition}
 use Rattle.rel_session.proofs.DeviceLemmas.{IsDevice, still}
@@ -104,21 +104,21 @@ module _ {D : Type 0} (v : Device D) where
     pub written : List ℕ
     pub appended : Appends old now written
     pub completes : (ending : Ending) (rest : Feed Command) (replies : List Reply) (new : D) (text : List ℕ) → AreLeft left rest
-        → Replies (files_of node.files) here rest ending replies → Leads v here replies (disk_of node) new → IsTextOf ending replies text
+        → Replies (files_of node.files) here rest ending replies → Executes v here replies (disk_of node) new → IsTextOf ending replies text
         → (commands : Feed Command) × AreLeft all commands × IsRun v no_files start commands ending disk new (written ++ text)
 
   abbrev pub Goes : Option (Feed Command) → Option (Feed Command) → D → Node D → Option (List ℕ) → Option (List ℕ) → Type 0
   Goes all left disk node old now = (start : Place) → Starts v start disk → Reached start all left disk node old now
 
 module _ {D : Type 0} (v : Device D) (laws : IsDevice v) where
-  starts_at : (start : Place) (disk : D) → Starts v start disk → IsAt v (memory.Bare disk) start
+  starts_at : (start : Place) (disk : D) → Starts v start disk → IsAt v (memory.Idle disk) start
   starts_at (raw bytes) disk starts = starts
   starts_at (closed s) disk starts = starts
   starts_at (running events end) disk starts = absurd starts
   starts_at (dead s) disk starts = absurd starts
 
   -- before the first command
-  pub begins : (all left : Option (Feed Command)) (disk : D) (node : Node D) (old : Option (List ℕ)) → left ≡ all → node.place ≡ memory.Bare disk → files_of node.files ≡ no_files → Goes v all left disk node old old
+  pub begins : (all left : Option (Feed Command)) (disk : D) (node : Node D) (old : Option (List ℕ)) → left ≡ all → node.place ≡ memory.Idle disk → files_of node.files ≡ no_files → Goes v all left disk node old old
   begins all left disk node old same place files start starts = record {
     here = start;
     at = subst (λ q. IsAt v q start) (sym place) (starts_at start disk starts);
@@ -130,14 +130,14 @@ module _ {D : Type 0} (v : Device D) (laws : IsDevice v) where
       record {
         replies = replies;
         right = subst (λ fs. Replies fs start rest ending replies) files right;
-        leads = subst (λ d. Leads v start replies d new) (ap disk_at place) leads;
+        leads = subst (λ d. Executes v start replies d new) (ap disk_at place) leads;
         written = written;
       },
     );
   }
 
   -- calls that leave nothing new
-  nothing_more : (p : Place) (node : Node D) → IsAt v node.place p → Leads v p [] (disk_of node) (disk_of node)
+  nothing_more : (p : Place) (node : Node D) → IsAt v node.place p → Executes v p [] (disk_of node) (disk_of node)
   nothing_more p node at = (still v laws (disk_of node), held v laws node.place p at, omega arith)
 
   module _ (all now new : Option (Feed Command)) (disk : D) (node : Node D) (old mid : Option (List ℕ)) (goes : Goes v all now disk node old mid) where
@@ -206,7 +206,7 @@ module _ {D : Type 0} (v : Device D) (laws : IsDevice v) where
         r : Reached v start all now disk node old mid
         r = goes start starts
 
-        by_outcome : Replied v r.here (λ a. Transition (files_of node.files) r.here c a) node.place later.place ⊎ Lapsed v r.here node.place later.place
+        by_outcome : Replied v r.here (λ a. Transition (files_of node.files) r.here c a) node.place later.place ⊎ NothingDone v r.here node.place later.place
             → (commands : Feed Command) × AreLeft all commands × Writes old mid (λ t. IsRun v no_files start commands early disk final t)
         by_outcome (inl a) =
             let whole = r.completes early (next c (some_left new)) (a.given ∷ []) (disk_of later) [] (are_next now new c (some_left new) gives (are_some new))

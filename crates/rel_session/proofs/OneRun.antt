@@ -14,7 +14,7 @@ use Rattle.rel_session.proofs.OneAnswer.{ends, one_end, never_goes_on}
 use Rattle.rel_session.proofs.ActionLemmas.{kind_of}
 use Rattle.rel_session.proofs.AnswerEvents.{Effect, one_effect}
 use Rattle.rel_session.proofs.Versions.{each_good}
-use Rattle.rel_session.proofs.Whole.{one_front}
+use Rattle.rel_session.proofs.AnswerLines.{one_front}
 
 append_left : (s x y : List ℕ) → s ++ x ≡ s ++ y → x ≡ y
 append_left [] x y is = is

@@ -28,7 +28,7 @@ use Rattle.rel_session.specs.declared.refusal.Refusal.TheVariants as refusal
 use Rattle.rel_session.specs.Commands.Command.{set_unpacked}
 use Rattle.rel_session.specs.Device.{Device, LeavesOnly, HasFailed}
 use Rattle.rel_session.specs.Files.{Files, Found}
-use Rattle.rel_session.specs.InMemory.{disk_at, IsAt, Replied, Lapsed, Answers, TellsReply}
+use Rattle.rel_session.specs.InMemory.{disk_at, IsAt, Replied, NothingDone, Answers, TellsReply}
 use Rattle.rel_session.specs.Node.{Place, Reply, reply, refused, failed, nothing, done, failed_with, releases_after, list_or_none}
 use Rattle.rel_session.specs.Node.Place.{raw, closed, running, dead}
 use Rattle.rel_session.specs.Refusals.{Refusal, refusal_of, refusal_line, handler_refusal, boot_line}
@@ -49,10 +49,10 @@ told_so (Err e) why is = ap Err is
 module _ {D : Type 0} (v : Device D) (laws : IsDevice v) where
   -- what is so of the disk of a place
   pub held : (place : PlaceInMemory D) (p : Place) → IsAt v place p → Holds v p (disk_at place)
-  held (memory.Bare disk) (raw bytes) at = at
-  held (memory.Bare disk) (closed s) at = at
-  held (memory.Bare disk) (running events end) at = absurd at
-  held (memory.Bare disk) (dead s) at = absurd at
+  held (memory.Idle disk) (raw bytes) at = at
+  held (memory.Idle disk) (closed s) at = at
+  held (memory.Idle disk) (running events end) at = absurd at
+  held (memory.Idle disk) (dead s) at = absurd at
   held (memory.Made h) (raw bytes) at = absurd at
   held (memory.Made h) (closed s) at = absurd at
   held (memory.Made h) (running events end) at = at.0
@@ -92,8 +92,8 @@ module _ {D : Type 0} (v : Device D) (laws : IsDevice v) where
     };
   }
 
-  pub lapses : (p : Place) (old new : PlaceInMemory D) → disk_at new ≡ disk_at old → IsAt v new p → Lapsed v p old new
-  lapses p old new same then = record {
+  pub leaves_all : (p : Place) (old new : PlaceInMemory D) → disk_at new ≡ disk_at old → IsAt v new p → NothingDone v p old new
+  leaves_all p old new same then = record {
     nothing_new = subst (λ d. LeavesOnly v (disk_at old) d (v.may_leave (disk_at old))) (sym same) (still v laws (disk_at old));
     holds = held new p then;
     counted = subst (λ d. v.failures (disk_at old) ≤ v.failures d) (sym same) (omega arith);
@@ -176,18 +176,18 @@ module _ {D : Type 0} (v : Device D) (laws : IsDevice v) where
   -- a boot that is refused
   module _ (old : PlaceInMemory D) (disk new : D) (taken : disk ≡ disk_at old) (leaves : LeavesOnly v disk new (v.may_leave disk)) (counted : v.failures disk ≤ v.failures new) where
     -- the disk stands where it stood
-    rests_on : (s : Stored) → ((c : List ℕ) → v.may_leave disk c → IsStoredAs s c) → IsAt v (memory.Bare new) (closed s)
+    rests_on : (s : Stored) → ((c : List ℕ) → v.may_leave disk c → IsStoredAs s c) → IsAt v (memory.Idle new) (closed s)
     rests_on s here = kept s disk new here leaves
 
-    refused_at : (p q : Place) (answer : List ℕ) (b : Bool) (P : Reply → Type 0) → Holds v p disk → IsAt v (memory.Bare new) q → (b ≡ true → HasFailed v disk new)
-        → P (reply answer (record { acknowledged = []; in_doubt = None; failed = b }) q) → Replied v p (λ a. P a × (a.answer ≡ answer)) old (memory.Bare new)
+    refused_at : (p q : Place) (answer : List ℕ) (b : Bool) (P : Reply → Type 0) → Holds v p disk → IsAt v (memory.Idle new) q → (b ≡ true → HasFailed v disk new)
+        → P (reply answer (record { acknowledged = []; in_doubt = None; failed = b }) q) → Replied v p (λ a. P a × (a.answer ≡ answer)) old (memory.Idle new)
     refused_at p q answer b P here then cause right = record {
       given = reply answer (record { acknowledged = []; in_doubt = None; failed = b }) q;
       right = (right, refl);
       at = then;
       happens = record {
         moments = subst (λ d. Moments v p (record { acknowledged = []; in_doubt = None; failed = b }) d new) taken (moments_of_nothing p b disk new here leaves);
-        holds = held (memory.Bare new) q then;
+        holds = held (memory.Idle new) q then;
         cause = λ e. subst (λ d. HasFailed v d new) taken (cause e);
         counted = subst (λ d. v.failures d ≤ v.failures new) taken counted;
       };
@@ -196,23 +196,23 @@ module _ {D : Type 0} (v : Device D) (laws : IsDevice v) where
     module _ (why : BootError) (is : BootRefused (v.seen disk) (v.failures disk) (v.failures new) why) (same : (why ≢ boot_error.Device) → v.seen new ≡ v.seen disk)
         (only : (es : Releases) → IsImageOf (v.seen disk) es → (why ≡ boot_error.Device) ⊎ (why ≡ boot_error.NoMemory)) (known : why ≢ boot_error.NoMemory) where
       -- on a store nothing but the device refuses
-      by_store : (p : Place) (s : Stored) → ((c : List ℕ) → v.may_leave disk c → IsStoredAs s c) → Holds v p disk → Replied v p (λ a. Transition.BootsStore s a × (a.answer ≡ boot_line why)) old (memory.Bare new)
+      by_store : (p : Place) (s : Stored) → ((c : List ℕ) → v.may_leave disk c → IsStoredAs s c) → Holds v p disk → Replied v p (λ a. Transition.BootsStore s a × (a.answer ≡ boot_line why)) old (memory.Idle new)
       by_store p s here holds = go (only (here (v.seen disk) (laws.reads_an_image disk)).list (here (v.seen disk) (laws.reads_an_image disk)).image_of)
         where
-          go : (why ≡ boot_error.Device) ⊎ (why ≡ boot_error.NoMemory) → Replied v p (λ a. Transition.BootsStore s a × (a.answer ≡ boot_line why)) old (memory.Bare new)
+          go : (why ≡ boot_error.Device) ⊎ (why ≡ boot_error.NoMemory) → Replied v p (λ a. Transition.BootsStore s a × (a.answer ≡ boot_line why)) old (memory.Idle new)
           go (inl failed) = refused_at p (closed s) (boot_line why) true (Transition.BootsStore s) holds (rests_on s here)
               (λ e. subst (BootRefused (v.seen disk) (v.failures disk) (v.failures new)) failed is)
               (inr (ap (λ w. reply (boot_line w) (failed_with None) (closed s)) failed))
           go (inr memory) = absurd (known memory)
 
-      by_bytes : (bytes : List ℕ) → v.seen disk ≡ bytes → Replied v (raw bytes) (λ a. Transition.BootsBytes bytes a × (a.answer ≡ boot_line why)) old (memory.Bare new)
+      by_bytes : (bytes : List ℕ) → v.seen disk ≡ bytes → Replied v (raw bytes) (λ a. Transition.BootsBytes bytes a × (a.answer ≡ boot_line why)) old (memory.Idle new)
       by_bytes bytes here = go why refl is
         where
-          plainly : (w : BootError) → why ≡ w → w ≢ boot_error.Device → IsBootRefusal (v.seen disk) w → Replied v (raw bytes) (λ a. Transition.BootsBytes bytes a × (a.answer ≡ boot_line why)) old (memory.Bare new)
+          plainly : (w : BootError) → why ≡ w → w ≢ boot_error.Device → IsBootRefusal (v.seen disk) w → Replied v (raw bytes) (λ a. Transition.BootsBytes bytes a × (a.answer ≡ boot_line why)) old (memory.Idle new)
           plainly w e other told = refused_at (raw bytes) (raw bytes) (boot_line why) false (Transition.BootsBytes bytes) here (same (λ d. other (sym e ∙ d)) ∙ here) (λ f. never f)
               (inr (inl (why, subst (λ b. IsBootRefusal b why) here (subst (IsBootRefusal (v.seen disk)) (sym e) told), refl)))
 
-          go : (w : BootError) → why ≡ w → BootRefused (v.seen disk) (v.failures disk) (v.failures new) w → Replied v (raw bytes) (λ a. Transition.BootsBytes bytes a × (a.answer ≡ boot_line why)) old (memory.Bare new)
+          go : (w : BootError) → why ≡ w → BootRefused (v.seen disk) (v.failures disk) (v.failures new) w → Replied v (raw bytes) (λ a. Transition.BootsBytes bytes a × (a.answer ≡ boot_line why)) old (memory.Idle new)
           go boot_error.NotAStore e told = plainly boot_error.NotAStore e (λ f. cc f) told
           go (boot_error.Damaged at) e told = plainly (boot_error.Damaged at) e (λ f. cc f) told
           go boot_error.Device e told = refused_at (raw bytes) (raw (v.seen new)) (boot_line why) true (Transition.BootsBytes bytes) here refl (λ f. told)
@@ -220,24 +220,24 @@ module _ {D : Type 0} (v : Device D) (laws : IsDevice v) where
           go boot_error.NoMemory e told = absurd (known e)
           go (boot_error.BadRecord i) e told = plainly (boot_error.BadRecord i) e (λ f. cc f) told
 
-      boot_refused_at : (p : Place) → Holds v p disk → Replied v p (λ a. Transition.Boots p a × (a.answer ≡ boot_line why)) old (memory.Bare new)
+      boot_refused_at : (p : Place) → Holds v p disk → Replied v p (λ a. Transition.Boots p a × (a.answer ≡ boot_line why)) old (memory.Idle new)
       boot_refused_at (raw bytes) here = by_bytes bytes here
       boot_refused_at (closed s) here = by_store (closed s) s here here
       boot_refused_at (running events end) here = refused_at_running events end here
         where
-          refused_at_running : (events : Events) (end : ℕ) → Holds v (running events end) disk → Replied v (running events end) (λ a. Transition.Boots (running events end) a × (a.answer ≡ boot_line why)) old (memory.Bare new)
+          refused_at_running : (events : Events) (end : ℕ) → Holds v (running events end) disk → Replied v (running events end) (λ a. Transition.Boots (running events end) a × (a.answer ≡ boot_line why)) old (memory.Idle new)
           refused_at_running events end here = by_store (running events end) (certain events end) here here
       boot_refused_at (dead s) here = by_store (dead s) s here here
 
-      pub boot_refused : (line : Result (String Global) AllocError) → IfOk line (λ text. string_bytes text ≡ boot_line why) → TellsReply v Transition.Boots line old (memory.Bare new)
-      boot_refused line told = tells Transition.Boots line _ old (memory.Bare new) told (λ p at. boot_refused_at p (subst (λ d. Holds v p d) (sym taken) (held old p at)))
+      pub boot_refused : (line : Result (String Global) AllocError) → IfOk line (λ text. string_bytes text ≡ boot_line why) → TellsReply v Transition.Boots line old (memory.Idle new)
+      boot_refused line told = tells Transition.Boots line _ old (memory.Idle new) told (λ p at. boot_refused_at p (subst (λ d. Holds v p d) (sym taken) (held old p at)))
 
     -- memory was refused
-    pub boot_lapses : (why : BootError) (is : BootRefused (v.seen disk) (v.failures disk) (v.failures new) why) (same : (why ≢ boot_error.Device) → v.seen new ≡ v.seen disk)
+    pub boot_without_memory : (why : BootError) (is : BootRefused (v.seen disk) (v.failures disk) (v.failures new) why) (same : (why ≢ boot_error.Device) → v.seen new ≡ v.seen disk)
         (only : (es : Releases) → IsImageOf (v.seen disk) es → (why ≡ boot_error.Device) ⊎ (why ≡ boot_error.NoMemory))
-        (line : Result (String Global) AllocError) → IfOk line (λ text. string_bytes text ≡ boot_line why) → (why ≡ boot_error.NoMemory → IsErr line) → TellsReply v Transition.Boots line old (memory.Bare new)
-    boot_lapses why is same only (Ok text) told wanting = boot_refused why is same only (λ memory. let lost = wanting memory in cc) (Ok text) told
-    boot_lapses why is same only (Err e) told wanting = go (no_memory why)
+        (line : Result (String Global) AllocError) → IfOk line (λ text. string_bytes text ≡ boot_line why) → (why ≡ boot_error.NoMemory → IsErr line) → TellsReply v Transition.Boots line old (memory.Idle new)
+    boot_without_memory why is same only (Ok text) told wanting = boot_refused why is same only (λ memory. let lost = wanting memory in cc) (Ok text) told
+    boot_without_memory why is same only (Err e) told wanting = go (no_memory why)
       where
         no_memory : (w : BootError) → (w ≡ boot_error.NoMemory) ⊎ (w ≢ boot_error.NoMemory)
         no_memory boot_error.NotAStore = inr (λ f. cc f)
@@ -252,7 +252,7 @@ module _ {D : Type 0} (v : Device D) (laws : IsDevice v) where
         holds_then memory (running events end) here = kept (certain events end) disk new here leaves
         holds_then memory (dead s) here = kept s disk new here leaves
 
-        go : (why ≡ boot_error.NoMemory) ⊎ (why ≢ boot_error.NoMemory) → TellsReply v Transition.Boots (Err e) old (memory.Bare new)
+        go : (why ≡ boot_error.NoMemory) ⊎ (why ≢ boot_error.NoMemory) → TellsReply v Transition.Boots (Err e) old (memory.Idle new)
         go (inl memory) = λ p at. inr (record {
           nothing_new = subst (λ d. LeavesOnly v d new (v.may_leave d)) taken leaves;
           holds = holds_then memory p (subst (λ d. Holds v p d) (sym taken) (held old p at));
@@ -274,7 +274,7 @@ module _ {D : Type 0} (v : Device D) (laws : IsDevice v) where
     pub makes : (h : Handler D) → ((at : D) × BeginsAt v.seen v.may_leave v.moment v.left_since (doubted [] (made found.release)) disk (disk_in h) at)
         → ((c : List ℕ) → v.may_leave (disk_in h) c → IsImageAt c (list_in h) (end_in h)) → list_in h ≡ entry found.release Permanent ∷ [] → is_dead h ≡ false → (holds_a_store (v.seen disk) ≡ true → ⊥)
         → HasSpace first_end size → end_in h ≡ end_behind first_end size → v.failures disk ≤ v.failures (disk_in h) → (vsn : List ℕ) → vsn ≡ found.release.vsn
-        → (p : Place) → IsAt v (memory.Bare disk) p → Replied v p (λ a. Transition.MakesNode p found a × (a.answer ≡ Transition.ok_line vsn)) (memory.Bare disk) (memory.Made h)
+        → (p : Place) → IsAt v (memory.Idle disk) p → Replied v p (λ a. Transition.MakesNode p found a × (a.answer ≡ Transition.ok_line vsn)) (memory.Idle disk) (memory.Made h)
     makes h begun images list alive free fits ends counted vsn is (closed s) at = absurd (free (store_there s at))
     makes h begun images list alive free fits ends counted vsn is (running events end) at = absurd at
     makes h begun images list alive free fits ends counted vsn is (dead s) at = absurd at
@@ -297,27 +297,27 @@ module _ {D : Type 0} (v : Device D) (laws : IsDevice v) where
     module _ (new : D) (small : is_small found.release ≡ true) (counted : v.failures disk ≤ v.failures new)
         (begins : Begins v.seen v.may_leave v.moment v.left_since (doubted [] (made found.release)) disk new)
         (taken : holds_a_store (v.seen disk) ≡ true → WritesNothing v.seen v.may_leave v.moment v.left_since disk new) where
-      unwritten_at : (p : Place) → IsAt v (memory.Bare disk) p → WritesNothing v.seen v.may_leave v.moment v.left_since disk new → IsAt v (memory.Bare new) p
+      unwritten_at : (p : Place) → IsAt v (memory.Idle disk) p → WritesNothing v.seen v.may_leave v.moment v.left_since disk new → IsAt v (memory.Idle new) p
       unwritten_at (raw bytes) at u = u.same ∙ at
       unwritten_at (closed s) at u = kept s disk new at u.any_moment
       unwritten_at (running events end) at u = absurd at
       unwritten_at (dead s) at u = absurd at
 
-      refuses : (p : Place) (why : Refusal) → IsAt v (memory.Bare disk) p → WritesNothing v.seen v.may_leave v.moment v.left_since disk new → Transition.MakesNode p found (refused why p)
-          → Replied v p (λ a. Transition.MakesNode p found a × (a.answer ≡ refusal_line why)) (memory.Bare disk) (memory.Bare new)
+      refuses : (p : Place) (why : Refusal) → IsAt v (memory.Idle disk) p → WritesNothing v.seen v.may_leave v.moment v.left_since disk new → Transition.MakesNode p found (refused why p)
+          → Replied v p (λ a. Transition.MakesNode p found a × (a.answer ≡ refusal_line why)) (memory.Idle disk) (memory.Idle new)
       refuses p why at u right = record {
         given = refused why p;
         right = (right, refl);
         at = unwritten_at p at u;
         happens = record {
-          moments = moments_of_nothing p false disk new (held (memory.Bare disk) p at) u.any_moment;
-          holds = held (memory.Bare new) p (unwritten_at p at u);
+          moments = moments_of_nothing p false disk new (held (memory.Idle disk) p at) u.any_moment;
+          holds = held (memory.Idle new) p (unwritten_at p at u);
           cause = λ e. never e;
           counted = counted;
         };
       }
 
-      device_fails : HasFailed v disk new → (p : Place) → IsAt v (memory.Bare disk) p → Replied v p (λ a. Transition.MakesNode p found a × (a.answer ≡ refusal_line device)) (memory.Bare disk) (memory.Bare new)
+      device_fails : HasFailed v disk new → (p : Place) → IsAt v (memory.Idle disk) p → Replied v p (λ a. Transition.MakesNode p found a × (a.answer ≡ refusal_line device)) (memory.Idle disk) (memory.Idle new)
       device_fails cause (raw bytes) at = record {
         given = failed (Some (made found.release)) (raw (v.seen new));
         right = (inr (v.seen new, refl), refl);
@@ -335,13 +335,13 @@ module _ {D : Type 0} (v : Device D) (laws : IsDevice v) where
       device_fails cause (running events end) at = absurd at
       device_fails cause (dead s) at = absurd at
 
-      exists_there : holds_a_store (v.seen disk) ≡ true → (p : Place) → IsAt v (memory.Bare disk) p → Transition.MakesNode p found (refused exists p)
+      exists_there : holds_a_store (v.seen disk) ≡ true → (p : Place) → IsAt v (memory.Idle disk) p → Transition.MakesNode p found (refused exists p)
       exists_there stored_there (raw bytes) at = on_raw bytes true (refused exists (raw bytes)) (ap holds_a_store (sym at) ∙ stored_there) refl
       exists_there stored_there (closed s) at = inl refl
       exists_there stored_there (running events end) at = absurd at
       exists_there stored_there (dead s) at = absurd at
 
-      full_there : holds_a_store (v.seen disk) ≡ false → (HasSpace first_end size → ⊥) → (p : Place) → IsAt v (memory.Bare disk) p → Transition.MakesNode p found (refused full p)
+      full_there : holds_a_store (v.seen disk) ≡ false → (HasSpace first_end size → ⊥) → (p : Place) → IsAt v (memory.Idle disk) p → Transition.MakesNode p found (refused full p)
       full_there stored_there over (raw bytes) at = on_raw bytes false (refused full (raw bytes)) (ap holds_a_store (sym at) ∙ stored_there) (inr (over, refl))
       full_there stored_there over (closed s) at = never (sym stored_there ∙ store_there s at)
       full_there stored_there over (running events end) at = absurd at
@@ -349,16 +349,16 @@ module _ {D : Type 0} (v : Device D) (laws : IsDevice v) where
 
       pub makes_none : (e : HandlerError) (told : RefusalInMemory)
           → CreateRefused (v.seen disk) found.release size (v.failures disk) (v.failures new) (WritesNothing v.seen v.may_leave v.moment v.left_since disk new) e → told ≡ handler_refusal e
-          → Answers v (λ p a. Transition.MakesNode p found a) (Err told) (memory.Bare disk) (memory.Bare new)
-      makes_none e told why is = subst (λ t. Answers v (λ p a. Transition.MakesNode p found a) (Err t) (memory.Bare disk) (memory.Bare new)) (sym is) (by_error e why)
+          → Answers v (λ p a. Transition.MakesNode p found a) (Err told) (memory.Idle disk) (memory.Idle new)
+      makes_none e told why is = subst (λ t. Answers v (λ p a. Transition.MakesNode p found a) (Err t) (memory.Idle disk) (memory.Idle new)) (sym is) (by_error e why)
         where
           by_error : (e : HandlerError) → CreateRefused (v.seen disk) found.release size (v.failures disk) (v.failures new) (WritesNothing v.seen v.may_leave v.moment v.left_since disk new) e
-              → Answers v (λ p a. Transition.MakesNode p found a) (Err (handler_refusal e)) (memory.Bare disk) (memory.Bare new)
+              → Answers v (λ p a. Transition.MakesNode p found a) (Err (handler_refusal e)) (memory.Idle disk) (memory.Idle new)
           by_error handler_error.Device (small_too, cause) = device_fails cause
           by_error handler_error.TooMany (big, u) = never (sym big ∙ small)
           by_error handler_error.Exists (small_too, stored_there, u) = λ p at. refuses p exists at u (exists_there stored_there p at)
           by_error handler_error.Full (small_too, stored_there, over, u) = λ p at. refuses p full at u (full_there stored_there over p at)
-          by_error handler_error.NoMemory (small_too, u) = λ p at. record { nothing_new = u.any_moment; holds = held (memory.Bare new) p (unwritten_at p at u); counted = counted }
+          by_error handler_error.NoMemory (small_too, u) = λ p at. record { nothing_new = u.any_moment; holds = held (memory.Idle new) p (unwritten_at p at u); counted = counted }
           by_error handler_error.ExistingRelease gone = absurd gone
           by_error handler_error.Dead gone = absurd gone
 
@@ -376,7 +376,7 @@ module _ {D : Type 0} (v : Device D) (laws : IsDevice v) where
   -- A refusal is told, unless memory was refused.
   tells_refusal : (P : Place → Reply → Type 0) (why : RefusalInMemory) (old new : PlaceInMemory D)
       → (why ≢ refusal.NoMemory → (p : Place) → IsAt v old p → Replied v p (λ a. P p a × (a.answer ≡ refusal_line (refusal_of why))) old new)
-      → ((p : Place) → IsAt v old p → Lapsed v p old new) → Answers v P (Err why) old new
+      → ((p : Place) → IsAt v old p → NothingDone v p old new) → Answers v P (Err why) old new
   tells_refusal P refusal.ExistingRelease old new told lapsed = told (λ e. cc e)
   tells_refusal P (refusal.BadFile q f) old new told lapsed = told (λ e. cc e)
   tells_refusal P (refusal.MissingFile q) old new told lapsed = told (λ e. cc e)
@@ -392,7 +392,7 @@ module _ {D : Type 0} (v : Device D) (laws : IsDevice v) where
     -- it is refused before the node was asked
     pub refuses_running : (why : RefusalInMemory) → (why ≢ refusal.NoMemory → (events : Events) (end : ℕ) → P (running events end) (refused (refusal_of why) (running events end)))
         → Answers v P (Err why) (memory.Made h) (memory.Made h)
-    refuses_running why right = tells_refusal P why (memory.Made h) (memory.Made h) (λ known p at. stands known p at) (λ p at. lapses p (memory.Made h) (memory.Made h) refl at)
+    refuses_running why right = tells_refusal P why (memory.Made h) (memory.Made h) (λ known p at. stands known p at) (λ p at. leaves_all p (memory.Made h) (memory.Made h) refl at)
       where
         stands : why ≢ refusal.NoMemory → (p : Place) → IsAt v (memory.Made h) p → Replied v p (λ a. P p a × (a.answer ≡ refusal_line (refusal_of why))) (memory.Made h) (memory.Made h)
         stands known (raw bytes) at = absurd at
@@ -469,7 +469,7 @@ module _ {D : Type 0} (v : Device D) (laws : IsDevice v) where
           by_error handler_error.TooMany ((living, barred), same) = same_reply (refusal_of refusal.TooMany) (Err handler_error.TooMany) barred same (λ events end at. refl)
           by_error handler_error.Full ((living, (list, allowed)), over, same) =
               same_reply full (Ok list) allowed same (λ events end at. inr (subst (λ n. HasSpace n change.size → ⊥) at over, refl))
-          by_error handler_error.NoMemory (living, same) = λ p at. lapses p (memory.Made h) (memory.Made new) same.disk (same_at h new p same at)
+          by_error handler_error.NoMemory (living, same) = λ p at. leaves_all p (memory.Made h) (memory.Made new) same.disk (same_at h new p same at)
           by_error handler_error.Device ((living, (list, allowed), fits), cause, gone) = device_failed list allowed fits cause gone
           by_error handler_error.Exists gone = absurd gone
 
@@ -481,21 +481,21 @@ module _ {D : Type 0} (v : Device D) (laws : IsDevice v) where
     changes_dead h gone (running events end) at = never (sym at.1 ∙ gone)
     changes_dead h gone (dead s) at = stays (dead s) (refusal_line dead_node) _ (memory.Made h) (memory.Made h) at refl at (right (dead s) (λ es n e. cc e), refl)
 
-    pub changes_nowhere : (disk : D) → Answers v P (Err refusal.Dead) (memory.Bare disk) (memory.Bare disk)
-    changes_nowhere disk (raw bytes) at = stays (raw bytes) (refusal_line dead_node) _ (memory.Bare disk) (memory.Bare disk) at refl at (right (raw bytes) (λ es n e. cc e), refl)
-    changes_nowhere disk (closed s) at = stays (closed s) (refusal_line dead_node) _ (memory.Bare disk) (memory.Bare disk) at refl at (right (closed s) (λ es n e. cc e), refl)
+    pub changes_nowhere : (disk : D) → Answers v P (Err refusal.Dead) (memory.Idle disk) (memory.Idle disk)
+    changes_nowhere disk (raw bytes) at = stays (raw bytes) (refusal_line dead_node) _ (memory.Idle disk) (memory.Idle disk) at refl at (right (raw bytes) (λ es n e. cc e), refl)
+    changes_nowhere disk (closed s) at = stays (closed s) (refusal_line dead_node) _ (memory.Idle disk) (memory.Idle disk) at refl at (right (closed s) (λ es n e. cc e), refl)
     changes_nowhere disk (running events end) at = absurd at
     changes_nowhere disk (dead s) at = absurd at
 
   -- where memory is refused
   pub changes_no_memory : (P : Place → Reply → Type 0) (place : PlaceInMemory D) → Answers v P (Err refusal.NoMemory) place place
-  changes_no_memory P place p at = lapses p place place refl at
+  changes_no_memory P place p at = leaves_all p place place refl at
 
   -- A command is refused wherever the disk stands, before the node was asked.
   pub refuses_anywhere : (P : Place → Reply → Type 0) (place : PlaceInMemory D) (why : RefusalInMemory)
       → (why ≢ refusal.NoMemory → (p : Place) → P p (refused (refusal_of why) p)) → Answers v P (Err why) place place
   refuses_anywhere P place why right =
-      tells_refusal P why place place (λ known p at. stays p (refusal_line (refusal_of why)) _ place place at refl at (right known p, refl)) (λ p at. lapses p place place refl at)
+      tells_refusal P why place place (λ known p at. stays p (refusal_line (refusal_of why)) _ place place at refl at (right known p, refl)) (λ p at. leaves_all p place place refl at)
 
   -- `set_unpacked` where no node runs
   pub idle_sets : (files : Files) (path : List ℕ) (p : Place) → ((events : Events) (end : ℕ) → p ≡ running events end → ⊥) → Transition.Transition files p (set_unpacked path) (refused dead_node p)

@@ -13,13 +13,13 @@ use Rattle.rel_session.specs.Commands.{Command, File}
 use Rattle.rel_session.specs.Commands.Command.{file}
 use Rattle.rel_session.specs.Device.{Device}
 use Rattle.rel_session.specs.Files.{files_of, files_behind, give}
-use Rattle.rel_session.specs.InMemory.{disk_at, IsAt, Replied, Lapsed, Answers, TellsReply, FollowsCommand, IsLine, IsText}
+use Rattle.rel_session.specs.InMemory.{disk_at, IsAt, Replied, NothingDone, Answers, TellsReply, FollowsCommand, IsLine, IsText}
 use Rattle.rel_session.specs.Node.{Place, Reply, reply, nothing}
 use Rattle.rel_session.specs.Refusals.{refusal_of, refusal_line}
 use Rattle.rel_session.specs.Transition.{Transition, ok_line}
 use Rattle.rel_session.specs.Transition.Action.{answers}
 use Rattle.rel_session.proofs.DeviceLemmas.{IsDevice}
-use Rattle.rel_session.proofs.Replies.{stays, lapses}
+use Rattle.rel_session.proofs.Replies.{stays, leaves_all}
 
 module _ {D : Type 0} (v : Device D) (old new : Node D) (command : Command) (same : files_of new.files ≡ files_behind (files_of old.files) command) where
   -- a reply of which this holds too
@@ -27,16 +27,16 @@ module _ {D : Type 0} (v : Device D) (old new : Node D) (command : Command) (sam
   replied_so p P Q implies r = record { given = r.given; right = implies r.given r.right; at = r.at; happens = r.happens }
 
   module _ (P : Place → Reply → Type 0) (right : (p : Place) (a : Reply) → P p a → Transition (files_of old.files) p command a) where
-    abbrev Told : List ℕ → Type 0
-    Told answer = (p : Place) → IsAt v old.place p → Replied v p (λ a. P p a × (a.answer ≡ answer)) old.place new.place
+    abbrev RepliesWith : List ℕ → Type 0
+    RepliesWith answer = (p : Place) → IsAt v old.place p → Replied v p (λ a. P p a × (a.answer ≡ answer)) old.place new.place
 
     abbrev IsDone : Type 0
-    IsDone = (p : Place) → IsAt v old.place p → Replied v p (λ a. Transition (files_of old.files) p command a) old.place new.place ⊎ Lapsed v p old.place new.place
+    IsDone = (p : Place) → IsAt v old.place p → Replied v p (λ a. Transition (files_of old.files) p command a) old.place new.place ⊎ NothingDone v p old.place new.place
 
-    with_text : (answer : List ℕ) (text : String Global) → string_bytes text ≡ answer → Told answer → FollowsCommand v command (Ok (Some text)) old new
+    with_text : (answer : List ℕ) (text : String Global) → string_bytes text ≡ answer → RepliesWith answer → FollowsCommand v command (Ok (Some text)) old new
     with_text answer text is told = (same, λ p at. replied_so p _ _ (λ a r. (right p a r.0, r.1 ∙ sym is)) (told p at))
 
-    without : (answer : List ℕ) → Told answer → IsDone
+    without : (answer : List ℕ) → RepliesWith answer → IsDone
     without answer told p at = inl (replied_so p _ _ (λ a r. right p a r.0) (told p at))
 
     -- a command that was done, or refused
@@ -69,8 +69,8 @@ module _ {D : Type 0} (v : Device D) (old new : Node D) (command : Command) (sam
     follows_line (Ok s) text is tells = subst (λ t. FollowsCommand v command t old new) (sym is) ((same, λ p at. replied_so p _ _ (λ a r. (right p a r.0, r.1)) (tells p at)))
     follows_line (Err e) text is tells = subst (λ t. FollowsCommand v command t old new) (sym is) (λ p at. go p (tells p at))
       where
-        go : (p : Place) → Replied v p (P p) old.place new.place ⊎ Lapsed v p old.place new.place
-            → Replied v p (λ a. Transition (files_of old.files) p command a) old.place new.place ⊎ Lapsed v p old.place new.place
+        go : (p : Place) → Replied v p (P p) old.place new.place ⊎ NothingDone v p old.place new.place
+            → Replied v p (λ a. Transition (files_of old.files) p command a) old.place new.place ⊎ NothingDone v p old.place new.place
         go p (inl r) = inl (replied_so p _ _ (λ a r. right p a r) r)
         go p (inr lapsed) = inr lapsed
 
@@ -87,7 +87,7 @@ module _ {D : Type 0} (v : Device D) (old new : Node D) (command : Command) (sam
           stays v laws p (answer p) (λ a. Transition (files_of old.files) p command a × (a.answer ≡ string_bytes s)) old.place new.place at
           (ap disk_at stays_there) (subst (λ q. IsAt v q p) (sym stays_there) at) (right p, sym (says p at)),
     )
-    follows_still (Err e) says = λ p at. inr (lapses v laws p old.place new.place (ap disk_at stays_there) (subst (λ q. IsAt v q p) (sym stays_there) at))
+    follows_still (Err e) says = λ p at. inr (leaves_all v laws p old.place new.place (ap disk_at stays_there) (subst (λ q. IsAt v q p) (sym stays_there) at))
 
     pub says_line : (line : Result (String Global) AllocError) (text : Result (Option (String Global)) SessionError) → MatchResult line (λ s. text ≡ Ok (Some s)) (λ _. text ≡ Err NoMemory)
         → IfOk line (λ s. (p : Place) → IsAt v old.place p → string_bytes s ≡ answer p) → IfOk text Says
@@ -106,4 +106,4 @@ gives {D} v laws old files path f (Ok text) kept told =
     let new : Node D = record { place = old.place; files = files } in
     let done : (p : Place) → Transition (files_of old.files) p (file path f) (reply (codes "ok\n") nothing p) = λ p. (answers (codes "ok\n"), refl, refl) in
     follows_still v old new (file path f) kept laws refl (λ p. codes "ok\n") done (Ok text) (says_text v old new (file path f) kept laws refl (λ p. codes "ok\n") done (Ok text) (codes "ok\n") told (λ p. refl))
-gives v laws old files path f (Err e) kept told = λ p at. inr (lapses v laws p old.place old.place refl at)
+gives v laws old files path f (Err e) kept told = λ p at. inr (leaves_all v laws p old.place old.place refl at)

@@ -29,7 +29,7 @@ use Rattle.rel_session.proofs.Histories.{event_in, stepped}
 use Rattle.rel_session.proofs.ActionLemmas.{OfEvent, one_line, IsGoodAction, good_action}
 use Rattle.rel_session.proofs.ListLemmas.{list_after-more}
 use Rattle.rel_session.proofs.Transitions.{may_have}
-use Rattle.rel_session.proofs.Whole.{IsWhole, ok_whole, boot_line_whole}
+use Rattle.rel_session.proofs.AnswerLines.{IsWhole, ok_whole, boot_line_whole}
 
 more_versions : (es : Releases) (e : Entry) → HaveVersions es → HasVersions e.release → HaveVersions (es ++ e ∷ [])
 more_versions [] e all one = (one, tt)

@@ -15,7 +15,7 @@ use Rattle.rel_session.specs.Node.{Place, Reply}
 use Rattle.rel_session.specs.Node.Place.{raw, closed, running, dead}
 use Rattle.rel_session.specs.Refusals.{refusal_line}
 use Rattle.rel_session.specs.Refusals.Refusal.{device}
-use Rattle.rel_session.specs.Run.{Holds, Leads, Replies, Ending, answers_of, commands_in, IsRun}
+use Rattle.rel_session.specs.Run.{Holds, Executes, Replies, Ending, answers_of, commands_in, IsRun}
 use Rattle.rel_session.specs.Run.Ending.{early}
 use Rattle.rel_session.specs.RunLaws.{MayBe, NoneFails}
 use Rattle.rel_session.specs.Transition.{Transition}
@@ -29,7 +29,7 @@ NoneInDoubt (a ∷ more) = (a.outcome.in_doubt ≡ None) × NoneInDoubt more
 abbrev pub FailsOnlyWithTheDevice : {D : Type 0} → Device D → Type 0
 FailsOnlyWithTheDevice {D} v =
     (files : Files) (p : Place) (commands : Feed Command) (ending : Ending) (replies : List Reply) (old new : D)
-    → Replies files p commands ending replies → Leads v p replies old new → (HasFailed v old new → ⊥)
+    → Replies files p commands ending replies → Executes v p replies old new → (HasFailed v old new → ⊥)
     → NoneFails replies × NoneInDoubt replies
 
 -- The answer of a reply with an event in doubt tells that the device failed.

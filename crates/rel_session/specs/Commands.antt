@@ -34,41 +34,41 @@ pub data Command : Type 0 where
   quit : Command
   bad : Command
 
--- what a line says where a command may stand: nothing, that a file begins, or a whole command
-pub data Saying : Type 0 where
-  nothing : Saying
-  opens : List ℕ → Saying
-  tells : Command → Saying
+-- what a line says where a command may stand: blank, that a file begins, or a whole command
+pub data ParsedLine : Type 0 where
+  blank : ParsedLine
+  file_begins : List ℕ → ParsedLine
+  whole_command : Command → ParsedLine
 
 -- The words behind a command's own, by their kind: none, or one path. A path is not empty.
-abbrev pub alone : List (List ℕ) → Saying → Saying
-alone [] said = said
-alone words said = tells bad
+abbrev pub without_words : List (List ℕ) → ParsedLine → ParsedLine
+without_words [] parsed = parsed
+without_words words parsed = whole_command bad
 
 abbrev pub path_in : List (List ℕ) → Option (List ℕ)
 path_in ((b ∷ path) ∷ []) = Some (b ∷ path)
 path_in words = None
 
--- what is said with a word of some kind, where there is one
-abbrev pub said_with : Option (List ℕ) → (List ℕ → Saying) → Saying
-said_with None said = tells bad
-said_with (Some word) said = said word
+-- a line with a word of some kind, where there is one
+abbrev pub with_word : Option (List ℕ) → (List ℕ → ParsedLine) → ParsedLine
+with_word None parsed = whole_command bad
+with_word (Some word) parsed = parsed word
 
 -- what a command's word says with the words behind it
-abbrev pub said_of : List ℕ → List (List ℕ) → Saying
-said_of word words =
-    if bytes_eq word (codes "boot") then alone words (tells boot)
-    else if bytes_eq word (codes "releases") then alone words (tells releases)
-    else if bytes_eq word (codes "quit") then alone words (tells quit)
-    else if bytes_eq word (codes "file") then said_with (path_in words) opens
-    else if bytes_eq word (codes "create") then said_with (path_in words) (λ path. tells (create path))
-    else if bytes_eq word (codes "set_unpacked") then said_with (path_in words) (λ path. tells (set_unpacked path))
-    else tells bad
+abbrev pub parse_command : List ℕ → List (List ℕ) → ParsedLine
+parse_command word words =
+    if bytes_eq word (codes "boot") then without_words words (whole_command boot)
+    else if bytes_eq word (codes "releases") then without_words words (whole_command releases)
+    else if bytes_eq word (codes "quit") then without_words words (whole_command quit)
+    else if bytes_eq word (codes "file") then with_word (path_in words) file_begins
+    else if bytes_eq word (codes "create") then with_word (path_in words) (λ path. whole_command (create path))
+    else if bytes_eq word (codes "set_unpacked") then with_word (path_in words) (λ path. whole_command (set_unpacked path))
+    else whole_command bad
 
 -- what words say
-abbrev pub said_by : List (List ℕ) → Saying
-said_by [] = tells bad
-said_by (word ∷ words) = said_of word words
+abbrev pub parse_words : List (List ℕ) → ParsedLine
+parse_words [] = whole_command bad
+parse_words (word ∷ words) = parse_command word words
 
 -- what stands between single spaces
 abbrev pub words_of : List ℕ → List (List ℕ)
@@ -78,29 +78,29 @@ abbrev pub is_blank : List ℕ → Bool
 is_blank line = list_all (λ b. nat_le b 32) line
 
 -- what a line says
-abbrev pub said_in : List ℕ → Saying
-said_in line =
-    if nat_lt most_line (length line) then tells bad
-    else if is_blank line then nothing
-    else if is_utf8 line then said_by (words_of line)
-    else tells bad
+abbrev pub parse_line : List ℕ → ParsedLine
+parse_line line =
+    if nat_lt most_line (length line) then whole_command bad
+    else if is_blank line then blank
+    else if is_utf8 line then parse_words (words_of line)
+    else whole_command bad
 
 -- the line behind the last line of a file
 abbrev pub is_end : List ℕ → Bool
 is_end line = bytes_eq line (codes ".end")
 
 -- what a line that says this makes of the commands after it, or of the file that begins behind it
-abbrev pub put_saying : Saying → Feed Command → (List ℕ → Feed Command) → Feed Command
-put_saying nothing rest file_at = rest
-put_saying (opens path) rest file_at = file_at path
-put_saying (tells c) rest file_at = next c rest
+abbrev pub put_parsed : ParsedLine → Feed Command → (List ℕ → Feed Command) → Feed Command
+put_parsed blank rest file_at = rest
+put_parsed (file_begins path) rest file_at = file_at path
+put_parsed (whole_command c) rest file_at = next c rest
 
 abbrev mutual
   -- The commands that lines say. A file that has no end is a bad command.
   pub commands_of : Feed (List ℕ) → Feed Command
   commands_of over = over
   commands_of cut = cut
-  commands_of (next l ls) = put_saying (said_in l) (commands_of ls) (λ path. commands_behind path [] ls)
+  commands_of (next l ls) = put_parsed (parse_line l) (commands_of ls) (λ path. commands_behind path [] ls)
 
   -- those behind a file of which these bytes are there already
   pub commands_behind : List ℕ → List ℕ → Feed (List ℕ) → Feed Command

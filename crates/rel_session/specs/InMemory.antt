@@ -24,12 +24,12 @@ use Rattle.rel_session.specs.Run.{Holds, Happens}
 use Rattle.rel_session.specs.Transition.{Transition, ok_line}
 
 abbrev pub disk_at : {D : Type 0} → PlaceInMemory D → D
-disk_at (memory.Bare disk) = disk
+disk_at (memory.Idle disk) = disk
 disk_at (memory.Made handler) = disk_in handler
 
 -- the handler of a place is sound
 abbrev pub IsSoundPlace : {D : Type 0} → (D → List ℕ) → (D → List ℕ → Type 0) → PlaceInMemory D → Type 0
-IsSoundPlace seen may_leave (memory.Bare disk) = Unit {0}
+IsSoundPlace seen may_leave (memory.Idle disk) = Unit {0}
 IsSoundPlace seen may_leave (memory.Made handler) = IsSound seen may_leave handler
 
 -- what a command finds in a file that was read
@@ -38,9 +38,9 @@ found_of file = record { release = release_of file.release; term = value_of file
 
 -- This is where the place in memory stands.
 abbrev pub IsAt : {D : Type 0} → Device D → PlaceInMemory D → Place → Type 0
-IsAt v (memory.Bare disk) (raw bytes) = Holds v (raw bytes) disk
-IsAt v (memory.Bare disk) (closed s) = Holds v (closed s) disk
-IsAt v (memory.Bare disk) p = ⊥
+IsAt v (memory.Idle disk) (raw bytes) = Holds v (raw bytes) disk
+IsAt v (memory.Idle disk) (closed s) = Holds v (closed s) disk
+IsAt v (memory.Idle disk) p = ⊥
 IsAt v (memory.Made handler) (running events end) =
     Holds v (running events end) (disk_in handler) × (is_dead handler ≡ false)
     × (list_after events ≡ Some (list_in handler)) × (end_in handler ≡ end)
@@ -55,7 +55,7 @@ pub record Replied {D : Type 0} (v : Device D) (p : Place) (P : Reply → Type 0
   pub happens : Happens v p given (disk_at old) (disk_at new)
 
 -- Memory was refused, and nothing was done.
-pub record Lapsed {D : Type 0} (v : Device D) (p : Place) (old new : PlaceInMemory D) : Type 0 where
+pub record NothingDone {D : Type 0} (v : Device D) (p : Place) (old new : PlaceInMemory D) : Type 0 where
   pub nothing_new : LeavesOnly v (disk_at old) (disk_at new) (v.may_leave (disk_at old))
   pub holds : Holds v p (disk_at new)
   pub counted : v.failures (disk_at old) ≤ v.failures (disk_at new)
@@ -65,7 +65,7 @@ abbrev pub Answers : {D : Type 0} → Device D → (Place → Reply → Type 0) 
     → PlaceInMemory D → PlaceInMemory D → Type 0
 Answers v P (Ok vsn) old new =
     (p : Place) → IsAt v old p → Replied v p (λ a. P p a × (a.answer ≡ ok_line (string_bytes vsn))) old new
-Answers v P (Err refusal.NoMemory) old new = (p : Place) → IsAt v old p → Lapsed v p old new
+Answers v P (Err refusal.NoMemory) old new = (p : Place) → IsAt v old p → NothingDone v p old new
 Answers v P (Err why) old new =
     (p : Place) → IsAt v old p → Replied v p (λ a. P p a × (a.answer ≡ refusal_line (refusal_of why))) old new
 
@@ -74,7 +74,7 @@ abbrev pub TellsReply : {D : Type 0} → Device D → (Place → Reply → Type 
     → PlaceInMemory D → PlaceInMemory D → Type 0
 TellsReply v P (Ok text) old new =
     (p : Place) → IsAt v old p → Replied v p (λ a. P p a × (a.answer ≡ string_bytes text)) old new
-TellsReply v P (Err e) old new = (p : Place) → IsAt v old p → Replied v p (P p) old new ⊎ Lapsed v p old new
+TellsReply v P (Err e) old new = (p : Place) → IsAt v old p → Replied v p (P p) old new ⊎ NothingDone v p old new
 
 -- A command was followed. Its text is its answer; there is none where the session ends.
 abbrev pub FollowsCommand : {D : Type 0} → Device D → Command → Result (Option (String Global)) SessionError
@@ -86,7 +86,7 @@ FollowsCommand v command (Ok (Some text)) old new =
 FollowsCommand v command (Ok None) old new = (command ≡ quit) × (new.place ≡ old.place)
 FollowsCommand v command (Err e) old new =
     (p : Place) → IsAt v old.place p
-    → Replied v p (λ a. Transition (files_of old.files) p command a) old.place new.place ⊎ Lapsed v p old.place new.place
+    → Replied v p (λ a. Transition (files_of old.files) p command a) old.place new.place ⊎ NothingDone v p old.place new.place
 
 abbrev pub disk_of : {D : Type 0} → Node D → D
 disk_of n = disk_at n.place

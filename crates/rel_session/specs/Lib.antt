@@ -3,7 +3,7 @@ pub mod AheadView
 pub mod AnswerLaws
 pub mod Commands
 pub mod Device
-pub mod Ended
+pub mod Session
 pub mod Exits
 pub mod Feed
 pub mod Files
@@ -15,7 +15,7 @@ pub mod Node
 pub mod Refusals
 pub mod Run
 pub mod RunLaws
-pub mod Saying
+pub mod ParsedLine
 pub mod Transition
-pub mod Written
+pub mod Output
 pub mod LawsBelow

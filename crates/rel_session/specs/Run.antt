@@ -72,9 +72,9 @@ pub record Happens {D : Type 0} (v : Device D) (p : Place) (a : Reply) (old new 
 
 -- Commands with these replies led, one after another, from the one disk to the other. Memory may be refused to a further
 -- one, which then leaves nothing new.
-abbrev pub Leads : {D : Type 0} → Device D → Place → List Reply → D → D → Type 0
-Leads v p [] old new = LeavesOnly v old new (v.may_leave old) × Holds v p new × (v.failures old ≤ v.failures new)
-Leads {D} v p (a ∷ more) old new = (mid : D) × Happens v p a old mid × Leads v a.after more mid new
+abbrev pub Executes : {D : Type 0} → Device D → Place → List Reply → D → D → Type 0
+Executes v p [] old new = LeavesOnly v old new (v.may_leave old) × Holds v p new × (v.failures old ≤ v.failures new)
+Executes {D} v p (a ∷ more) old new = (mid : D) × Happens v p a old mid × Executes v a.after more mid new
 
 -- how a session ends: at the end of its input or `quit`, where its input is cut off, or early
 pub data Ending : Type 0 where
@@ -113,5 +113,5 @@ pub record IsRun {D : Type 0} (v : Device D) (files : Files) (p : Place) (comman
     (old new : D) (text : List ℕ) : Type 0 where
   pub replies : List Reply
   pub right : Replies files p commands ending replies
-  pub leads : Leads v p replies old new
+  pub leads : Executes v p replies old new
   pub written : IsTextOf ending replies text

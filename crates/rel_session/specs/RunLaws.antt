@@ -13,7 +13,7 @@ use Rattle.rel_session.specs.Feed.{Feed}
 use Rattle.rel_session.specs.Files.{Files}
 use Rattle.rel_session.specs.Node.{Place, Reply}
 use Rattle.rel_session.specs.Node.Place.{raw, closed, running, dead}
-use Rattle.rel_session.specs.Run.{Starts, Holds, Leads, Replies, Ending}
+use Rattle.rel_session.specs.Run.{Starts, Holds, Executes, Replies, Ending}
 use Rattle.rel_session.specs.Transition.{Transition}
 
 -- the acknowledged events where the disk stands; of bytes that are no known store there are none
@@ -81,8 +81,8 @@ BecomesKnown p (a ∷ more) = (IsKnown p ⊎ (a.outcome.acknowledged ≢ [])) �
 -- at each moment from there on a crash leaves the list of events that begin with them.
 pub record KeepsAll {D : Type 0} (v : Device D) (p : Place) (first rest : List Reply) (old new : D) : Type 0 where
   pub mid : D
-  pub before : Leads v p first old mid
-  pub behind : Leads v (place_after p first) rest mid new
+  pub before : Executes v p first old mid
+  pub behind : Executes v (place_after p first) rest mid new
   pub known : IsKnown (place_after p first)
   pub have_all : HaveAll (acknowledged_at p) first (acknowledged_at (place_after p first))
   pub moments : LeavesOnly v mid new (StandsForAll (acknowledged_at (place_after p first)))
@@ -91,7 +91,7 @@ pub record KeepsAll {D : Type 0} (v : Device D) (p : Place) (first rest : List R
 abbrev pub LosesNothing : {D : Type 0} → Device D → Type 0
 LosesNothing {D} v =
     (files : Files) (p : Place) (commands : Feed Command) (ending : Ending) (first rest : List Reply) (old new : D)
-    → Replies files p commands ending (first ++ rest) → Holds v p old → Leads v p (first ++ rest) old new
+    → Replies files p commands ending (first ++ rest) → Holds v p old → Executes v p (first ++ rest) old new
     → BecomesKnown p first → KeepsAll v p first rest old new
 
 -- An image of a store stands for the list of a prefix of the accepted events, with every acknowledged one.
@@ -109,7 +109,7 @@ at_rest (dead s) = closed s
 abbrev pub BeginsWhereOneEnded : {D : Type 0} → Device D → Type 0
 BeginsWhereOneEnded {D} v =
     (p : Place) (replies : List Reply) (old new : D)
-    → Leads v p replies old new → Starts v (at_rest (place_after p replies)) new
+    → Executes v p replies old new → Starts v (at_rest (place_after p replies)) new
 
 -- One begins on a disk that holds nothing but what a crash left, and all these events are acknowledged then.
 abbrev pub BeginsBehindACrash : {D : Type 0} → Device D → Type 0
@@ -130,8 +130,8 @@ Lasts v zero events disk =
 Lasts {D} v (suc n) events disk =
     (s : Stored) × (more : Events) × Starts v (closed s) disk × (s.known.acknowledged ≡ events ++ more)
     × ((files : Files) (commands : Feed Command) (ending : Ending) (first rest : List Reply) (mid new later : D)
-    → Replies files (closed s) commands ending (first ++ rest) → Leads v (closed s) first disk mid
-    → Leads v (place_after (closed s) first) rest mid new → IsNextDisk v mid new later
+    → Replies files (closed s) commands ending (first ++ rest) → Executes v (closed s) first disk mid
+    → Executes v (place_after (closed s) first) rest mid new → IsNextDisk v mid new later
     → (all : Events) × HaveAll (events ++ more) first all × Lasts v n all later)
 
 -- Where a store is known, no number of sessions and crashes loses an acknowledged event.
@@ -156,7 +156,7 @@ BeginsWithAMaking {D} v =
     (files : Files) (commands : Feed Command) (ending : Ending)
     (first : List Reply) (a : Reply) (rest : List Reply) (old new : D)
     → Replies files (raw []) commands ending (first ++ a ∷ rest)
-    → v.seen old ≡ [] → Leads v (raw []) (first ++ a ∷ rest) old new
+    → v.seen old ≡ [] → Executes v (raw []) (first ++ a ∷ rest) old new
     → NoneFails first → NoneAcknowledged first → a.outcome.acknowledged ≢ []
     → (r : Release) × (a.outcome.acknowledged ≡ made r ∷ booting ∷ [])
     × (acknowledged_at a.after ≡ made r ∷ booting ∷ []) × KeepsAll v (raw []) (first ++ a ∷ []) rest old new

@@ -2,7 +2,7 @@
 ghost use Rattle.std.specs.Prelude.{◌≡◌, ◌≤◌, None, IsErrOf, OnOk, OnErr};
 ghost use Rattle.counted_io.specs.Counted.{held_by, failed_writes};
 ghost use Rattle.counted_io.specs.Failures.{HasRisen};
-ghost use Rattle.rel_session.specs.Ended.{IsSession};
+ghost use Rattle.rel_session.specs.Session.{IsSession};
 ghost use Rattle.rel_session.specs.Files.{no_files};
 ghost use Rattle.rel_session.specs.Input.{IsFresh, left_in, taken, failed_reads, most_bytes};
 ghost use Rattle.rel_session.specs.Run.Ending.{ended, cut_off, early};

@@ -6,7 +6,7 @@ use crate::command::Command;
 use crate::error::SessionError;
 use crate::given::{GivenFile, MOST_FILE};
 use crate::line::Line;
-use crate::saying::{MOST_LINE, Saying};
+use crate::parsed_line::{MOST_LINE, ParsedLine};
 use counted_io::CountedReader;
 use std::alloc::Global;
 use std::io::Read;
@@ -95,10 +95,10 @@ impl<R: Read + Drop> Input<R> {
         ensures bounded { taken self.new ≤ most_bytes }
     {
         while let Some(line) = self.next_line(alloc, MOST_LINE)? {
-            match Saying::of(alloc, &line)? {
-                Saying::Nothing => {}
-                Saying::Opens(path) => return self.file_at(alloc, path),
-                Saying::Tells(command) => return Ok(Some(command)),
+            match ParsedLine::of(alloc, &line)? {
+                ParsedLine::Blank => {}
+                ParsedLine::FileBegins(path) => return self.file_at(alloc, path),
+                ParsedLine::Command(command) => return Ok(Some(command)),
             }
         }
         Ok(None)

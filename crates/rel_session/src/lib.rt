@@ -7,7 +7,7 @@
 //! - specs/Transition: the replies to each command, from each place;
 //! - specs/Run: how replies lead a disk from place to place, and what a crash leaves at each moment: the list of a prefix
 //!   of the events so far that holds every acknowledged one;
-//! - specs/Ended: what is written, and how a session ends.
+//! - specs/Session: what is written, and how a session ends.
 //!
 //! A failed read, a failed write and an input that is too long are reported only where one was. At most 16,777,216 bytes
 //! of the input are taken, and each answer is written once its command was read.
@@ -28,7 +28,7 @@ mod listing;
 mod node;
 mod place;
 mod refusal;
-mod saying;
+mod parsed_line;
 mod words;
 
 pub use command_loop::session;

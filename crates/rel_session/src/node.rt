@@ -5,7 +5,7 @@ ghost use Rattle.rel_session.specs.Commands.Command.{file as file_given, create,
 ghost use Rattle.rel_session.specs.Files.{files_of, no_files, give};
 ghost use Rattle.rel_session.specs.InMemory.{Answers, IsLine, IsText};
 ghost use Rattle.rel_session.specs.Transition.{Transition};
-ghost use Rattle.rel_session.specs.declared.place.Place.TheVariants.{Bare, Made};
+ghost use Rattle.rel_session.specs.declared.place.Place.TheVariants.{Idle, Made};
 ghost use Rattle.rel_handler.specs.State.{IsSound};
 
 use crate::command::Command;
@@ -29,11 +29,11 @@ impl<D: Disk> Node<D> {
 
     /// No node was made or booted on the disk yet, and no file was given.
     pub fn new(alloc: Global, disk: D) -> Node<D>
-        ensures place { result.place ≡ Bare disk }
+        ensures place { result.place ≡ Idle disk }
         ensures files { files_of result.files ≡ no_files }
     {
         Node {
-            place: Place::Bare(disk),
+            place: Place::Idle(disk),
             files: Files::new(alloc),
         }
     }
@@ -121,9 +121,9 @@ impl<D: Disk> Node<D> {
     {
         let Node { place, files } = self;
         match place {
-            Place::Bare(disk) => (
+            Place::Idle(disk) => (
                 Node {
-                    place: Place::Bare(disk),
+                    place: Place::Idle(disk),
                     files,
                 },
                 line_of(alloc, Err(Refusal::Dead)),

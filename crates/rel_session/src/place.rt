@@ -21,7 +21,7 @@ use std::alloc::{AllocError, Global};
 /// A disk, and the node on it if one was made or booted.
 pub enum Place<D: Disk> {
     /// A disk without a node.
-    Bare(D),
+    Idle(D),
     /// A node on its disk. It is dead once the device has failed it.
     Made(Handler<D>),
 }
@@ -34,7 +34,7 @@ impl<D: Disk> Place<D> {
         ensures { result ≡ disk_at self }
     {
         match self {
-            Place::Bare(disk) => disk,
+            Place::Idle(disk) => disk,
             Place::Made(handler) => handler.into_disk(),
         }
     }
@@ -48,15 +48,15 @@ impl<D: Disk> Place<D> {
         ensures made { Answers D.Disk (λ p a. MakesNode p (found_of file) a) result.1 self result.0 }
     {
         let disk = match self {
-            Place::Bare(disk) => disk,
+            Place::Idle(disk) => disk,
             Place::Made(handler) => return (Place::Made(handler), Err(Refusal::Exists)),
         };
         let Ok(vsn) = String::from_str(alloc, file.release.vsn.as_str()) else {
-            return (Place::Bare(disk), Err(Refusal::NoMemory));
+            return (Place::Idle(disk), Err(Refusal::NoMemory));
         };
         match Handler::create(alloc, disk, file) {
             Ok(handler) => (Place::Made(handler), Ok(vsn)),
-            Err((error, disk)) => (Place::Bare(disk), Err(Refusal::from(error))),
+            Err((error, disk)) => (Place::Idle(disk), Err(Refusal::from(error))),
         }
     }
 
@@ -71,7 +71,7 @@ impl<D: Disk> Place<D> {
                 let line = booted_line(alloc, &handler);
                 (Place::Made(handler), line)
             }
-            Err((error, disk)) => (Place::Bare(disk), refused_line(alloc, error)),
+            Err((error, disk)) => (Place::Idle(disk), refused_line(alloc, error)),
         }
     }
 

@@ -1,7 +1,7 @@
 use Rattle.std.proofs.Common.{ap, ◌∙◌}
 use Rattle.erl_term.specs.Value.Value.{atom}
 use Rattle.rel_session.specs.Listing.{text_value}
-use Rattle.rel_session.proofs.Mapped.{whole_release, whole_applications}
+use Rattle.rel_session.proofs.ListingLemmas.{whole_release, whole_applications}
 use Rattle.rel_session.proofs.listing.release_term.Goals as goal
 
 pub returns : goal.returns

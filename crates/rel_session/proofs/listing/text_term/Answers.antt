@@ -1,5 +1,5 @@
 use Rattle.std.proofs.Common.{◌∙◌}
-use Rattle.rel_session.proofs.Mapped.{whole_numbers, whole_front}
+use Rattle.rel_session.proofs.ListingLemmas.{whole_numbers, whole_front}
 use Rattle.rel_session.proofs.listing.text_term.Goals as goal
 
 pub returns : goal.returns

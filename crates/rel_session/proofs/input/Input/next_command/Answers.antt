@@ -13,10 +13,10 @@ returns-in_err-line-clause-command g c =
 pub returns-clause-command : goal.returns-clause-command
 returns-clause-command g c = no_command _ _ _ c.loop-line.invariant.0 (rw c.in_default.is at c.in_ok-line.ensures.line)
 
-pub returns-in-Opens-clause-command : goal.returns-in-Opens-clause-command
-returns-in-Opens-clause-command g c =
-    opens_file _ _ c.in-Some.line _ _ _ _ _ _ c.loop-line.invariant.0 (rw c.in-Some.is at c.in_ok-line.ensures.line) (rw c.in-Opens.is at c.in_ok-of.ensures) refl c.file_at.ensures.command
+pub returns-in-FileBegins-clause-command : goal.returns-in-FileBegins-clause-command
+returns-in-FileBegins-clause-command g c =
+    opens_file _ _ c.in-Some.line _ _ _ _ _ _ c.loop-line.invariant.0 (rw c.in-Some.is at c.in_ok-line.ensures.line) (rw c.in-FileBegins.is at c.in_ok-of.ensures) refl c.file_at.ensures.command
 
-pub returns-in-Tells-clause-command : goal.returns-in-Tells-clause-command
-returns-in-Tells-clause-command g c =
-    says_command c.in-Some.line _ c.in-Tells.command _ _ _ c.loop-line.invariant.0 (rw c.in-Some.is at c.in_ok-line.ensures.line) (rw c.in-Tells.is at c.in_ok-of.ensures) refl
+pub returns-in-Command-clause-command : goal.returns-in-Command-clause-command
+returns-in-Command-clause-command g c =
+    says_command c.in-Some.line _ c.in-Command.command _ _ _ c.loop-line.invariant.0 (rw c.in-Some.is at c.in_ok-line.ensures.line) (rw c.in-Command.is at c.in_ok-of.ensures) refl

@@ -10,15 +10,15 @@ use Rattle.rel_session.proofs.ReplyTexts.{follows}
 use Rattle.rel_session.proofs.Replies.{from_there, changes_nowhere, idle_sets}
 use Rattle.rel_session.proofs.node.Node.set_unpacked.Goals as goal
 
-pub returns-in-Bare-clause-followed : goal.returns-in-Bare-clause-followed
-returns-in-Bare-clause-followed g c =
+pub returns-in-Idle-clause-followed : goal.returns-in-Idle-clause-followed
+returns-in-Idle-clause-followed g c =
     let laws : IsDevice g.D.Disk = record { reads_an_image = g.met.D.Disk.reads_an_image; counts_now = g.met.D.Disk.counts_now; only_now = g.met.D.Disk.only_now } in
-    let there = memory.Bare c.in-Bare.disk in
+    let there = memory.Idle c.in-Idle.disk in
     let Sets : Place → Reply → Type 0 = λ p a. Transition (files_of c.args.self.files) p (set_unpacked c.args.path.now) a in
     follows g.D.Disk c.args.self (record { place = there; files = c.args.self.files }) (set_unpacked c.args.path.now) refl Sets
     (λ p a is. is) (Err refusal.Dead) c.line_of.result c.line_of.ensures.line
-    (from_there g.D.Disk laws Sets (Err refusal.Dead) c.args.self.place there there c.in-Bare.is
-    (changes_nowhere g.D.Disk laws Sets (idle_sets g.D.Disk laws (files_of c.args.self.files) c.args.path.now) c.in-Bare.disk))
+    (from_there g.D.Disk laws Sets (Err refusal.Dead) c.args.self.place there there c.in-Idle.is
+    (changes_nowhere g.D.Disk laws Sets (idle_sets g.D.Disk laws (files_of c.args.self.files) c.args.path.now) c.in-Idle.disk))
 
 pub returns-in-Made-clause-followed : goal.returns-in-Made-clause-followed
 returns-in-Made-clause-followed g c =

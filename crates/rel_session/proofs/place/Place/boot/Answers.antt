@@ -1,6 +1,6 @@
 use Rattle.std.proofs.Common.{⊎_elim, sym}
 use Rattle.rel_session.proofs.DeviceLemmas.{IsDevice}
-use Rattle.rel_session.proofs.Replies.{boots, boot_lapses}
+use Rattle.rel_session.proofs.Replies.{boots, boot_without_memory}
 use Rattle.rel_session.proofs.place.Place.boot.Goals as goal
 
 pub returns-in-Ok-clause-booted : goal.returns-in-Ok-clause-booted
@@ -12,5 +12,5 @@ returns-in-Ok-clause-booted g c =
 pub returns-in-Err-clause-booted : goal.returns-in-Err-clause-booted
 returns-in-Err-clause-booted g c =
     let laws : IsDevice g.D.Disk = record { reads_an_image = g.met.D.Disk.reads_an_image; counts_now = g.met.D.Disk.counts_now; only_now = g.met.D.Disk.only_now } in
-    boot_lapses g.D.Disk laws c.args.self c.into_disk.result c.in-Err.disk c.into_disk.ensures c.in-Err.ensures.any_moment c.in-Err.ensures.counted c.in-Err.error c.in-Err.ensures.refused
+    boot_without_memory g.D.Disk laws c.args.self c.into_disk.result c.in-Err.disk c.into_disk.ensures c.in-Err.ensures.any_moment c.in-Err.ensures.counted c.in-Err.error c.in-Err.ensures.refused
     (λ other. ⊎_elim (λ failed. absurd (other failed)) (λ same. same) c.in-Err.ensures.same) c.in-Err.ensures.only c.refused_line.result c.refused_line.ensures.told c.refused_line.ensures.memory

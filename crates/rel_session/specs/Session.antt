@@ -5,7 +5,7 @@ use Rattle.rel_session.specs.Device.{Device}
 use Rattle.rel_session.specs.Feed.{Feed}
 use Rattle.rel_session.specs.Files.{Files}
 use Rattle.rel_session.specs.Node.{Place}
-use Rattle.rel_session.specs.Written.{Writes}
+use Rattle.rel_session.specs.Output.{Writes}
 use Rattle.rel_session.specs.Run.{Starts, Ending, IsRun, commands_in}
 
 -- These are the commands of an input. Of an input whose bytes no contract can name they may be any.
