@@ -26,9 +26,9 @@ pub mod laws;
 mod line;
 mod listing;
 mod node;
+mod parsed_line;
 mod place;
 mod refusal;
-mod parsed_line;
 mod words;
 
 pub use command_loop::session;
