@@ -1,5 +1,6 @@
 use Rattle.std.proofs.Common.{◌≡◌, ◌⊎◌, inl, inr, ℕ, ◌+◌, ◌-◌, ◌<◌, ◌≤◌, List, length, take, drop, refl, ◌∙◌, ap, arith}
 use Rattle.std.specs.Prelude.{slice_range}
+use Rattle.rel_store.proofs.Exits.{no_value}
 use Rattle.rel_store.proofs.OnlyReads.{read_first}
 use Rattle.rel_store.proofs.Scan.{told_in_five, byte_in_five, whole_there, broken_there}
 use Rattle.rel_store.proofs.contents.record_at.Goals.{then-size-gt-MAX_BODY-via-then-size-gt-MAX_BODY, then-size-gt-MAX_BODY-via-else-size-gt-MAX_BODY+then-size-len}
@@ -50,3 +51,10 @@ returns-then-size-gt-MAX_BODY-clause-reads g c = read_first g.D.Disk.seen g.D.Di
 
 pub returns-clause-reads : goal.returns-clause-reads
 returns-clause-reads g c = read_first g.D.Disk.seen g.D.Disk.may_leave g.D.Disk.moment g.D.Disk.left_since c.args.disk.now (g.met.D.Disk.only_now c.args.disk.now) c.read-2.new.self c.read-2.ensures.same c.read-2.ensures.crash c.read-2.ensures.time
+
+-- after an error
+pub returns-in_err-read-clause-open : goal.returns-in_err-read-clause-open
+returns-in_err-read-clause-open g c = no_value _ _ c.from_residual.ensures.0
+
+pub returns-in_err-read-2-clause-open : goal.returns-in_err-read-2-clause-open
+returns-in_err-read-2-clause-open g c = no_value _ _ c.from_residual-in_err-read-2.ensures.0

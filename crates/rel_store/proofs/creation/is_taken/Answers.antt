@@ -1,3 +1,4 @@
+use Rattle.rel_store.proofs.Exits.{no_value}
 use Rattle.rel_store.proofs.OnlyReads.{read_first, read_twice}
 use Rattle.rel_store.proofs.creation.is_taken.Goals as goal
 
@@ -18,3 +19,10 @@ returns-clause-crash g c = λ d now. c.len.ensures.crash d (c.read.ensures.crash
 
 pub returns-clause-any_moment : goal.returns-clause-any_moment
 returns-clause-any_moment g c = (read_twice g.D.Disk.seen g.D.Disk.may_leave g.D.Disk.moment g.D.Disk.left_since c.args.disk.now (g.met.D.Disk.only_now c.args.disk.now) c.len.new.self c.read.new.self c.len.ensures.same c.len.ensures.crash c.len.ensures.time c.read.ensures.same c.read.ensures.crash c.read.ensures.time).any_moment
+
+-- after an error
+pub returns-in_err-len-clause-value : goal.returns-in_err-len-clause-value
+returns-in_err-len-clause-value g c = no_value _ _ c.from_residual.ensures.0
+
+pub returns-in_err-read-clause-value : goal.returns-in_err-read-clause-value
+returns-in_err-read-clause-value g c = no_value _ _ c.from_residual-in_err-read.ensures.0

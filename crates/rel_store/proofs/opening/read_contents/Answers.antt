@@ -1,6 +1,7 @@
 use Rattle.std.proofs.Common.{◌∙◌, inr, subst, sym, IfOk}
 use Rattle.rel_disk.proofs.Moments.{started, goes_on, joined, weakened}
 use Rattle.rel_store.specs.Contents.{AreContentsOf}
+use Rattle.rel_store.proofs.Exits.{no_value}
 use Rattle.rel_store.proofs.Scan.{still_refused}
 use Rattle.rel_store.proofs.opening.read_contents.Goals as goal
 
@@ -30,3 +31,7 @@ returns-clause-ok g c = subst (λ l. IfOk c.read.result (AreContentsOf l)) c.in_
 pub returns-clause-refused : goal.returns-clause-refused
 returns-clause-refused g c =
     still_refused c.read.result (g.D.Disk.seen c.args.disk.now) (g.D.Disk.seen c.sync.new.self) _ _ _ c.in_ok-sync.ensures.same c.sync.ensures.counted c.read.ensures.counted c.read.ensures.refused
+
+-- after an error
+pub returns-in_err-sync-clause-ok : goal.returns-in_err-sync-clause-ok
+returns-in_err-sync-clause-ok g c = no_value _ _ c.from_residual.ensures.0

@@ -1,6 +1,7 @@
 use Rattle.std.proofs.Common.{◌≡◌, ◌⊎◌, inl, inr, ◌+◌, ◌<◌, ◌≤◌, length, take, drop, sym, ◌∙◌, ap, subst, arith}
 use Rattle.rel_store.specs.Contents.{RecordsRefused}
 use Rattle.rel_store.specs.Records.{records_from, space}
+use Rattle.rel_store.proofs.Exits.{no_value}
 use Rattle.rel_store.proofs.Layouts.{no_magic, selector_there, no_base, records_there, place_there, refused_by_records}
 use Rattle.rel_store.proofs.OnlyReads.{read_first, read_twice, read_on}
 use Rattle.rel_store.proofs.Scan.{bodies_of, passed_on, refused_since}
@@ -67,3 +68,13 @@ returns-in_err-found-clause-reads g c = read_on g.D.Disk.seen g.D.Disk.may_leave
 
 pub returns-clause-reads : goal.returns-clause-reads
 returns-clause-reads g c = read_on g.D.Disk.seen g.D.Disk.may_leave g.D.Disk.moment g.D.Disk.left_since c.args.disk.now c.read.new.self c.read_records.new.disk (read_twice g.D.Disk.seen g.D.Disk.may_leave g.D.Disk.moment g.D.Disk.left_since c.args.disk.now (g.met.D.Disk.only_now c.args.disk.now) c.len.new.self c.read.new.self c.len.ensures.same c.len.ensures.crash c.len.ensures.time c.read.ensures.same c.read.ensures.crash c.read.ensures.time) c.read_records.ensures.reads
+
+-- after an error
+pub returns-in_err-len-clause-ok : goal.returns-in_err-len-clause-ok
+returns-in_err-len-clause-ok g c = no_value _ _ c.from_residual.ensures.0
+
+pub returns-in_err-read-clause-ok : goal.returns-in_err-read-clause-ok
+returns-in_err-read-clause-ok g c = no_value _ _ c.from_residual-in_err-read.ensures.0
+
+pub returns-in_err-found-clause-ok : goal.returns-in_err-found-clause-ok
+returns-in_err-found-clause-ok g c = no_value _ _ c.from_residual-in_err-found.ensures.0

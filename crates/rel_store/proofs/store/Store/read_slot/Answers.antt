@@ -3,6 +3,7 @@ use Rattle.std.specs.Prelude.{◌==◌, slice_index}
 use Rattle.rel_store.specs.Layout.{base_of, text_of}
 use Rattle.rel_store.specs.Records.{records_of, space}
 use Rattle.rel_store.specs.State.{records_in}
+use Rattle.rel_store.proofs.Exits.{no_success}
 use Rattle.rel_store.proofs.Moments.{after_reading}
 use Rattle.rel_store.proofs.store.Store.read_slot.Goals as goal
 
@@ -35,3 +36,10 @@ returns-clause-start g c = ap (λ l. text_of l) c.read.ensures.same
 
 pub returns-in_err-read-clause-start : goal.returns-in_err-read-clause-start
 returns-in_err-read-clause-start g c = ap (λ l. text_of l) c.read.ensures.same
+
+-- after an error
+pub returns-in_err-read-clause-settled : goal.returns-in_err-read-clause-settled
+returns-in_err-read-clause-settled g c = no_success _ _ c.from_residual.ensures.0
+
+pub returns-in_err-read-clause-read : goal.returns-in_err-read-clause-read
+returns-in_err-read-clause-read g c = no_success _ _ c.from_residual.ensures.0
