@@ -3,18 +3,19 @@ use Rattle.std.proofs.Common.{◌≡◌, inl, inr, ◌⊎◌, ℕ, true, false, 
 use Rattle.std.specs.Prelude.{codes}
 use Rattle.erl_term.specs.OneTerm.{HasTerm}
 use Rattle.erl_term.specs.Value.{Value}
-use Rattle.rel_disk.proofs.Moments.{weakened}
+use Rattle.rel_disk.proofs.Moments.{started, weakened}
 use Rattle.rel_files.specs.File.{IsReleaseTerm}
 use Rattle.rel_files.specs.Release.{Release}
 use Rattle.rel_list.specs.declared.status.Status.TheVariants.{Permanent}
 use Rattle.rel_list.specs.Releases.{Releases}
 use Rattle.rel_list.specs.Event.{entry, booted}
 use Rattle.rel_list.specs.Event.Event.{made}
-use Rattle.rel_store.specs.Creation.{IsNoneOrNew, IsBegunAt, Creates}
+use Rattle.rel_store.specs.Creation.{IsNoneOrNew, IsBegunAt, IsUnwritten, Creates}
+use Rattle.rel_store.specs.Moments.{IsTornFrom}
 use Rattle.rel_store.specs.Records.{records_of}
 use Rattle.rel_store.specs.State as store
 use Rattle.rel_store.specs.declared.store.Store.{Store}
-use Rattle.rel_handler.specs.Events.{doubted, IsNoneOrOfPrefix}
+use Rattle.rel_handler.specs.Events.{Known, doubted, IsNoneOrOfPrefix}
 use Rattle.rel_handler.specs.Image.{IsImageOf}
 use Rattle.rel_handler.specs.Limits.{is_small}
 use Rattle.rel_handler.specs.Moments.{Begins, BeginsAt}
@@ -54,6 +55,14 @@ only_memory c bodies records es e same read image (inl memory) = inr memory
 only_memory c bodies records es e same read image (inr (i, is, bad)) =
     let here : image.bodies ≡ bodies = cc (read, image.store, same) in
     absurd (makes_not_bad bodies (booted es) i (subst (λ bs. Makes bs (booted es)) here image.list) bad)
+
+-- a creation that has made no call of the disk
+module _ {D : Type 0} (seen : D → List ℕ) (may_leave : D → List ℕ → Type 0) (moment : D → ℕ) (left_since : D → ℕ → List ℕ → Type 0) (disk : D) (only_now : (c : List ℕ) → left_since disk (moment disk) c → may_leave disk c) where
+  pub unwritten : IsUnwritten seen may_leave moment left_since disk disk
+  unwritten = record { same = refl; any_moment = started moment left_since disk (may_leave disk) only_now }
+
+  pub nothing_begun : (k : Known) → Begins seen may_leave moment left_since k disk disk
+  nothing_begun k = inl (started moment left_since disk (IsTornFrom (may_leave disk) 0 1) (λ c left. inl (only_now c left)))
 
 -- at each moment of a creation
 module _ {D : Type 0} (seen : D → List ℕ) (may_leave : D → List ℕ → Type 0) (moment : D → ℕ) (left_since : D → ℕ → List ℕ → Type 0) (r : Release) (body start : List ℕ) (small : is_small r ≡ true) (spelled : Spells body (makes r)) (old new : D) where

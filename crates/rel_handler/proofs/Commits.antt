@@ -1,6 +1,6 @@
 -- A handler at rest, and one that commits a release.
-use Rattle.std.proofs.Common.{◌≡◌, ℕ, ◌+◌, ◌<◌, true, false, List, [], ◌∷◌, ◌++◌, length, Some, None, Result, Ok, Err, sym, ap, ◌∙◌, subst, arith, length-append}
-use Rattle.std.specs.Prelude.{is_err, is_some, IfErr, OnOk, nat_le, if◌then◌else◌, codes}
+use Rattle.std.proofs.Common.{◌≡◌, ℕ, ◌+◌, ◌<◌, ◌≤◌, true, false, List, [], ◌∷◌, ◌++◌, length, Some, None, Result, Ok, Err, sym, ap, ◌∙◌, subst, arith, length-append}
+use Rattle.std.specs.Prelude.{is_err, is_some, IfErr, IsErr, OnOk, nat_le, if◌then◌else◌, codes}
 use Rattle.std.proofs.lemmas.Bool.Decides.{nat_tests}
 use Rattle.rel_disk.specs.Moments.{LeavesOnly, HasFailed}
 use Rattle.rel_disk.proofs.Moments.{started, weakened, both}
@@ -25,7 +25,8 @@ use Rattle.rel_handler.specs.Image.{IsImageAt}
 use Rattle.rel_handler.specs.Limits.{is_small, most_releases}
 use Rattle.rel_handler.specs.Records.{adds, record_term, Spells, Makes}
 use Rattle.rel_handler.specs.State.{disk_in, list_in, is_dead, end_in, IsSound}
-use Rattle.rel_handler.specs.Taking.{commanded}
+use Rattle.rel_handler.specs.Taking.{commanded, allowed}
+use Rattle.rel_handler.specs.declared.error.HandlerError.TheVariants.{ExistingRelease, TooMany}
 use Rattle.rel_handler.specs.declared.handler.Handler.{Handler}
 use Rattle.rel_handler.proofs.Images.{each_image, stored_before, while_unpacking, with_record}
 use Rattle.rel_handler.proofs.UnpackLemmas.{with_it, unpacks}
@@ -34,6 +35,11 @@ use Rattle.rel_handler.proofs.UnpackLemmas.{with_it, unpacks}
 pub opened : {T E : Type 0} (r : Result T E) (P : Type 0) → false ≡ is_err r → OnOk r P → P
 opened (Ok v) P ok p = p
 opened (Err e) P ok p = cc ok
+
+-- a call that failed promises nothing of a success
+pub no_success : {T E : Type 0} (P : Type 0) (r : Result T E) → IsErr r → OnOk r P
+no_success P (Ok v) err = cc err
+no_success P (Err e) err = tt
 
 -- the same bytes spell the same record
 pub spelled_so : (bytes body : List ℕ) (rel : Value) (r : Release) → bytes ≡ body → HasTerm 72 body (record_term (codes "unpacked") rel) → IsReleaseTerm rel r → Spells bytes (adds r)
@@ -45,6 +51,16 @@ allowed_so r es small fresh few = unpacks r es small fresh short
   where
     short : nat_le (length (with_it r es)) most_releases ≡ true
     short = grind (arith, nat_tests, length-append es (entry r Unpacked ∷ []))
+
+-- one that is one too many is refused
+pub too_many_so : (r : Release) (es : Releases) → is_small r ≡ true → is_some (status_of r.vsn es) ≡ false → 32 ≤ length es → commanded (unpacked r) es ≡ Err TooMany
+too_many_so r es small fresh many =
+    ap (λ b. if b then allowed ExistingRelease (step (unpacked r) es) else Err TooMany) small
+    ∙ ap (λ b. allowed ExistingRelease (if b then None else Some (with_it r es))) fresh
+    ∙ ap (λ b. if b then Ok (with_it r es) else Err TooMany) long
+  where
+    long : nat_le (length (with_it r es)) most_releases ≡ false
+    long = grind (arith, nat_tests, length-append es (entry r Unpacked ∷ []))
 
 -- the list that comes of it is the one that the list's own step gives
 pub accepted_so : (r : Release) (es end : Releases) → is_small r ≡ true → is_some (status_of r.vsn es) ≡ false → length es < 32 → step (unpacked r) es ≡ Some end → commanded (unpacked r) es ≡ Ok end

@@ -92,16 +92,12 @@ fn four_in(term: &Term) -> Option<(&Term, &Term, &Term, &Term)>
         (λ p. (value_of p.0.now, value_of p.1.now, value_of p.2.now, value_of p.3.now)) result
         ≡ four_in (value_of term.now) }
 {
-    let Term::Tuple(members) = term else {
-        return None;
-    };
-    let (first, rest) = members.split_first()?;
-    let (second, rest) = rest.split_first()?;
-    let (third, rest) = rest.split_first()?;
-    let (fourth, rest) = rest.split_first()?;
-    match rest.split_first() {
-        None => Some((first, second, third, fourth)),
-        Some(_) => None,
+    match term {
+        Term::Tuple(members) => match members.as_slice() {
+            [first, second, third, fourth] => Some((first, second, third, fourth)),
+            _ => None,
+        },
+        _ => None,
     }
 }
 

@@ -1,4 +1,5 @@
 pub mod Append
+pub mod Exits
 pub mod Layouts
 pub mod Moments
 pub mod NewStore

@@ -26,3 +26,13 @@ module _ {D : Type 0} (seen : D → List ℕ) (may_leave : D → List ℕ → Ty
     crash = λ c now. first.crash c (second.crash c now);
     any_moment = joined moment left_since old mid new (may_leave old) first.any_moment (weakened moment left_since mid new (may_leave mid) (may_leave old) first.crash second.any_moment);
   }
+
+  -- the first call
+  pub read_first : ((c : List ℕ) → left_since old (moment old) c → may_leave old c) → (new : D) → seen new ≡ seen old → Within (may_leave old) (may_leave new) → Elapses (moment old) (moment new) (left_since old) (left_since new) (may_leave new)
+      → HasOnlyRead seen may_leave moment left_since old new
+  read_first only_now new same crash time = read_next old new (nothing_read only_now) same crash time
+
+  -- the first two calls
+  pub read_twice : ((c : List ℕ) → left_since old (moment old) c → may_leave old c) → (mid new : D) → seen mid ≡ seen old → Within (may_leave old) (may_leave mid) → Elapses (moment old) (moment mid) (left_since old) (left_since mid) (may_leave mid)
+      → seen new ≡ seen mid → Within (may_leave mid) (may_leave new) → Elapses (moment mid) (moment new) (left_since mid) (left_since new) (may_leave new) → HasOnlyRead seen may_leave moment left_since old new
+  read_twice only_now mid new same crash time same' crash' time' = read_next mid new (read_first only_now mid same crash time) same' crash' time'

@@ -183,3 +183,17 @@ open_refused bytes before now NoMemory s why = why
 open_refused bytes before now Exists s why = why
 open_refused bytes before now Full s why = why
 open_refused bytes before now MustReopen s why = why
+
+-- why an opening refuses, since an earlier moment
+open_since : (bytes : List ℕ) (begun before now : ℕ) (e : StoreError) → begun ≤ before → before ≤ now → OpenRefused bytes before now e → OpenRefused bytes begun now e
+open_since bytes begun before now NotAStore le le' why = why
+open_since bytes begun before now (Damaged at) le le' why = why
+open_since bytes begun before now Device le le' why = failed_since begun before now le le' why
+open_since bytes begun before now NoMemory le le' why = why
+open_since bytes begun before now Exists le le' why = why
+open_since bytes begun before now Full le le' why = why
+open_since bytes begun before now MustReopen le le' why = why
+
+pub still_refused : {T : Type 0} (r : Result T StoreError) (bytes mid : List ℕ) (begun before now : ℕ) → mid ≡ bytes → begun ≤ before → before ≤ now → IfErr r (OpenRefused mid before now) → IfErr r (OpenRefused bytes begun now)
+still_refused (Ok x) bytes mid begun before now same le le' why = tt
+still_refused (Err e) bytes mid begun before now same le le' why = open_since bytes begun before now e le le' (subst (λ l. OpenRefused l before now e) same why)

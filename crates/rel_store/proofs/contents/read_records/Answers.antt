@@ -1,7 +1,8 @@
 use Rattle.std.proofs.Common.{◌≡◌, ◌+◌, [], ◌∷◌, ◌++◌, get_or, Option, Some, Ok, ap, subst, sym, arith}
 use Rattle.std.specs.Prelude.{IfSome}
 use Rattle.std.proofs.lemmas.Grind.{common_steps}
-use Rattle.rel_store.proofs.OnlyReads.{read_on}
+use Rattle.rel_store.proofs.Exits.{no_value}
+use Rattle.rel_store.proofs.OnlyReads.{nothing_read, read_on}
 use Rattle.rel_store.proofs.Scan.{IsReadTo, bodies_of, read_body_more, read_all, refused_there, passed_on}
 use Rattle.rel_store.proofs.contents.read_records.Goals as goal
 
@@ -31,3 +32,34 @@ pub returns-clause-records : goal.returns-clause-records
 returns-clause-records g c =
     let (read, reads, counted) = c.loop-records.invariant in
     read_all (g.D.Disk.seen c.args.disk.now) c.args.base c.loop-records.gate (bodies_of c.loop-records.records.items) read (λ is_open. c.in_ok-size.ensures.closed (ap (λ o. Ok o) c.in_default.is) (subst (λ l. get_or l c.loop-records.gate 0 ≡ 1) (sym reads.same) is_open))
+
+pub returns-in_err-size-clause-reads : goal.returns-in_err-size-clause-reads
+returns-in_err-size-clause-reads g c = read_on g.D.Disk.seen g.D.Disk.may_leave g.D.Disk.moment g.D.Disk.left_since c.args.disk.now c.loop-records.disk c.record_at.new.disk c.loop-records.invariant.1 c.record_at.ensures.reads
+
+pub returns-in_err-body-clause-reads : goal.returns-in_err-body-clause-reads
+returns-in_err-body-clause-reads g c = read_on g.D.Disk.seen g.D.Disk.may_leave g.D.Disk.moment g.D.Disk.left_since c.args.disk.now c.record_at.new.disk c.read_body.new.disk (read_on g.D.Disk.seen g.D.Disk.may_leave g.D.Disk.moment g.D.Disk.left_since c.args.disk.now c.loop-records.disk c.record_at.new.disk c.loop-records.invariant.1 c.record_at.ensures.reads) c.read_body.ensures.reads
+
+pub returns-in_err-push-clause-reads : goal.returns-in_err-push-clause-reads
+returns-in_err-push-clause-reads g c = read_on g.D.Disk.seen g.D.Disk.may_leave g.D.Disk.moment g.D.Disk.left_since c.args.disk.now c.record_at.new.disk c.read_body.new.disk (read_on g.D.Disk.seen g.D.Disk.may_leave g.D.Disk.moment g.D.Disk.left_since c.args.disk.now c.loop-records.disk c.record_at.new.disk c.loop-records.invariant.1 c.record_at.ensures.reads) c.read_body.ensures.reads
+
+pub returns-clause-reads : goal.returns-clause-reads
+returns-clause-reads g c = read_on g.D.Disk.seen g.D.Disk.may_leave g.D.Disk.moment g.D.Disk.left_since c.args.disk.now c.loop-records.disk c.record_at.new.disk c.loop-records.invariant.1 c.record_at.ensures.reads
+
+-- after an error
+pub returns-in_err-size-clause-records : goal.returns-in_err-size-clause-records
+returns-in_err-size-clause-records g c = no_value _ _ c.from_residual.ensures.0
+
+pub returns-in_err-size-clause-gate : goal.returns-in_err-size-clause-gate
+returns-in_err-size-clause-gate g c = no_value _ _ c.from_residual.ensures.0
+
+pub returns-in_err-body-clause-records : goal.returns-in_err-body-clause-records
+returns-in_err-body-clause-records g c = no_value _ _ c.from_residual-in_err-body.ensures.0
+
+pub returns-in_err-body-clause-gate : goal.returns-in_err-body-clause-gate
+returns-in_err-body-clause-gate g c = no_value _ _ c.from_residual-in_err-body.ensures.0
+
+pub returns-in_err-push-clause-records : goal.returns-in_err-push-clause-records
+returns-in_err-push-clause-records g c = no_value _ _ c.from_residual-in_err-push.ensures.0
+
+pub returns-in_err-push-clause-gate : goal.returns-in_err-push-clause-gate
+returns-in_err-push-clause-gate g c = no_value _ _ c.from_residual-in_err-push.ensures.0

@@ -2,6 +2,7 @@ use Rattle.std.proofs.Common.{◌≡◌, ◌≤◌, [], ◌∷◌, ◌++◌, len
 use Rattle.rel_disk.specs.Damage.{overwritten}
 use Rattle.rel_store.specs.Layout.{new_layout}
 use Rattle.rel_store.specs.Records.{record_bytes}
+use Rattle.rel_store.proofs.Exits.{no_success, no_value}
 use Rattle.rel_store.proofs.Moments.{touched}
 use Rattle.rel_store.proofs.NewStore.{opened_over, begun_second, begun_third}
 use Rattle.rel_store.proofs.creation.lay_out.Goals as goal
@@ -58,3 +59,94 @@ returns-clause-written g c =
     let spelled : c.deref.result.now ≡ new_layout c.args.start.now ++ (1 ∷ (record_bytes c.args.first.now ++ 0 ∷ [])) = search rules in
     opened_over c.args.start.now c.requires c.args.first.now short (g.D.Disk.seen c.args.disk.now) (g.D.Disk.seen c.write_through.new.disk) (g.D.Disk.seen c.write_through-2.new.disk) c.deref.result.now (g.D.Disk.seen c.write_through-3.new.disk) spelled closed
     c.in_ok-write_through-2.ensures.written c.in_ok-write_through-3.ensures.written
+
+-- after an error
+pub returns-in_err-is_taken-clause-records : goal.returns-in_err-is_taken-clause-records
+returns-in_err-is_taken-clause-records g c = no_value _ _ c.from_residual.ensures.0
+
+pub returns-in_err-is_taken-clause-short : goal.returns-in_err-is_taken-clause-short
+returns-in_err-is_taken-clause-short g c = no_success _ _ c.from_residual.ensures.0
+
+pub returns-in_err-is_taken-clause-written : goal.returns-in_err-is_taken-clause-written
+returns-in_err-is_taken-clause-written g c = no_success _ _ c.from_residual.ensures.0
+
+pub returns-in_err-is_taken-clause-durable : goal.returns-in_err-is_taken-clause-durable
+returns-in_err-is_taken-clause-durable g c = no_success _ _ c.from_residual.ensures.0
+
+pub returns-in_err-is_taken-clause-begun : goal.returns-in_err-is_taken-clause-begun
+returns-in_err-is_taken-clause-begun g c = no_success _ _ c.from_residual.ensures.0
+
+pub returns-in_err-bytes-clause-records : goal.returns-in_err-bytes-clause-records
+returns-in_err-bytes-clause-records g c = no_value _ _ c.from_residual-in_err-bytes.ensures.0
+
+pub returns-in_err-bytes-clause-short : goal.returns-in_err-bytes-clause-short
+returns-in_err-bytes-clause-short g c = no_success _ _ c.from_residual-in_err-bytes.ensures.0
+
+pub returns-in_err-bytes-clause-written : goal.returns-in_err-bytes-clause-written
+returns-in_err-bytes-clause-written g c = no_success _ _ c.from_residual-in_err-bytes.ensures.0
+
+pub returns-in_err-bytes-clause-durable : goal.returns-in_err-bytes-clause-durable
+returns-in_err-bytes-clause-durable g c = no_success _ _ c.from_residual-in_err-bytes.ensures.0
+
+pub returns-in_err-bytes-clause-begun : goal.returns-in_err-bytes-clause-begun
+returns-in_err-bytes-clause-begun g c = no_success _ _ c.from_residual-in_err-bytes.ensures.0
+
+pub returns-in_err-records-clause-records : goal.returns-in_err-records-clause-records
+returns-in_err-records-clause-records g c = no_value _ _ c.from_residual-in_err-records.ensures.0
+
+pub returns-in_err-records-clause-short : goal.returns-in_err-records-clause-short
+returns-in_err-records-clause-short g c = no_success _ _ c.from_residual-in_err-records.ensures.0
+
+pub returns-in_err-records-clause-written : goal.returns-in_err-records-clause-written
+returns-in_err-records-clause-written g c = no_success _ _ c.from_residual-in_err-records.ensures.0
+
+pub returns-in_err-records-clause-durable : goal.returns-in_err-records-clause-durable
+returns-in_err-records-clause-durable g c = no_success _ _ c.from_residual-in_err-records.ensures.0
+
+pub returns-in_err-records-clause-begun : goal.returns-in_err-records-clause-begun
+returns-in_err-records-clause-begun g c = no_success _ _ c.from_residual-in_err-records.ensures.0
+
+pub returns-in_err-write_through-clause-records : goal.returns-in_err-write_through-clause-records
+returns-in_err-write_through-clause-records g c = no_value _ _ c.from_residual-in_err-write_through.ensures.0
+
+pub returns-in_err-write_through-clause-short : goal.returns-in_err-write_through-clause-short
+returns-in_err-write_through-clause-short g c = no_success _ _ c.from_residual-in_err-write_through.ensures.0
+
+pub returns-in_err-write_through-clause-written : goal.returns-in_err-write_through-clause-written
+returns-in_err-write_through-clause-written g c = no_success _ _ c.from_residual-in_err-write_through.ensures.0
+
+pub returns-in_err-write_through-clause-durable : goal.returns-in_err-write_through-clause-durable
+returns-in_err-write_through-clause-durable g c = no_success _ _ c.from_residual-in_err-write_through.ensures.0
+
+pub returns-in_err-write_through-clause-begun : goal.returns-in_err-write_through-clause-begun
+returns-in_err-write_through-clause-begun g c = no_success _ _ c.from_residual-in_err-write_through.ensures.0
+
+pub returns-in_err-write_through-2-clause-records : goal.returns-in_err-write_through-2-clause-records
+returns-in_err-write_through-2-clause-records g c = no_value _ _ c.from_residual-in_err-write_through-2.ensures.0
+
+pub returns-in_err-write_through-2-clause-short : goal.returns-in_err-write_through-2-clause-short
+returns-in_err-write_through-2-clause-short g c = no_success _ _ c.from_residual-in_err-write_through-2.ensures.0
+
+pub returns-in_err-write_through-2-clause-written : goal.returns-in_err-write_through-2-clause-written
+returns-in_err-write_through-2-clause-written g c = no_success _ _ c.from_residual-in_err-write_through-2.ensures.0
+
+pub returns-in_err-write_through-2-clause-durable : goal.returns-in_err-write_through-2-clause-durable
+returns-in_err-write_through-2-clause-durable g c = no_success _ _ c.from_residual-in_err-write_through-2.ensures.0
+
+pub returns-in_err-write_through-2-clause-begun : goal.returns-in_err-write_through-2-clause-begun
+returns-in_err-write_through-2-clause-begun g c = no_success _ _ c.from_residual-in_err-write_through-2.ensures.0
+
+pub returns-in_err-write_through-3-clause-records : goal.returns-in_err-write_through-3-clause-records
+returns-in_err-write_through-3-clause-records g c = no_value _ _ c.from_residual-in_err-write_through-3.ensures.0
+
+pub returns-in_err-write_through-3-clause-short : goal.returns-in_err-write_through-3-clause-short
+returns-in_err-write_through-3-clause-short g c = no_success _ _ c.from_residual-in_err-write_through-3.ensures.0
+
+pub returns-in_err-write_through-3-clause-written : goal.returns-in_err-write_through-3-clause-written
+returns-in_err-write_through-3-clause-written g c = no_success _ _ c.from_residual-in_err-write_through-3.ensures.0
+
+pub returns-in_err-write_through-3-clause-durable : goal.returns-in_err-write_through-3-clause-durable
+returns-in_err-write_through-3-clause-durable g c = no_success _ _ c.from_residual-in_err-write_through-3.ensures.0
+
+pub returns-in_err-write_through-3-clause-begun : goal.returns-in_err-write_through-3-clause-begun
+returns-in_err-write_through-3-clause-begun g c = no_success _ _ c.from_residual-in_err-write_through-3.ensures.0

@@ -1,8 +1,8 @@
-use Rattle.std.proofs.Common.{◌≡◌, true, rules, string_bytes}
+use Rattle.std.proofs.Common.{◌≡◌, true, false, rules, refl, string_bytes}
 use Rattle.erl_term.specs.Value.{value_of}
 use Rattle.rel_files.specs.Release.{release_of}
 use Rattle.rel_handler.specs.Limits.{is_small}
-use Rattle.rel_handler.proofs.Boots.{sound_so, begins_at, begins, made_new, spelled_made}
+use Rattle.rel_handler.proofs.Boots.{unwritten, nothing_begun, sound_so, begins_at, begins, made_new, spelled_made}
 use Rattle.rel_handler.proofs.Images.{each_image, has_a_store}
 use Rattle.rel_handler.proofs.handler.Handler.create.Goals as goal
 
@@ -43,3 +43,29 @@ returns-in-Ok-create-clause-node g c = has_a_store (g.D.Disk.seen c.args.disk)
 
 pub returns-clause-node : goal.returns-clause-node
 returns-clause-node g c = has_a_store (g.D.Disk.seen c.args.disk)
+
+-- nothing was written yet
+pub returns-then-not-is_small-clause-any_moment : goal.returns-then-not-is_small-clause-any_moment
+returns-then-not-is_small-clause-any_moment g c = nothing_begun g.D.Disk.seen g.D.Disk.may_leave g.D.Disk.moment g.D.Disk.left_since c.args.disk (g.met.D.Disk.only_now c.args.disk) _
+
+pub returns-then-not-is_small-clause-taken : goal.returns-then-not-is_small-clause-taken
+returns-then-not-is_small-clause-taken g c = λ magic. (unwritten g.D.Disk.seen g.D.Disk.may_leave g.D.Disk.moment g.D.Disk.left_since c.args.disk (g.met.D.Disk.only_now c.args.disk), refl)
+
+pub returns-in_default-clause-any_moment : goal.returns-in_default-clause-any_moment
+returns-in_default-clause-any_moment g c = nothing_begun g.D.Disk.seen g.D.Disk.may_leave g.D.Disk.moment g.D.Disk.left_since c.args.disk (g.met.D.Disk.only_now c.args.disk) _
+
+pub returns-in_default-clause-taken : goal.returns-in_default-clause-taken
+returns-in_default-clause-taken g c = λ magic. (unwritten g.D.Disk.seen g.D.Disk.may_leave g.D.Disk.moment g.D.Disk.left_since c.args.disk (g.met.D.Disk.only_now c.args.disk), refl)
+
+pub returns-then-not-is_small-clause-refused : goal.returns-then-not-is_small-clause-refused
+returns-then-not-is_small-clause-refused g c =
+    let small : is_small (release_of c.args.file.release) ≡ false = search rules in
+    (small, unwritten g.D.Disk.seen g.D.Disk.may_leave g.D.Disk.moment g.D.Disk.left_since c.args.disk (g.met.D.Disk.only_now c.args.disk))
+
+pub returns-in_default-clause-refused : goal.returns-in_default-clause-refused
+returns-in_default-clause-refused g c =
+    let small : is_small (release_of c.args.file.release) ≡ true = search rules in
+    (small, unwritten g.D.Disk.seen g.D.Disk.may_leave g.D.Disk.moment g.D.Disk.left_since c.args.disk (g.met.D.Disk.only_now c.args.disk))
+
+pub returns-clause-taken : goal.returns-clause-taken
+returns-clause-taken g c = c.in-Err.ensures.taken

@@ -7,7 +7,7 @@ use Rattle.rel_list.specs.Releases.{status_of}
 use Rattle.rel_store.specs.State as store
 use Rattle.rel_handler.specs.Limits.{is_small}
 use Rattle.rel_handler.specs.State.{list_in}
-use Rattle.rel_handler.proofs.Commits.{opened, spelled_so, allowed_so, accepted_so, failed_so, resting, reserved_works, committing, committed}
+use Rattle.rel_handler.proofs.Commits.{opened, no_success, too_many_so, spelled_so, allowed_so, accepted_so, failed_so, resting, reserved_works, committing, committed}
 use Rattle.rel_handler.proofs.Images.{each_image}
 use Rattle.rel_handler.proofs.UnpackLemmas.{with_it}
 use Rattle.rel_handler.proofs.Within.{within-unpacked}
@@ -114,3 +114,39 @@ returns-clause-acknowledged g c = λ d now.
 -- the record is read back
 pub spell-requires : goal.spell-requires
 spell-requires g c = within-unpacked (value_of c.args.file.term) c.requires.file.within
+
+-- one release too many
+pub returns-then-len-ge-MOST_RELEASES-clause-refused : goal.returns-then-len-ge-MOST_RELEASES-clause-refused
+returns-then-len-ge-MOST_RELEASES-clause-refused g c =
+    let small : is_small (release_of c.args.file.release) ≡ true = search rules in
+    let fresh : is_some (status_of (string_bytes c.args.file.release.vsn) (list_in c.args.self.now)) ≡ false = search rules in
+    let many : 32 ≤ length (list_in c.args.self.now) = search rules in
+    ((c.if-self.false, too_many_so (release_of c.args.file.release) (list_in c.args.self.now) small fresh many), record { disk = refl; list = refl; dead = refl; end = refl })
+
+-- no memory for the body
+pub returns-in_err-body-clause-works : goal.returns-in_err-body-clause-works
+returns-in_err-body-clause-works g c = no_success _ _ c.from_residual.ensures.0
+
+pub returns-in_err-body-clause-accepted : goal.returns-in_err-body-clause-accepted
+returns-in_err-body-clause-accepted g c = no_success _ _ c.from_residual.ensures.0
+
+pub returns-in_err-body-clause-acknowledged : goal.returns-in_err-body-clause-acknowledged
+returns-in_err-body-clause-acknowledged g c = no_success _ _ c.from_residual.ensures.0
+
+pub returns-in_err-body-clause-start : goal.returns-in_err-body-clause-start
+returns-in_err-body-clause-start g c = no_success _ _ c.from_residual.ensures.0
+
+pub returns-in_err-body-clause-fits : goal.returns-in_err-body-clause-fits
+returns-in_err-body-clause-fits g c = no_success _ _ c.from_residual.ensures.0
+
+pub returns-in_err-body-clause-end : goal.returns-in_err-body-clause-end
+returns-in_err-body-clause-end g c = no_success _ _ c.from_residual.ensures.0
+
+pub returns-in_err-body-clause-sound : goal.returns-in_err-body-clause-sound
+returns-in_err-body-clause-sound g c = search rules
+
+pub returns-in_err-body-clause-counted : goal.returns-in_err-body-clause-counted
+returns-in_err-body-clause-counted g c = search rules
+
+pub returns-in_err-body-clause-refused : goal.returns-in_err-body-clause-refused
+returns-in_err-body-clause-refused g c = search rules

@@ -1,7 +1,9 @@
 use Rattle.std.proofs.Common.{◌≡◌, ◌⊎◌, inl, inr, ◌+◌, ◌<◌, ◌≤◌, length, take, drop, sym, ◌∙◌, ap, subst, arith}
 use Rattle.rel_store.specs.Contents.{RecordsRefused}
 use Rattle.rel_store.specs.Records.{records_from, space}
+use Rattle.rel_store.proofs.Exits.{no_value}
 use Rattle.rel_store.proofs.Layouts.{no_magic, selector_there, no_base, records_there, place_there, refused_by_records}
+use Rattle.rel_store.proofs.OnlyReads.{read_first, read_twice, read_on}
 use Rattle.rel_store.proofs.Scan.{bodies_of, passed_on, refused_since}
 use Rattle.rel_store.proofs.contents.Contents.read.Goals as goal
 
@@ -45,3 +47,34 @@ returns-clause-ok g c =
       end = c.in_ok-found.ensures.gate ∙ ap (λ at. at + space (bodies_of c.in_ok-found.found.records.items)) (place_there bytes c.read.new.buf layout c.base_slot_of-slot.result c.place_at-base.result long magic c.base_slot_of-slot.ensures c.place_at-base.ensures c.if-base-lt-FIRST_RECORD.false (omega (arith, c.if-base-len.false, len)));
       start = selector_there bytes c.read.new.buf layout;
     }
+
+pub returns-in_err-len-clause-reads : goal.returns-in_err-len-clause-reads
+returns-in_err-len-clause-reads g c = read_first g.D.Disk.seen g.D.Disk.may_leave g.D.Disk.moment g.D.Disk.left_since c.args.disk.now (g.met.D.Disk.only_now c.args.disk.now) c.len.new.self c.len.ensures.same c.len.ensures.crash c.len.ensures.time
+
+pub returns-then-len-clause-reads : goal.returns-then-len-clause-reads
+returns-then-len-clause-reads g c = read_first g.D.Disk.seen g.D.Disk.may_leave g.D.Disk.moment g.D.Disk.left_since c.args.disk.now (g.met.D.Disk.only_now c.args.disk.now) c.len.new.self c.len.ensures.same c.len.ensures.crash c.len.ensures.time
+
+pub returns-in_err-read-clause-reads : goal.returns-in_err-read-clause-reads
+returns-in_err-read-clause-reads g c = read_twice g.D.Disk.seen g.D.Disk.may_leave g.D.Disk.moment g.D.Disk.left_since c.args.disk.now (g.met.D.Disk.only_now c.args.disk.now) c.len.new.self c.read.new.self c.len.ensures.same c.len.ensures.crash c.len.ensures.time c.read.ensures.same c.read.ensures.crash c.read.ensures.time
+
+pub returns-then-not-begins_a_store-clause-reads : goal.returns-then-not-begins_a_store-clause-reads
+returns-then-not-begins_a_store-clause-reads g c = read_twice g.D.Disk.seen g.D.Disk.may_leave g.D.Disk.moment g.D.Disk.left_since c.args.disk.now (g.met.D.Disk.only_now c.args.disk.now) c.len.new.self c.read.new.self c.len.ensures.same c.len.ensures.crash c.len.ensures.time c.read.ensures.same c.read.ensures.crash c.read.ensures.time
+
+pub returns-then-base-lt-FIRST_RECORD-clause-reads : goal.returns-then-base-lt-FIRST_RECORD-clause-reads
+returns-then-base-lt-FIRST_RECORD-clause-reads g c = read_twice g.D.Disk.seen g.D.Disk.may_leave g.D.Disk.moment g.D.Disk.left_since c.args.disk.now (g.met.D.Disk.only_now c.args.disk.now) c.len.new.self c.read.new.self c.len.ensures.same c.len.ensures.crash c.len.ensures.time c.read.ensures.same c.read.ensures.crash c.read.ensures.time
+
+pub returns-in_err-found-clause-reads : goal.returns-in_err-found-clause-reads
+returns-in_err-found-clause-reads g c = read_on g.D.Disk.seen g.D.Disk.may_leave g.D.Disk.moment g.D.Disk.left_since c.args.disk.now c.read.new.self c.read_records.new.disk (read_twice g.D.Disk.seen g.D.Disk.may_leave g.D.Disk.moment g.D.Disk.left_since c.args.disk.now (g.met.D.Disk.only_now c.args.disk.now) c.len.new.self c.read.new.self c.len.ensures.same c.len.ensures.crash c.len.ensures.time c.read.ensures.same c.read.ensures.crash c.read.ensures.time) c.read_records.ensures.reads
+
+pub returns-clause-reads : goal.returns-clause-reads
+returns-clause-reads g c = read_on g.D.Disk.seen g.D.Disk.may_leave g.D.Disk.moment g.D.Disk.left_since c.args.disk.now c.read.new.self c.read_records.new.disk (read_twice g.D.Disk.seen g.D.Disk.may_leave g.D.Disk.moment g.D.Disk.left_since c.args.disk.now (g.met.D.Disk.only_now c.args.disk.now) c.len.new.self c.read.new.self c.len.ensures.same c.len.ensures.crash c.len.ensures.time c.read.ensures.same c.read.ensures.crash c.read.ensures.time) c.read_records.ensures.reads
+
+-- after an error
+pub returns-in_err-len-clause-ok : goal.returns-in_err-len-clause-ok
+returns-in_err-len-clause-ok g c = no_value _ _ c.from_residual.ensures.0
+
+pub returns-in_err-read-clause-ok : goal.returns-in_err-read-clause-ok
+returns-in_err-read-clause-ok g c = no_value _ _ c.from_residual-in_err-read.ensures.0
+
+pub returns-in_err-found-clause-ok : goal.returns-in_err-found-clause-ok
+returns-in_err-found-clause-ok g c = no_value _ _ c.from_residual-in_err-found.ensures.0

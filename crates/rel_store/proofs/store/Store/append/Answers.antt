@@ -7,6 +7,7 @@ use Rattle.rel_store.specs.Changed.{IsInRecord}
 use Rattle.rel_store.specs.Layout.{base_of}
 use Rattle.rel_store.specs.Records.{record_bytes, space}
 use Rattle.rel_store.specs.State.{records_in}
+use Rattle.rel_store.proofs.Exits.{no_success}
 use Rattle.rel_store.proofs.Append.{gate_within, staged_within}
 use Rattle.rel_store.proofs.Moments.{stands_now, resting, after_first, staged_now, after_second, appended_now}
 use Rattle.rel_store.proofs.Ownership.{Owns, at_rest, one_write, two_writes, overwritten_in_two}
@@ -127,3 +128,64 @@ returns-clause-bytes g c =
     c.in_ok-write_through-2.ensures.written
     ∙ ap (overwritten c.args.self.now.gate (1 ∷ [])) (c.in_ok-write_through.ensures.written ∙ ap (λ l. overwritten (c.args.self.now.gate + 1) l old) spelled)
     ∙ overwritten_in_two c.args.self.now.gate 1 (record_bytes c.args.body.now ++ 0 ∷ []) old within
+
+-- after an error
+pub returns-in_err-reserve-clause-settled : goal.returns-in_err-reserve-clause-settled
+returns-in_err-reserve-clause-settled g c = no_success _ _ c.from_residual.ensures.0
+
+pub returns-in_err-reserve-clause-added : goal.returns-in_err-reserve-clause-added
+returns-in_err-reserve-clause-added g c = no_success _ _ c.from_residual.ensures.0
+
+pub returns-in_err-reserve-clause-start : goal.returns-in_err-reserve-clause-start
+returns-in_err-reserve-clause-start g c = no_success _ _ c.from_residual.ensures.0
+
+pub returns-in_err-reserve-clause-end : goal.returns-in_err-reserve-clause-end
+returns-in_err-reserve-clause-end g c = no_success _ _ c.from_residual.ensures.0
+
+pub returns-in_err-reserve-clause-bytes : goal.returns-in_err-reserve-clause-bytes
+returns-in_err-reserve-clause-bytes g c = no_success _ _ c.from_residual.ensures.0
+
+pub returns-in_err-spell_record-clause-settled : goal.returns-in_err-spell_record-clause-settled
+returns-in_err-spell_record-clause-settled g c = no_success _ _ c.from_residual-in_err-spell_record.ensures.0
+
+pub returns-in_err-spell_record-clause-added : goal.returns-in_err-spell_record-clause-added
+returns-in_err-spell_record-clause-added g c = no_success _ _ c.from_residual-in_err-spell_record.ensures.0
+
+pub returns-in_err-spell_record-clause-start : goal.returns-in_err-spell_record-clause-start
+returns-in_err-spell_record-clause-start g c = no_success _ _ c.from_residual-in_err-spell_record.ensures.0
+
+pub returns-in_err-spell_record-clause-end : goal.returns-in_err-spell_record-clause-end
+returns-in_err-spell_record-clause-end g c = no_success _ _ c.from_residual-in_err-spell_record.ensures.0
+
+pub returns-in_err-spell_record-clause-bytes : goal.returns-in_err-spell_record-clause-bytes
+returns-in_err-spell_record-clause-bytes g c = no_success _ _ c.from_residual-in_err-spell_record.ensures.0
+
+pub returns-in_err-write_through-clause-settled : goal.returns-in_err-write_through-clause-settled
+returns-in_err-write_through-clause-settled g c = no_success _ _ c.from_residual-in_err-write_through.ensures.0
+
+pub returns-in_err-write_through-clause-added : goal.returns-in_err-write_through-clause-added
+returns-in_err-write_through-clause-added g c = no_success _ _ c.from_residual-in_err-write_through.ensures.0
+
+pub returns-in_err-write_through-clause-start : goal.returns-in_err-write_through-clause-start
+returns-in_err-write_through-clause-start g c = no_success _ _ c.from_residual-in_err-write_through.ensures.0
+
+pub returns-in_err-write_through-clause-end : goal.returns-in_err-write_through-clause-end
+returns-in_err-write_through-clause-end g c = no_success _ _ c.from_residual-in_err-write_through.ensures.0
+
+pub returns-in_err-write_through-clause-bytes : goal.returns-in_err-write_through-clause-bytes
+returns-in_err-write_through-clause-bytes g c = no_success _ _ c.from_residual-in_err-write_through.ensures.0
+
+pub returns-in_err-write_through-2-clause-settled : goal.returns-in_err-write_through-2-clause-settled
+returns-in_err-write_through-2-clause-settled g c = no_success _ _ c.from_residual-in_err-write_through-2.ensures.0
+
+pub returns-in_err-write_through-2-clause-added : goal.returns-in_err-write_through-2-clause-added
+returns-in_err-write_through-2-clause-added g c = no_success _ _ c.from_residual-in_err-write_through-2.ensures.0
+
+pub returns-in_err-write_through-2-clause-start : goal.returns-in_err-write_through-2-clause-start
+returns-in_err-write_through-2-clause-start g c = no_success _ _ c.from_residual-in_err-write_through-2.ensures.0
+
+pub returns-in_err-write_through-2-clause-end : goal.returns-in_err-write_through-2-clause-end
+returns-in_err-write_through-2-clause-end g c = no_success _ _ c.from_residual-in_err-write_through-2.ensures.0
+
+pub returns-in_err-write_through-2-clause-bytes : goal.returns-in_err-write_through-2-clause-bytes
+returns-in_err-write_through-2-clause-bytes g c = no_success _ _ c.from_residual-in_err-write_through-2.ensures.0

@@ -5,6 +5,7 @@ use Rattle.rel_store.specs.Changed.{IsInOtherSlot}
 use Rattle.rel_store.specs.Layout.{other_slot, slot_with}
 use Rattle.rel_store.specs.Records.{space}
 use Rattle.rel_store.specs.State.{records_in}
+use Rattle.rel_store.proofs.Exits.{no_success}
 use Rattle.rel_store.proofs.Moments.{after_slot, after_selector, selected_slot}
 use Rattle.rel_store.proofs.Ownership.{Owns, one_write, two_writes, other}
 use Rattle.rel_store.proofs.store.Store.write_slot.Goals as goal
@@ -82,3 +83,22 @@ returns-clause-bytes g c =
     c.in_ok-write_through-2.ensures.written
     ∙ ap (λ l. overwritten 9 (c.start_selector.result ∷ []) l) (c.in_ok-write_through.ensures.written ∙ (λ i. overwritten (place i) (c.start_slot.ensures i) old))
     ∙ ap (λ b. overwritten 9 (b ∷ []) (overwritten (other_slot old) (slot_with c.args.text.now) old)) selector
+
+-- after an error
+pub returns-in_err-write_through-clause-settled : goal.returns-in_err-write_through-clause-settled
+returns-in_err-write_through-clause-settled g c = no_success _ _ c.from_residual.ensures.0
+
+pub returns-in_err-write_through-clause-written : goal.returns-in_err-write_through-clause-written
+returns-in_err-write_through-clause-written g c = no_success _ _ c.from_residual.ensures.0
+
+pub returns-in_err-write_through-clause-bytes : goal.returns-in_err-write_through-clause-bytes
+returns-in_err-write_through-clause-bytes g c = no_success _ _ c.from_residual.ensures.0
+
+pub returns-in_err-write_through-2-clause-settled : goal.returns-in_err-write_through-2-clause-settled
+returns-in_err-write_through-2-clause-settled g c = no_success _ _ c.from_residual-in_err-write_through-2.ensures.0
+
+pub returns-in_err-write_through-2-clause-written : goal.returns-in_err-write_through-2-clause-written
+returns-in_err-write_through-2-clause-written g c = no_success _ _ c.from_residual-in_err-write_through-2.ensures.0
+
+pub returns-in_err-write_through-2-clause-bytes : goal.returns-in_err-write_through-2-clause-bytes
+returns-in_err-write_through-2-clause-bytes g c = no_success _ _ c.from_residual-in_err-write_through-2.ensures.0

@@ -1,0 +1,37 @@
+use Rattle.std.proofs.Common.{◌∙◌, inr, subst, sym, IfOk}
+use Rattle.rel_disk.proofs.Moments.{started, goes_on, joined, weakened}
+use Rattle.rel_store.specs.Contents.{AreContentsOf}
+use Rattle.rel_store.proofs.Exits.{no_value}
+use Rattle.rel_store.proofs.Scan.{still_refused}
+use Rattle.rel_store.proofs.opening.read_contents.Goals as goal
+
+pub returns-in_err-sync-clause-any_moment : goal.returns-in_err-sync-clause-any_moment
+returns-in_err-sync-clause-any_moment g c = goes_on g.D.Disk.moment g.D.Disk.left_since c.args.disk.now c.args.disk.now c.sync.new.self (g.D.Disk.may_leave c.args.disk.now) (g.D.Disk.may_leave c.sync.new.self) (started g.D.Disk.moment g.D.Disk.left_since c.args.disk.now (g.D.Disk.may_leave c.args.disk.now) (g.met.D.Disk.only_now c.args.disk.now)) c.sync.ensures.time c.sync.ensures.crash
+
+pub returns-clause-any_moment : goal.returns-clause-any_moment
+returns-clause-any_moment g c =
+    joined g.D.Disk.moment g.D.Disk.left_since c.args.disk.now c.sync.new.self c.read.new.disk (g.D.Disk.may_leave c.args.disk.now) (goes_on g.D.Disk.moment g.D.Disk.left_since c.args.disk.now c.args.disk.now c.sync.new.self (g.D.Disk.may_leave c.args.disk.now) (g.D.Disk.may_leave c.sync.new.self) (started g.D.Disk.moment g.D.Disk.left_since c.args.disk.now (g.D.Disk.may_leave c.args.disk.now) (g.met.D.Disk.only_now c.args.disk.now)) c.sync.ensures.time c.sync.ensures.crash)
+    (weakened g.D.Disk.moment g.D.Disk.left_since c.sync.new.self c.read.new.disk (g.D.Disk.may_leave c.sync.new.self) (g.D.Disk.may_leave c.args.disk.now) c.sync.ensures.crash c.read.ensures.reads.any_moment)
+
+pub returns-clause-synced : goal.returns-clause-synced
+returns-clause-synced g c =
+    inr (
+      c.sync.new.self,
+      record {
+        until = goes_on g.D.Disk.moment g.D.Disk.left_since c.args.disk.now c.args.disk.now c.sync.new.self (g.D.Disk.may_leave c.args.disk.now) (g.D.Disk.may_leave c.sync.new.self) (started g.D.Disk.moment g.D.Disk.left_since c.args.disk.now (g.D.Disk.may_leave c.args.disk.now) (g.met.D.Disk.only_now c.args.disk.now)) c.sync.ensures.time c.sync.ensures.crash;
+        from = weakened g.D.Disk.moment g.D.Disk.left_since c.sync.new.self c.read.new.disk (g.D.Disk.may_leave c.sync.new.self) _ c.in_ok-sync.ensures.durable c.read.ensures.reads.any_moment;
+        durable = λ d now. c.in_ok-sync.ensures.durable d (c.read.ensures.reads.crash d now);
+        same = c.read.ensures.reads.same ∙ c.in_ok-sync.ensures.same;
+      },
+    )
+
+pub returns-clause-ok : goal.returns-clause-ok
+returns-clause-ok g c = subst (λ l. IfOk c.read.result (AreContentsOf l)) c.in_ok-sync.ensures.same c.read.ensures.ok
+
+pub returns-clause-refused : goal.returns-clause-refused
+returns-clause-refused g c =
+    still_refused c.read.result (g.D.Disk.seen c.args.disk.now) (g.D.Disk.seen c.sync.new.self) _ _ _ c.in_ok-sync.ensures.same c.sync.ensures.counted c.read.ensures.counted c.read.ensures.refused
+
+-- after an error
+pub returns-in_err-sync-clause-ok : goal.returns-in_err-sync-clause-ok
+returns-in_err-sync-clause-ok g c = no_value _ _ c.from_residual.ensures.0
