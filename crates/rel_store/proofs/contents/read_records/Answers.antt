@@ -1,9 +1,9 @@
-use Rattle.std.proofs.Common.{◌≡◌, ◌≢◌, ℕ, ◌+◌, ◌≤◌, true, List, [], ◌∷◌, ◌++◌, length, length-drop, drop, get_or, Option, Some, Ok, ap, subst, sym, ◌∙◌, arith}
+use Rattle.std.proofs.Common.{◌≡◌, ℕ, ◌+◌, ◌≤◌, true, List, [], ◌∷◌, ◌++◌, length, length-drop, drop, get_or, Option, Some, Ok, ap, subst, sym, ◌∙◌, arith}
 use Rattle.rel_store.specs.Records.{is_whole, told_length}
 use Rattle.std.specs.Prelude.{IfSome}
 use Rattle.std.proofs.lemmas.Grind.{common_steps}
 use Rattle.rel_store.proofs.Exits.{no_value}
-use Rattle.rel_store.proofs.OnlyReads.{nothing_read, read_on}
+use Rattle.rel_store.proofs.OnlyReads.{read_on}
 use Rattle.rel_store.proofs.Scan.{IsReadTo, whole_from, bodies_of, read_body_more, read_all, refused_there, passed_on}
 use Rattle.rel_store.proofs.contents.read_records.Goals as goal
 
