@@ -19,7 +19,8 @@ use rel_list::ReleaseList;
 use rel_store::{Store, StoreError};
 use std::alloc::Global;
 
-/// Boots the node on a disk: its list is that of the store's records. Reads the disk once, and writes nothing.
+/// Boots the node on a disk: its list is that of the store's records. Syncs the disk, reads each record once, and writes
+/// nothing.
 ///
 /// Refusals: `Device`, `NoMemory`, `NotAStore`, `Damaged`, and `BadRecord` with the number of the first record that no
 /// command could have written where it stands. A disk that stands for a list is refused for want of memory or the device
@@ -46,7 +47,8 @@ pub fn boot<D: Disk>(alloc: Global, disk: D) -> Result<Handler<D>, (BootError, D
         → MatchResult result (λ handler. BootsTo k (list_in handler))
         (λ e. (e.0 ≡ BootError.Device) ⊎ (e.0 ≡ BootError.NoMemory)) }
 
-    // No crash in the call leaves anything that none before it would have left.
+    // No crash in the call leaves anything that none before it would have left. From its sync on a crash leaves what a
+    // read gives. A boot that answers `Device` may have failed in the sync, and `synced` says nothing then.
     ensures any_moment { LeavesOnly D.moment D.left_since disk (disk_of result) (D.may_leave disk) }
     ensures synced { IsSynced D.seen D.may_leave D.moment D.left_since disk result }
 

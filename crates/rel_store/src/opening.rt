@@ -11,8 +11,8 @@ use rel_disk::Disk;
 use std::alloc::Global;
 
 impl<D: Disk> Store<D> {
-    /// Opens the store on a disk. At `Ok` the disk is synced: what was read is what a crash leaves. Reads its layout and its
-    /// records, each once, and takes memory for the records alone.
+    /// Opens the store on a disk. Syncs the disk, reads its layout and its records, each once, and writes nothing. At `Ok`
+    /// what was read is what a crash leaves. Takes memory for the records alone.
     ///
     /// Refusals: `Device`, `NoMemory`, `NotAStore`, and `Damaged` at a base slot that tells no place behind the layout
     /// and within the disk, or at the open gate of a record that is too long or that the disk ends within; the gate
@@ -23,7 +23,8 @@ impl<D: Disk> Store<D> {
         ensures records { IfOk result (λ store. records_of (D.seen disk) ≡ Ok (records_in store)) }
 
         // No crash in the call leaves anything that none before it would have left; from its sync on a crash leaves what a
-        // read gives, whatever the opening answers then.
+        // read gives, whatever the opening answers then. An opening that answers `Device` may have failed in the sync, and
+        // `synced` says nothing then.
         ensures any_moment { LeavesOnly D.moment D.left_since disk (disk_of result)
             (D.may_leave disk) }
         ensures synced { RefusedByDevice result

@@ -1,13 +1,19 @@
-use Rattle.std.proofs.Common.{◌≡◌, ◌+◌, [], ◌∷◌, ◌++◌, get_or, Option, Some, Ok, ap, subst, sym, arith}
+use Rattle.std.proofs.Common.{◌≡◌, ℕ, ◌+◌, ◌≤◌, true, List, [], ◌∷◌, ◌++◌, length, length-drop, drop, get_or, Option, Some, Ok, ap, subst, sym, ◌∙◌, arith}
+use Rattle.rel_store.specs.Records.{is_whole, told_length}
 use Rattle.std.specs.Prelude.{IfSome}
 use Rattle.std.proofs.lemmas.Grind.{common_steps}
 use Rattle.rel_store.proofs.Exits.{no_value}
-use Rattle.rel_store.proofs.OnlyReads.{nothing_read, read_on}
-use Rattle.rel_store.proofs.Scan.{IsReadTo, bodies_of, read_body_more, read_all, refused_there, passed_on}
+use Rattle.rel_store.proofs.OnlyReads.{read_on}
+use Rattle.rel_store.proofs.Scan.{IsReadTo, whole_from, bodies_of, read_body_more, read_all, refused_there, passed_on}
 use Rattle.rel_store.proofs.contents.read_records.Goals as goal
 
 some_so : {A : Type 0} (P : A → Type 0) (o : Option A) (x : A) → o ≡ Some x → IfSome o P → P x
 some_so P o x is holds = subst (λ q. IfSome q P) is holds
+
+in_bounds : (bytes : List ℕ) (gate size len : ℕ) → (get_or bytes gate 0 ≡ 1) × (is_whole (drop (gate + 1) bytes) ≡ true) × (size ≡ told_length (drop (gate + 1) bytes)) → len ≡ length bytes → len ≤ 18446744073709551615 → gate + (5 + size) ≤ 18446744073709551615
+in_bounds bytes gate size len there same few =
+    let whole = whole_from (drop (gate + 1) bytes) there.1 in
+    omega (arith, whole.1, there.2, same, few, length-drop (gate + 1) bytes)
 
 pub returns-in_err-size-clause-refused : goal.returns-in_err-size-clause-refused
 returns-in_err-size-clause-refused g c =
@@ -63,3 +69,22 @@ returns-in_err-push-clause-records g c = no_value _ _ c.from_residual-in_err-pus
 
 pub returns-in_err-push-clause-gate : goal.returns-in_err-push-clause-gate
 returns-in_err-push-clause-gate g c = no_value _ _ c.from_residual-in_err-push.ensures.0
+
+-- a whole record ends within the disk
+pub overflow_add-gate : goal.overflow_add-gate
+overflow_add-gate g c =
+    let (read, reads, counted) = c.loop-records.invariant in
+    let seen = g.D.Disk.seen c.loop-records.disk in
+    let there = some_so _ c.in_ok-size.field-0 c.in-Some.size c.in-Some.is c.in_ok-size.ensures.open in
+    let few : c.args.len ≤ 18446744073709551615 = omega (arith, c.ranges.len) in
+    let long = in_bounds seen c.loop-records.gate c.in-Some.size c.args.len there (c.requires.len ∙ ap length (sym reads.same)) few in
+    omega (arith, long)
+
+pub overflow_add-gate-in-Some-2 : goal.overflow_add-gate-in-Some-2
+overflow_add-gate-in-Some-2 g c =
+    let (read, reads, counted) = c.loop-records.invariant in
+    let seen = g.D.Disk.seen c.loop-records.disk in
+    let there = some_so _ c.in_ok-size.field-0 c.in-Some.size c.in-Some.is c.in_ok-size.ensures.open in
+    let few : c.args.len ≤ 18446744073709551615 = omega (arith, c.ranges.len) in
+    let long = in_bounds seen c.loop-records.gate c.in-Some.size c.args.len there (c.requires.len ∙ ap length (sym reads.same)) few in
+    omega (arith, long)

@@ -1,4 +1,4 @@
-use Rattle.std.proofs.Common.{◌∙◌, inr, subst, sym, IfOk}
+use Rattle.std.proofs.Common.{◌∙◌, inr, subst, IfOk}
 use Rattle.rel_disk.proofs.Moments.{started, goes_on, joined, weakened}
 use Rattle.rel_store.specs.Contents.{AreContentsOf}
 use Rattle.rel_store.proofs.Exits.{no_value}
