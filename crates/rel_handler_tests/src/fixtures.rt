@@ -2,7 +2,7 @@
 ghost use Rattle.std.specs.Prelude.{IfOk};
 ghost use Rattle.rel_handler.specs.Files.{IsRelFile};
 
-use rel_disk::{DeviceFault, Disk, MemDisk};
+use rel_disk::{DeviceFault, Disk, FailDisk, MemDisk};
 use rel_files::{RelFile, read_rel_file};
 use rel_store::Store;
 use std::alloc::{AllocError, Global};
@@ -11,6 +11,11 @@ use std::test::Fail;
 const CAPACITY: usize = 4096;
 
 const LOG: usize = 1 << 16;
+
+// A disk of which no call fails.
+pub(crate) fn sound(disk: MemDisk) -> FailDisk<MemDisk> {
+    FailDisk::new(disk, 0)
+}
 
 // An empty disk.
 pub(crate) fn new_disk(alloc: Global) -> Result<MemDisk, AllocError> {
@@ -22,42 +27,41 @@ pub(crate) fn small_disk(alloc: Global, capacity: usize) -> Result<MemDisk, Allo
     MemDisk::new(alloc, capacity, LOG)
 }
 
-// Writes one application more.
-fn push_app(alloc: Global, text: &mut String, app: usize) -> Result<(), AllocError> {
-    text.push_str(format!(in alloc; r#",{{app{app},"1"}}"#)?.as_str())
+// The number of a word, and 1 of a word that is none.
+pub(crate) fn number(word: &str) -> usize {
+    word.parse::<usize>().unwrap_or(1)
 }
 
-// The term of a release of this version with so many applications, one at least.
-pub(crate) fn rel_term(alloc: Global, vsn: &str, apps: usize) -> Result<String, AllocError> {
-    let mut text = String::from_str(alloc, r#"{release,{"ch_rel",""#)?;
-    text.push_str(vsn)?;
-    text.push_str(r#""},{erts,"14.2"},[{app0,"1"}"#)?;
-    for app in 1..apps {
-        push_app(alloc, &mut text, app)?;
+// The term of a release: of `A` with one application, of `A/65` with 65.
+fn rel_term(alloc: Global, release: &str) -> Result<String, AllocError> {
+    let (vsn, apps) = release.split_once('/').unwrap_or((release, "1"));
+    let mut text = format!(in alloc;
+        r#"{{release,{{"ch_rel","{vsn}"}},{{erts,"14.2"}},[{{app0,"1"}}"#
+    )?;
+    for app in 1..number(apps) {
+        write!(text, r#",{{app{app},"1"}}"#)?;
     }
     text.push_str("]}")?;
     Ok(text)
 }
 
 // The file of such a release.
-pub(crate) fn rel_file(alloc: Global, vsn: &str, apps: usize) -> Result<RelFile, Fail>
+pub(crate) fn rel_file(alloc: Global, release: &str) -> Result<RelFile, Fail>
     ensures { IfOk result IsRelFile }
 {
-    let mut text = rel_term(alloc, vsn, apps)?;
+    let mut text = rel_term(alloc, release)?;
     text.push('.')?;
     Ok(read_rel_file(alloc, text.as_bytes())?)
 }
 
 // The body of the record that makes a node with such a release.
-pub(crate) fn made_body(alloc: Global, vsn: &str, apps: usize) -> Result<String, AllocError> {
-    let mut text = String::from_str(alloc, "{made,")?;
-    text.push_str(rel_term(alloc, vsn, apps)?.as_str())?;
-    text.push_str(",[],none}.")?;
-    Ok(text)
+pub(crate) fn made_body(alloc: Global, release: &str) -> Result<String, AllocError> {
+    let term = rel_term(alloc, release)?;
+    format!(in alloc; "{{made,{term},[],none}}.")
 }
 
 // A new store with this record.
-fn first_record(alloc: Global, body: &str) -> Result<MemDisk, Fail> {
+pub(crate) fn first_record(alloc: Global, body: &str) -> Result<MemDisk, Fail> {
     match Store::create(alloc, new_disk(alloc)?, body.as_bytes(), b"") {
         Ok(store) => Ok(store.into_disk()),
         Err((error, _disk)) => Err(error.into()),
@@ -76,21 +80,12 @@ pub(crate) fn next_record(alloc: Global, disk: MemDisk, body: &str) -> Result<Me
     }
 }
 
-// A store with these records.
-pub(crate) fn store_of(alloc: Global, first: &str, more: &[&str]) -> Result<MemDisk, Fail> {
-    let mut disk = first_record(alloc, first)?;
-    for body in more {
-        disk = next_record(alloc, disk, body)?;
-    }
-    Ok(disk)
-}
-
-// Writes over the bytes of a disk.
-pub(crate) fn patch<D: Disk>(disk: &mut D, at: u64, bytes: &[u8]) -> Result<(), DeviceFault> {
+// Writes a byte over that in this place.
+pub(crate) fn patch<D: Disk>(disk: &mut D, at: u64, byte: u8) -> Result<(), DeviceFault> {
     if disk.len()? < at {
         return Err(DeviceFault);
     }
-    disk.write_at(at, bytes)?;
+    disk.write_at(at, &[byte])?;
     disk.sync()
 }
 
@@ -105,7 +100,7 @@ fn start_slot<D: Disk>(disk: &mut D) -> Result<[u8; 9], DeviceFault> {
 }
 
 // The first nine bytes of the first start slot, and the bodies of the records, each in a line.
-pub(crate) fn start_and_bodies<D: Disk + Drop>(alloc: Global, disk: D) -> Result<Vec<u8>, Fail> {
+pub(crate) fn start_and_bodies(alloc: Global, disk: MemDisk) -> Result<Vec<u8>, Fail> {
     let mut disk = disk;
     let start = start_slot(&mut disk)?;
     match Store::open_disk(alloc, disk) {
@@ -118,7 +113,7 @@ fn lines(alloc: Global, start: &[u8], bodies: &[Vec<u8>]) -> Result<Vec<u8>, All
     let mut lines = Vec::from_slice(alloc, start)?;
     for body in bodies {
         lines.extend_from_slice(body.as_slice())?;
-        lines.extend_from_slice(b"\n".as_slice())?;
+        lines.push(b'\n')?;
     }
     Ok(lines)
 }

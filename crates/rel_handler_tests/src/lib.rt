@@ -7,4 +7,6 @@ mod answers;
 #[cfg(test)]
 mod fixtures;
 #[cfg(test)]
+mod steps;
+#[cfg(test)]
 mod tests;

@@ -1,43 +1,28 @@
 // Nodes on disks in memory, among them disks that fail, and stores that no command has written.
-use crate::answers::{
-    boots, brings_b, count, create, create_on_failing, is_explained, node_of_a, three_answers,
-    unpack_on_failing, unpack_once,
-};
+use crate::answers::{boots, count, create, is_explained, unpack_once};
 use crate::fixtures::{
-    made_body, new_disk, next_record, patch, small_disk, start_and_bodies, store_of,
+    first_record, made_body, new_disk, next_record, patch, sound, start_and_bodies,
 };
-use rel_disk::{Disk, MemDisk};
+use crate::steps::{follow, same, shows};
+use rel_disk::{Disk, FailDisk, MemDisk};
 use rel_handler::MOST_RELEASES;
 use std::alloc::{AllocError, Global};
-use std::process::Abort;
 use std::test::Fail;
-
-fn same(rt: &impl Abort, found: &String, wanted: &str) {
-    assert_eq!(rt; found.as_str(), wanted);
-}
 
 #[test]
 fn boot_on_an_empty_disk(rt: HostRuntime) -> Result<(), Fail> {
-    let alloc = rt.alloc();
-    let mut answers = String::new(alloc);
-    boots(alloc, new_disk(alloc)?, &mut answers)?;
-    same(&rt, &answers, "NotAStore ");
-    Ok(())
+    shows(&rt, rt.alloc(), "boot => NotAStore\n")
 }
+
+const KEEPS_UNPACKED: &str = "\
+create A B => A permanent; ok open A permanent;B unpacked;
+boot => A permanent;B unpacked;
+boot => A permanent;B unpacked;
+";
 
 #[test]
 fn boot_keeps_unpacked(rt: HostRuntime) -> Result<(), Fail> {
-    let alloc = rt.alloc();
-    let mut answers = String::new(alloc);
-    let disk = brings_b(alloc, new_disk(alloc)?, &mut answers)?;
-    let disk = boots(alloc, disk, &mut answers)?;
-    boots(alloc, disk, &mut answers)?;
-    same(
-        &rt,
-        &answers,
-        "A permanent; ok open A permanent;B unpacked; A permanent;B unpacked; ",
-    );
-    Ok(())
+    shows(&rt, rt.alloc(), KEEPS_UNPACKED)
 }
 
 // The text of the start slot behind its length, and the two records.
@@ -48,39 +33,32 @@ const START_AND_BODIES: &[u8] = b"\x0714.2 A\n\0\
 #[test]
 fn bytes_of_a_node(rt: HostRuntime) -> Result<(), Fail> {
     let alloc = rt.alloc();
-    let disk = brings_b(alloc, new_disk(alloc)?, &mut String::new(alloc))?;
+    let disk = create(alloc, new_disk(alloc)?, "A B", &mut String::new(alloc))?;
     let found = start_and_bodies(alloc, disk)?;
     assert_eq!(rt; found.as_slice(), START_AND_BODIES);
     Ok(())
 }
 
+// A/65 is A with 65 applications.
+const REFUSALS: &str = "\
+create A A A/65 B/64 => A permanent; ExistingRelease TooMany ok open A permanent;B unpacked;
+create C => Exists
+boot => A permanent;B unpacked;
+";
+
 #[test]
 fn refusals(rt: HostRuntime) -> Result<(), Fail> {
-    let alloc = rt.alloc();
-    let mut answers = String::new(alloc);
-    let disk = three_answers(alloc, new_disk(alloc)?, &mut answers)?;
-    let disk = create(alloc, disk, "C", 1, &mut answers)?;
-    boots(alloc, disk, &mut answers)?;
-    same(
-        &rt,
-        &answers,
-        "ExistingRelease TooMany ok A permanent;B unpacked; Exists A permanent;B unpacked; ",
-    );
-    Ok(())
+    shows(&rt, rt.alloc(), REFUSALS)
 }
 
 #[test]
 fn a_node_of_too_many_applications(rt: HostRuntime) -> Result<(), Fail> {
-    let alloc = rt.alloc();
-    let mut answers = String::new(alloc);
-    create(alloc, new_disk(alloc)?, "A", 65, &mut answers)?;
-    same(&rt, &answers, "TooMany ");
-    Ok(())
+    shows(&rt, rt.alloc(), "create A/65 => TooMany\n")
 }
 
 // A node of A that is brought 31 releases more. Writes its answers, and hands the disk back.
 fn fill(alloc: Global, answers: &mut String) -> Result<MemDisk, Fail> {
-    let mut disk = node_of_a(alloc, new_disk(alloc)?)?.into_disk();
+    let mut disk = create(alloc, new_disk(alloc)?, "A", answers)?;
     for i in 1..MOST_RELEASES {
         let vsn = format!(in alloc; "{i}")?;
         disk = unpack_once(alloc, disk, vsn.as_str(), answers)?;
@@ -89,9 +67,9 @@ fn fill(alloc: Global, answers: &mut String) -> Result<MemDisk, Fail> {
 }
 
 // The 31 answers, and those to one release more and to one that is there.
-const ANSWERS: &str = "\
+const ANSWERS: &str = " A permanent; \
 ok ok ok ok ok ok ok ok ok ok ok ok ok ok ok ok ok ok ok ok ok ok ok ok ok ok ok ok ok ok ok \
-TooMany ExistingRelease ";
+TooMany ExistingRelease";
 
 #[test]
 fn most_releases(rt: HostRuntime) -> Result<(), Fail> {
@@ -100,113 +78,111 @@ fn most_releases(rt: HostRuntime) -> Result<(), Fail> {
     let disk = fill(alloc, &mut answers)?;
     let disk = unpack_once(alloc, disk, "x", &mut answers)?;
     let disk = unpack_once(alloc, disk, "1", &mut answers)?;
-    same(&rt, &answers, ANSWERS);
+    same(&rt, answers.as_str(), ANSWERS);
     assert_eq!(rt; count(alloc, disk), Ok(32));
     Ok(())
 }
 
-const MADE_A: &str = r#"{made,{release,{"r","A"},{erts,"1"},[]},[],none}."#;
-
-const ADDS_A: &str = r#"{unpacked,{release,{"r","A"},{erts,"1"},[]},[],none}."#;
-
-const ADDS_B: &str = r#"{unpacked,{release,{"r","B"},{erts,"1"},[]},[],none}."#;
-
-// The records of a store, and what a boot of it answers: the releases that they make, or the number of the first that can't
+// Records of a store, and what a boot of it answers: the releases that they make, or the number of the first that can't
 // stand there.
-const RECORDS: [(&str, &[&str], &str); 17] = [
-    (MADE_A, &[], "A permanent; "),
-    (MADE_A, &[ADDS_B], "A permanent;B unpacked; "),
-    // blanks and comments
-    (
-        "{ made,% a\n {release,{\"r\",\"A\"},{erts,\"1\"},[]} , [] ,none} .\n",
-        &[],
-        "A permanent; ",
-    ),
-    // no terms, and other terms
-    ("", &[], "BadRecord(1) "),
-    ("a", &[], "BadRecord(1) "),
-    ("a.", &[], "BadRecord(1) "),
-    ("a. b.", &[], "BadRecord(1) "),
-    ("[].", &[], "BadRecord(1) "),
-    (MADE_A, &["{unpacked,"], "BadRecord(2) "),
-    (MADE_A, &[r#"{removed,"A"}."#], "BadRecord(2) "),
-    // libraries and a relup, which no command writes so far
-    (
-        r#"{made,{release,{"r","A"},{erts,"1"},[]},[a],none}."#,
-        &[],
-        "BadRecord(1) ",
-    ),
-    (
-        r#"{made,{release,{"r","A"},{erts,"1"},[]},[],[]}."#,
-        &[],
-        "BadRecord(1) ",
-    ),
-    // no release
-    (
-        r#"{made,{release,{"r","A"},{erts,""},[]},[],none}."#,
-        &[],
-        "BadRecord(1) ",
-    ),
-    // a release twice, made twice, and unpacked before a node was made
-    (MADE_A, &[ADDS_B, ADDS_B], "BadRecord(3) "),
-    (MADE_A, &[ADDS_A], "BadRecord(2) "),
-    (MADE_A, &[MADE_A], "BadRecord(2) "),
-    (ADDS_A, &[MADE_A], "BadRecord(1) "),
-];
+const RECORDS: &str = r#"store {made,{release,{"r","A"},{erts,"1"},[]},[],none}. =>
+boot => A permanent;
+record {unpacked,{release,{"r","B"},{erts,"1"},[]},[],none}. =>
+boot => A permanent;B unpacked;
+"#;
 
-// Compares what a boot of a store with these records answers.
-fn boots_as(
-    rt: &impl Abort,
-    alloc: Global,
-    first: &str,
-    more: &[&str],
-    wanted: &str,
-) -> Result<(), Fail> {
-    let mut answers = String::new(alloc);
-    boots(alloc, store_of(alloc, first, more)?, &mut answers)?;
-    same(rt, &answers, wanted);
-    Ok(())
-}
+// A text with a blank line and a comment is a record too.
+const BLANKS: &str = "{ made,% a\n {release,{\"r\",\"A\"},{erts,\"1\"},[]} , [] ,none} .\n";
+
+// No terms, and other terms.
+const NO_RECORDS: &str = r#"store  =>
+boot => BadRecord(1)
+store a =>
+boot => BadRecord(1)
+store a. =>
+boot => BadRecord(1)
+store a. b. =>
+boot => BadRecord(1)
+store []. =>
+boot => BadRecord(1)
+store {made,{release,{"r","A"},{erts,"1"},[]},[],none}. =>
+record {unpacked, =>
+boot => BadRecord(2)
+store {made,{release,{"r","A"},{erts,"1"},[]},[],none}. =>
+record {removed,"A"}. =>
+boot => BadRecord(2)
+"#;
+
+// Libraries and a relup, which no command writes so far, no release, a release twice, made twice, and unpacked before a
+// node was made.
+const MISPLACED: &str = r#"store {made,{release,{"r","A"},{erts,"1"},[]},[a],none}. =>
+boot => BadRecord(1)
+store {made,{release,{"r","A"},{erts,"1"},[]},[],[]}. =>
+boot => BadRecord(1)
+store {made,{release,{"r","A"},{erts,""},[]},[],none}. =>
+boot => BadRecord(1)
+store {made,{release,{"r","A"},{erts,"1"},[]},[],none}. =>
+record {unpacked,{release,{"r","B"},{erts,"1"},[]},[],none}. =>
+record {unpacked,{release,{"r","B"},{erts,"1"},[]},[],none}. =>
+boot => BadRecord(3)
+store {made,{release,{"r","A"},{erts,"1"},[]},[],none}. =>
+record {unpacked,{release,{"r","A"},{erts,"1"},[]},[],none}. =>
+boot => BadRecord(2)
+store {made,{release,{"r","A"},{erts,"1"},[]},[],none}. =>
+record {made,{release,{"r","A"},{erts,"1"},[]},[],none}. =>
+boot => BadRecord(2)
+store {unpacked,{release,{"r","A"},{erts,"1"},[]},[],none}. =>
+record {made,{release,{"r","A"},{erts,"1"},[]},[],none}. =>
+boot => BadRecord(1)
+"#;
 
 #[test]
 fn records_in_their_places(rt: HostRuntime) -> Result<(), Fail> {
-    let alloc = rt.alloc();
-    for (first, more, wanted) in RECORDS {
-        boots_as(&rt, alloc, first, more, wanted)?;
-    }
-    Ok(())
+    shows(&rt, rt.alloc(), RECORDS)?;
+    shows(&rt, rt.alloc(), NO_RECORDS)?;
+    shows(&rt, rt.alloc(), MISPLACED)
 }
 
 #[test]
-fn no_record(rt: HostRuntime) -> Result<(), Fail> {
+fn a_record_with_a_comment(rt: HostRuntime) -> Result<(), Fail> {
     let alloc = rt.alloc();
-    let mut answers = String::new(alloc);
-    let mut disk = store_of(alloc, MADE_A, &[])?;
-    // the gate of the first record
-    patch(&mut disk, 288, &[0])?;
-    boots(alloc, disk, &mut answers)?;
-    same(&rt, &answers, "BadRecord(1) ");
+    let mut text = String::new(alloc);
+    boots(alloc, first_record(alloc, BLANKS)?, "", &mut text)?;
+    same(&rt, text.as_str(), " A permanent;");
     Ok(())
+}
+
+// The gate of the first record is closed.
+const NO_RECORD: &str = r#"store {made,{release,{"r","A"},{erts,"1"},[]},[],none}. =>
+close 288 =>
+boot => BadRecord(1)
+"#;
+
+#[test]
+fn no_record(rt: HostRuntime) -> Result<(), Fail> {
+    shows(&rt, rt.alloc(), NO_RECORD)
 }
 
 #[test]
 fn a_record_of_too_many_applications(rt: HostRuntime) -> Result<(), Fail> {
     let alloc = rt.alloc();
-    let body = made_body(alloc, "A", 65)?;
-    boots_as(&rt, alloc, body.as_str(), &[], "BadRecord(1) ")
+    let body = made_body(alloc, "A/65")?;
+    let mut text = String::new(alloc);
+    boots(alloc, first_record(alloc, body.as_str())?, "", &mut text)?;
+    same(&rt, text.as_str(), " BadRecord(1)");
+    Ok(())
 }
+
+const MADE_A: &str = r#"{made,{release,{"r","A"},{erts,"1"},[]},[],none}."#;
 
 // The body of a record that brings the release with this number.
 fn adding_body(alloc: Global, i: usize) -> Result<String, AllocError> {
-    let mut text = String::from_str(alloc, r#"{unpacked,{release,{"r",""#)?;
-    text.push_str(format!(in alloc; "{i}")?.as_str())?;
-    text.push_str(r#""},{erts,"1"},[]},[],none}."#)?;
-    Ok(text)
+    format!(in alloc; r#"{{unpacked,{{release,{{"r","{i}"}},{{erts,"1"}},[]}},[],none}}."#)
 }
 
 // A store with a record that makes a node, and 32 that each bring a further release.
 fn too_many_releases(alloc: Global) -> Result<MemDisk, Fail> {
-    let mut disk = store_of(alloc, MADE_A, &[])?;
+    let mut disk = first_record(alloc, MADE_A)?;
     for i in 1..33 {
         disk = next_record(alloc, disk, adding_body(alloc, i)?.as_str())?;
     }
@@ -216,16 +192,23 @@ fn too_many_releases(alloc: Global) -> Result<MemDisk, Fail> {
 #[test]
 fn records_of_too_many_releases(rt: HostRuntime) -> Result<(), Fail> {
     let alloc = rt.alloc();
-    let mut answers = String::new(alloc);
-    boots(alloc, too_many_releases(alloc)?, &mut answers)?;
-    same(&rt, &answers, "BadRecord(33) ");
+    let mut text = String::new(alloc);
+    boots(alloc, too_many_releases(alloc)?, "", &mut text)?;
+    same(&rt, text.as_str(), " BadRecord(33)");
     Ok(())
 }
 
-// Whether a store of two records with this byte in this place is booted, or refused, as what it holds explains.
+const ADDS_B: &str = r#"{unpacked,{release,{"r","B"},{erts,"1"},[]},[],none}."#;
+
+// A store with a record that makes a node, and one that brings a further release.
+fn two_records(alloc: Global) -> Result<MemDisk, Fail> {
+    next_record(alloc, first_record(alloc, MADE_A)?, ADDS_B)
+}
+
+// Whether that store with this byte in this place is booted, or refused, as what it holds explains.
 fn is_damage_explained(alloc: Global, at: u64, byte: u8) -> Result<bool, Fail> {
-    let mut disk = store_of(alloc, MADE_A, &[ADDS_B])?;
-    patch(&mut disk, at, &[byte])?;
+    let mut disk = two_records(alloc)?;
+    patch(&mut disk, at, byte)?;
     Ok(is_explained(alloc, disk))
 }
 
@@ -234,8 +217,7 @@ fn unexplained(alloc: Global, len: u64, places: &mut String) -> Result<(), Fail>
     for at in 0..len {
         for byte in [0, 1, 7, 0x5b, 255] {
             if !is_damage_explained(alloc, at, byte)? {
-                let place = format!(in alloc; "{byte} at {at};")?;
-                places.push_str(place.as_str())?;
+                write!(places, "{byte} at {at};")?;
             }
         }
     }
@@ -246,71 +228,93 @@ fn unexplained(alloc: Global, len: u64, places: &mut String) -> Result<(), Fail>
 fn each_byte_is_damaged(rt: HostRuntime) -> Result<(), Fail> {
     let alloc = rt.alloc();
     let mut places = String::new(alloc);
-    let len = store_of(alloc, MADE_A, &[ADDS_B])?.len()?;
+    let len = two_records(alloc)?.len()?;
     unexplained(alloc, len, &mut places)?;
-    same(&rt, &places, "");
+    same(&rt, places.as_str(), "");
+    Ok(())
+}
+
+// What a creation answers where this call of the device fails, and what a boot of the disk answers then.
+fn create_on_failing(alloc: Global, call: u64, text: &mut String) -> Result<(), Fail> {
+    let disk = FailDisk::new(new_disk(alloc)?, call);
+    let disk = create(alloc, disk, "A", text)?;
+    boots(alloc, disk.disk, "", text)?;
+    text.push('\n')?;
     Ok(())
 }
 
 // The length, and three writes, each with its sync: an empty disk is not read. The last write opens the gate of the store.
-const CREATIONS: &str = "\
-Device NotAStore \n\
-Device NotAStore \n\
-Device NotAStore \n\
-Device NotAStore \n\
-Device NotAStore \n\
-Device NotAStore \n\
-Device A permanent; \n\
-A permanent; A permanent; \n";
+const CREATIONS: &str = " Device NotAStore
+ Device NotAStore
+ Device NotAStore
+ Device NotAStore
+ Device NotAStore
+ Device NotAStore
+ Device A permanent;
+ A permanent; A permanent;
+";
 
 #[test]
 fn each_call_of_a_creation_fails(rt: HostRuntime) -> Result<(), Fail> {
     let alloc = rt.alloc();
-    let mut answers = String::new(alloc);
+    let mut text = String::new(alloc);
     for call in 1..9 {
-        create_on_failing(alloc, new_disk(alloc)?, call, &mut answers)?;
+        create_on_failing(alloc, call, &mut text)?;
     }
-    same(&rt, &answers, CREATIONS);
+    same(&rt, text.as_str(), CREATIONS);
+    Ok(())
+}
+
+// What a node of A answers to B and to C where this call of the device fails, how often it failed, and what the node on
+// that disk answers to B after a boot.
+fn unpack_on_failing(alloc: Global, call: u64, text: &mut String) -> Result<(), Fail> {
+    let disk = create(alloc, new_disk(alloc)?, "A", &mut String::new(alloc))?;
+    let disk = boots(alloc, FailDisk::new(disk, call), "B C", text)?;
+    let disk = follow(alloc, disk, "fail 0", text)?;
+    boots(alloc, disk, "B", text)?;
+    text.push('\n')?;
     Ok(())
 }
 
 // With 0 no call fails. A boot of a node with one record has six calls and a commit four, two of them syncs: the third opens
 // the record's gate. The eleventh call is the first of the next commit.
-const COMMANDS: &str = "\
-ok ok open A permanent;B unpacked;C unpacked; failures 0: \
-A permanent;B unpacked;C unpacked; ExistingRelease A permanent;B unpacked;C unpacked; \n\
-Device failures 1: A permanent; ok A permanent;B unpacked; \n\
-Device failures 1: A permanent; ok A permanent;B unpacked; \n\
-Device failures 1: A permanent; ok A permanent;B unpacked; \n\
-Device failures 1: A permanent; ok A permanent;B unpacked; \n\
-Device failures 1: A permanent; ok A permanent;B unpacked; \n\
-Device failures 1: A permanent; ok A permanent;B unpacked; \n\
-Device Dead dead Dead failures 1: A permanent; ok A permanent;B unpacked; \n\
-Device Dead dead Dead failures 1: A permanent; ok A permanent;B unpacked; \n\
-Device Dead dead Dead failures 1: A permanent; ok A permanent;B unpacked; \n\
-Device Dead dead Dead failures 1: \
-A permanent;B unpacked; ExistingRelease A permanent;B unpacked; \n\
-ok Device dead Dead failures 1: \
-A permanent;B unpacked; ExistingRelease A permanent;B unpacked; \n";
+const COMMANDS: &str = " \
+A permanent; ok ok open A permanent;B unpacked;C unpacked; failures 0 \
+A permanent;B unpacked;C unpacked; ExistingRelease open A permanent;B unpacked;C unpacked;
+ Device failures 1 A permanent; ok open A permanent;B unpacked;
+ Device failures 1 A permanent; ok open A permanent;B unpacked;
+ Device failures 1 A permanent; ok open A permanent;B unpacked;
+ Device failures 1 A permanent; ok open A permanent;B unpacked;
+ Device failures 1 A permanent; ok open A permanent;B unpacked;
+ Device failures 1 A permanent; ok open A permanent;B unpacked;
+ A permanent; Device Dead dead Dead failures 1 A permanent; ok open A permanent;B unpacked;
+ A permanent; Device Dead dead Dead failures 1 A permanent; ok open A permanent;B unpacked;
+ A permanent; Device Dead dead Dead failures 1 A permanent; ok open A permanent;B unpacked;
+ A permanent; Device Dead dead Dead failures 1 \
+A permanent;B unpacked; ExistingRelease open A permanent;B unpacked;
+ A permanent; ok Device dead Dead failures 1 \
+A permanent;B unpacked; ExistingRelease open A permanent;B unpacked;
+";
 
 #[test]
 fn each_call_of_a_command_fails(rt: HostRuntime) -> Result<(), Fail> {
     let alloc = rt.alloc();
-    let mut answers = String::new(alloc);
+    let mut text = String::new(alloc);
     for call in 0..12 {
-        unpack_on_failing(alloc, new_disk(alloc)?, call, &mut answers)?;
+        unpack_on_failing(alloc, call, &mut text)?;
     }
-    same(&rt, &answers, COMMANDS);
+    same(&rt, text.as_str(), COMMANDS);
     Ok(())
 }
 
+// The disk holds the first record and not the second.
+const FULL: &str = "\
+disk 400 =>
+create A B => A permanent; Device dead Dead
+boot => A permanent;
+";
+
 #[test]
 fn full_disks(rt: HostRuntime) -> Result<(), Fail> {
-    let alloc = rt.alloc();
-    let mut answers = String::new(alloc);
-    // The disk holds the first record and not the second.
-    let disk = brings_b(alloc, small_disk(alloc, 400)?, &mut answers)?;
-    boots(alloc, disk, &mut answers)?;
-    same(&rt, &answers, "A permanent; Device dead A permanent; ");
-    Ok(())
+    shows(&rt, rt.alloc(), FULL)
 }

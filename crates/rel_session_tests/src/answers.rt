@@ -1,114 +1,133 @@
 //! What sessions answer on an empty disk.
-use crate::sessions::{BOOTED, BOTH, NO_NODE, TWO_RELEASES, all_answer, answers};
+use crate::sessions::{BOOTED, NO_NODE, all_answer, answers};
 use std::test::Fail;
 
-const FILE: &str =
-    "file a.rel\n{release,{\"ch_rel\",\"A\"},{erts,\"14.2\"},[{ch_app,\"1\"}]}.\n.end\n";
-
-const BAD: &str = "error session 1 BadCommand\n";
+const ONE_RELEASE: &str = r#"file a.rel
+{release,{"ch_rel","A"},{erts,"14.2"},[{ch_app,"1"}]}.
+.end
+create a.rel
+releases
+=>ok
+ok A
+{"ch_rel","A",["ch_app-1"],permanent}
+ok 1
+"#;
 
 #[test]
 fn lists_one_permanent_release(rt: HostRuntime) -> Result<(), Fail> {
-    let alloc = rt.alloc();
-    let input = format!(in alloc; "{FILE}create a.rel\nreleases\n")?;
-    let answer = b"ok\nok A\n{\"ch_rel\",\"A\",[\"ch_app-1\"],permanent}\nok 1\n".as_slice();
-    answers(&rt, alloc, input.as_bytes(), answer)?;
-    Ok(())
+    all_answer(&rt, rt.alloc(), ONE_RELEASE)
 }
+
+const TWICE: &str = r#"file a.rel
+{release,{"ch_rel","A"},{erts,"14.2"},[{ch_app,"1"}]}.
+.end
+create a.rel
+create a.rel
+set_unpacked a.rel
+=>ok
+ok A
+error handler 20 Exists
+error handler 2 ExistingRelease
+"#;
 
 #[test]
 fn twice_is_refused(rt: HostRuntime) -> Result<(), Fail> {
-    let alloc = rt.alloc();
-    let input = format!(in alloc; "{FILE}create a.rel\ncreate a.rel\nset_unpacked a.rel\n")?;
-    let answer = b"ok\nok A\nerror handler 20 Exists\nerror handler 2 ExistingRelease\n".as_slice();
-    answers(&rt, alloc, input.as_bytes(), answer)?;
-    Ok(())
+    all_answer(&rt, rt.alloc(), TWICE)
 }
+
+const BOOT_BETWEEN: &str = r#"file a.rel
+{release,{"ch_rel","A"},{erts,"14.2"},[{ch_app,"1"}]}.
+.end
+file b.rel
+{release,{"ch_rel","B"},{erts,"14.2"},[{ch_app,"2"}]}.
+.end
+create a.rel
+set_unpacked b.rel
+boot
+releases
+=>ok
+ok
+ok A
+ok B
+ok A
+{"ch_rel","A",["ch_app-1"],permanent}
+{"ch_rel","B",["ch_app-2"],unpacked}
+ok 2
+"#;
 
 #[test]
 fn boot_keeps_unpacked(rt: HostRuntime) -> Result<(), Fail> {
-    let alloc = rt.alloc();
-    let input = format!(in alloc; "{TWO_RELEASES}boot\nreleases\n")?;
-    let answer = format!(in alloc; "ok\nok\nok A\nok B\n{BOTH}")?;
-    answers(&rt, alloc, input.as_bytes(), answer.as_bytes())?;
-    Ok(())
+    all_answer(&rt, rt.alloc(), BOOT_BETWEEN)
 }
+
+const UNKNOWN: &str = "zz\nreleases\n=>error session 1 BadCommand\nerror handler 18 Dead\n";
 
 #[test]
 fn unknown_command_before_a_node(rt: HostRuntime) -> Result<(), Fail> {
-    let answer = b"error session 1 BadCommand\nerror handler 18 Dead\n".as_slice();
-    answers(&rt, rt.alloc(), b"zz\nreleases\n".as_slice(), answer)?;
-    Ok(())
+    all_answer(&rt, rt.alloc(), UNKNOWN)
 }
 
 #[test]
 fn boot_on_an_empty_disk(rt: HostRuntime) -> Result<(), Fail> {
-    answers(&rt, rt.alloc(), BOOTED.as_bytes(), NO_NODE.as_bytes())?;
-    Ok(())
+    answers(&rt, rt.alloc(), BOOTED.as_bytes(), NO_NODE.as_bytes())
 }
+
+const LINES: &str = "=>|\
+\n \t\n\r\n=>|\
+releases=>error handler 18 Dead\n|\
+set_unpacked x.rel\n=>error handler 18 Dead\n|\
+create x.rel\n=>error handler 9 MissingFile x.rel\n|\
+quit\nreleases\n=>|\
+quit\r\n=>error session 1 BadCommand\n|\
+file a\nreleases\n=>error session 1 BadCommand\n|\
+file a\n.end=>ok\n|\
+file a\n.end\r\n.end\n=>ok\n";
 
 #[test]
 fn lines(rt: HostRuntime) -> Result<(), Fail> {
-    all_answer(
-        &rt,
-        rt.alloc(),
-        [
-            ("", ""),
-            ("\n \t\n\r\n", ""),
-            ("releases", "error handler 18 Dead\n"),
-            ("set_unpacked x.rel\n", "error handler 18 Dead\n"),
-            ("create x.rel\n", "error handler 9 MissingFile x.rel\n"),
-            ("quit\nreleases\n", ""),
-            ("quit\r\n", BAD),
-            ("file a\nreleases\n", BAD),
-            ("file a\n.end", "ok\n"),
-            ("file a\n.end\r\n.end\n", "ok\n"),
-        ]
-        .as_slice(),
-    )?;
-    Ok(())
+    all_answer(&rt, rt.alloc(), LINES)
 }
+
+const WORDS: &str = "\
+create  a.rel\n=>error session 1 BadCommand\n|\
+create\n=>error session 1 BadCommand\n|\
+create a b\n=>error session 1 BadCommand\n";
+
+const BAD: &str = "error session 1 BadCommand\n";
 
 #[test]
 fn words(rt: HostRuntime) -> Result<(), Fail> {
-    all_answer(
-        &rt,
-        rt.alloc(),
-        [
-            ("create  a.rel\n", BAD),
-            ("create\n", BAD),
-            ("create a b\n", BAD),
-        ]
-        .as_slice(),
-    )?;
-    answers(&rt, rt.alloc(), b"create \xff\n".as_slice(), BAD.as_bytes())?;
-    Ok(())
+    all_answer(&rt, rt.alloc(), WORDS)?;
+    answers(&rt, rt.alloc(), b"create \xff\n".as_slice(), BAD.as_bytes())
 }
+
+const FAULTS: &str = r#"file p
+a
+.end
+create p
+=>ok
+error handler 8 BadFile p MissingDot 2
+|file p
+a.
+.end
+create p
+=>ok
+error handler 8 BadFile p BadShape 0
+|file p
+{release,{"r","1"},{erts,"2"},[{a,"1"},{a,""}]}.
+.end
+create p
+=>ok
+error handler 8 BadFile p Duplicate
+|file p
+{release,{"r","1"},{erts,"2"},[{a,""}]}.
+.end
+create p
+=>ok
+error handler 8 BadFile p BadVersion
+"#;
 
 #[test]
 fn faults_of_files(rt: HostRuntime) -> Result<(), Fail> {
-    all_answer(
-        &rt,
-        rt.alloc(),
-        [
-            (
-                "file p\na\n.end\ncreate p\n",
-                "ok\nerror handler 8 BadFile p MissingDot 2\n",
-            ),
-            (
-                "file p\na.\n.end\ncreate p\n",
-                "ok\nerror handler 8 BadFile p BadShape 0\n",
-            ),
-            (
-                "file p\n{release,{\"r\",\"1\"},{erts,\"2\"},[{a,\"1\"},{a,\"\"}]}.\n.end\ncreate p\n",
-                "ok\nerror handler 8 BadFile p Duplicate\n",
-            ),
-            (
-                "file p\n{release,{\"r\",\"1\"},{erts,\"2\"},[{a,\"\"}]}.\n.end\ncreate p\n",
-                "ok\nerror handler 8 BadFile p BadVersion\n",
-            ),
-        ]
-        .as_slice(),
-    )?;
-    Ok(())
+    all_answer(&rt, rt.alloc(), FAULTS)
 }

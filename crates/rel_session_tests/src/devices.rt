@@ -1,24 +1,18 @@
 //! Disks of which a call fails, and what the next session finds.
-use crate::sessions::{BOOTED, BOTH, FIRST, NO_NODE, TWO_RELEASES, empty_disk, session_on};
+use crate::sessions::{
+    BOTH, FIRST, NO_NODE, TWO_RELEASES, empty_disk, joined, same, session_on, with_next,
+};
 use rel_disk::{FailDisk, MemDisk};
 use rel_session::SessionError;
 use std::alloc::Global;
 use std::process::Abort;
 use std::test::Fail;
 
-/// What a session of this input has written on a disk whose call of this number fails, and what the next session on the
-/// disk writes that it leaves.
-fn written_twice(
-    rt: &impl Abort,
-    alloc: Global,
-    call: u64,
-    input: &str,
-) -> Result<(Vec<u8>, Vec<u8>), SessionError> {
-    let disk = FailDisk::new(empty_disk(alloc)?, call);
-    let ran = session_on(alloc, disk, input.as_bytes())?;
-    let next = session_on(alloc, ran.disk.disk, BOOTED.as_bytes())?;
-    assert!(rt; ran.ended == Ok(()) && next.ended == Ok(()), "call {call}");
-    Ok((ran.written, next.written))
+/// What a session of this input writes on a disk whose call of this number fails, and behind it what the next session on
+/// the disk writes.
+fn written_twice(alloc: Global, call: u64, input: &[u8]) -> Result<Vec<u8>, SessionError> {
+    let ran = session_on(alloc, FailDisk::new(empty_disk(alloc)?, call), input)?;
+    with_next(alloc, ran.written, ran.disk.disk)
 }
 
 /// What is written where this call fails. A node is made by the length and three writes, each with its sync; a release
@@ -31,23 +25,22 @@ fn answer_of(call: u64) -> &'static str {
     }
 }
 
-/// Whether the next session may find this then: an event whose call failed is there or not.
-fn may_be_found(call: u64, found: &[u8]) -> bool {
-    (found == NO_NODE.as_bytes() && call < 8)
-        || (found == FIRST.as_bytes() && call > 6 && call < 12)
-        || (found == BOTH.as_bytes() && call > 10)
+/// What the next session finds then: an event whose last sync failed is there, since its gate was written before.
+fn found_behind(call: u64) -> &'static str {
+    match call {
+        1..=6 => NO_NODE,
+        7..=10 => FIRST,
+        _ => BOTH,
+    }
 }
 
 #[test]
 fn each_device_call_fails(rt: HostRuntime) -> Result<(), Fail> {
+    let alloc = rt.alloc();
     for call in 1..13 {
-        let (written, found) = written_twice(&rt, rt.alloc(), call, TWO_RELEASES)?;
-        assert_eq!(&rt;
-            written.as_slice(),
-            answer_of(call).as_bytes(),
-            "call {call}"
-        );
-        assert!(&rt; may_be_found(call, found.as_slice()), "call {call}");
+        let written = written_twice(alloc, call, TWO_RELEASES.as_bytes())?;
+        let wanted = joined(alloc, [answer_of(call), found_behind(call), ""])?;
+        same(&rt, written.as_slice(), wanted.as_slice());
     }
     Ok(())
 }
@@ -56,11 +49,10 @@ fn each_device_call_fails(rt: HostRuntime) -> Result<(), Fail> {
 #[test]
 fn creation_in_doubt_and_a_boot(rt: HostRuntime) -> Result<(), Fail> {
     let alloc = rt.alloc();
-    let input = format!(in alloc; "{TWO_RELEASES}boot\nset_unpacked b.rel\n")?;
-    let (written, found) = written_twice(&rt, alloc, 7, input.as_str())?;
-    let answer = b"ok\nok\nerror handler 16 Device\nerror handler 18 Dead\nok A\nok B\n".as_slice();
-    assert_eq!(&rt; written.as_slice(), answer);
-    assert_eq!(&rt; found.as_slice(), BOTH.as_bytes());
+    let input = joined(alloc, [TWO_RELEASES, "boot\n", "set_unpacked b.rel\n"])?;
+    let written = written_twice(alloc, 7, input.as_slice())?;
+    let wanted = joined(alloc, [answer_of(7), "ok A\nok B\n", BOTH])?;
+    same(&rt, written.as_slice(), wanted.as_slice());
     Ok(())
 }
 
@@ -83,44 +75,67 @@ fn before_the_boots(call: u64) -> &'static str {
     }
 }
 
-/// What two boots write then, each with the list of releases. A boot of a node with
-/// two records has eight calls.
-fn boots(call: u64) -> (&'static str, &'static str) {
-    let failed = "error boot 3 Device\nerror handler 18 Dead\n";
+const FAILED: &str = "error boot 3 Device\nerror handler 18 Dead\n";
+
+/// What the first of two boots writes then, with the list of releases. A boot of a node with two records has eight calls.
+fn first_boot(call: u64) -> &'static str {
     match call {
-        1..=10 => (FIRST, FIRST),
-        12..=19 => (failed, BOTH),
-        20..=27 => (BOTH, failed),
-        _ => (BOTH, BOTH),
+        1..=10 => FIRST,
+        12..=19 => FAILED,
+        _ => BOTH,
     }
 }
 
+/// What the second writes.
+fn second_boot(call: u64) -> &'static str {
+    match call {
+        1..=10 => FIRST,
+        20..=27 => FAILED,
+        _ => BOTH,
+    }
+}
+
+/// The sessions that follow.
+const TWO_BOOTS: &str = "releases\ncreate a.rel\nboot\nreleases\nboot\nreleases\n";
+
 /// The session of this input on this disk answers as where this call fails without effect.
 fn goes_on(rt: &impl Abort, alloc: Global, disk: FailDisk<MemDisk>, call: u64) -> Result<(), Fail> {
-    let input = format!(in alloc; "{TWO_RELEASES}releases\ncreate a.rel\n{BOOTED}{BOOTED}")?;
-    let ran = session_on(alloc, disk, input.as_bytes())?;
-    let (first, second) = boots(call);
-    let before = before_the_boots(call);
-    let answer = format!(in alloc; "{before}{first}{second}")?;
-    assert_eq!(rt; ran.written.as_slice(), answer.as_bytes(), "call {call}");
+    let input = joined(alloc, [TWO_RELEASES, TWO_BOOTS, ""])?;
+    let ran = session_on(alloc, disk, input.as_slice())?;
+    let wanted = joined(
+        alloc,
+        [before_the_boots(call), first_boot(call), second_boot(call)],
+    )?;
+    same(rt, ran.written.as_slice(), wanted.as_slice());
     Ok(())
 }
 
-/// A session goes on behind a failed device: a dead node answers Dead or Exists, and its boot. A write of one byte that
-/// fails in part is done, so what is found then is found where its sync fails too.
+/// A session goes on behind a failed device: a dead node answers Dead or Exists, and its boot.
 #[test]
 fn sessions_go_on_behind_a_failed_device(rt: HostRuntime) -> Result<(), Fail> {
     let alloc = rt.alloc();
     for call in 1..29 {
-        let disk = FailDisk::new(empty_disk(alloc)?, call);
-        goes_on(&rt, alloc, disk, call)?;
+        goes_on(&rt, alloc, FailDisk::new(empty_disk(alloc)?, call), call)?;
+    }
+    Ok(())
+}
+
+/// The call that fails without effect as this one fails in part. A write of one byte that fails in part is done, so what
+/// is found then is found where its sync fails too.
+fn alike(call: u64) -> u64 {
+    match call {
+        6 => 7,
+        10 => 11,
+        _ => call,
+    }
+}
+
+#[test]
+fn sessions_go_on_behind_a_part_of_a_write(rt: HostRuntime) -> Result<(), Fail> {
+    let alloc = rt.alloc();
+    for call in 1..29 {
         let disk = FailDisk::failing_in_part(empty_disk(alloc)?, call);
-        let alike = if call == 6 || call == 10 {
-            call + 1
-        } else {
-            call
-        };
-        goes_on(&rt, alloc, disk, alike)?;
+        goes_on(&rt, alloc, disk, alike(call))?;
     }
     Ok(())
 }

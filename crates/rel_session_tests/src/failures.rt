@@ -1,5 +1,8 @@
 //! Readers and writers that fail, and what was written then.
-use crate::sessions::{BOOTED, BOTH, FIRST, NO_NODE, Ran, TWO_RELEASES, empty_disk, session_on};
+use crate::sessions::{
+    BOTH, FIRST, NO_NODE, Ran, TWO_RELEASES, empty_disk, end_of, joined, same, session_on,
+    with_next,
+};
 use counted_io::CountedWriter;
 use rel_disk::MemDisk;
 use rel_session::{Input, SessionError, session};
@@ -8,46 +11,6 @@ use std::io;
 use std::io::{Read, Write};
 use std::process::Abort;
 use std::test::Fail;
-
-const FIRST_REFUSED: &str = "error session 1 BadCommand\n";
-
-const BOTH_REFUSED: &str = "error session 1 BadCommand\nerror handler 18 Dead\n";
-
-/// Gives letters without end, and fails at a later read.
-#[derive(Drop)]
-struct Letters {
-    reads: u64,
-}
-
-impl Read for Letters {
-    fn read(&mut self, buf: &mut [u8]) -> io::Result<usize> {
-        if self.reads == 0 {
-            return Err(io::Error::from(io::ErrorKind::Other));
-        }
-        self.reads -= 1;
-        for byte in buf.iter_mut() {
-            *byte = b'a';
-        }
-        Ok(buf.len())
-    }
-}
-
-#[test]
-fn failed_reads_and_the_limit(rt: HostRuntime) -> Result<(), Fail> {
-    let alloc = rt.alloc();
-    for (reads, error) in [
-        (0, SessionError::Read),
-        (3, SessionError::Read),
-        (2_048, SessionError::Limit),
-    ] {
-        let ran = session_on(alloc, empty_disk(alloc)?, Letters { reads })?;
-        assert!(&rt;
-            ran.ended == Err(error) && ran.written.is_empty(),
-            "{reads}"
-        );
-    }
-    Ok(())
-}
 
 /// Gives a text in pieces of at most so many bytes, and fails behind it.
 #[derive(Drop)]
@@ -68,21 +31,45 @@ impl Read for Broken<'_> {
     }
 }
 
+/// The session of a reader that fails behind this text, which it gives in such pieces, has written this, and how it ended.
+fn fails_behind(
+    rt: &impl Abort,
+    alloc: Global,
+    text: &[u8],
+    piece: usize,
+    wanted: &str,
+) -> Result<(), Fail> {
+    let ran = session_on(alloc, empty_disk(alloc)?, Broken { text, piece })?;
+    same(rt, ran.written.as_slice(), wanted.as_bytes());
+    Ok(())
+}
+
+/// So many letters, and then a failed read, end a session so.
+fn letters_end(rt: &impl Abort, alloc: Global, count: usize, wanted: &str) -> Result<(), Fail> {
+    let letters = vec![in alloc; b'a'; count]?;
+    fails_behind(rt, alloc, letters.as_slice(), 8_192, wanted)
+}
+
+#[test]
+fn failed_reads_and_the_limit(rt: HostRuntime) -> Result<(), Fail> {
+    letters_end(&rt, rt.alloc(), 0, "ended by Read")?;
+    letters_end(&rt, rt.alloc(), 24_576, "ended by Read")?;
+    letters_end(&rt, rt.alloc(), 16_777_216, "ended by Limit")
+}
+
 /// The session of a reader that fails behind two lines and a part of one has answered the two.
 #[test]
 fn reads_that_fail_behind_answers(rt: HostRuntime) -> Result<(), Fail> {
-    let alloc = rt.alloc();
     let text = b"zz\nreleases\nrelea".as_slice();
+    let wanted = "error session 1 BadCommand\nerror handler 18 Dead\nended by Read";
     for piece in [1, 3, 100] {
-        let ran = session_on(alloc, empty_disk(alloc)?, Broken { text, piece })?;
-        assert!(&rt; ran.ended == Err(SessionError::Read), "{piece}");
-        assert_eq!(&rt; ran.written.as_slice(), BOTH_REFUSED.as_bytes(), "{piece}");
+        fails_behind(&rt, rt.alloc(), text, piece, wanted)?;
     }
     Ok(())
 }
 
 /// How much a writer takes: so many bytes at a write, so many writes and so many flushes.
-#[derive(Clone, Copy)]
+#[derive(Drop)]
 struct Room {
     piece: usize,
     writes: u64,
@@ -151,45 +138,44 @@ fn session_into(alloc: Global, input: &[u8], room: Room) -> Result<Ran<MemDisk>,
     });
     let (disk, ended) = session(alloc, empty_disk(alloc)?, &mut input, &mut output);
     drop(output);
-    Ok(Ran {
-        written,
-        ended,
-        disk,
-    })
+    written.extend_from_slice(end_of(ended).as_bytes())?;
+    Ok(Ran { written, disk })
 }
 
-/// A session of two refusals that writes into this room ends by a failed write, and has written this.
-fn fails(rt: &impl Abort, alloc: Global, room: Room, answer: &str) -> Result<(), SessionError> {
+/// A session of two refusals that writes into this room has written this, and how it ended.
+fn fails(rt: &impl Abort, alloc: Global, room: Room, wanted: &str) -> Result<(), Fail> {
     let ran = session_into(alloc, b"zz\nreleases\n".as_slice(), room)?;
-    assert!(rt; ran.ended == Err(SessionError::Write));
-    assert_eq!(rt; ran.written.as_slice(), answer.as_bytes());
+    same(rt, ran.written.as_slice(), wanted.as_bytes());
     Ok(())
 }
+
+const ONE: &str = "error session 1 BadCommand\nended by Write";
+
+const TWO: &str = "error session 1 BadCommand\nerror handler 18 Dead\nended by Write";
 
 #[test]
 fn failed_writes(rt: HostRuntime) -> Result<(), Fail> {
-    for (count, answer) in [(0, ""), (5, "error"), (28, "error session 1 BadCommand\ne")] {
-        fails(&rt, rt.alloc(), narrow(count), answer)?;
-    }
-    Ok(())
+    let cut = "error session 1 BadCommand\neended by Write";
+    fails(&rt, rt.alloc(), narrow(0), "ended by Write")?;
+    fails(&rt, rt.alloc(), narrow(5), "errorended by Write")?;
+    fails(&rt, rt.alloc(), narrow(28), cut)
 }
 
 #[test]
-fn full_writers_and_failed_flushes(rt: HostRuntime) -> Result<(), Fail> {
-    for (writes, flushes, answer) in [
-        (0, 9, ""),
-        (1, 9, FIRST_REFUSED),
-        (9, 0, FIRST_REFUSED),
-        (9, 1, BOTH_REFUSED),
-    ] {
-        fails(&rt, rt.alloc(), wide(writes, flushes), answer)?;
-    }
-    Ok(())
+fn full_writers(rt: HostRuntime) -> Result<(), Fail> {
+    fails(&rt, rt.alloc(), wide(0, 9), "ended by Write")?;
+    fails(&rt, rt.alloc(), wide(1, 9), ONE)
+}
+
+#[test]
+fn failed_flushes(rt: HostRuntime) -> Result<(), Fail> {
+    fails(&rt, rt.alloc(), wide(9, 0), ONE)?;
+    fails(&rt, rt.alloc(), wide(9, 1), TWO)
 }
 
 /// What the next session finds where so many bytes of the answers were written: the command whose answer was cut off
 /// was followed.
-fn found_behind(count: u64) -> &'static str {
+fn found_behind(count: usize) -> &'static str {
     match count {
         0..=5 => NO_NODE,
         6..=10 => FIRST,
@@ -197,25 +183,21 @@ fn found_behind(count: u64) -> &'static str {
     }
 }
 
+/// What a session writes of which so many bytes of the answers are taken, and behind it what the next one writes.
+fn cut_and_next(alloc: Global, count: u64) -> Result<Vec<u8>, SessionError> {
+    let ran = session_into(alloc, TWO_RELEASES.as_bytes(), narrow(count))?;
+    with_next(alloc, ran.written, ran.disk)
+}
+
 #[test]
 fn cut_answers_and_the_next_session(rt: HostRuntime) -> Result<(), Fail> {
     let alloc = rt.alloc();
-    let answer = b"ok\nok\nok A\nok B\n".as_slice();
-    for count in 0..16 {
-        let ran = session_into(alloc, TWO_RELEASES.as_bytes(), narrow(count))?;
-        let is_cut = ran.written.len() as u64 == count
-            && answer.starts_with(ran.written.as_slice());
-        assert!(&rt;
-            ran.ended == Err(SessionError::Write) && is_cut,
-            "byte {count}"
-        );
-        let next = session_on(alloc, ran.disk, BOOTED.as_bytes())?;
-        assert!(&rt; next.ended == Ok(()), "byte {count}");
-        assert_eq!(&rt;
-            next.written.as_slice(),
-            found_behind(count).as_bytes(),
-            "byte {count}"
-        );
+    let answer = "ok\nok\nok A\nok B\n";
+    for count in 0..answer.len() {
+        let cut = answer.get(..count).unwrap_or(answer);
+        let wanted = joined(alloc, [cut, "ended by Write", found_behind(count)])?;
+        let written = cut_and_next(alloc, count as u64)?;
+        same(&rt, written.as_slice(), wanted.as_slice());
     }
     Ok(())
 }

@@ -1,79 +1,97 @@
 //! The limits of a session, each reached and passed.
-use crate::sessions::answers;
-use std::alloc::Global;
+use crate::sessions::{all_answer, answers};
+use std::alloc::{AllocError, Global};
 use std::process::Abort;
 use std::test::Fail;
 
-/// Gives the file of a release of this version, at a path of the same name.
-fn give(alloc: Global, input: &mut String, vsn: u32, apps: &str) -> Result<(), Fail> {
-    let lines = format!(in alloc;
-        "file {vsn}\n{{release,{{\"r\",\"{vsn}\"}},{{erts,\"2\"}},[{apps}]}}.\n.end\n"
-    )?;
-    input.push_str(lines.as_str())?;
-    Ok(())
+/// Gives the file of a release of this version, at a path of the same name, and then this command with that path.
+fn give(input: &mut String, vsn: u32, apps: &str, command: &str) -> Result<(), AllocError> {
+    write!(
+        input,
+        "file {vsn}\n{{release,{{\"r\",\"{vsn}\"}},{{erts,\"2\"}},[{apps}]}}.\n.end\n{command} {vsn}\n"
+    )
 }
+
+const ORDER: &str = r#"file 3
+{release,{"r","3"},{erts,"2"},[]}.
+.end
+file 1
+{release,{"r","1"},{erts,"2"},[{a,"1"},{b,"2",load}]}.
+.end
+file 2
+{release,{"r","2"},{erts,"2"},[{a,"1"}]}.
+.end
+create 3
+set_unpacked 1
+set_unpacked 2
+releases
+=>ok
+ok
+ok
+ok 3
+ok 1
+ok 2
+{"r","3",[],permanent}
+{"r","1",["a-1","b-2"],unpacked}
+{"r","2",["a-1"],unpacked}
+ok 3
+"#;
 
 #[test]
 fn releases_in_order_of_coming(rt: HostRuntime) -> Result<(), Fail> {
-    let alloc = rt.alloc();
-    let mut input = String::new(alloc);
-    give(alloc, &mut input, 3, "")?;
-    give(alloc, &mut input, 1, "{a,\"1\"},{b,\"2\",load}")?;
-    give(alloc, &mut input, 2, "{a,\"1\"}")?;
-    input.push_str("create 3\nset_unpacked 1\nset_unpacked 2\nreleases\n")?;
-    let answer =
-        b"ok\nok\nok\nok 3\nok 1\nok 2\n{\"r\",\"3\",[],permanent}\n{\"r\",\"1\",[\"a-1\",\"b-2\"],unpacked}\n{\"r\",\"2\",[\"a-1\"],unpacked}\nok 3\n".as_slice();
-    answers(&rt, alloc, input.as_bytes(), answer)?;
-    Ok(())
+    all_answer(&rt, rt.alloc(), ORDER)
 }
 
-/// Thirty-two releases, the first made and the others taken in, and what is answered.
-fn full_node(alloc: Global) -> Result<(String, String), Fail> {
+/// Thirty-three releases, the first made and the others taken in, and the one before the last again.
+fn too_many_releases(alloc: Global) -> Result<String, AllocError> {
     let mut input = String::new(alloc);
-    give(alloc, &mut input, 1, "")?;
-    input.push_str("create 1\n")?;
-    let mut answer = String::from_str(alloc, "ok\nok 1\n")?;
-    for vsn in 2..33 {
-        give(alloc, &mut input, vsn, "")?;
-        input.push_str(&format!(in alloc; "set_unpacked {vsn}\n")?)?;
-        answer.push_str(&format!(in alloc; "ok\nok {vsn}\n")?)?;
+    give(&mut input, 1, "", "create")?;
+    for vsn in 2..34 {
+        give(&mut input, vsn, "", "set_unpacked")?;
     }
-    Ok((input, answer))
+    input.push_str("set_unpacked 32\n")?;
+    Ok(input)
+}
+
+/// What is answered.
+fn thirty_two_answers(alloc: Global) -> Result<String, AllocError> {
+    let mut answer = String::new(alloc);
+    for vsn in 1..33 {
+        write!(answer, "ok\nok {vsn}\n")?;
+    }
+    answer.push_str("ok\nerror handler 12 TooMany\nerror handler 2 ExistingRelease\n")?;
+    Ok(answer)
 }
 
 #[test]
 fn most_releases(rt: HostRuntime) -> Result<(), Fail> {
     let alloc = rt.alloc();
-    let (mut input, mut answer) = full_node(alloc)?;
-    give(alloc, &mut input, 33, "")?;
-    input.push_str("set_unpacked 33\nset_unpacked 32\n")?;
-    answer.push_str("ok\nerror handler 12 TooMany\nerror handler 2 ExistingRelease\n")?;
-    answers(&rt, alloc, input.as_bytes(), answer.as_bytes())?;
-    Ok(())
+    let input = too_many_releases(alloc)?;
+    let answer = thirty_two_answers(alloc)?;
+    answers(&rt, alloc, input.as_bytes(), answer.as_bytes())
 }
 
-/// A release of so many applications is answered so.
-fn applications(rt: &impl Abort, alloc: Global, count: u32, answer: &[u8]) -> Result<(), Fail> {
+/// A node is made of a release of so many applications.
+fn make_of(alloc: Global, count: u32) -> Result<String, AllocError> {
     let mut apps = String::from_str(alloc, "{a1,\"1\"}")?;
     for name in 2..=count {
-        apps.push_str(&format!(in alloc; ",{{a{name},\"1\"}}")?)?;
+        write!(apps, ",{{a{name},\"1\"}}")?;
     }
     let mut input = String::new(alloc);
-    give(alloc, &mut input, 7, apps.as_str())?;
-    input.push_str("create 7\n")?;
-    answers(rt, alloc, input.as_bytes(), answer)?;
-    Ok(())
+    give(&mut input, 7, apps.as_str(), "create")?;
+    Ok(input)
+}
+
+/// That is answered so.
+fn applications(rt: &impl Abort, alloc: Global, count: u32, answer: &str) -> Result<(), Fail> {
+    let input = make_of(alloc, count)?;
+    answers(rt, alloc, input.as_bytes(), answer.as_bytes())
 }
 
 #[test]
 fn most_applications(rt: HostRuntime) -> Result<(), Fail> {
-    applications(&rt, rt.alloc(), 64, b"ok\nok 7\n".as_slice())?;
-    applications(
-        &rt,
-        rt.alloc(),
-        65,
-        b"ok\nerror handler 12 TooMany\n".as_slice(),
-    )
+    applications(&rt, rt.alloc(), 64, "ok\nok 7\n")?;
+    applications(&rt, rt.alloc(), 65, "ok\nerror handler 12 TooMany\n")
 }
 
 /// These bytes, and so many letters behind them.
@@ -91,15 +109,15 @@ fn longest_line(rt: HostRuntime) -> Result<(), Fail> {
     let longest = with_letters(alloc, b"create ".as_slice(), 4089)?;
     let mut answer = with_letters(alloc, b"error handler 9 MissingFile ".as_slice(), 4089)?;
     answer.push(b'\n')?;
-    answers(&rt, alloc, longest.as_slice(), answer.as_slice())?;
+    answers(&rt, alloc, longest.as_slice(), answer.as_slice())
+}
+
+#[test]
+fn longer_line(rt: HostRuntime) -> Result<(), Fail> {
+    let alloc = rt.alloc();
     let longer = with_letters(alloc, b"create ".as_slice(), 4090)?;
-    answers(
-        &rt,
-        alloc,
-        longer.as_slice(),
-        b"error session 1 BadCommand\n".as_slice(),
-    )?;
-    Ok(())
+    let answer = b"error session 1 BadCommand\n".as_slice();
+    answers(&rt, alloc, longer.as_slice(), answer)
 }
 
 /// A file of so many bytes, in one line, and a command that reads it.
@@ -112,18 +130,15 @@ fn large_file(alloc: Global, bytes: usize) -> Result<Vec<u8>, Fail> {
     Ok(input)
 }
 
+/// That is answered so.
+fn files(rt: &impl Abort, alloc: Global, bytes: usize, answer: &str) -> Result<(), Fail> {
+    let input = large_file(alloc, bytes)?;
+    answers(rt, alloc, input.as_slice(), answer.as_bytes())
+}
+
 #[test]
 fn largest_file(rt: HostRuntime) -> Result<(), Fail> {
-    let alloc = rt.alloc();
-    let largest = large_file(alloc, 1_048_576)?;
-    let answer = b"ok\nerror handler 8 BadFile p BadShape 0\n".as_slice();
-    answers(&rt, alloc, largest.as_slice(), answer)?;
-    let larger = large_file(alloc, 1_048_577)?;
-    answers(
-        &rt,
-        alloc,
-        larger.as_slice(),
-        b"ok\nerror handler 12 TooMany\n".as_slice(),
-    )?;
-    Ok(())
+    let largest = "ok\nerror handler 8 BadFile p BadShape 0\n";
+    files(&rt, rt.alloc(), 1_048_576, largest)?;
+    files(&rt, rt.alloc(), 1_048_577, "ok\nerror handler 12 TooMany\n")
 }

@@ -5,6 +5,7 @@ use rel_session::{Input, SessionError, session};
 use std::alloc::{AllocError, Global};
 use std::io::Read;
 use std::process::Abort;
+use std::test::Fail;
 
 /// Room for the sessions of these tests.
 const DISK: usize = 65_536;
@@ -24,21 +25,44 @@ pub const FIRST: &str = "ok A\n{\"ch_rel\",\"A\",[\"ch_app-1\"],permanent}\nok 1
 pub const BOTH: &str =
     "ok A\n{\"ch_rel\",\"A\",[\"ch_app-1\"],permanent}\n{\"ch_rel\",\"B\",[\"ch_app-2\"],unpacked}\nok 2\n";
 
-/// What a session has written, how it ended, and its disk.
+/// What a session has written, with the cause behind it where it ended early, and its disk.
 #[derive(Drop)]
 pub struct Ran<D> {
     pub written: Vec<u8>,
-    pub ended: Result<(), SessionError>,
     pub disk: D,
 }
 
+pub(crate) fn same(rt: &impl Abort, found: &[u8], wanted: &[u8]) {
+    assert_eq!(rt; found, wanted);
+}
+
+/// These texts, one behind the other.
+pub(crate) fn joined(alloc: Global, parts: [&str; 3]) -> Result<Vec<u8>, AllocError> {
+    let mut text = Vec::new(alloc);
+    for part in parts {
+        text.extend_from_slice(part.as_bytes())?;
+    }
+    Ok(text)
+}
+
 /// A disk with nothing on it.
-pub fn empty_disk(alloc: Global) -> Result<MemDisk, AllocError> {
+pub(crate) fn empty_disk(alloc: Global) -> Result<MemDisk, AllocError> {
     MemDisk::new(alloc, DISK, 2 * DISK)
 }
 
+/// How a session ended.
+pub(crate) fn end_of(ended: Result<(), SessionError>) -> &'static str {
+    match ended {
+        Ok(()) => "",
+        Err(SessionError::Read) => "ended by Read",
+        Err(SessionError::Write) => "ended by Write",
+        Err(SessionError::Limit) => "ended by Limit",
+        Err(SessionError::NoMemory) => "ended by NoMemory",
+    }
+}
+
 /// A session of this input on this disk.
-pub fn session_on<D: Disk + Drop, R: Read + Drop>(
+pub(crate) fn session_on<D: Disk + Drop, R: Read + Drop>(
     alloc: Global,
     disk: D,
     reader: R,
@@ -48,33 +72,38 @@ pub fn session_on<D: Disk + Drop, R: Read + Drop>(
     let mut output = CountedWriter::new(&mut written);
     let (disk, ended) = session(alloc, disk, &mut input, &mut output);
     drop(output);
-    Ok(Ran {
-        written,
-        ended,
-        disk,
-    })
+    written.extend_from_slice(end_of(ended).as_bytes())?;
+    Ok(Ran { written, disk })
+}
+
+/// What was written before, and behind it what the next session on this disk writes, which boots it.
+pub(crate) fn with_next(
+    alloc: Global,
+    before: Vec<u8>,
+    disk: MemDisk,
+) -> Result<Vec<u8>, SessionError> {
+    let next = session_on(alloc, disk, BOOTED.as_bytes())?;
+    let mut written = before;
+    written.extend_from_slice(next.written.as_slice())?;
+    Ok(written)
 }
 
 /// The session of this input on an empty disk writes this answer, and ends well.
-pub fn answers(
+pub(crate) fn answers(
     rt: &impl Abort,
     alloc: Global,
     input: &[u8],
     answer: &[u8],
-) -> Result<(), SessionError> {
+) -> Result<(), Fail> {
     let ran = session_on(alloc, empty_disk(alloc)?, input)?;
-    assert_eq!(rt; ran.written.as_slice(), answer);
-    assert!(rt; ran.ended == Ok(()));
+    same(rt, ran.written.as_slice(), answer);
     Ok(())
 }
 
-/// So it is for each of these inputs and answers.
-pub fn all_answer(
-    rt: &impl Abort,
-    alloc: Global,
-    rows: &[(&str, &str)],
-) -> Result<(), SessionError> {
-    for (input, answer) in rows {
+/// So it is for each of these inputs and answers: a case is an input, `=>` and its answer, and a bar stands between cases.
+pub(crate) fn all_answer(rt: &impl Abort, alloc: Global, cases: &str) -> Result<(), Fail> {
+    for case in cases.split('|') {
+        let (input, answer) = case.split_once("=>").unwrap_or((case, ""));
         answers(rt, alloc, input.as_bytes(), answer.as_bytes())?;
     }
     Ok(())
