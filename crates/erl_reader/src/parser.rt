@@ -83,17 +83,30 @@ impl Parser {
             (step self.old.limit (progress_of self.old) (item_value item.entry)) }
         ensures limit { self.new.limit ≡ self.old.limit }
     {
-        match &item.token {
-            Token::Open(bracket) => self.open(alloc, *bracket, &item),
-            Token::Close(bracket) => self.close(*bracket, &item),
-            Token::Comma => self.separate(&item),
-            Token::Dot => self.end(&item),
+        match item.token {
             Token::Name(_) => self.put_name(alloc, item),
-            Token::Number(n) => self.put_number(*n, &item),
-            Token::Text(text) => self.put_text(alloc, text, &item),
-            Token::Stray(_) | Token::NotUtf8 => Err(self.state.misplaced(&item)),
-            Token::Broken(like, fault) => self.refuse_broken(*like, *fault, &item),
-            Token::Cut(like) => self.refuse_cut(*like, &item),
+            _ => self.take_other(alloc, &item),
+        }
+    }
+
+    /// Takes one more token, which is no name.
+    fn take_other(&mut self, alloc: Global, item: &Item<'_>) -> Result<(), TermFault>
+        requires { IsName item.now.token → ⊥ }
+        ensures step { Gives result (progress_of self.new)
+            (step self.old.limit (progress_of self.old) (item_value item.now)) }
+        ensures limit { self.new.limit ≡ self.old.limit }
+    {
+        match &item.token {
+            Token::Open(bracket) => self.open(alloc, *bracket, item),
+            Token::Close(bracket) => self.close(*bracket, item),
+            Token::Comma => self.separate(item),
+            Token::Dot => self.end(item),
+            Token::Name(_) => unreachable!(),
+            Token::Number(n) => self.put_number(*n, item),
+            Token::Text(text) => self.put_text(alloc, text, item),
+            Token::Stray(_) | Token::NotUtf8 => Err(self.state.misplaced(item)),
+            Token::Broken(like, fault) => self.refuse_broken(*like, *fault, item),
+            Token::Cut(like) => self.refuse_cut(*like, item),
         }
     }
 
@@ -224,12 +237,7 @@ impl Parser {
     }
 
     /// A token that has a fault of its own is refused.
-    fn refuse_broken(
-        &self,
-        like: Like,
-        fault: TermFault,
-        item: &Item<'_>,
-    ) -> Result<(), TermFault>
+    fn refuse_broken(&self, like: Like, fault: TermFault, item: &Item<'_>) -> Result<(), TermFault>
         requires { item.now.token ≡ Broken like fault }
         ensures { Gives result (progress_of self.now)
             (step self.now.limit (progress_of self.now) (item_value item.now)) }
