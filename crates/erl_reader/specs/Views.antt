@@ -4,6 +4,9 @@ use Rattle.std.specs.declared.alloc.Global.{Global}
 use Rattle.std.specs.Str.{chars}
 use Rattle.erl_token.specs.declared.fault.TermFault.{TermFault}
 use Rattle.erl_token.specs.declared.fault.TermFault.TheVariants.{NoMemory}
+use Rattle.erl_token.specs.declared.content.Content.{Content}
+use Rattle.erl_token.specs.declared.token.Token.{Token as CodeToken}
+use Rattle.erl_token.specs.declared.token.Token.TheVariants.{Name}
 use Rattle.erl_reader.specs.declared.term.Spanned.{Spanned}
 use Rattle.erl_reader.specs.declared.parser.Level.{Level as CodeLevel}
 use Rattle.erl_reader.specs.declared.parser.Members.{Members as CodeMembers}
@@ -40,6 +43,10 @@ state_of (Inside slot l outer) = inside slot (level_of l) (reverse (map level_of
 abbrev pub IsAdded : Bool → List ℕ → List ℕ → List ℕ → Type 0
 IsAdded true cs old new = (bytes_of cs ≡ Some cs) × (new ≡ old ++ cs)
 IsAdded false cs old new = bytes_of cs ≡ None
+
+-- a token that is a name
+abbrev pub IsName : CodeToken → Type 0
+IsName t = (c : Content) × (t ≡ Name c)
 
 -- what a parser has read
 abbrev pub progress_of : Parser → Progress

@@ -5,10 +5,10 @@ ghost use Rattle.erl_token.specs.Contents.{content_bytes};
 ghost use Rattle.erl_reader.specs.Machine.{step, misplaced, is_left_out, comes, cut_off, put, with_member, begins_term, open_levels, bytes_of, empty, bracket_of, close, enclosed, at_end, nothing_read};
 ghost use Rattle.erl_reader.specs.Faults.{for_a_term, for_a_segment};
 ghost use Rattle.erl_token.specs.Views.{token_value, like_value, item_value};
-ghost use Rattle.erl_reader.specs.Views.{members_are, level_of, state_of, progress_of, all_levels, Gives, GivesTerms};
+ghost use Rattle.erl_reader.specs.Views.{members_are, level_of, state_of, progress_of, all_levels, Gives, GivesTerms, IsName};
 ghost use Rattle.erl_reader.specs.Answers.{reading_of_spanned};
 ghost use Rattle.erl_token.specs.declared.fault.TermFault.TheVariants.{NoMemory};
-ghost use Rattle.erl_token.specs.declared.token.Token.TheVariants.{Open, Close, Comma, Dot, Number};
+ghost use Rattle.erl_token.specs.declared.token.Token.TheVariants.{Open, Close, Comma, Dot, Number, Broken, Cut};
 ghost use Rattle.erl_token.specs.Lexing.Token.{text as text_token};
 
 use crate::character::{characters, push_characters};
@@ -18,7 +18,7 @@ use std::alloc::{AllocError, Global};
 use std::mem;
 
 /// What may come next in an open bracket.
-#[derive(Clone, Copy, Debug, PartialEq, Eq)]
+#[derive(Clone, Copy, PartialEq, Eq)]
 pub enum Slot {
     /// A first member, or the bracket's end.
     First,
@@ -83,31 +83,30 @@ impl Parser {
             (step self.old.limit (progress_of self.old) (item_value item.entry)) }
         ensures limit { self.new.limit ≡ self.old.limit }
     {
+        match item.token {
+            Token::Name(_) => self.put_name(alloc, item),
+            _ => self.take_other(alloc, &item),
+        }
+    }
+
+    /// Takes one more token, which is no name.
+    fn take_other(&mut self, alloc: Global, item: &Item<'_>) -> Result<(), TermFault>
+        requires { IsName item.now.token → ⊥ }
+        ensures step { Gives result (progress_of self.new)
+            (step self.old.limit (progress_of self.old) (item_value item.now)) }
+        ensures limit { self.new.limit ≡ self.old.limit }
+    {
         match &item.token {
-            Token::Open(bracket) => self.open(alloc, *bracket, &item),
-            Token::Close(bracket) => self.close(*bracket, &item),
-            Token::Comma => self.separate(&item),
-            Token::Dot => self.end(&item),
-            Token::Name(_) => {
-                self.expect_term(&item)?;
-                let Item { token, from, to } = item;
-                let Token::Name(name) = token else {
-                    unreachable!()
-                };
-                let term = Term::Atom(name.into_string(alloc)?);
-                self.put(Spanned { term, from, to })
-            }
-            Token::Number(n) => self.put_number(*n, &item),
-            Token::Text(text) => self.put_text(alloc, text, &item),
-            Token::Stray(_) | Token::NotUtf8 => Err(self.state.misplaced(&item)),
-            Token::Broken(like, fault) => {
-                self.expect(*like, &item)?;
-                Err(*fault)
-            }
-            Token::Cut(like) => {
-                self.expect(*like, &item)?;
-                Err(self.cut_off(item.from))
-            }
+            Token::Open(bracket) => self.open(alloc, *bracket, item),
+            Token::Close(bracket) => self.close(*bracket, item),
+            Token::Comma => self.separate(item),
+            Token::Dot => self.end(item),
+            Token::Name(_) => unreachable!(),
+            Token::Number(n) => self.put_number(*n, item),
+            Token::Text(text) => self.put_text(alloc, text, item),
+            Token::Stray(_) | Token::NotUtf8 => Err(self.state.misplaced(item)),
+            Token::Broken(like, fault) => self.refuse_broken(*like, *fault, item),
+            Token::Cut(like) => self.refuse_cut(*like, item),
         }
     }
 
@@ -219,6 +218,42 @@ impl Parser {
             _ => self.state = State::Whole(whole),
         }
         Ok(())
+    }
+
+    /// A name, as an atom.
+    fn put_name(&mut self, alloc: Global, item: Item<'_>) -> Result<(), TermFault>
+        requires { IsName item.token }
+        ensures step { Gives result (progress_of self.new)
+            (step self.old.limit (progress_of self.old) (item_value item.entry)) }
+        ensures limit { self.new.limit ≡ self.old.limit }
+    {
+        self.expect_term(&item)?;
+        let Item { token, from, to } = item;
+        let Token::Name(name) = token else {
+            unreachable!()
+        };
+        let term = Term::Atom(name.into_string(alloc)?);
+        self.put(Spanned { term, from, to })
+    }
+
+    /// A token that has a fault of its own is refused.
+    fn refuse_broken(&self, like: Like, fault: TermFault, item: &Item<'_>) -> Result<(), TermFault>
+        requires { item.now.token ≡ Broken like fault }
+        ensures { Gives result (progress_of self.now)
+            (step self.now.limit (progress_of self.now) (item_value item.now)) }
+    {
+        self.expect(like, item)?;
+        Err(fault)
+    }
+
+    /// A token that the end of the text cuts off is refused.
+    fn refuse_cut(&self, like: Like, item: &Item<'_>) -> Result<(), TermFault>
+        requires { item.now.token ≡ Cut like }
+        ensures { Gives result (progress_of self.now)
+            (step self.now.limit (progress_of self.now) (item_value item.now)) }
+    {
+        self.expect(like, item)?;
+        Err(self.cut_off(item.from))
     }
 
     /// A number, by itself or as a byte of a binary.

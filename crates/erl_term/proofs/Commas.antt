@@ -1,5 +1,5 @@
 -- Texts with commas between them.
-use Rattle.std.proofs.Common.{◌≡◌, ℕ, ◌+◌, ◌<◌, zero, suc, List, [], ◌∷◌, ◌++◌, length, map, get_or, take, refl, ap, sym, ◌∙◌, append_assoc, arith}
+use Rattle.std.proofs.Common.{◌≡◌, ℕ, ◌+◌, ◌<◌, zero, suc, List, [], ◌∷◌, ◌++◌, length, map, get_or, take, refl, ap, sym, ◌∙◌, append_assoc, append-nil, arith}
 use Rattle.std.proofs.lemmas.List.{take_more, map-append, length-map, length-take}
 use Rattle.erl_reader.specs.declared.term.Term.{Term}
 use Rattle.erl_reader.specs.Value.{value_of, members_of}
@@ -14,15 +14,8 @@ more : (ts : List (List ℕ)) (s : List ℕ) → 0 < length ts → with_commas (
 more [] s h = absurd (omega arith)
 more (t ∷ ts) s h = with_commas-more t ts s
 
--- the text of the first member
-pub with_commas-first : {X : Type 0} (f : X → List ℕ) (xs : List X) (i : ℕ) (d : X) → i < length xs → i ≡ 0 →
-    with_commas (map f (take (i + 1) xs)) ≡ f (get_or xs i d)
-with_commas-first f [] i d h e = absurd (omega arith)
-with_commas-first f (x ∷ xs) zero d h e = refl
-with_commas-first f (x ∷ xs) (suc i) d h e = absurd (omega arith)
-
--- that of the next member
-pub with_commas-next : {X : Type 0} (f : X → List ℕ) (xs : List X) (i : ℕ) (d : X) → i < length xs → 0 < i →
+-- the texts with that of the next member
+with_commas-next : {X : Type 0} (f : X → List ℕ) (xs : List X) (i : ℕ) (d : X) → i < length xs → 0 < i →
     with_commas (map f (take (i + 1) xs)) ≡ with_commas (map f (take i xs)) ++ 44 ∷ f (get_or xs i d)
 with_commas-next f xs i d h e =
     let some : 0 < length (map f (take i xs)) = simp (length-map, length-take) (omega arith) in
@@ -32,3 +25,18 @@ with_commas-next f xs i d h e =
 pub texts_of-members_of : (ts : List Term) → texts_of (members_of ts) ≡ map (λ t. text_of (value_of t)) ts
 texts_of-members_of [] = refl
 texts_of-members_of (t ∷ ts) = ap (λ x. text_of (value_of t) ∷ x) (texts_of-members_of ts)
+
+-- the first text is written out of the first member
+pub prints-first : {X : Type 0} (f : X → List ℕ) (xs : List X) (i : ℕ) (d : X) → i < length xs → i ≡ 0 → (old out mid new : List ℕ) →
+    out ≡ old ++ with_commas (map f (take i xs)) → mid ≡ out → new ≡ mid ++ f (get_or xs i d) → new ≡ old ++ with_commas (map f (take (i + 1) xs))
+prints-first f [] i d h z old out mid new e m n = absurd (omega arith)
+prints-first f (x ∷ xs) zero d h z old out mid new e m n = n ∙ ap (λ y. y ++ f x) (m ∙ e ∙ append-nil old)
+prints-first f (x ∷ xs) (suc i) d h z old out mid new e m n = absurd (omega arith)
+
+-- the next text is written out of the next member, behind a comma
+pub prints-next : {X : Type 0} (f : X → List ℕ) (xs : List X) (i : ℕ) (d : X) → i < length xs → 0 < i → (old out mid new : List ℕ) →
+    out ≡ old ++ with_commas (map f (take i xs)) → mid ≡ out ++ 44 ∷ [] → new ≡ mid ++ f (get_or xs i d) → new ≡ old ++ with_commas (map f (take (i + 1) xs))
+prints-next f xs i d h z old out mid new e m n =
+    let some = with_commas (map f (take i xs)) in
+    let text = f (get_or xs i d) in
+    n ∙ ap (λ y. y ++ text) m ∙ append_assoc out (44 ∷ []) text ∙ ap (λ y. y ++ 44 ∷ text) e ∙ append_assoc old some (44 ∷ text) ∙ sym (ap (λ y. old ++ y) (with_commas-next f xs i d h z))

@@ -18,7 +18,6 @@ use Rattle.erl_reader.specs.Grammar.{Phrase, Phrases, numbers, meaning, meanings
 use Rattle.erl_reader.specs.Grammar.Phrase.{a_name, a_number, a_text, a_tuple, a_list, a_binary}
 use Rattle.erl_reader.specs.Grammar.Phrases.{no_phrases, phrase}
 use Rattle.erl_term.specs.Printing.{is_string, characters_of}
-use Rattle.erl_reader.specs.OneTerm.{HasTerm}
 use Rattle.erl_term.specs.Within.{IsShortName, HasShortNames, HaveShortNames, brackets, most_brackets, IsWithin}
 
 -- Rows
@@ -191,7 +190,3 @@ terms_limited limit is (r ∷ rs) short (row, rest, d, split, is_dot, t, others)
 -- What is read keeps within limits.
 pub keeps_limits : (limit : ℕ) (bytes : List ℕ) (rs : List Reading) → Reads limit bytes rs → AllByRecursion (λ r. IsWithin (limit + 1) r.term) rs
 keeps_limits limit bytes rs h = terms_limited limit (items_of bytes) rs (join_short (lex 0 0 (sealed bytes)) (lex_short 0 0 (sealed bytes))) h
-
--- So does the term of a text that has one.
-pub term_keeps_limits : (limit : ℕ) (bytes : List ℕ) (v : Value) → HasTerm limit bytes v → IsWithin (limit + 1) v
-term_keeps_limits limit bytes v (r, reads, is) = subst (IsWithin (limit + 1)) is (keeps_limits limit bytes (r ∷ []) reads).0

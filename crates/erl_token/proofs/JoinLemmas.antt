@@ -19,6 +19,7 @@ use Rattle.erl_token.specs.declared.content.Content.{Content}
 use Rattle.erl_token.specs.declared.token.Item.{Item as CodeItem}
 use Rattle.erl_token.specs.Views.{token_value, item_value, lexed, items_from}
 use Rattle.erl_token.specs.Scanned.{IsSpelled, byte_in}
+use Rattle.erl_token.proofs.ClassLemmas.{class_quote}
 use Rattle.erl_token.proofs.Lexemes.{takes_spelling, takes_item, begins_token, no_item}
 use Rattle.erl_token.specs.Lexing.{Token, Item, alone, some_name, some_number, some_text, text_in_quotes, class_of, is_bare_name_byte, name_spelling, bare, name_in_quotes, is_int, numbered, sign_of, doubled, ends_a_term, spelling, joined, in_front, put_item, join}
 use Rattle.erl_token.specs.Lexing.Token.{open_binary, close_binary, dot, name, number, text, stray, broken}
@@ -140,9 +141,6 @@ spelling-no_text at Sign x xs h =
 spelling-no_text at Quote x xs h = absurd (h refl)
 spelling-no_text at Apostrophe x xs h = name_in_quotes-no_text at (quoted 39 at (at + 1) 0 xs)
 spelling-no_text at k x xs h = refl
-
-class_quote : (x : ℕ) → class_of x ≡ Quote → x ≡ 34
-class_quote x e = grind (arith, nat_tests)
 
 -- what begins with another byte is no text
 no_text : (bytes : List ℕ) (at x : ℕ) → slice_get bytes at ≡ Some x → class_of x ≢ Blank → class_of x ≢ Percent → x ≢ 34 → text_first (lexed bytes at) ≡ false

@@ -1,3 +1,4 @@
+pub mod ClassLemmas
 pub mod Runs
 pub mod Parts
 pub mod TextPlaces

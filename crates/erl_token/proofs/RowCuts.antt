@@ -1,10 +1,10 @@
 -- Rows of items that are cut out of their text.
-use Rattle.std.proofs.Common.{◌≡◌, ℕ, zero, suc, ◌+◌, ◌-◌, ◌<◌, ◌≤◌, Bool, true, false, ◌&&◌, ◌||◌, ◌==◌, if◌then◌else◌, nat_lt, nat_le, List, [], ◌∷◌, ◌++◌, length, take, drop, get_or, Option, Some, None, refl, ap, sym, subst, ◌∙◌, arith, append_assoc}
+use Rattle.std.proofs.Common.{inl, inr, ◌⊎◌, ◌≡◌, ℕ, zero, suc, ◌+◌, ◌-◌, ◌<◌, ◌≤◌, Bool, true, false, ◌&&◌, ◌||◌, ◌==◌, if◌then◌else◌, nat_lt, nat_le, List, [], ◌∷◌, ◌++◌, length, take, drop, get_or, Option, Some, None, refl, ap, sym, subst, ◌∙◌, arith, append_assoc}
 use Rattle.std.specs.Prelude.{slice_range}
 use Rattle.std.specs.List.{list_all}
 use Rattle.std.specs.Str.{IsUtf8, is_utf8}
 use Rattle.std.specs.Str.Lossy.{utf8_valid_len, valid_len_up_to}
-use Rattle.std.proofs.lemmas.Bool.{and_parts}
+use Rattle.std.proofs.lemmas.Bool.{and_parts, cases_lt}
 use Rattle.std.proofs.lemmas.Bool.Decides.{nat_tests}
 use Rattle.std.proofs.lemmas.List.{length-append, length-drop, take-append-drop, take-append-le, drop-append-le, drop-drop, get_or-drop}
 use Rattle.std.proofs.Math.Seq.{take-append_seam, drop-append_seam}
@@ -17,6 +17,7 @@ use Rattle.erl_token.specs.Lexing.Token.{dot, stray, broken, text}
 use Rattle.erl_token.specs.Views.{seal}
 use Rattle.erl_token.specs.Tiling.{is_gap, Tile}
 use Rattle.erl_token.specs.Rows.{is_of_term, first_from, last_to, moved_item, moved, RowsStandAlone}
+use Rattle.erl_token.proofs.ClassLemmas.{class_large}
 use Rattle.erl_token.proofs.Sizes.{spelling_holds, comment_fits}
 use Rattle.erl_token.proofs.TilingLemmas.{lex_tiles}
 use Rattle.erl_token.proofs.CutLemmas.{stop}
@@ -316,28 +317,16 @@ behind_row c p bytes i (j ∷ row) more (l, t) =
 
 -- Bytes that are characters of their own
 
-small_class : (k : Class) (x : ℕ) → class_of x ≡ k → (k ≡ Other → ⊥) → x < 128
-small_class Blank x e h = grind (arith, nat_tests)
-small_class Percent x e h = grind (arith, nat_tests)
-small_class Comma x e h = grind (arith, nat_tests)
-small_class Dot x e h = grind (arith, nat_tests)
-small_class OpenTuple x e h = grind (arith, nat_tests)
-small_class CloseTuple x e h = grind (arith, nat_tests)
-small_class OpenList x e h = grind (arith, nat_tests)
-small_class CloseList x e h = grind (arith, nat_tests)
-small_class Less x e h = grind (arith, nat_tests)
-small_class Greater x e h = grind (arith, nat_tests)
-small_class Quote x e h = grind (arith, nat_tests)
-small_class Apostrophe x e h = grind (arith, nat_tests)
-small_class Dollar x e h = grind (arith, nat_tests)
-small_class Sign x e h = grind (arith, nat_tests)
-small_class Letter x e h = grind (arith, nat_tests)
-small_class Digit x e h = grind (arith, nat_tests)
-small_class Other x e h = absurd (h refl)
+small_class : (x : ℕ) → (class_of x ≡ Other → ⊥) → x < 128
+small_class x h = go (cases_lt x 128)
+  where
+    go : (x < 128) ⊎ (128 ≤ x) → x < 128
+    go (inl small) = small
+    go (inr large) = absurd (h (class_large x large))
 
 -- the first byte of an item that is no byte of its own
 first_small : (at x : ℕ) (xs : List ℕ) (i : Item) (is : List Item) → lex at 0 (x ∷ xs) ≡ i ∷ is → ((y : ℕ) → i.token ≡ stray y → ⊥) → x < 128
-first_small at x xs i is e never = small_class (class_of x) x refl (λ other. let same : i.token ≡ stray x = go other in never x same)
+first_small at x xs i is e never = small_class x (λ other. let same : i.token ≡ stray x = go other in never x same)
   where
     go : class_of x ≡ Other → i.token ≡ stray x
     go other =

@@ -7,7 +7,7 @@ ghost use Rattle.erl_token.specs.Contents.{piece_bytes, content_bytes, IsAlone};
 use std::alloc::{AllocError, Global};
 
 /// A piece of what quotes hold.
-#[derive(Clone, Copy, Debug)]
+#[derive(Clone, Copy)]
 pub enum Piece<'a> {
     /// A part of the text that is read.
     Part(&'a str),
@@ -16,7 +16,7 @@ pub enum Piece<'a> {
 }
 
 /// What quotes hold. Nothing of it is written out.
-#[derive(Debug, Drop)]
+#[derive(Drop)]
 pub enum Content<'a> {
     /// A part of the text that is read.
     Part(&'a str),

@@ -12,7 +12,7 @@ use crate::text::Text;
 const TOO_LARGE: u64 = 9_223_372_036_854_775_809;
 
 /// Digits in a row.
-#[derive(Clone, Copy, Debug)]
+#[derive(Clone, Copy)]
 pub struct Digits {
     /// The number that they spell, or 2^63 + 1 where it is larger.
     pub number: u64,

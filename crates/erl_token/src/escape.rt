@@ -9,7 +9,7 @@ use crate::digits::{Digits, digit_at, read_digits};
 use crate::text::Text;
 
 /// What bytes spell as a character.
-#[derive(Clone, Copy, Debug, PartialEq, Eq)]
+#[derive(Clone, Copy)]
 pub enum Escaped {
     /// The character, and the place behind it.
     Means(char, usize),

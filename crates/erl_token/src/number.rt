@@ -16,7 +16,7 @@ use crate::text::{At, Text};
 const LARGEST: u64 = 9_223_372_036_854_775_807;
 
 /// A number without its sign.
-#[derive(Clone, Copy, Debug, PartialEq, Eq)]
+#[derive(Clone, Copy)]
 pub enum Numeral {
     /// The number, or 2^63 + 1 where it is larger, and the place behind it.
     Whole(u64, usize),

@@ -8,7 +8,7 @@ ghost use Rattle.erl_token.specs.Scanned.{goes_on_with};
 use crate::text::{At, Text};
 
 /// Bytes in a row that a token or a comment goes on with.
-#[derive(Clone, Copy, Debug)]
+#[derive(Clone, Copy)]
 pub enum Run {
     InName,
     /// Between such quotes.

@@ -6,7 +6,7 @@ ghost use Rattle.erl_token.specs.Escapes.{itself};
 ghost use Rattle.erl_token.specs.Escapes.Character.{means};
 
 /// What stands at a place of a text.
-#[derive(Clone, Copy, Debug, PartialEq, Eq)]
+#[derive(Clone, Copy)]
 pub enum At {
     Byte(u8),
     /// Bytes that are not UTF-8. Nothing behind them is read.
@@ -15,7 +15,7 @@ pub enum At {
 }
 
 /// A text as far as it is UTF-8.
-#[derive(Clone, Copy, Debug)]
+#[derive(Clone, Copy)]
 pub struct Text<'a> {
     valid: &'a str,
     /// More bytes follow, which are not UTF-8.

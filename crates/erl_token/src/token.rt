@@ -4,7 +4,7 @@ use crate::content::Content;
 use crate::fault::TermFault;
 
 /// A pair of brackets.
-#[derive(Clone, Copy, Debug, PartialEq, Eq)]
+#[derive(Clone, Copy, PartialEq, Eq)]
 pub enum Bracket {
     Tuple,
     List,
@@ -12,7 +12,7 @@ pub enum Bracket {
 }
 
 /// What a token that is of no term begins as.
-#[derive(Clone, Copy, Debug, PartialEq, Eq)]
+#[derive(Clone, Copy)]
 pub enum Like {
     Name,
     Number,
@@ -22,7 +22,7 @@ pub enum Like {
 }
 
 /// A token.
-#[derive(Debug, Drop)]
+#[derive(Drop)]
 pub enum Token<'a> {
     Open(Bracket),
     Close(Bracket),
@@ -43,7 +43,7 @@ pub enum Token<'a> {
 }
 
 /// A token, from its first byte to behind its last.
-#[derive(Debug, Drop)]
+#[derive(Drop)]
 pub struct Item<'a> {
     pub token: Token<'a>,
     pub from: usize,

@@ -1,3 +1,4 @@
+pub mod Pairs
 mod Members
 pub mod Distinct
 pub mod Options

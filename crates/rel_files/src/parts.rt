@@ -2,7 +2,7 @@
 ghost use Rattle.std.specs.Prelude.{◌≡◌, codes};
 ghost use Rattle.std.specs.Option.{option_map};
 ghost use Rattle.erl_term.specs.Value.{members_of, value_of};
-ghost use Rattle.rel_files.specs.Parts.{list_in, pair_in, four_in, is_word, app_parts, title_in, erts_in, rel_parts};
+ghost use Rattle.rel_files.specs.Parts.{list_in, two, pair_in, four, four_in, is_word, app_members, app_parts, title_in, erts_in, rel_parts};
 
 use erl_term::Term;
 
@@ -42,9 +42,16 @@ fn pair_in(term: &Term) -> Option<(&Term, &Term)>
     ensures { option_map (λ p. (value_of p.0.now, value_of p.1.now)) result
         ≡ pair_in (value_of term.now) }
 {
-    let Term::Tuple(members) = term else {
-        return None;
-    };
+    match term {
+        Term::Tuple(members) => two(members),
+        _ => None,
+    }
+}
+
+fn two(members: &[Term]) -> Option<(&Term, &Term)>
+    ensures { option_map (λ p. (value_of p.0.now, value_of p.1.now)) result
+        ≡ two (members_of members.now) }
+{
     let (first, rest) = members.split_first()?;
     let (second, rest) = rest.split_first()?;
     match rest.split_first() {
@@ -58,17 +65,22 @@ fn four_in(term: &Term) -> Option<(&Term, &Term, &Term, &Term)>
         (value_of p.0.now, value_of p.1.now, value_of p.2.now, value_of p.3.now)) result
         ≡ four_in (value_of term.now) }
 {
-    let Term::Tuple(members) = term else {
-        return None;
-    };
+    match term {
+        Term::Tuple(members) => four(members),
+        _ => None,
+    }
+}
+
+#[tactic(auto, using(crate::proofs::Pairs::two_more))]
+fn four(members: &[Term]) -> Option<(&Term, &Term, &Term, &Term)>
+    ensures { option_map (λ p.
+        (value_of p.0.now, value_of p.1.now, value_of p.2.now, value_of p.3.now)) result
+        ≡ four (members_of members.now) }
+{
     let (first, rest) = members.split_first()?;
     let (second, rest) = rest.split_first()?;
-    let (third, rest) = rest.split_first()?;
-    let (fourth, rest) = rest.split_first()?;
-    match rest.split_first() {
-        None => Some((first, second, third, fourth)),
-        Some(_) => None,
-    }
+    let (third, fourth) = two(rest)?;
+    Some((first, second, third, fourth))
 }
 
 fn is_word(term: &Term, word: &str) -> bool
@@ -85,9 +97,17 @@ pub(crate) fn app_parts(term: &Term) -> Option<AppParts<'_>>
         record { name = p.name.now; vsn = members_of p.vsn.now; ending = members_of p.ending.now })
         result ≡ app_parts (value_of term.now) }
 {
-    let Term::Tuple(members) = term else {
-        return None;
-    };
+    match term {
+        Term::Tuple(members) => app_members(members),
+        _ => None,
+    }
+}
+
+fn app_members(members: &[Term]) -> Option<AppParts<'_>>
+    ensures { option_map (λ p.
+        record { name = p.name.now; vsn = members_of p.vsn.now; ending = members_of p.ending.now })
+        result ≡ app_members (members_of members.now) }
+{
     let (first, rest) = members.split_first()?;
     let (second, ending) = rest.split_first()?;
     match (first, second) {

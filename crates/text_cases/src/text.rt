@@ -35,11 +35,17 @@ fn add_copies(bytes: &mut Vec<u8>, copies: &str) -> Result<bool, AllocError> {
     let Ok(count) = count.parse::<u16>() else {
         return Ok(false);
     };
-    for _ in 0..count {
-        bytes.extend_from_slice(text.as_bytes())?;
-    }
+    add_times(bytes, text.as_bytes(), count)?;
     bytes.extend_from_slice(rest.as_bytes())?;
     Ok(true)
+}
+
+// Appends this many copies of a text.
+fn add_times(bytes: &mut Vec<u8>, text: &[u8], count: u16) -> Result<(), AllocError> {
+    for _ in 0..count {
+        bytes.extend_from_slice(text)?;
+    }
+    Ok(())
 }
 
 // Appends the byte of two hexadecimal digits, and what follows.

@@ -1,5 +1,5 @@
 //! Atoms as text: bare, or within quotes.
-ghost use Rattle.std.specs.Prelude.{◌≡◌, ◌++◌, OnOk, string_bytes};
+ghost use Rattle.std.specs.Prelude.{◌≡◌, ◌++◌, drop, take, OnOk, string_bytes};
 ghost use Rattle.std.specs.List.{list_all, list_any};
 ghost use Rattle.std.specs.Str.{bytes_eq};
 ghost use Rattle.erl_token.specs.Lexing.{is_bare_name_byte};
@@ -49,7 +49,7 @@ fn are_name_bytes(bytes: &[u8]) -> bool
 fn is_bare_name_byte(byte: u8) -> bool
     ensures { result ≡ is_bare_name_byte byte }
 {
-    matches!(byte, b'a'..=b'z' | b'A'..=b'Z' | b'0'..=b'9' | b'_' | b'@')
+    matches!(byte, b'a'..=b'z' | b'A'..=b'Z') || matches!(byte, b'0'..=b'9' | b'_' | b'@')
 }
 
 // Whether a name is a word that is no atom without quotes. None has more bytes than `receive`.
@@ -57,38 +57,37 @@ fn is_reserved(name: &str) -> bool
     ensures { result ≡ list_any (bytes_eq name.now) reserved_words }
 {
     name.len() <= 7
-        && matches!(
-            name,
-            "after"
-                | "and"
-                | "andalso"
-                | "band"
-                | "begin"
-                | "bnot"
-                | "bor"
-                | "bsl"
-                | "bsr"
-                | "bxor"
-                | "case"
-                | "catch"
-                | "cond"
-                | "div"
-                | "else"
-                | "end"
-                | "fun"
-                | "if"
-                | "let"
-                | "maybe"
-                | "not"
-                | "of"
-                | "or"
-                | "orelse"
-                | "receive"
-                | "rem"
-                | "try"
-                | "when"
-                | "xor"
-        )
+        && (is_reserved_a_to_b(name) || is_reserved_c_to_m(name) || is_reserved_n_to_x(name))
+}
+
+// Whether a name is one of the reserved words that begin with `a` or `b`.
+fn is_reserved_a_to_b(name: &str) -> bool
+    ensures { result ≡ list_any (bytes_eq name.now) (take 10 reserved_words) }
+{
+    matches!(
+        name,
+        "after" | "and" | "andalso" | "band" | "begin" | "bnot" | "bor" | "bsl" | "bsr" | "bxor"
+    )
+}
+
+// Whether a name is one of those that begin with `c` to `m`.
+fn is_reserved_c_to_m(name: &str) -> bool
+    ensures { result ≡ list_any (bytes_eq name.now) (take 10 (drop 10 reserved_words)) }
+{
+    matches!(
+        name,
+        "case" | "catch" | "cond" | "div" | "else" | "end" | "fun" | "if" | "let" | "maybe"
+    )
+}
+
+// Whether a name is one of those that begin with `n` to `x`.
+fn is_reserved_n_to_x(name: &str) -> bool
+    ensures { result ≡ list_any (bytes_eq name.now) (drop 20 reserved_words) }
+{
+    matches!(
+        name,
+        "not" | "of" | "or" | "orelse" | "receive" | "rem" | "try" | "when" | "xor"
+    )
 }
 
 // Appends a character of an atom, within the quotes.

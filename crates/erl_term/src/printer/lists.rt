@@ -1,5 +1,6 @@
 //! Lists of characters as strings, and bytes as binaries.
 ghost use Rattle.std.specs.Prelude.{◌≡◌, ◌<◌, ◌++◌, All, IfSome, OnOk, string_bytes};
+ghost use Rattle.std.specs.Fmt.{decimal};
 ghost use Rattle.erl_reader.specs.Value.{members_of, value_of};
 ghost use Rattle.erl_term.specs.Printing.{character_of, characters_of, is_string, string_character, string_text, binary_text};
 
@@ -71,7 +72,15 @@ pub(super) fn print_bytes(out: &mut String, bytes: &[u8]) -> Result<(), AllocErr
         if i > 0 {
             out.push(',')?;
         }
-        write!(out, "{byte}")?;
+        print_byte(out, *byte)?;
     }
     out.push_str(">>")
+}
+
+// Appends a byte in decimal.
+fn print_byte(out: &mut String, byte: u8) -> Result<(), AllocError>
+    ensures printed { OnOk result (string_bytes out.new ≡ string_bytes out.old ++ decimal byte) }
+    ensures fits { byte < 256 }
+{
+    write!(out, "{byte}")
 }

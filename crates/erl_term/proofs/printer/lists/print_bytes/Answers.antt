@@ -1,11 +1,17 @@
-use Rattle.std.proofs.Common.{arith}
+use Rattle.std.proofs.Common.{◌++◌, string_bytes, ap, ◌∙◌, lit<, arith}
 use Rattle.std.specs.Fmt.{decimal}
-use Rattle.std.proofs.lemmas.Grind.{common_steps}
-use Rattle.erl_term.proofs.Commas.{with_commas-first, with_commas-next}
+use Rattle.erl_term.proofs.Commas.{prints-first, prints-next}
+use Rattle.erl_term.proofs.printer.lists.print_bytes.Goals.{then-i-gt0+in_ok-push, else-i-gt0}
 use Rattle.erl_term.proofs.printer.lists.print_bytes.Goals as goal
 
 pub loop-i-preserved : goal.loop-i-preserved
 loop-i-preserved c =
-    let first = with_commas-first decimal c.args.bytes.now c.loop-i.i 0 c.loop-i-test.true in
-    let next = with_commas-next decimal c.args.bytes.now c.loop-i.i 0 c.loop-i-test.true in
-    grind (arith, common_steps, first, next)
+    let bytes = c.args.bytes.now in
+    let old = string_bytes c.push_str.new.self in
+    let out = string_bytes c.loop-i.out in
+    let mid = string_bytes c.if-i-gt0.out in
+    let new = string_bytes c.print_byte.new.out in
+    elim c.if-i-gt0.branch [
+      | then-i-gt0+in_ok-push w ↦ prints-next decimal bytes c.loop-i.i 0 c.loop-i-test.true w.if-i-gt0.true old out mid new c.loop-i.invariant (ap string_bytes w.out-is ∙ w.in_ok-push.ensures.bytes ∙ ap (λ x. out ++ x) (w.in_ok-push.ensures.ascii (lit< tt))) c.in_ok-print_byte.ensures.printed
+      | else-i-gt0 w ↦ prints-first decimal bytes c.loop-i.i 0 c.loop-i-test.true (omega (arith, w.if-i-gt0.false)) old out mid new c.loop-i.invariant (ap string_bytes w.out-is) c.in_ok-print_byte.ensures.printed
+    ]
