@@ -1,7 +1,6 @@
 //! A reader and a writer in memory.
 use counted_io::{CountedReader, CountedWriter};
 use erl_consult::{ConsultError, consult};
-use erl_term::TermFault;
 use std::alloc::Global;
 use std::io;
 use std::io::{Read, Write};
@@ -18,48 +17,68 @@ fn consulted<R: Read + Drop>(alloc: Global, reader: R) -> (Vec<u8>, Result<(), C
     (written, ended)
 }
 
-/// The text is listed so.
-fn lists(rt: &impl Abort, alloc: Global, text: &str, listing: &str) {
-    let (written, ended) = consulted(alloc, text.as_bytes());
-    assert!(rt; ended == Ok(()), "{text}");
-    assert_eq!(rt; written.as_slice(), listing.as_bytes(), "{text}");
+fn same(rt: &impl Abort, found: &[u8], wanted: &str) {
+    assert_eq!(rt; found, wanted.as_bytes());
 }
 
-/// What this reader gives is refused so, and nothing is written.
-fn refuses<R: Read + Drop>(rt: &impl Abort, alloc: Global, reader: R, error: ConsultError) {
-    let (written, ended) = consulted(alloc, reader);
-    assert!(rt; ended == Err(error) && written.is_empty(), "{error}");
-}
-
-#[test]
-fn terms_one_a_line(rt: HostRuntime) {
-    for (text, listing) in [
-        ("", ""),
-        ("a. {b , 1}.", "a.\n{b,1}.\n"),
-        ("<<\"hi\">>. [].\n", "<<104,105>>.\n[].\n"),
-    ] {
-        lists(&rt, rt.alloc(), text, listing);
+/// What was written, and behind it the error by which it ended.
+fn with_end(
+    alloc: Global,
+    written: Vec<u8>,
+    ended: Result<(), ConsultError>,
+) -> Result<Vec<u8>, Fail> {
+    let mut shown = written;
+    if let Err(error) = ended {
+        shown.extend_from_slice(format!(in alloc; "{error:?}")?.as_bytes())?;
     }
+    Ok(shown)
+}
+
+/// What this reader gives is listed so, or refused so.
+fn shows<R: Read + Drop>(
+    rt: &impl Abort,
+    alloc: Global,
+    reader: R,
+    wanted: &str,
+) -> Result<(), Fail> {
+    let (written, ended) = consulted(alloc, reader);
+    let shown = with_end(alloc, written, ended)?;
+    same(rt, shown.as_slice(), wanted);
+    Ok(())
 }
 
 #[test]
-fn nothing_is_written_of_a_faulty_text(rt: HostRuntime) {
-    let fault = ConsultError::Fault(TermFault::MissingDot(4));
-    refuses(&rt, rt.alloc(), b"a. b".as_slice(), fault);
+fn terms_one_a_line(rt: HostRuntime) -> Result<(), Fail> {
+    let bytes = b"<<\"hi\">>. [].\n".as_slice();
+    shows(&rt, rt.alloc(), b"".as_slice(), "")?;
+    shows(&rt, rt.alloc(), b"a. {b , 1}.".as_slice(), "a.\n{b,1}.\n")?;
+    shows(&rt, rt.alloc(), bytes, "<<104,105>>.\n[].\n")
+}
+
+#[test]
+fn nothing_is_written_of_a_faulty_text(rt: HostRuntime) -> Result<(), Fail> {
+    shows(&rt, rt.alloc(), b"a. b".as_slice(), "Fault(MissingDot(4))")
+}
+
+/// So many blanks, and this behind them, are listed so, or refused so.
+fn blanks_show(
+    rt: &impl Abort,
+    alloc: Global,
+    count: usize,
+    rest: &[u8],
+    wanted: &str,
+) -> Result<(), Fail> {
+    let mut text = vec![in alloc; b' '; count]?;
+    text.extend_from_slice(rest)?;
+    shows(rt, alloc, text.as_slice(), wanted)
 }
 
 /// A text of one byte more than the longest is too long, whatever fault it has.
 #[test]
 fn longest_text(rt: HostRuntime) -> Result<(), Fail> {
-    let alloc = rt.alloc();
-    let mut blanks = vec![in alloc; b' '; 1_048_576]?;
-    let (written, ended) = consulted(alloc, blanks.as_slice());
-    assert!(&rt; ended == Ok(()) && written.is_empty());
-    blanks.push(b' ')?;
-    refuses(&rt, alloc, blanks.as_slice(), ConsultError::TooLong);
-    blanks.push(b'?')?;
-    refuses(&rt, alloc, blanks.as_slice(), ConsultError::TooLong);
-    Ok(())
+    blanks_show(&rt, rt.alloc(), 1_048_576, b"", "")?;
+    blanks_show(&rt, rt.alloc(), 1_048_577, b"", "TooLong")?;
+    blanks_show(&rt, rt.alloc(), 1_048_577, b"?", "TooLong")
 }
 
 /// Gives a whole atom, and fails at the next read.
@@ -83,19 +102,20 @@ impl Read for Failing {
     }
 }
 
+/// A read that fails so ends a listing.
+fn fails_reading(rt: &impl Abort, alloc: Global, kind: io::ErrorKind) -> Result<(), Fail> {
+    let reader = Failing {
+        is_begun: false,
+        kind,
+    };
+    shows(rt, alloc, reader, "Read")
+}
+
 #[test]
-fn reads_that_fail(rt: HostRuntime) {
-    for kind in [
-        io::ErrorKind::Other,
-        io::ErrorKind::OutOfMemory,
-        io::ErrorKind::Interrupted,
-    ] {
-        let reader = Failing {
-            is_begun: false,
-            kind,
-        };
-        refuses(&rt, rt.alloc(), reader, ConsultError::Read);
-    }
+fn reads_that_fail(rt: HostRuntime) -> Result<(), Fail> {
+    fails_reading(&rt, rt.alloc(), io::ErrorKind::Other)?;
+    fails_reading(&rt, rt.alloc(), io::ErrorKind::OutOfMemory)?;
+    fails_reading(&rt, rt.alloc(), io::ErrorKind::Interrupted)
 }
 
 /// Takes one byte at a write, for so many writes. Its flushes may fail.
@@ -125,25 +145,28 @@ impl Write for Narrow<'_> {
     }
 }
 
-/// The listing of a text of two terms ends by a failed write, and so much of it was written.
+/// What is written of the listing of a text of two terms, and behind it how it ended.
+fn cut_off(alloc: Global, writes: u64, flushes: bool) -> Result<Vec<u8>, Fail> {
+    let mut written = Vec::new(alloc);
+    let mut reader = CountedReader::new(b"a. {b , 1}.".as_slice());
+    let mut writer = CountedWriter::new(Narrow {
+        writes,
+        flushes,
+        written: &mut written,
+    });
+    let ended = consult(alloc, &mut reader, &mut writer);
+    drop(writer);
+    with_end(alloc, written, ended)
+}
+
 #[test]
-fn writes_that_fail(rt: HostRuntime) {
-    let alloc = rt.alloc();
-    for (writes, flushes, prefix) in [
-        (0, true, ""),
-        (4, true, "a.\n{"),
-        (99, false, "a.\n{b,1}.\n"),
-    ] {
-        let mut written = Vec::new(alloc);
-        let mut reader = CountedReader::new(b"a. {b , 1}.".as_slice());
-        let mut writer = CountedWriter::new(Narrow {
-            writes,
-            flushes,
-            written: &mut written,
-        });
-        let ended = consult(alloc, &mut reader, &mut writer);
-        drop(writer);
-        assert!(&rt; ended == Err(ConsultError::Write), "{writes}");
-        assert_eq!(&rt; written.as_slice(), prefix.as_bytes(), "{writes}");
-    }
+fn writes_that_fail(rt: HostRuntime) -> Result<(), Fail> {
+    same(&rt, cut_off(rt.alloc(), 0, true)?.as_slice(), "Write");
+    same(&rt, cut_off(rt.alloc(), 4, true)?.as_slice(), "a.\n{Write");
+    same(
+        &rt,
+        cut_off(rt.alloc(), 99, false)?.as_slice(),
+        "a.\n{b,1}.\nWrite",
+    );
+    Ok(())
 }

@@ -1,9 +1,9 @@
-// Stores on disks in memory, and what is asked of them.
+// Stores on disks in memory, and what is asked of them. What is found is written behind a text, with a blank before each.
 ghost use Rattle.rel_store.specs.State.{IsSettled, IsSoundStore};
 
 use rel_disk::{DeviceFault, Disk, MemDisk};
 use rel_store::{Store, StoreError};
-use std::alloc::Global;
+use std::alloc::{AllocError, Global};
 use std::process::Abort;
 use std::test::Fail;
 
@@ -11,12 +11,8 @@ pub(crate) const CAPACITY: usize = 4096;
 
 pub(crate) const LOG: usize = 1 << 16;
 
-pub(crate) fn same(rt: &impl Abort, found: &[u8], wanted: &[u8]) {
+pub(crate) fn same(rt: &impl Abort, found: &str, wanted: &str) {
     assert_eq!(rt; found, wanted);
-}
-
-pub(crate) fn holds(rt: &impl Abort, is: bool, name: &str) {
-    assert!(rt; is, "{name}");
 }
 
 // All the bytes of a disk.
@@ -46,11 +42,11 @@ pub(crate) fn shorten<D: Disk>(disk: &mut D, len: u64) -> Result<(), DeviceFault
 }
 
 // A new store with the record `[].`.
-pub(crate) fn new_store(rt: &impl Abort, alloc: Global) -> Result<MemDisk, Fail> {
+pub(crate) fn new_store(alloc: Global) -> Result<MemDisk, Fail> {
     let disk = MemDisk::new(alloc, CAPACITY, LOG)?;
     match Store::create(alloc, disk, b"[].", b"14.2 A\n") {
         Ok(store) => Ok(store.into_disk()),
-        Err(_) => panic!(rt; "no store was made"),
+        Err((error, _disk)) => Err(error.into()),
     }
 }
 
@@ -67,28 +63,75 @@ pub(crate) fn opened<D: Disk + Drop>(rt: &impl Abort, alloc: Global, disk: D) ->
 
 // A store with the records `[].` and `a.`.
 pub(crate) fn two_records(rt: &impl Abort, alloc: Global) -> Result<MemDisk, Fail> {
-    let mut store = opened(rt, alloc, new_store(rt, alloc)?);
+    let mut store = opened(rt, alloc, new_store(alloc)?);
     store.append(alloc, b"a.")?;
     Ok(store.into_disk())
 }
 
-// How many records an opening finds, or why it refuses.
-pub(crate) fn found(alloc: Global, disk: MemDisk) -> Result<usize, StoreError> {
-    match Store::open_disk(alloc, disk) {
-        Ok(store) => {
-            let count = store.records().len();
-            let _disk = store.into_disk();
-            Ok(count)
-        }
-        Err((error, _)) => Err(error),
+// Writes why a call was refused.
+pub(crate) fn push_refusal(error: StoreError, text: &mut String) -> Result<(), AllocError> {
+    write!(text, " {error:?}")
+}
+
+// Writes what a call answers.
+pub(crate) fn push_answer(
+    answer: Result<(), StoreError>,
+    text: &mut String,
+) -> Result<(), AllocError> {
+    match answer {
+        Ok(()) => text.push_str(" ok"),
+        Err(error) => push_refusal(error, text),
     }
 }
 
-pub(crate) fn finds(
-    rt: &impl Abort,
+// Writes bytes as a text.
+pub(crate) fn push_bytes(alloc: Global, bytes: &[u8], text: &mut String) -> Result<(), AllocError> {
+    text.push(' ')?;
+    text.push_str(String::from_utf8_lossy(alloc, bytes)?.as_str())
+}
+
+// Writes how many records an opening finds, or why it refuses.
+pub(crate) fn push_found(
     alloc: Global,
     disk: MemDisk,
-    wanted: Result<usize, StoreError>,
-) {
-    assert_eq!(rt; found(alloc, disk), wanted);
+    text: &mut String,
+) -> Result<(), AllocError> {
+    match Store::open_disk(alloc, disk) {
+        Ok(store) => write!(text, " {}", store.records().len()),
+        Err((error, _disk)) => push_refusal(error, text),
+    }
+}
+
+// Writes what a creation with this first record answers. Hands the disk back.
+pub(crate) fn create_on<D: Disk + Drop>(
+    alloc: Global,
+    disk: D,
+    first: &[u8],
+    text: &mut String,
+) -> Result<D, AllocError> {
+    match Store::create(alloc, disk, first, b"") {
+        Ok(store) => {
+            text.push_str(" ok")?;
+            Ok(store.into_disk())
+        }
+        Err((error, disk)) => {
+            push_refusal(error, text)?;
+            Ok(disk)
+        }
+    }
+}
+
+// Writes the text of the start slot.
+pub(crate) fn push_slot<D: Disk>(
+    alloc: Global,
+    store: &mut Store<D>,
+    text: &mut String,
+) -> Result<(), AllocError>
+    requires { IsSoundStore D.seen D.may_leave store.old }
+{
+    let mut slot = [9; 128];
+    match store.read_slot(&mut slot) {
+        Ok(()) => push_bytes(alloc, &slot[..9], text),
+        Err(error) => push_refusal(error, text),
+    }
 }

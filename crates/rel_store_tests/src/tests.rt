@@ -1,115 +1,129 @@
 // The bytes of a store, its records and its start slot.
 use crate::callers::append_both;
 use crate::disks::{
-    CAPACITY, LOG, bytes_of, finds, found, holds, new_store, opened, patch, same, two_records,
+    CAPACITY, LOG, bytes_of, create_on, new_store, opened, patch, push_answer, push_bytes,
+    push_found, push_slot, same, two_records,
 };
 use crate::failures::slot_on;
 use rel_disk::{Disk, MemDisk};
-use rel_store::{MAX_BODY, Store, StoreError};
-use std::alloc::Global;
+use rel_store::{MAX_BODY, Store};
+use std::alloc::{AllocError, Global};
 use std::process::Abort;
 use std::test::Fail;
 
-// These bytes stand at this place.
-fn stands_at(rt: &impl Abort, bytes: &[u8], at: usize, wanted: &[u8]) {
-    match bytes.get(at..) {
-        Some(rest) => holds(rt, rest.starts_with(wanted), "the bytes stand there"),
-        None => panic!(rt; "the disk ends before {at}"),
-    }
+// Writes the bytes of this part, where there are so many.
+fn push_part(
+    alloc: Global,
+    bytes: &[u8],
+    from: usize,
+    to: usize,
+    text: &mut String,
+) -> Result<(), AllocError> {
+    push_bytes(alloc, bytes.get(from..to).unwrap_or(b"none"), text)
 }
+
+// The head, the start slot behind its length, the base, and the record between its gate and the closed one.
+const NEW_STORE: &str =
+    "297 \x01RELSTOR1\0\0\0\0\0\0\0 \x0714.2 A\n\0 \0\0\0\0\0\0\x01\x20 \x01\0\0\0\x03[].\0";
 
 #[test]
 fn bytes_of_a_new_store(rt: HostRuntime) -> Result<(), Fail> {
     let alloc = rt.alloc();
-    let mut disk = new_store(&rt, alloc)?;
+    let mut disk = new_store(alloc)?;
     let bytes = bytes_of(alloc, &mut disk)?;
-    let parts: [(usize, &[u8]); 4] = [
-        (0, b"\x01RELSTOR1\0\0\0\0\0\0\0"),
-        (16, b"\x0714.2 A\n\0"),
-        (272, &[0, 0, 0, 0, 0, 0, 1, 0x20]),
-        (288, &[1, 0, 0, 0, 3, 0x5b, 0x5d, 0x2e, 0]),
-    ];
-    for (at, wanted) in parts {
-        stands_at(&rt, &bytes, at, wanted);
+    let mut text = bytes.len().to_string(alloc)?;
+    for (from, to) in [(0, 16), (16, 25), (272, 280), (288, 297)] {
+        push_part(alloc, &bytes, from, to, &mut text)?;
     }
-    assert_eq!(rt; bytes.len(), 297);
+    same(&rt, text.as_str(), NEW_STORE);
     Ok(())
 }
 
-// The records of a store are these two.
-fn holds_two(rt: &impl Abort, records: &[Vec<u8>], wanted: [&[u8]; 2]) {
-    assert_eq!(rt; records.len(), 2);
-    for (record, body) in records.iter().zip(wanted) {
-        same(rt, record, body);
+// Writes the records of the store on a disk.
+fn push_records(
+    rt: &impl Abort,
+    alloc: Global,
+    disk: MemDisk,
+    text: &mut String,
+) -> Result<(), AllocError> {
+    let store = opened(rt, alloc, disk);
+    for record in store.records() {
+        push_bytes(alloc, record, text)?;
     }
+    Ok(())
 }
 
 #[test]
 fn a_record_is_added(rt: HostRuntime) -> Result<(), Fail> {
     let alloc = rt.alloc();
-    let mut store = opened(&rt, alloc, new_store(&rt, alloc)?);
+    let mut store = opened(&rt, alloc, new_store(alloc)?);
     store.reserve(alloc, 2)?;
     store.append(alloc, b"a.")?;
     let mut disk = store.into_disk();
-    assert_eq!(rt; disk.len()?, 304);
-    let store = opened(&rt, alloc, disk);
-    holds_two(&rt, store.records(), [b"[].", b"a."]);
+    let mut text = disk.len()?.to_string(alloc)?;
+    push_records(&rt, alloc, disk, &mut text)?;
+    same(&rt, text.as_str(), "304 []. a.");
     Ok(())
 }
 
 #[test]
 fn a_store_is_not_made_over_another(rt: HostRuntime) -> Result<(), Fail> {
     let alloc = rt.alloc();
-    match Store::create(alloc, two_records(&rt, alloc)?, b"[].", b"") {
-        Ok(_) => panic!(rt; "a store is made over another"),
-        Err((error, disk)) => {
-            assert_eq!(rt; error, StoreError::Exists);
-            finds(&rt, alloc, disk, Ok(2));
-        }
-    }
+    let mut text = String::new(alloc);
+    let disk = create_on(alloc, two_records(&rt, alloc)?, b"[].", &mut text)?;
+    push_found(alloc, disk, &mut text)?;
+    same(&rt, text.as_str(), " Exists 2");
     Ok(())
 }
 
 #[test]
 fn two_records_are_added(rt: HostRuntime) -> Result<(), Fail> {
     let alloc = rt.alloc();
-    let mut store = opened(&rt, alloc, new_store(&rt, alloc)?);
+    let mut store = opened(&rt, alloc, new_store(alloc)?);
     append_both(&mut store, alloc, b"a.", b"b.")?;
-    finds(&rt, alloc, store.into_disk(), Ok(3));
+    let mut text = String::new(alloc);
+    push_records(&rt, alloc, store.into_disk(), &mut text)?;
+    same(&rt, text.as_str(), " []. a. b.");
     Ok(())
 }
 
-// Writes the start slot of the store on a disk: its text is read then, and this selector chooses it.
-fn slot_turns(
-    rt: &impl Abort,
-    alloc: Global,
-    disk: MemDisk,
-    selector: u8,
-) -> Result<MemDisk, Fail> {
-    let (answer, disk) = slot_on(rt, alloc, disk);
-    let slot = answer?;
-    same(rt, &slot[..9], b"\x0714.2 B\n\0");
-    let mut disk = disk;
+// Writes the start slot of the store on a disk, and the length and the selector of the disk then.
+fn turn_slot(alloc: Global, disk: MemDisk, text: &mut String) -> Result<MemDisk, Fail> {
+    let mut disk = slot_on(alloc, disk, text)?;
     let bytes = bytes_of(alloc, &mut disk)?;
-    assert_eq!(rt; bytes.len(), 297);
-    assert_eq!(rt; bytes[9], selector);
+    let selector = bytes.get(9).copied().unwrap_or(99);
+    write!(text, " {} {selector}\n", bytes.len())?;
     Ok(disk)
 }
+
+// The text that is read, one record, the length of the disk, and the selector.
+const TURNS: &str = " \x0714.2 B\n\0 1 297 1
+ \x0714.2 B\n\0 1 297 0
+ \x0714.2 B\n\0 1 297 1
+";
 
 #[test]
 fn start_slots_take_turns(rt: HostRuntime) -> Result<(), Fail> {
     let alloc = rt.alloc();
-    let mut disk = new_store(&rt, alloc)?;
-    for selector in [1, 0, 1] {
-        disk = slot_turns(&rt, alloc, disk, selector)?;
+    let mut text = String::new(alloc);
+    let mut disk = new_store(alloc)?;
+    for _ in 0..3 {
+        disk = turn_slot(alloc, disk, &mut text)?;
     }
-    // A selector that is neither chooses the first slot.
+    same(&rt, text.as_str(), TURNS);
+    Ok(())
+}
+
+#[test]
+fn another_selector_chooses_the_first_slot(rt: HostRuntime) -> Result<(), Fail> {
+    let alloc = rt.alloc();
+    let mut text = String::new(alloc);
+    let mut disk = turn_slot(alloc, new_store(alloc)?, &mut String::new(alloc))?;
     patch(&mut disk, 9, &[7])?;
     patch(&mut disk, 16, b"\x01x\0")?;
-    let mut slot = [9; 128];
     let mut store = opened(&rt, alloc, disk);
-    store.read_slot(&mut slot)?;
-    same(&rt, &slot[..3], b"\x01x\0");
+    push_slot(alloc, &mut store, &mut text)?;
+    same(&rt, text.as_str(), " \x01x\0.2 A\n\0");
     Ok(())
 }
 
@@ -118,29 +132,25 @@ fn dots(alloc: Global, len: usize) -> Result<Vec<u8>, Fail> {
     Ok(vec![in alloc; 0x2e; len]?)
 }
 
-// What a creation with this first record answers, and what an opening finds then.
-fn made(
-    alloc: Global,
-    disk: MemDisk,
-    first: &[u8],
-) -> Result<Result<usize, StoreError>, StoreError> {
-    match Store::create(alloc, disk, first, b"") {
-        Ok(store) => Ok(found(alloc, store.into_disk())),
-        Err((error, _)) => Err(error),
-    }
+// A record of 16 MiB is the longest.
+#[test]
+fn longest_first_record(rt: HostRuntime) -> Result<(), Fail> {
+    let alloc = rt.alloc();
+    let mut text = String::new(alloc);
+    let long = dots(alloc, MAX_BODY + 1)?;
+    create_on(alloc, MemDisk::new(alloc, CAPACITY, LOG)?, &long, &mut text)?;
+    same(&rt, text.as_str(), " Full");
+    Ok(())
 }
 
-// A record of 16 MiB is the longest.
 #[test]
 fn longest_records(rt: HostRuntime) -> Result<(), Fail> {
     let alloc = rt.alloc();
-    let long = dots(alloc, MAX_BODY + 1)?;
-    let disk = MemDisk::new(alloc, CAPACITY, LOG)?;
-    assert_eq!(rt; made(alloc, disk, &long), Err(StoreError::Full));
-    let mut store = opened(&rt, alloc, new_store(&rt, alloc)?);
-    holds(&rt, store.fits(MAX_BODY), "the longest fits");
-    holds(&rt, !store.fits(MAX_BODY + 1), "one byte more does not");
-    assert_eq!(rt; store.append(alloc, &long), Err(StoreError::Full));
+    let mut store = opened(&rt, alloc, new_store(alloc)?);
+    let (longest, longer) = (store.fits(MAX_BODY), store.fits(MAX_BODY + 1));
+    let mut text = format!(in alloc; "{longest} {longer}")?;
+    push_answer(store.append(alloc, &dots(alloc, MAX_BODY + 1)?), &mut text)?;
+    same(&rt, text.as_str(), "true false Full");
     Ok(())
 }
 
@@ -148,12 +158,14 @@ fn longest_records(rt: HostRuntime) -> Result<(), Fail> {
 #[test]
 fn reserved_memory_is_given_back(rt: HostRuntime) -> Result<(), Fail> {
     let alloc = rt.alloc();
-    let mut store = opened(&rt, alloc, new_store(&rt, alloc)?);
+    let mut store = opened(&rt, alloc, new_store(alloc)?);
     store.reserve(alloc, MAX_BODY)?;
     store.append(alloc, b"a.")?;
+    let mut text = String::new(alloc);
     for record in store.records() {
-        holds(&rt, record.capacity() <= 3, "it has no more than it needs");
+        write!(text, "{} ", record.capacity() <= 3)?;
     }
+    same(&rt, text.as_str(), "true true ");
     Ok(())
 }
 
@@ -161,10 +173,15 @@ fn reserved_memory_is_given_back(rt: HostRuntime) -> Result<(), Fail> {
 #[test]
 fn full_disks(rt: HostRuntime) -> Result<(), Fail> {
     let alloc = rt.alloc();
-    let mut store = opened(&rt, alloc, new_store(&rt, alloc)?);
-    store.append(alloc, &dots(alloc, CAPACITY - 297 - 6)?)?;
-    assert_eq!(rt; store.append(alloc, b""), Err(StoreError::Device));
-    finds(&rt, alloc, store.into_disk(), Ok(2));
+    let mut text = String::new(alloc);
+    let mut store = opened(&rt, alloc, new_store(alloc)?);
+    push_answer(
+        store.append(alloc, &dots(alloc, CAPACITY - 297 - 6)?),
+        &mut text,
+    )?;
+    push_answer(store.append(alloc, b""), &mut text)?;
+    push_found(alloc, store.into_disk(), &mut text)?;
+    same(&rt, text.as_str(), " ok Device 2");
     Ok(())
 }
 
@@ -173,14 +190,12 @@ fn full_disks(rt: HostRuntime) -> Result<(), Fail> {
 #[test]
 fn full_logs(rt: HostRuntime) -> Result<(), Fail> {
     let alloc = rt.alloc();
-    let rows = [
-        (489, Err(StoreError::Device)),
-        (490, Ok(Err(StoreError::Device))),
-        (522, Ok(Ok(1))),
-    ];
-    for (log, wanted) in rows {
+    let mut text = String::new(alloc);
+    for log in [489, 490, 522] {
         let disk = MemDisk::new(alloc, CAPACITY, log)?;
-        assert_eq!(rt; made(alloc, disk, b"[]."), wanted, "a log of {log}");
+        let disk = create_on(alloc, disk, b"[].", &mut text)?;
+        push_found(alloc, disk, &mut text)?;
     }
+    same(&rt, text.as_str(), " Device Device ok Device ok 1");
     Ok(())
 }
