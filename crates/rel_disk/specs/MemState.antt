@@ -11,7 +11,7 @@ pub record MemState : Type 0 where
   pub failures : ℕ
 
 -- the call leaves no more bytes than the disk holds, and takes no more of the log than is left
-pub record HasRoom (disk : MemState) (call : Call) : Type 0 where
+pub record HasRoomFor (disk : MemState) (call : Call) : Type 0 where
   pub held : length (content disk.first (call ∷ disk.calls)) ≤ disk.capacity
   pub logged : cost disk.first disk.calls call ≤ disk.room
 

@@ -5,7 +5,7 @@ ghost use Rattle.rel_disk.specs.Calls.{wrote, cut_to, synced, content};
 ghost use Rattle.rel_disk.specs.Damage.{overwritten, Torn, Cut, Follows, Within};
 ghost use Rattle.rel_disk.specs.ImageLaws.{content_is_image, counts_now, only_now};
 ghost use Rattle.rel_disk.specs.Images.{Image, ImageSince};
-ghost use Rattle.rel_disk.specs.MemState.{HasRoom, after_call, after_fault};
+ghost use Rattle.rel_disk.specs.MemState.{HasRoomFor, after_call, after_fault};
 ghost use Rattle.rel_disk.specs.Moments.{HasFailed};
 
 use crate::log::{Log, append};
@@ -140,7 +140,7 @@ impl Disk for MemDisk {
 
     fn write_at(&mut self, at: u64, bytes: &[u8]) -> Result<(), DeviceFault>
         requires { at ≤ length (content self.old.first self.old.calls) }
-        ensures room { IsOk result ↔ HasRoom self.old (wrote at bytes.now) }
+        ensures room { IsOk result ↔ HasRoomFor self.old (wrote at bytes.now) }
         ensures done { OnOk result (self.new ≡ after_call (wrote at bytes.now) self.old) }
         ensures failed { OnErr result (self.new ≡ after_fault self.old) }
 
@@ -163,7 +163,7 @@ impl Disk for MemDisk {
 
     fn cut(&mut self, len: u64) -> Result<(), DeviceFault>
         requires { len ≤ length (content self.old.first self.old.calls) }
-        ensures room { IsOk result ↔ HasRoom self.old (cut_to len) }
+        ensures room { IsOk result ↔ HasRoomFor self.old (cut_to len) }
         ensures done { OnOk result (self.new ≡ after_call (cut_to len) self.old) }
         ensures failed { OnErr result (self.new ≡ after_fault self.old) }
 
@@ -185,7 +185,7 @@ impl Disk for MemDisk {
     }
 
     fn sync(&mut self) -> Result<(), DeviceFault>
-        ensures room { IsOk result ↔ HasRoom self.old synced }
+        ensures room { IsOk result ↔ HasRoomFor self.old synced }
         ensures done { OnOk result (self.new ≡ after_call synced self.old) }
         ensures failed { OnErr result (self.new ≡ after_fault self.old) }
 

@@ -35,7 +35,7 @@ pub made_again : (bodies records : List (List ℕ)) (es : Releases) → bodies �
 made_again bodies records es same makes_it = subst (λ rs. Makes rs (booted es)) same (subst (Makes bodies) (sym (as_booted bodies es makes_it)) makes_it)
 
 -- a handler of such a list
-pub sound_so : {D : Type 0} (seen : D → List ℕ) (may_leave : D → List ℕ → Type 0) (of : Store D) (es : Releases) → store.IsSound seen may_leave of → store.IsSettled seen may_leave of → Makes (store.records_in of) (booted es)
+pub sound_so : {D : Type 0} (seen : D → List ℕ) (may_leave : D → List ℕ → Type 0) (of : Store D) (es : Releases) → store.IsSoundStore seen may_leave of → store.IsSettled seen may_leave of → Makes (store.records_in of) (booted es)
     → IsSound seen may_leave (record { store = of; list = es; dead = false })
 sound_so seen may_leave of es sound settled makes_it = record { store = sound; works = λ still. settled.works; list = λ still. makes_it }
 

@@ -34,7 +34,7 @@ start_in seen handler = of_store.text_in seen handler.store
 -- What is known of a handler between two calls: unless it is dead, its store is settled, and the records make its list as
 -- it is behind a boot.
 pub record IsSound {D : Type 0} (seen : D → List ℕ) (may_leave : D → List ℕ → Type 0) (handler : Handler D) : Type 0 where
-  pub store : of_store.IsSound seen may_leave handler.store
+  pub store : of_store.IsSoundStore seen may_leave handler.store
   pub works : is_dead handler ≡ false → of_store.has_failed handler.store ≡ false
   pub list : is_dead handler ≡ false → Makes (of_store.records_in handler.store) (booted handler.list)
 

@@ -115,7 +115,7 @@ makes_found : (p : Place) (found : Result Found Refusal) → IsFair p → Has (T
 makes_found p (Err why) fair = fair_reply _ _ refl refl fair
 makes_found p (Ok found) (bare x) =
     let size = length (body_of (codes "made") found.term) in
-    mapped (Transition.MakesOn x found.release size (has_magic x)) (Transition.Makes (raw x) found) (λ a is. inl is) (makes_on x found.release size (has_magic x))
+    mapped (Transition.MakesOn x found.release size (has_magic x)) (Transition.MakesNode (raw x) found) (λ a is. inl is) (makes_on x found.release size (has_magic x))
 makes_found p (Ok found) (rests events end list after) = fair_reply _ _ (inl refl) refl (rests events end list after)
 makes_found p (Ok found) (runs events end list after) = fair_reply _ _ refl refl (runs events end list after)
 

@@ -51,7 +51,7 @@ makes_on bytes found size true a is = plain a _ is (inl refl)
 makes_on bytes found size false a (inl (fits, is)) = plain a _ is (inl refl)
 makes_on bytes found size false a (inr (over, is)) = plain a _ is (inl refl)
 
-makes : (p : Place) (found : Found) (a : Reply) → Transition.Makes p found a → IsPlain a
+makes : (p : Place) (found : Found) (a : Reply) → Transition.MakesNode p found a → IsPlain a
 makes (raw bytes) found a (inl is) = makes_on bytes found (length (body_of (codes "made") found.term)) (has_magic bytes) a is
 makes (raw bytes) found a (inr (torn, is)) = plain a _ is (inr (refl, refl))
 makes (closed s) found a (inl is) = plain a _ is (inl refl)

@@ -16,7 +16,7 @@ use Rattle.rel_session.specs.Ended.{AreCommands, IsSession}
 use Rattle.rel_session.specs.Feed.{Feed, Gives, EndsAs, IsNext, bytes_within}
 use Rattle.rel_session.specs.Feed.Feed.{over, cut, next}
 use Rattle.rel_session.specs.Files.{Files, files_of, files_behind}
-use Rattle.rel_session.specs.InMemory.{IsAt, Replied, Lapsed, Follows, disk_at, disk_of}
+use Rattle.rel_session.specs.InMemory.{IsAt, Replied, Lapsed, FollowsCommand, disk_at, disk_of}
 use Rattle.rel_session.specs.Input.{IsFresh, commands_left, most_bytes}
 use Rattle.rel_session.specs.Lines.{lines_of}
 use Rattle.rel_session.specs.Node.{Place, Reply}
@@ -24,7 +24,7 @@ use Rattle.rel_session.specs.Node.Place.{raw, closed, running, dead}
 use Rattle.counted_io.specs.Prefixes.{AppendsPrefix}
 use Rattle.counted_io.proofs.WriteLemmas.{Appends-nothing, Appends-twice}
 use Rattle.rel_session.specs.Written.{Writes}
-use Rattle.rel_session.specs.Run.{Starts, Leads, Replies, Ending, IsWritten, IsRun, answers_of, commands_in}
+use Rattle.rel_session.specs.Run.{Starts, Leads, Replies, Ending, IsTextOf, IsRun, answers_of, commands_in}
 use Rattle.rel_session.specs.Run.Ending.{ended, cut_off, early}
 use Rattle.rel_session.specs.Transition.{Transition}
 use Rattle.rel_session.proofs.Replies.{IsDevice, held, still}
@@ -97,7 +97,7 @@ replies_none files p cut = tt
 replies_none files p (next c rest) = tt
 
 -- the text of one more reply in front
-written_next : (ending : Ending) (a : Reply) (more : List Reply) (text : List ℕ) → IsWritten ending more text → IsWritten ending (a ∷ more) (a.answer ++ text)
+written_next : (ending : Ending) (a : Reply) (more : List Reply) (text : List ℕ) → IsTextOf ending more text → IsTextOf ending (a ∷ more) (a.answer ++ text)
 written_next ended a more text is = ap (λ (l : List ℕ). a.answer ++ l) is
 written_next cut_off a more text is = ap (λ (l : List ℕ). a.answer ++ l) is
 written_next early a more text (inl is) = inl (ap (λ (l : List ℕ). a.answer ++ l) is)
@@ -112,7 +112,7 @@ module _ {D : Type 0} (v : Device D) where
     pub written : List ℕ
     pub appended : Appends old now written
     pub completes : (ending : Ending) (rest : Feed Command) (replies : List Reply) (new : D) (text : List ℕ) → AreLeft left rest
-        → Replies (files_of node.files) here rest ending replies → Leads v here replies (disk_of node) new → IsWritten ending replies text
+        → Replies (files_of node.files) here rest ending replies → Leads v here replies (disk_of node) new → IsTextOf ending replies text
         → (commands : Feed Command) × AreLeft all commands × IsRun v (λ path. None) start commands ending disk new (written ++ text)
 
   abbrev pub Goes : Option (Feed Command) → Option (Feed Command) → D → Node D → Option (List ℕ) → Option (List ℕ) → Type 0
@@ -150,7 +150,7 @@ module _ {D : Type 0} (v : Device D) (laws : IsDevice v) where
 
   module _ (all now new : Option (Feed Command)) (disk : D) (node : Node D) (old mid : Option (List ℕ)) (goes : Goes v all now disk node old mid) where
     -- a command was followed, and its answer was written
-    pub goes_on : (c : Command) (text : String Global) (later : Node D) (mid' : Option (List ℕ)) → Gives now new (λ d. c ≡ d) → Follows v c (Ok (Some text)) node later → Appends mid mid' (string_bytes text)
+    pub goes_on : (c : Command) (text : String Global) (later : Node D) (mid' : Option (List ℕ)) → Gives now new (λ d. c ≡ d) → FollowsCommand v c (Ok (Some text)) node later → Appends mid mid' (string_bytes text)
         → Goes v all new disk later old mid'
     goes_on c text later mid' gives (files, follows) appended start starts =
         let r = goes start starts in
@@ -169,7 +169,7 @@ module _ {D : Type 0} (v : Device D) (laws : IsDevice v) where
         }
 
     -- the session ended there
-    ends_with : (ending : Ending) (rest : Feed Command) (final : D) → AreLeft now rest → final ≡ disk_of node → ((files : Files) (p : Place) → Replies files p rest ending []) → IsWritten ending [] []
+    ends_with : (ending : Ending) (rest : Feed Command) (final : D) → AreLeft now rest → final ≡ disk_of node → ((files : Files) (p : Place) → Replies files p rest ending []) → IsTextOf ending [] []
         → (start : Place) → Starts v start disk → (commands : Feed Command) × AreLeft all commands × Writes old mid (λ text. IsRun v (λ path. None) start commands ending disk final text)
     ends_with ending rest final are is right written start starts =
         let r = goes start starts in
@@ -189,13 +189,13 @@ module _ {D : Type 0} (v : Device D) (laws : IsDevice v) where
     ends_early final is = ends_with early (some_left now) final (are_some now) is (λ files p. replies_none files p (some_left now)) (inl refl)
 
     -- at `quit`
-    pub quits : (c : Command) (later : Node D) (final : D) → final ≡ disk_of later → Gives now new (λ d. c ≡ d) → Follows v c (Ok None) node later → (start : Place) → Starts v start disk
+    pub quits : (c : Command) (later : Node D) (final : D) → final ≡ disk_of later → Gives now new (λ d. c ≡ d) → FollowsCommand v c (Ok None) node later → (start : Place) → Starts v start disk
         → (commands : Feed Command) × AreLeft all commands × Writes old mid (λ text. IsRun v (λ path. None) start commands ended disk final text)
     quits c later final is gives (quitting, same) =
         ends_with ended (next quit (some_left new)) final (subst (λ d. AreLeft now (next d (some_left new))) quitting (are_next now new c (some_left new) gives (are_some new))) (is ∙ ap disk_at same) (λ files p. refl) refl
 
     -- a command's answer was not written whole
-    pub stops_within : (c : Command) (text : String Global) (later : Node D) (final : D) (mid' : Option (List ℕ)) → final ≡ disk_of later → Gives now new (λ d. c ≡ d) → Follows v c (Ok (Some text)) node later
+    pub stops_within : (c : Command) (text : String Global) (later : Node D) (final : D) (mid' : Option (List ℕ)) → final ≡ disk_of later → Gives now new (λ d. c ≡ d) → FollowsCommand v c (Ok (Some text)) node later
         → AppendsPrefix mid mid' (string_bytes text) → (start : Place) → Starts v start disk
         → (commands : Feed Command) × AreLeft all commands × Writes old mid' (λ t. IsRun v (λ path. None) start commands early disk final t)
     stops_within c text later final mid' is gives (files, follows) (part, left, parts, appended) start starts =
@@ -207,7 +207,7 @@ module _ {D : Type 0} (v : Device D) (laws : IsDevice v) where
         (whole.0, whole.1, (r.written ++ part, Appends-twice old mid mid' r.written part r.appended appended, subst (λ d. IsRun v (λ path. None) start whole.0 early disk d (r.written ++ part)) (sym is) whole.2))
 
     -- or not at all, since memory was refused
-    pub stops_before : (c : Command) (e : SessionError) (later : Node D) (final : D) → final ≡ disk_of later → Gives now new (λ d. c ≡ d) → Follows v c (Err e) node later → (start : Place) → Starts v start disk
+    pub stops_before : (c : Command) (e : SessionError) (later : Node D) (final : D) → final ≡ disk_of later → Gives now new (λ d. c ≡ d) → FollowsCommand v c (Err e) node later → (start : Place) → Starts v start disk
         → (commands : Feed Command) × AreLeft all commands × Writes old mid (λ t. IsRun v (λ path. None) start commands early disk final t)
     stops_before c e later final is gives follows start starts = by_outcome (follows r.here r.at)
       where

@@ -128,7 +128,7 @@ module _ (a b : Reply) (both : Both a b) where
   makes_on x found size false (inr (over_it, is)) (inl (fits, also)) = absurd (over_it fits)
   makes_on x found size false (inr (over_it, is)) (inr (over_too, also)) = as_these a b _ _ is also (refl, refl, same_bytes x)
 
-  makes : (p q : Place) (found : Found) → Alike p q → Transition.Makes p found a → Transition.Makes q found b → Same a b
+  makes : (p q : Place) (found : Found) → Alike p q → Transition.MakesNode p found a → Transition.MakesNode q found b → Same a b
   makes p q found (same_bytes x) (inl is) (inl also) = makes_on x found (length (body_of (codes "made") found.term)) (has_magic x) is also
   makes p q found (same_bytes x) (inl is) (inr (torn, also)) = failure b _ also refl both.1
   makes p q found (same_bytes x) (inr (torn, is)) other = failure a _ is refl both.0

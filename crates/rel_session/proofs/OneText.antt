@@ -3,7 +3,7 @@ use Rattle.std.proofs.Common.{◌≡◌, ◌≢◌, ℕ, List, [], ◌∷◌, �
 use Rattle.rel_session.specs.AnswerLaws.{AreSame, HaveOneText}
 use Rattle.rel_session.specs.Device.{Device}
 use Rattle.rel_session.specs.Node.{Reply}
-use Rattle.rel_session.specs.Run.{Ending, IsWritten, answers_of}
+use Rattle.rel_session.specs.Run.{Ending, IsTextOf, answers_of}
 use Rattle.rel_session.specs.Run.Ending.{ended, cut_off, early}
 use Rattle.rel_session.proofs.Failures.{fails_only_with_the_device}
 use Rattle.rel_session.proofs.OneAnswer.{have_one_answer}
@@ -15,7 +15,7 @@ same_text [] (b ∷ second) same = absurd same
 same_text (a ∷ first) [] same = absurd same
 
 -- a session that is not ended early has written all its answers
-whole_text : (ending : Ending) (replies : List Reply) (text : List ℕ) → ending ≢ early → IsWritten ending replies text → text ≡ answers_of replies
+whole_text : (ending : Ending) (replies : List Reply) (text : List ℕ) → ending ≢ early → IsTextOf ending replies text → text ≡ answers_of replies
 whole_text ended replies text whole is = is
 whole_text cut_off replies text whole is = is
 whole_text early replies text whole is = absurd (whole refl)

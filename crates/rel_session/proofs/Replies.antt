@@ -38,7 +38,7 @@ use Rattle.rel_list.specs.declared.status.Status.TheVariants.{Permanent}
 use Rattle.rel_session.proofs.Prefixes.{has_a_store}
 use Rattle.rel_session.specs.Device.{Device, LeavesOnly, HasFailed}
 use Rattle.rel_session.specs.Files.{Files, Found, IsFound}
-use Rattle.rel_session.specs.InMemory.{disk_at, IsAt, Replied, Lapsed, Answers, Tells}
+use Rattle.rel_session.specs.InMemory.{disk_at, IsAt, Replied, Lapsed, Answers, TellsReply}
 use Rattle.rel_session.specs.Node.{Place, Reply, reply, refused, failed, nothing, done, failed_with, releases_after, list_or_none}
 use Rattle.rel_session.specs.Node.Place.{raw, closed, running, dead}
 use Rattle.rel_session.specs.Refusals.{Refusal, refusal_of, refusal_line, handler_refusal, boot_line}
@@ -133,7 +133,7 @@ module _ {D : Type 0} (v : Device D) (laws : IsDevice v) where
 
   -- A command's line, which may not fit into memory.
   pub tells : (P : Place → Reply → Type 0) (line : Result (String Global) AllocError) (answer : List ℕ) (old new : PlaceInMemory D) → IfOk line (λ text. string_bytes text ≡ answer)
-      → ((p : Place) → IsAt v old p → Replied v p (λ a. P p a × (a.answer ≡ answer)) old new) → Tells v P line old new
+      → ((p : Place) → IsAt v old p → Replied v p (λ a. P p a × (a.answer ≡ answer)) old new) → TellsReply v P line old new
   tells P (Ok text) answer old new told replied = λ p at.
       let r = replied p at in
       record { given = r.given; right = (r.right.0, r.right.1 ∙ sym told); at = r.at; happens = r.happens }
@@ -185,7 +185,7 @@ module _ {D : Type 0} (v : Device D) (laws : IsDevice v) where
     boots_at (dead s) here = boots_store (dead s) s here (λ m. m)
 
     pub boots : (line : Result (String Global) AllocError) → IfOk line (λ text. string_bytes text ≡ Transition.ok_line (Transition.version_of (running_release (list_in h))))
-        → Tells v Transition.Boots line old (memory.Made h)
+        → TellsReply v Transition.Boots line old (memory.Made h)
     boots line told = tells Transition.Boots line _ old (memory.Made h) told (λ p at. boots_at p (subst (λ d. Holds v p d) (sym taken) (held old p at)))
 
   -- a boot that is refused
@@ -244,13 +244,13 @@ module _ {D : Type 0} (v : Device D) (laws : IsDevice v) where
           refused_at_running events end here = by_store (running events end) (certain events end) here here
       boot_refused_at (dead s) here = by_store (dead s) s here here
 
-      pub boot_refused : (line : Result (String Global) AllocError) → IfOk line (λ text. string_bytes text ≡ boot_line why) → Tells v Transition.Boots line old (memory.Bare new)
+      pub boot_refused : (line : Result (String Global) AllocError) → IfOk line (λ text. string_bytes text ≡ boot_line why) → TellsReply v Transition.Boots line old (memory.Bare new)
       boot_refused line told = tells Transition.Boots line _ old (memory.Bare new) told (λ p at. boot_refused_at p (subst (λ d. Holds v p d) (sym taken) (held old p at)))
 
     -- memory was refused
     pub boot_lapses : (why : BootError) (is : BootRefused (v.seen disk) (v.failures disk) (v.failures new) why) (same : (why ≢ boot_error.Device) → v.seen new ≡ v.seen disk)
         (only : (es : Releases) → IsImageOf (v.seen disk) es → (why ≡ boot_error.Device) ⊎ (why ≡ boot_error.NoMemory))
-        (line : Result (String Global) AllocError) → IfOk line (λ text. string_bytes text ≡ boot_line why) → (why ≡ boot_error.NoMemory → IsErr line) → Tells v Transition.Boots line old (memory.Bare new)
+        (line : Result (String Global) AllocError) → IfOk line (λ text. string_bytes text ≡ boot_line why) → (why ≡ boot_error.NoMemory → IsErr line) → TellsReply v Transition.Boots line old (memory.Bare new)
     boot_lapses why is same only (Ok text) told wanting = boot_refused why is same only (λ memory. let lost = wanting memory in cc) (Ok text) told
     boot_lapses why is same only (Err e) told wanting = go (no_memory why)
       where
@@ -267,7 +267,7 @@ module _ {D : Type 0} (v : Device D) (laws : IsDevice v) where
         holds_then memory (running events end) here = kept (certain events end) disk new here leaves
         holds_then memory (dead s) here = kept s disk new here leaves
 
-        go : (why ≡ boot_error.NoMemory) ⊎ (why ≢ boot_error.NoMemory) → Tells v Transition.Boots (Err e) old (memory.Bare new)
+        go : (why ≡ boot_error.NoMemory) ⊎ (why ≢ boot_error.NoMemory) → TellsReply v Transition.Boots (Err e) old (memory.Bare new)
         go (inl memory) = λ p at. inr (record {
           nothing_new = subst (λ d. LeavesOnly v d new (v.may_leave d)) taken leaves;
           holds = holds_then memory p (subst (λ d. Holds v p d) (sym taken) (held old p at));
@@ -280,7 +280,7 @@ module _ {D : Type 0} (v : Device D) (laws : IsDevice v) where
     abbrev size : ℕ
     size = length (body_of (codes "made") found.term)
 
-    on_raw : (bytes : List ℕ) (b : Bool) (a : Reply) → has_magic bytes ≡ b → Transition.MakesOn bytes found.release size b a → Transition.Makes (raw bytes) found a
+    on_raw : (bytes : List ℕ) (b : Bool) (a : Reply) → has_magic bytes ≡ b → Transition.MakesOn bytes found.release size b a → Transition.MakesNode (raw bytes) found a
     on_raw bytes b a magic makes = inl (subst (λ m. Transition.MakesOn bytes found.release size m a) (sym magic) makes)
 
     store_there : (s : Stored) → ((c : List ℕ) → v.may_leave disk c → IsStoredAs s c) → has_magic (v.seen disk) ≡ true
@@ -289,7 +289,7 @@ module _ {D : Type 0} (v : Device D) (laws : IsDevice v) where
     pub makes : (h : Handler D) → ((at : D) × BeginsAt v.seen v.may_leave v.moment v.left_since (doubted [] (made found.release)) disk (disk_in h) at)
         → ((c : List ℕ) → v.may_leave (disk_in h) c → IsImageAt c (list_in h) (end_in h)) → list_in h ≡ entry found.release Permanent ∷ [] → is_dead h ≡ false → (has_magic (v.seen disk) ≡ true → ⊥)
         → Fits 289 size → end_in h ≡ 289 + (5 + size) → v.failures disk ≤ v.failures (disk_in h) → (vsn : List ℕ) → vsn ≡ found.release.vsn
-        → (p : Place) → IsAt v (memory.Bare disk) p → Replied v p (λ a. Transition.Makes p found a × (a.answer ≡ Transition.ok_line vsn)) (memory.Bare disk) (memory.Made h)
+        → (p : Place) → IsAt v (memory.Bare disk) p → Replied v p (λ a. Transition.MakesNode p found a × (a.answer ≡ Transition.ok_line vsn)) (memory.Bare disk) (memory.Made h)
     makes h begun images list alive free fits ends counted vsn is (closed s) at = absurd (free (store_there s at))
     makes h begun images list alive free fits ends counted vsn is (running events end) at = absurd at
     makes h begun images list alive free fits ends counted vsn is (dead s) at = absurd at
@@ -318,8 +318,8 @@ module _ {D : Type 0} (v : Device D) (laws : IsDevice v) where
       unwritten_at (running events end) at u = absurd at
       unwritten_at (dead s) at u = absurd at
 
-      refuses : (p : Place) (why : Refusal) → IsAt v (memory.Bare disk) p → IsUnwritten v.seen v.may_leave v.moment v.left_since disk new → Transition.Makes p found (refused why p)
-          → Replied v p (λ a. Transition.Makes p found a × (a.answer ≡ refusal_line why)) (memory.Bare disk) (memory.Bare new)
+      refuses : (p : Place) (why : Refusal) → IsAt v (memory.Bare disk) p → IsUnwritten v.seen v.may_leave v.moment v.left_since disk new → Transition.MakesNode p found (refused why p)
+          → Replied v p (λ a. Transition.MakesNode p found a × (a.answer ≡ refusal_line why)) (memory.Bare disk) (memory.Bare new)
       refuses p why at u right = record {
         given = refused why p;
         right = (right, refl);
@@ -332,7 +332,7 @@ module _ {D : Type 0} (v : Device D) (laws : IsDevice v) where
         };
       }
 
-      device_fails : HasFailed v disk new → (p : Place) → IsAt v (memory.Bare disk) p → Replied v p (λ a. Transition.Makes p found a × (a.answer ≡ refusal_line device)) (memory.Bare disk) (memory.Bare new)
+      device_fails : HasFailed v disk new → (p : Place) → IsAt v (memory.Bare disk) p → Replied v p (λ a. Transition.MakesNode p found a × (a.answer ≡ refusal_line device)) (memory.Bare disk) (memory.Bare new)
       device_fails cause (raw bytes) at = record {
         given = failed (Some (made found.release)) (raw (v.seen new));
         right = (inr (v.seen new, refl), refl);
@@ -350,13 +350,13 @@ module _ {D : Type 0} (v : Device D) (laws : IsDevice v) where
       device_fails cause (running events end) at = absurd at
       device_fails cause (dead s) at = absurd at
 
-      exists_there : has_magic (v.seen disk) ≡ true → (p : Place) → IsAt v (memory.Bare disk) p → Transition.Makes p found (refused exists p)
+      exists_there : has_magic (v.seen disk) ≡ true → (p : Place) → IsAt v (memory.Bare disk) p → Transition.MakesNode p found (refused exists p)
       exists_there magic (raw bytes) at = on_raw bytes true (refused exists (raw bytes)) (ap has_magic (sym at) ∙ magic) refl
       exists_there magic (closed s) at = inl refl
       exists_there magic (running events end) at = absurd at
       exists_there magic (dead s) at = absurd at
 
-      full_there : has_magic (v.seen disk) ≡ false → (Fits 289 size → ⊥) → (p : Place) → IsAt v (memory.Bare disk) p → Transition.Makes p found (refused full p)
+      full_there : has_magic (v.seen disk) ≡ false → (Fits 289 size → ⊥) → (p : Place) → IsAt v (memory.Bare disk) p → Transition.MakesNode p found (refused full p)
       full_there magic over (raw bytes) at = on_raw bytes false (refused full (raw bytes)) (ap has_magic (sym at) ∙ magic) (inr (over, refl))
       full_there magic over (closed s) at = never (sym magic ∙ store_there s at)
       full_there magic over (running events end) at = absurd at
@@ -364,11 +364,11 @@ module _ {D : Type 0} (v : Device D) (laws : IsDevice v) where
 
       pub makes_none : (e : HandlerError) (told : RefusalInMemory)
           → CreateRefused (v.seen disk) found.release size (v.failures disk) (v.failures new) (IsUnwritten v.seen v.may_leave v.moment v.left_since disk new) e → told ≡ handler_refusal e
-          → Answers v (λ p a. Transition.Makes p found a) (Err told) (memory.Bare disk) (memory.Bare new)
-      makes_none e told why is = subst (λ t. Answers v (λ p a. Transition.Makes p found a) (Err t) (memory.Bare disk) (memory.Bare new)) (sym is) (by_error e why)
+          → Answers v (λ p a. Transition.MakesNode p found a) (Err told) (memory.Bare disk) (memory.Bare new)
+      makes_none e told why is = subst (λ t. Answers v (λ p a. Transition.MakesNode p found a) (Err t) (memory.Bare disk) (memory.Bare new)) (sym is) (by_error e why)
         where
           by_error : (e : HandlerError) → CreateRefused (v.seen disk) found.release size (v.failures disk) (v.failures new) (IsUnwritten v.seen v.may_leave v.moment v.left_since disk new) e
-              → Answers v (λ p a. Transition.Makes p found a) (Err (handler_refusal e)) (memory.Bare disk) (memory.Bare new)
+              → Answers v (λ p a. Transition.MakesNode p found a) (Err (handler_refusal e)) (memory.Bare disk) (memory.Bare new)
           by_error handler_error.Device (small_too, cause) = device_fails cause
           by_error handler_error.TooMany (big, u) = never (sym big ∙ small)
           by_error handler_error.Exists (small_too, magic, u) = λ p at. refuses p exists at u (exists_there magic p at)
@@ -382,7 +382,7 @@ module _ {D : Type 0} (v : Device D) (laws : IsDevice v) where
   from_there P r old there new is answers = subst (λ o. Answers v P r o new) (sym is) answers
 
   -- There is a node.
-  pub makes_again : (h : Handler D) (found : Found) → Answers v (λ p a. Transition.Makes p found a) (Err refusal.Exists) (memory.Made h) (memory.Made h)
+  pub makes_again : (h : Handler D) (found : Found) → Answers v (λ p a. Transition.MakesNode p found a) (Err refusal.Exists) (memory.Made h) (memory.Made h)
   makes_again h found (raw bytes) at = absurd at
   makes_again h found (closed s) at = absurd at
   makes_again h found (running events end) at = stays (running events end) (refusal_line exists) _ (memory.Made h) (memory.Made h) at refl at (refl, refl)
@@ -512,14 +512,14 @@ module _ {D : Type 0} (v : Device D) (laws : IsDevice v) where
 
   -- No node is made of a file that isn't that of a release.
   pub creates_none : (files : Files) (path : List ℕ) (place : PlaceInMemory D) (why : RefusalInMemory) → (why ≢ refusal.NoMemory → IsFound path (files path) (Err (refusal_of why)))
-      → Answers v (Transition.Creates files path) (Err why) place place
+      → Answers v (Transition.CreatesNode files path) (Err why) place place
   creates_none files path place why found = by_cases why found
     where
       stands : (w : RefusalInMemory) → IsFound path (files path) (Err (refusal_of w)) → (p : Place) → IsAt v place p
-          → Replied v p (λ a. Transition.Creates files path p a × (a.answer ≡ refusal_line (refusal_of w))) place place
+          → Replied v p (λ a. Transition.CreatesNode files path p a × (a.answer ≡ refusal_line (refusal_of w))) place place
       stands w there p at = stays p (refusal_line (refusal_of w)) _ place place at refl at ((Err (refusal_of w), there, refl), refl)
 
-      by_cases : (w : RefusalInMemory) → (w ≢ refusal.NoMemory → IsFound path (files path) (Err (refusal_of w))) → Answers v (Transition.Creates files path) (Err w) place place
+      by_cases : (w : RefusalInMemory) → (w ≢ refusal.NoMemory → IsFound path (files path) (Err (refusal_of w))) → Answers v (Transition.CreatesNode files path) (Err w) place place
       by_cases refusal.ExistingRelease there = stands refusal.ExistingRelease (there (λ e. cc e))
       by_cases (refusal.BadFile q f) there = stands (refusal.BadFile q f) (there (λ e. cc e))
       by_cases (refusal.MissingFile q) there = stands (refusal.MissingFile q) (there (λ e. cc e))

@@ -13,7 +13,7 @@ use Rattle.rel_session.specs.Commands.{Command, File}
 use Rattle.rel_session.specs.Commands.Command.{file}
 use Rattle.rel_session.specs.Device.{Device}
 use Rattle.rel_session.specs.Files.{files_of, files_behind, give}
-use Rattle.rel_session.specs.InMemory.{disk_at, IsAt, Replied, Lapsed, Answers, Tells, Follows, IsLine, IsText}
+use Rattle.rel_session.specs.InMemory.{disk_at, IsAt, Replied, Lapsed, Answers, TellsReply, FollowsCommand, IsLine, IsText}
 use Rattle.rel_session.specs.Node.{Place, Reply, reply, nothing}
 use Rattle.rel_session.specs.Refusals.{refusal_of, refusal_line}
 use Rattle.rel_session.specs.Transition.{Transition, ok_line}
@@ -31,14 +31,14 @@ module _ {D : Type 0} (v : Device D) (old new : Node D) (command : Command) (sam
     abbrev IsDone : Type 0
     IsDone = (p : Place) → IsAt v old.place p → Replied v p (λ a. Transition (files_of old.files) p command a) old.place new.place ⊎ Lapsed v p old.place new.place
 
-    with_text : (answer : List ℕ) (text : String Global) → string_bytes text ≡ answer → Told answer → Follows v command (Ok (Some text)) old new
+    with_text : (answer : List ℕ) (text : String Global) → string_bytes text ≡ answer → Told answer → FollowsCommand v command (Ok (Some text)) old new
     with_text answer text is told = (same, λ p at. replied_so p _ _ (λ a r. (right p a r.0, r.1 ∙ sym is)) (told p at))
 
     without : (answer : List ℕ) → Told answer → IsDone
     without answer told p at = inl (replied_so p _ _ (λ a r. right p a r.0) (told p at))
 
     -- a command that was done, or refused
-    pub follows : (r : Result (String Global) RefusalInMemory) (line : Result (Option (String Global)) SessionError) → IfOk line (λ text. IsLine r text) → Answers v P r old.place new.place → Follows v command line old new
+    pub follows : (r : Result (String Global) RefusalInMemory) (line : Result (Option (String Global)) SessionError) → IfOk line (λ text. IsLine r text) → Answers v P r old.place new.place → FollowsCommand v command line old new
     follows r (Ok None) is answers = absurd is
     follows (Ok vsn) (Ok (Some text)) is answers = with_text (ok_line (string_bytes vsn)) text is answers
     follows (Ok vsn) (Err e) is answers = without (ok_line (string_bytes vsn)) answers
@@ -63,9 +63,9 @@ module _ {D : Type 0} (v : Device D) (old new : Node D) (command : Command) (sam
 
     -- one that gave a line
     pub follows_line : (line : Result (String Global) AllocError) (text : Result (Option (String Global)) SessionError) → MatchResult line (λ s. text ≡ Ok (Some s)) (λ _. text ≡ Err NoMemory)
-        → Tells v P line old.place new.place → Follows v command text old new
-    follows_line (Ok s) text is tells = subst (λ t. Follows v command t old new) (sym is) ((same, λ p at. replied_so p _ _ (λ a r. (right p a r.0, r.1)) (tells p at)))
-    follows_line (Err e) text is tells = subst (λ t. Follows v command t old new) (sym is) (λ p at. go p (tells p at))
+        → TellsReply v P line old.place new.place → FollowsCommand v command text old new
+    follows_line (Ok s) text is tells = subst (λ t. FollowsCommand v command t old new) (sym is) ((same, λ p at. replied_so p _ _ (λ a r. (right p a r.0, r.1)) (tells p at)))
+    follows_line (Err e) text is tells = subst (λ t. FollowsCommand v command t old new) (sym is) (λ p at. go p (tells p at))
       where
         go : (p : Place) → Replied v p (P p) old.place new.place ⊎ Lapsed v p old.place new.place
             → Replied v p (λ a. Transition (files_of old.files) p command a) old.place new.place ⊎ Lapsed v p old.place new.place
@@ -78,8 +78,8 @@ module _ {D : Type 0} (v : Device D) (old new : Node D) (command : Command) (sam
     abbrev Says : Option (String Global) → Type 0
     Says text = (s : String Global) × (text ≡ Some s) × ((p : Place) → IsAt v old.place p → string_bytes s ≡ answer p)
 
-    pub follows_still : (text : Result (Option (String Global)) SessionError) → IfOk text Says → Follows v command text old new
-    follows_still (Ok text) (s, is, says) = subst (λ t. Follows v command (Ok t) old new) (sym is) (
+    pub follows_still : (text : Result (Option (String Global)) SessionError) → IfOk text Says → FollowsCommand v command text old new
+    follows_still (Ok text) (s, is, says) = subst (λ t. FollowsCommand v command (Ok t) old new) (sym is) (
       same,
       λ p at.
           stays v laws p (answer p) (λ a. Transition (files_of old.files) p command a × (a.answer ≡ string_bytes s)) old.place new.place at
@@ -99,7 +99,7 @@ module _ {D : Type 0} (v : Device D) (old new : Node D) (command : Command) (sam
 
 -- a file was given
 pub gives : {D : Type 0} (v : Device D) (laws : IsDevice v) (old : Node D) (files : FilesInMemory) (path : List ℕ) (f : File) (text : Result (Option (String Global)) SessionError)
-    → OnOk text (files_of files ≡ give (files_of old.files) path f) → IfOk text (λ t. IsText t (codes "ok\n")) → Follows v (file path f) text old (record { place = old.place; files = files })
+    → OnOk text (files_of files ≡ give (files_of old.files) path f) → IfOk text (λ t. IsText t (codes "ok\n")) → FollowsCommand v (file path f) text old (record { place = old.place; files = files })
 gives {D} v laws old files path f (Ok text) kept told =
     let new : Node D = record { place = old.place; files = files } in
     follows_still v old new (file path f) kept laws refl (λ p. codes "ok\n") (λ p. refl) (Ok text) (says_text v old new (file path f) kept laws refl (λ p. codes "ok\n") (λ p. refl) (Ok text) (codes "ok\n") told (λ p. refl))

@@ -77,7 +77,7 @@ torn_as bytes torn answer doubt a is = keeps_as (raw bytes) a _ is (record { fou
 failed_as : (s : Stored) (answer : List ℕ) (doubt : Option Event) (p : Place) (a : Reply) → Finds p s.known.acknowledged → a ≡ reply answer (record { acknowledged = []; in_doubt = doubt; failed = true }) (closed s) → Keeps p a
 failed_as s answer doubt p a finds is = keeps_as p a _ is (keeps_known p _ s.known.acknowledged finds (sym (append-nil s.known.acknowledged)) tt)
 
-makes : (p : Place) (found : Found) (a : Reply) → Transition.Makes p found a → Keeps p a
+makes : (p : Place) (found : Found) (a : Reply) → Transition.MakesNode p found a → Keeps p a
 makes (raw bytes) found a (inl is) = makes_on bytes found (length (body_of (codes "made") found.term)) (has_magic bytes) a is
 makes (raw bytes) found a (inr (torn, is)) = torn_as bytes torn _ _ a is
 makes (closed s) found a (inl is) = still_as (closed s) _ a is

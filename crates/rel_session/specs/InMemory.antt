@@ -68,18 +68,18 @@ Answers v P (Err why) old new =
     (p : Place) → IsAt v old p → Replied v p (λ a. P p a × (a.answer ≡ refusal_line (refusal_of why))) old new
 
 -- A command gave this line; where memory is refused, it may have been done.
-abbrev pub Tells : {D : Type 0} → Device D → (Place → Reply → Type 0) → Result (String Global) AllocError → PlaceInMemory D → PlaceInMemory D → Type 0
-Tells v P (Ok text) old new = (p : Place) → IsAt v old p → Replied v p (λ a. P p a × (a.answer ≡ string_bytes text)) old new
-Tells v P (Err e) old new = (p : Place) → IsAt v old p → Replied v p (P p) old new ⊎ Lapsed v p old new
+abbrev pub TellsReply : {D : Type 0} → Device D → (Place → Reply → Type 0) → Result (String Global) AllocError → PlaceInMemory D → PlaceInMemory D → Type 0
+TellsReply v P (Ok text) old new = (p : Place) → IsAt v old p → Replied v p (λ a. P p a × (a.answer ≡ string_bytes text)) old new
+TellsReply v P (Err e) old new = (p : Place) → IsAt v old p → Replied v p (P p) old new ⊎ Lapsed v p old new
 
 -- A command was followed. Its text is its answer; there is none where the session ends.
-abbrev pub Follows : {D : Type 0} → Device D → Command → Result (Option (String Global)) SessionError → Node D → Node D → Type 0
-Follows v command (Ok (Some text)) old new =
+abbrev pub FollowsCommand : {D : Type 0} → Device D → Command → Result (Option (String Global)) SessionError → Node D → Node D → Type 0
+FollowsCommand v command (Ok (Some text)) old new =
     (files_of new.files ≡ files_behind (files_of old.files) command)
     × ((p : Place) → IsAt v old.place p
     → Replied v p (λ a. Transition (files_of old.files) p command a × (a.answer ≡ string_bytes text)) old.place new.place)
-Follows v command (Ok None) old new = (command ≡ quit) × (new.place ≡ old.place)
-Follows v command (Err e) old new =
+FollowsCommand v command (Ok None) old new = (command ≡ quit) × (new.place ≡ old.place)
+FollowsCommand v command (Err e) old new =
     (p : Place) → IsAt v old.place p
     → Replied v p (λ a. Transition (files_of old.files) p command a) old.place new.place ⊎ Lapsed v p old.place new.place
 

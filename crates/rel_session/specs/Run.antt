@@ -99,10 +99,10 @@ answers_of (a ∷ more) = a.answer ++ answers_of more
 
 -- What is written for these replies: their answers, one after another. Of a session that ended early the last one may not
 -- be written whole.
-abbrev pub IsWritten : Ending → List Reply → List ℕ → Type 0
-IsWritten early replies text = (text ≡ answers_of replies) ⊎ ((first : List Reply) × (last : Reply) × (part left : List ℕ)
+abbrev pub IsTextOf : Ending → List Reply → List ℕ → Type 0
+IsTextOf early replies text = (text ≡ answers_of replies) ⊎ ((first : List Reply) × (last : Reply) × (part left : List ℕ)
     × (replies ≡ first ++ last ∷ []) × (part ++ left ≡ last.answer) × (text ≡ answers_of first ++ part))
-IsWritten ending replies text = text ≡ answers_of replies
+IsTextOf ending replies text = text ≡ answers_of replies
 
 -- the commands of an input
 abbrev pub commands_in : List ℕ → Feed Command
@@ -113,4 +113,4 @@ pub record IsRun {D : Type 0} (v : Device D) (files : Files) (p : Place) (comman
   pub replies : List Reply
   pub right : Replies files p commands ending replies
   pub leads : Leads v p replies old new
-  pub written : IsWritten ending replies text
+  pub written : IsTextOf ending replies text

@@ -65,19 +65,19 @@ MakesOn bytes r size false a =
     ⊎ ((Fits 289 size → ⊥) × (a ≡ refused full (raw bytes)))
 
 -- Where the device fails in it, the event is in doubt.
-abbrev pub Makes : Place → Found → Reply → Type 0
-Makes (raw bytes) found a =
+abbrev pub MakesNode : Place → Found → Reply → Type 0
+MakesNode (raw bytes) found a =
     MakesOn bytes found.release (length (body_of (codes "made") found.term)) (has_magic bytes) a
     ⊎ ((torn : List ℕ) × (a ≡ failed (Some (made found.release)) (raw torn)))
-Makes (closed s) found a = (a ≡ refused exists (closed s)) ⊎ (a ≡ failed (Some (made found.release)) (closed s))
-Makes p found a = a ≡ refused exists p
+MakesNode (closed s) found a = (a ≡ refused exists (closed s)) ⊎ (a ≡ failed (Some (made found.release)) (closed s))
+MakesNode p found a = a ≡ refused exists p
 
 abbrev pub MakesFound : Place → Result Found Refusal → Reply → Type 0
 MakesFound p (Err why) a = a ≡ refused why p
-MakesFound p (Ok found) a = Makes p found a
+MakesFound p (Ok found) a = MakesNode p found a
 
-abbrev pub Creates : Files → List ℕ → Place → Reply → Type 0
-Creates files path p a = (found : Result Found Refusal) × IsFound path (files path) found × MakesFound p found a
+abbrev pub CreatesNode : Files → List ℕ → Place → Reply → Type 0
+CreatesNode files path p a = (found : Result Found Refusal) × IsFound path (files path) found × MakesFound p found a
 
 -- why a boot refuses these bytes
 abbrev pub IsBootRefusal : List ℕ → BootError → Type 0
@@ -118,7 +118,7 @@ Boots (dead s) a = BootsStore s a
 -- What a node replies to a command; `quit` has no reply.
 abbrev pub Transition : Files → Place → Command → Reply → Type 0
 Transition files p (file path f) a = a ≡ reply (codes "ok\n") nothing p
-Transition files p (create path) a = Creates files path p a
+Transition files p (create path) a = CreatesNode files path p a
 Transition files p (set_unpacked path) a = SetsUnpacked files path p a
 Transition files p boot a = Boots p a
 Transition files p releases a = a ≡ reply (listed p) nothing p

@@ -25,7 +25,7 @@ pub struct Node<D: Disk> {
 }
 
 impl<D: Disk> Node<D> {
-    ghost use Rattle.rel_session.specs.InMemory.{disk_of, IsSoundPlace, Follows};
+    ghost use Rattle.rel_session.specs.InMemory.{disk_of, IsSoundPlace, FollowsCommand};
 
     /// No node was made or booted on the disk yet, and no file was given.
     pub fn new(alloc: Global, disk: D) -> Node<D>
@@ -54,7 +54,7 @@ impl<D: Disk> Node<D> {
     ) -> (Node<D>, Result<Option<String>, SessionError>)
         requires { IsSoundPlace D.seen D.may_leave self.place }
         ensures sound { IsSoundPlace D.seen D.may_leave result.0.place }
-        ensures followed { Follows D.Disk (command_of command) result.1 self result.0 }
+        ensures followed { FollowsCommand D.Disk (command_of command) result.1 self result.0 }
         ensures memory { IfErr result.1 (λ e. e ≡ SessionError.NoMemory) }
     {
         match command {
@@ -82,7 +82,7 @@ impl<D: Disk> Node<D> {
         file: GivenFile,
     ) -> (Node<D>, Result<Option<String>, SessionError>)
         ensures place { result.0.place ≡ self.place }
-        ensures followed { Follows D.Disk
+        ensures followed { FollowsCommand D.Disk
             (file_given (string_bytes path) (given_of file)) result.1 self result.0 }
         ensures memory { IfErr result.1 (λ e. e ≡ SessionError.NoMemory) }
     {
@@ -95,7 +95,7 @@ impl<D: Disk> Node<D> {
     fn create(self, alloc: Global, path: &str) -> (Node<D>, Result<Option<String>, SessionError>)
         requires { IsSoundPlace D.seen D.may_leave self.place }
         ensures sound { IsSoundPlace D.seen D.may_leave result.0.place }
-        ensures followed { Follows D.Disk (create path.now) result.1 self result.0 }
+        ensures followed { FollowsCommand D.Disk (create path.now) result.1 self result.0 }
         ensures memory { IfErr result.1 (λ e. e ≡ SessionError.NoMemory) }
     {
         let Node { place, files } = self;
@@ -116,7 +116,7 @@ impl<D: Disk> Node<D> {
     ) -> (Node<D>, Result<Option<String>, SessionError>)
         requires { IsSoundPlace D.seen D.may_leave self.place }
         ensures sound { IsSoundPlace D.seen D.may_leave result.0.place }
-        ensures followed { Follows D.Disk (set_unpacked path.now) result.1 self result.0 }
+        ensures followed { FollowsCommand D.Disk (set_unpacked path.now) result.1 self result.0 }
         ensures memory { IfErr result.1 (λ e. e ≡ SessionError.NoMemory) }
     {
         let Node { place, files } = self;
@@ -145,7 +145,7 @@ impl<D: Disk> Node<D> {
     fn boot(self, alloc: Global) -> (Node<D>, Result<Option<String>, SessionError>)
         requires { IsSoundPlace D.seen D.may_leave self.place }
         ensures sound { IsSoundPlace D.seen D.may_leave result.0.place }
-        ensures followed { Follows D.Disk boot result.1 self result.0 }
+        ensures followed { FollowsCommand D.Disk boot result.1 self result.0 }
         ensures memory { IfErr result.1 (λ e. e ≡ SessionError.NoMemory) }
     {
         let Node { place, files } = self;

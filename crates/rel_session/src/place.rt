@@ -8,7 +8,7 @@ ghost use Rattle.rel_list.specs.Releases.{running};
 ghost use Rattle.rel_session.specs.InMemory.{found_of};
 ghost use Rattle.rel_session.specs.Node.{Place as SomePlace};
 ghost use Rattle.rel_session.specs.Refusals.{boot_line};
-ghost use Rattle.rel_session.specs.Transition.{Makes, Boots, listed, ok_line, version_of};
+ghost use Rattle.rel_session.specs.Transition.{MakesNode, Boots, listed, ok_line, version_of};
 
 use crate::listing::listing;
 use crate::refusal::Refusal;
@@ -27,7 +27,7 @@ pub enum Place<D: Disk> {
 }
 
 impl<D: Disk> Place<D> {
-    ghost use Rattle.rel_session.specs.InMemory.{disk_at, IsSoundPlace, IsAt, Answers, Tells};
+    ghost use Rattle.rel_session.specs.InMemory.{disk_at, IsSoundPlace, IsAt, Answers, TellsReply};
 
     /// The disk.
     pub fn into_disk(self) -> D
@@ -45,7 +45,7 @@ impl<D: Disk> Place<D> {
         requires file { IsRelFile file }
         requires small { is_small (release_of file.release) ≡ true }
         ensures sound { IsSoundPlace D.seen D.may_leave result.0 }
-        ensures made { Answers D.Disk (λ p a. Makes p (found_of file) a) result.1 self result.0 }
+        ensures made { Answers D.Disk (λ p a. MakesNode p (found_of file) a) result.1 self result.0 }
     {
         let disk = match self {
             Place::Bare(disk) => disk,
@@ -64,7 +64,7 @@ impl<D: Disk> Place<D> {
     pub fn boot(self, alloc: Global) -> (Place<D>, Result<String, AllocError>)
         requires { IsSoundPlace D.seen D.may_leave self }
         ensures sound { IsSoundPlace D.seen D.may_leave result.0 }
-        ensures booted { Tells D.Disk Boots result.1 self result.0 }
+        ensures booted { TellsReply D.Disk Boots result.1 self result.0 }
     {
         match rel_handler::boot(alloc, self.into_disk()) {
             Ok(handler) => {

@@ -39,9 +39,9 @@ Creates {D = D} seen may_leave moment left_since first start old new =
     LeavesOnly moment left_since old new (IsTornFrom (may_leave old) 0 1) ⊎ ((at : D) × IsBegunAt seen may_leave moment left_since first start old new at)
 
 -- Why a creation refuses, in the order in which it is told. Nothing has been written then, unless the device failed.
-abbrev pub CreateRefused : List ℕ → List ℕ → ℕ → ℕ → Type 0 → StoreError → Type 0
-CreateRefused bytes first before now unwritten Exists = (has_magic bytes ≡ true) × unwritten
-CreateRefused bytes first before now unwritten Full = (has_magic bytes ≡ false) × (Fits 289 (length first) → ⊥) × unwritten
-CreateRefused bytes first before now unwritten NoMemory = (has_magic bytes ≡ false) × Fits 289 (length first) × unwritten
-CreateRefused bytes first before now unwritten Device = HasFailed before now
-CreateRefused bytes first before now unwritten _ = ⊥
+abbrev pub CreationRefused : List ℕ → List ℕ → ℕ → ℕ → Type 0 → StoreError → Type 0
+CreationRefused bytes first before now unwritten Exists = (has_magic bytes ≡ true) × unwritten
+CreationRefused bytes first before now unwritten Full = (has_magic bytes ≡ false) × (Fits 289 (length first) → ⊥) × unwritten
+CreationRefused bytes first before now unwritten NoMemory = (has_magic bytes ≡ false) × Fits 289 (length first) × unwritten
+CreationRefused bytes first before now unwritten Device = HasFailed before now
+CreationRefused bytes first before now unwritten _ = ⊥

@@ -54,7 +54,7 @@ pub record IsSettled {D : Type 0} (seen : D → List ℕ) (may_leave : D → Lis
   pub start : store.second_start ≡ (slice_index (seen store.disk) 9 == 1)
 
 -- What is known of a store between two calls: it is settled, unless the device has failed.
-pub record IsSound {D : Type 0} (seen : D → List ℕ) (may_leave : D → List ℕ → Type 0) (store : Store D) : Type 0 where
+pub record IsSoundStore {D : Type 0} (seen : D → List ℕ) (may_leave : D → List ℕ → Type 0) (store : Store D) : Type 0 where
   pub settled : has_failed store ≡ false → IsSettled seen may_leave store
 
 -- nothing of it has changed but the memory that it holds

@@ -2,9 +2,9 @@
 ghost use Rattle.std.specs.Prelude.{◌≡◌, ◌+◌, ◌≤◌, [], ◌∷◌, map, true, length, IfOk, IfErr, OnOk, IsErr};
 ghost use Rattle.rel_disk.specs.Damage.{overwritten, Only, Within};
 ghost use Rattle.rel_disk.specs.Moments.{LeavesOnly, HasFailed};
-ghost use Rattle.rel_store.specs.Creation.{new_store, IsBegunAt, Creates, IsUnwritten, CreateRefused};
+ghost use Rattle.rel_store.specs.Creation.{new_store, IsBegunAt, Creates, IsUnwritten, CreationRefused};
 ghost use Rattle.rel_store.specs.Layout.{has_magic, slot_with};
-ghost use Rattle.rel_store.specs.State.{disk_in, disk_of, end_in, records_in, text_in, Fits, IsSettled, IsSound};
+ghost use Rattle.rel_store.specs.State.{disk_in, disk_of, end_in, records_in, text_in, Fits, IsSettled, IsSoundStore};
 
 use crate::bytes::spell_store;
 use crate::device::write_through;
@@ -27,7 +27,7 @@ impl<D: Disk> Store<D> {
     ) -> Result<Store<D>, (StoreError, D)>
         requires { length start.now ≤ 127 }
         ensures settled { IfOk result (IsSettled D.seen D.may_leave) }
-        ensures sound { IfOk result (IsSound D.seen D.may_leave) }
+        ensures sound { IfOk result (IsSoundStore D.seen D.may_leave) }
         ensures records { IfOk result (λ store. records_in store ≡ first.now ∷ []) }
         ensures start { IfOk result (λ store. text_in D.seen store ≡ slot_with start.now) }
         ensures bytes { IfOk result
@@ -49,7 +49,7 @@ impl<D: Disk> Store<D> {
             × IsErr result }
         ensures counted { D.failures disk ≤ D.failures (disk_of result) }
         ensures refused { IfErr result
-            (λ e. CreateRefused (D.seen disk) first.now (D.failures disk) (D.failures e.1)
+            (λ e. CreationRefused (D.seen disk) first.now (D.failures disk) (D.failures e.1)
             (IsUnwritten D.seen D.may_leave D.moment D.left_since disk e.1) e.0) }
     {
         let mut disk = disk;
@@ -90,7 +90,7 @@ fn lay_out<D: Disk>(
         → IsUnwritten D.seen D.may_leave D.moment D.left_since disk.old disk.new × IsErr result }
     ensures counted { D.failures disk.old ≤ D.failures disk.new }
     ensures refused { IfErr result
-        (CreateRefused (D.seen disk.old) first.now (D.failures disk.old) (D.failures disk.new)
+        (CreationRefused (D.seen disk.old) first.now (D.failures disk.old) (D.failures disk.new)
         (IsUnwritten D.seen D.may_leave D.moment D.left_since disk.old disk.new)) }
 {
     if is_taken(disk)? {

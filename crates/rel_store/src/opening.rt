@@ -3,7 +3,7 @@ ghost use Rattle.std.specs.Prelude.{◌≡◌, ◌⊎◌, ◌≤◌, IfOk, IfErr
 ghost use Rattle.rel_disk.specs.Moments.{LeavesOnly};
 ghost use Rattle.rel_store.specs.Contents.{AreContentsOf, IsSyncedAt, OpenRefused, RefusedByDevice};
 ghost use Rattle.rel_store.specs.Records.{records_of};
-ghost use Rattle.rel_store.specs.State.{disk_of, records_in, IsSettled, IsSound};
+ghost use Rattle.rel_store.specs.State.{disk_of, records_in, IsSettled, IsSoundStore};
 
 use crate::contents::Contents;
 use crate::{Store, StoreError};
@@ -19,7 +19,7 @@ impl<D: Disk> Store<D> {
     /// behind a record belongs to it.
     pub fn open_disk(alloc: Global, disk: D) -> Result<Store<D>, (StoreError, D)>
         ensures settled { IfOk result (IsSettled D.seen D.may_leave) }
-        ensures sound { IfOk result (IsSound D.seen D.may_leave) }
+        ensures sound { IfOk result (IsSoundStore D.seen D.may_leave) }
         ensures records { IfOk result (λ store. records_of (D.seen disk) ≡ Ok (records_in store)) }
 
         // No crash in the call leaves anything that none before it would have left; from its sync on a crash leaves what a

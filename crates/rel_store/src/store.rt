@@ -4,7 +4,7 @@ ghost use Rattle.rel_disk.specs.Moments.{LeavesOnly};
 ghost use Rattle.rel_store.specs.Changed.{LeavesOthers, IsInRecord, IsInOtherSlot, with_record, with_start};
 ghost use Rattle.rel_store.specs.Layout.{slot_with};
 ghost use Rattle.rel_store.specs.Records.{Stands, StandsEither, StandsWithEither};
-ghost use Rattle.rel_store.specs.State.{disk_in, records_in, text_in, gate_in, end_in, has_failed, Fits, HasRoom, IsSettled, IsSound, IsSame, Refused};
+ghost use Rattle.rel_store.specs.State.{disk_in, records_in, text_in, gate_in, end_in, has_failed, Fits, HasRoom, IsSettled, IsSoundStore, IsSame, Refused};
 
 use crate::StoreError;
 use crate::bytes::{body_of_record, make_room, spell_record, start_slot};
@@ -65,8 +65,8 @@ impl<D: Disk> Store<D> {
     ///
     /// Refusals: `MustReopen`, `NoMemory`.
     pub fn reserve(&mut self, alloc: Global, n: usize) -> Result<(), StoreError>
-        requires { IsSound D.seen D.may_leave self.old }
-        ensures sound { IsSound D.seen D.may_leave self.new }
+        requires { IsSoundStore D.seen D.may_leave self.old }
+        ensures sound { IsSoundStore D.seen D.may_leave self.new }
         ensures room { OnOk result ((m : ℕ) → m ≤ n → HasRoom m self.new) }
         ensures kept { IsSame self.old self.new }
         ensures reopened { IsErrOf result StoreError.MustReopen ↔ (has_failed self.old ≡ true) }
@@ -86,8 +86,8 @@ impl<D: Disk> Store<D> {
     /// Told in this order: `MustReopen`, `Full` where `fits` says so, `NoMemory`; nothing has changed then. After
     /// `Device` the store has to be opened again, and has its records, with the new one or without.
     pub fn append(&mut self, alloc: Global, body: &[u8]) -> Result<(), StoreError>
-        requires { IsSound D.seen D.may_leave self.old }
-        ensures sound { IsSound D.seen D.may_leave self.new }
+        requires { IsSoundStore D.seen D.may_leave self.old }
+        ensures sound { IsSoundStore D.seen D.may_leave self.new }
         ensures settled { OnOk result (IsSettled D.seen D.may_leave self.new) }
         ensures added { OnOk result (records_in self.new ≡ records_in self.old ++ body.now ∷ []) }
         ensures start { OnOk result (text_in D.seen self.new ≡ text_in D.seen self.old) }
@@ -138,8 +138,8 @@ impl<D: Disk> Store<D> {
     ///
     /// Refusals: `MustReopen`, `Device`.
     pub fn read_slot(&mut self, slot: &mut [u8; 128]) -> Result<(), StoreError>
-        requires { IsSound D.seen D.may_leave self.old }
-        ensures sound { IsSound D.seen D.may_leave self.new }
+        requires { IsSoundStore D.seen D.may_leave self.old }
+        ensures sound { IsSoundStore D.seen D.may_leave self.new }
         ensures settled { OnOk result (IsSettled D.seen D.may_leave self.new) }
         ensures read { OnOk result (slot.new ≡ text_in D.seen self.old) }
         ensures records { records_in self.new ≡ records_in self.old }
@@ -167,9 +167,9 @@ impl<D: Disk> Store<D> {
     ///
     /// Refusals: `MustReopen`, `Device`.
     pub fn write_slot(&mut self, text: &[u8]) -> Result<(), StoreError>
-        requires sound { IsSound D.seen D.may_leave self.old }
+        requires sound { IsSoundStore D.seen D.may_leave self.old }
         requires short { length text.now ≤ 127 }
-        ensures sound { IsSound D.seen D.may_leave self.new }
+        ensures sound { IsSoundStore D.seen D.may_leave self.new }
         ensures settled { OnOk result (IsSettled D.seen D.may_leave self.new) }
         ensures written { OnOk result (text_in D.seen self.new ≡ slot_with text.now) }
         ensures records { records_in self.new ≡ records_in self.old }

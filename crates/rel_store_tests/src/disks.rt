@@ -1,5 +1,5 @@
 // Stores on disks in memory, and what is asked of them.
-ghost use Rattle.rel_store.specs.State.{IsSettled, IsSound};
+ghost use Rattle.rel_store.specs.State.{IsSettled, IsSoundStore};
 
 use rel_disk::{DeviceFault, Disk, MemDisk};
 use rel_store::{Store, StoreError};
@@ -57,7 +57,7 @@ pub(crate) fn new_store(rt: &impl Abort, alloc: Global) -> Result<MemDisk, Fail>
 // The store on a disk, which has to be one.
 pub(crate) fn opened<D: Disk + Drop>(rt: &impl Abort, alloc: Global, disk: D) -> Store<D>
     ensures settled { IsSettled D.seen D.may_leave result }
-    ensures sound { IsSound D.seen D.may_leave result }
+    ensures sound { IsSoundStore D.seen D.may_leave result }
 {
     match Store::open_disk(alloc, disk) {
         Ok(store) => store,

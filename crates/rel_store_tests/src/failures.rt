@@ -1,5 +1,5 @@
 // Each call of the device fails in turn.
-ghost use Rattle.rel_store.specs.State.{IsSound};
+ghost use Rattle.rel_store.specs.State.{IsSoundStore};
 
 use crate::disks::{CAPACITY, LOG, finds, holds, new_store, opened};
 use StoreError::{Device, MustReopen, NotAStore};
@@ -11,7 +11,7 @@ use std::test::Fail;
 
 // What each call answers that answers a Result.
 fn answers<D: Disk>(alloc: Global, store: &mut Store<D>) -> [Result<(), StoreError>; 4]
-    requires { IsSound D.seen D.may_leave store.old }
+    requires { IsSoundStore D.seen D.may_leave store.old }
 {
     let mut slot = [0; 128];
     [
