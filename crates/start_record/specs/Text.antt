@@ -1,6 +1,7 @@
 -- What a start record says, and the text that spells it.
 use Rattle.std.specs.Prelude.{◌≡◌, ◌⊎◌, ℕ, ◌<◌, List, [], ◌∷◌, ◌++◌, length, string_bytes}
 use Rattle.rel_files.specs.Name.{IsVersion}
+use Rattle.rel_store.specs.Layout.{text_of}
 use Rattle.start_record.specs.declared.start.Start.{Start}
 
 -- what a node starts: this version of the runtime system, and this version of its release
@@ -32,3 +33,7 @@ pub record SpellsStart (slot : List ℕ) (v : Versions) : Type 0 where
 -- they spell none
 abbrev pub SpellsNoStart : List ℕ → Type 0
 SpellsNoStart slot = (v : Versions) → SpellsStart slot v → ⊥
+
+-- The start slot that counts in these bytes spells the one start or the other.
+abbrev pub SpellsEither : Versions → Versions → List ℕ → Type 0
+SpellsEither v w bytes = SpellsStart (text_of bytes) v ⊎ SpellsStart (text_of bytes) w

@@ -1,6 +1,6 @@
 // Why a start isn't read or written.
 ghost use Rattle.std.specs.Prelude.{◌≡◌};
-ghost use Rattle.start_record.specs.Refusals.{IsSlotError, told_slot};
+ghost use Rattle.start_record.specs.Refusals.{IsSlotError, start_refusal};
 ghost use Rattle.start_record.specs.declared.error.StartError.TheVariants.{NoMemory};
 
 use rel_store::StoreError;
@@ -38,7 +38,7 @@ impl From<AllocError> for StartError {
 // What a refusal of the store's start slot is here.
 pub(crate) fn slot_error(error: StoreError) -> StartError
     requires { IsSlotError error }
-    ensures { result ≡ told_slot error }
+    ensures { result ≡ start_refusal error }
 {
     match error {
         StoreError::Device => StartError::Device,

@@ -6,7 +6,7 @@ ghost use Rattle.rel_store.specs.Layout.{slot_with};
 ghost use Rattle.rel_store.specs.Records.{Stands, StandsWithEither};
 ghost use Rattle.rel_store.specs.State.{disk_in, records_in, text_in, end_in, has_failed, HasRoom, IsSettled, IsSoundStore};
 ghost use Rattle.start_record.specs.Refusals.{ReadRefused, WriteRefused};
-ghost use Rattle.start_record.specs.Text.{versions_of, AreVersions, AreTooLong, start_text, SpellsStart};
+ghost use Rattle.start_record.specs.Text.{Versions, versions_of, AreVersions, AreTooLong, start_text, SpellsStart, SpellsEither};
 
 use crate::StartError;
 use crate::error::slot_error;
@@ -27,8 +27,8 @@ pub struct Start {
 
 /// Reads the start that the slot spells. Writes nothing.
 ///
-/// Told in this order: `MustReopen`, `Device`, `BadStart` where the slot spells none, `NoMemory`. The store works on after
-/// the last two.
+/// Reported in this order: `MustReopen`, `Device`, `BadStart` where the slot spells none, `NoMemory`. The store works on
+/// after the last two.
 pub fn read_start<D: Disk>(alloc: Global, store: &mut Store<D>) -> Result<Start, StartError>
     requires { IsSoundStore D.seen D.may_leave store.old }
     ensures sound { IsSoundStore D.seen D.may_leave store.new }
@@ -60,10 +60,11 @@ pub fn read_start<D: Disk>(alloc: Global, store: &mut Store<D>) -> Result<Start,
     })
 }
 
-/// Writes a start over the one that the slot spells. Takes no memory.
+/// Writes a start over the one that the slot spells. Takes no memory. What is read again are two texts of versions, and no
+/// others are refused but those that are too long.
 ///
-/// Told in this order: `TooLong` where a version is longer than 62 bytes, `MustReopen`, `Device`. Nothing has changed after
-/// the first two; after `Device` the slot has the old text or the new.
+/// Reported in this order: `TooLong` where a version is longer than 62 bytes, `MustReopen`, `Device`. Nothing has changed
+/// after the first two; after `Device` the slot has the old text or the new.
 pub fn write_start<D: Disk>(store: &mut Store<D>, start: &Start) -> Result<(), StartError>
     requires { IsSoundStore D.seen D.may_leave store.old }
     ensures sound { IsSoundStore D.seen D.may_leave store.new }
@@ -79,8 +80,12 @@ pub fn write_start<D: Disk>(store: &mut Store<D>, start: &Start) -> Result<(), S
         (D.seen (disk_in store.new)
         ≡ with_start (start_text (versions_of start.now)) (D.seen (disk_in store.old))) }
 
-    // A crash at any moment of the call leaves the old text or the new one, and the records, and all bytes as they were
-    // but those of the slot that doesn't count and of its selector.
+    // A crash at any moment of the call leaves the start that was spelled before it or the new one; the old text or the new,
+    // with the records; and all bytes as they were but those of the slot that doesn't count and of its selector.
+    ensures either { AreVersions (versions_of start.now) → has_failed store.old ≡ false
+        → (v : Versions) → SpellsStart (text_in D.seen store.old) v
+        → LeavesOnly D.moment D.left_since (disk_in store.old) (disk_in store.new)
+        (SpellsEither v (versions_of start.now)) }
     ensures any_moment { has_failed store.old ≡ false
         → LeavesOnly D.moment D.left_since (disk_in store.old) (disk_in store.new)
         (StandsWithEither (records_in store.old) (text_in D.seen store.old)
