@@ -1,7 +1,7 @@
 // Each call of the device fails in turn.
 ghost use Rattle.rel_store.specs.State.{IsSoundStore};
 
-use crate::stores::{disk_with, opened, read_of, same, start};
+use crate::stores::{disk_with, opened, reads, start};
 use StartError::{Device, MustReopen};
 use rel_disk::{Disk, FailDisk, MemDisk};
 use rel_store::Store;
@@ -28,17 +28,12 @@ fn write_fails(
     alloc: Global,
     disk: FailDisk<MemDisk>,
     wanted: [Result<(), StartError>; 3],
-    vsn: &str,
+    vsn: &'static str,
 ) -> Result<(), Fail> {
     let mut store = opened(rt, alloc, disk);
-    let new = start(alloc, "14.2", "B")?;
+    let new = start(alloc, ("14.2", "B"))?;
     assert_eq!(rt; answers(alloc, &mut store, &new), wanted);
-    let disk = store.into_disk();
-    same(
-        rt,
-        read_of(rt, alloc, disk.disk),
-        Ok(start(alloc, "14.2", vsn)?),
-    );
+    reads(rt, alloc, store.into_disk().disk, Ok(("14.2", vsn)));
     Ok(())
 }
 

@@ -4,26 +4,17 @@ ghost use Rattle.rel_store.specs.State.{IsSoundStore};
 use rel_disk::{Disk, MemDisk};
 use rel_store::Store;
 use start_record::{Start, StartError, read_start};
-use std::alloc::Global;
+use std::alloc::{AllocError, Global};
 use std::process::Abort;
 use std::test::Fail;
 
-pub(crate) fn same(
-    rt: &impl Abort,
-    found: Result<Start, StartError>,
-    wanted: Result<Start, StartError>,
-) {
-    assert_eq!(rt; found, wanted);
-}
+/// The version of the runtime system and of the release.
+pub(crate) type Versions = (&'static str, &'static str);
 
-pub(crate) fn holds(rt: &impl Abort, is: bool, name: &str) {
-    assert!(rt; is, "{name}");
-}
-
-pub(crate) fn start(alloc: Global, erts: &str, vsn: &str) -> Result<Start, Fail> {
+pub(crate) fn start(alloc: Global, versions: Versions) -> Result<Start, AllocError> {
     Ok(Start {
-        erts: String::from_str(alloc, erts)?,
-        vsn: String::from_str(alloc, vsn)?,
+        erts: String::from_str(alloc, versions.0)?,
+        vsn: String::from_str(alloc, versions.1)?,
     })
 }
 
@@ -49,8 +40,16 @@ pub(crate) fn opened<D: Disk + Drop>(rt: &impl Abort, alloc: Global, disk: D) ->
     }
 }
 
-// The start of the store on a disk.
-pub(crate) fn read_of(rt: &impl Abort, alloc: Global, disk: MemDisk) -> Result<Start, StartError> {
+// The store on this disk has this start, or is refused so.
+pub(crate) fn reads(
+    rt: &impl Abort,
+    alloc: Global,
+    disk: MemDisk,
+    wanted: Result<Versions, StartError>,
+) {
     let mut store = opened(rt, alloc, disk);
-    read_start(alloc, &mut store)
+    match read_start(alloc, &mut store) {
+        Ok(start) => assert_eq!(rt; Ok((start.erts.as_str(), start.vsn.as_str())), wanted),
+        Err(error) => assert_eq!(rt; Err(error), wanted),
+    }
 }
