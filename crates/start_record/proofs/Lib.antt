@@ -1,0 +1,2 @@
+pub mod SpellingLemmas
+pub mod StartMoments
