@@ -1,5 +1,5 @@
 -- What a boot changes, and what it doesn't.
-use Rattle.std.proofs.Common.{◌≡◌, ◌≢◌, ◌↔◌, ℕ, ◌≤◌, Bool, true, false, cond, List, [], ◌∷◌, ◌++◌, length, filter, map, Option, Some, None, refl, sym, ap, ◌∙◌, find, suc, true≢false, arith, if◌then◌else◌}
+use Rattle.std.proofs.Common.{◌≡◌, ◌≢◌, ◌↔◌, ℕ, ◌≤◌, Bool, true, false, cond, List, [], ◌∷◌, length, filter, map, Option, Some, None, refl, sym, ap, ◌∙◌, find, true≢false, arith, if◌then◌else◌}
 use Rattle.std.proofs.lemmas.List.{nil_from_length}
 use Rattle.std.specs.Option.{option_map, option_and_then, option_to_list}
 use Rattle.std.specs.Str.{bytes_eq}
@@ -8,7 +8,7 @@ use Rattle.rel_list.specs.declared.status.Status.{Status}
 use Rattle.rel_list.specs.declared.status.Status.TheVariants.{Unpacked, Current, Old, Permanent}
 use Rattle.rel_list.specs.Status.{is_current}
 use Rattle.rel_list.specs.Releases.{Releases, Entry, status_of, of_status, current, has_current}
-use Rattle.rel_list.specs.Event.{may_be_installed, installed_status, booted_status, list_installed, booted, boot_changes, step, list_from}
+use Rattle.rel_list.specs.Event.{may_be_installed, installed_status, booted_status, list_installed, booted, boot_changes, list_from}
 use Rattle.rel_list.specs.Event.Event.{installed, boot}
 
 -- A second boot

@@ -1,17 +1,16 @@
 -- What events make of a list, over any events.
-use Rattle.std.proofs.Common.{◌≡◌, ◌≢◌, ◌↔◌, ℕ, ◌≤◌, Bool, true, false, cond, not, List, [], ◌∷◌, ◌++◌, length, filter, Option, Some, None, is_some, refl, sym, ap, subst, ◌∙◌, true≢false, find, map, suc, arith, if◌then◌else◌}
+use Rattle.std.proofs.Common.{◌≡◌, ℕ, ◌≤◌, Bool, true, false, cond, List, [], ◌∷◌, ◌++◌, length, filter, Option, Some, None, is_some, refl, sym, ap, subst, ◌∙◌, true≢false, find, arith, if◌then◌else◌}
 use Rattle.std.specs.Option.{option_map, option_and_then}
 use Rattle.std.specs.Str.{bytes_eq}
 use Rattle.rel_files.specs.Release.{Release}
 use Rattle.rel_list.specs.declared.status.Status.{Status}
 use Rattle.rel_list.specs.declared.status.Status.TheVariants.{Unpacked, Current, Old, Permanent}
-use Rattle.rel_list.specs.Status.{is_current, is_old, is_permanent, runs}
+use Rattle.rel_list.specs.Status.{is_current, is_permanent}
 use Rattle.rel_list.specs.Releases.{Releases, Entry, entry, status_of, of_status, has_current, HasDistinctVersions}
-use Rattle.rel_list.specs.Event.{Event, may_be_installed, may_be_made_permanent, may_be_removed, may_be_rebooted, installed_status, permanent_status, booted_status, with_statuses, list_installed, list_made_permanent, without, booted, step, list_from, list_after}
+use Rattle.rel_list.specs.Event.{Event, may_be_installed, may_be_made_permanent, may_be_removed, may_be_rebooted, installed_status, permanent_status, booted_status, list_installed, list_made_permanent, without, booted, step, list_from, list_after}
 use Rattle.rel_list.specs.Event.Event.{made, unpacked, installed, made_permanent, removed, reboot_old, boot}
 use Rattle.rel_list.specs.Keyed.{IsOrderly}
-use Rattle.rel_list.specs.Refusal.{refusal, listed_refusal}
-use Rattle.rel_list.proofs.Orderly.{of_version, same_version, differs_back, first_differs, none_behind, none_at_all, at_most_once, exactly_once, distinct-with_statuses, one_more, as_many, no_more, just_as_many}
+use Rattle.rel_list.proofs.Orderly.{of_version, differs_back, first_differs, none_behind, none_at_all, at_most_once, exactly_once, distinct-with_statuses, one_more, as_many, no_more, just_as_many}
 
 abbrev currents : Releases → ℕ
 currents es = length (of_status is_current es)

@@ -1,5 +1,5 @@
 -- What the map of a list keeps, whatever changes it.
-use Rattle.std.proofs.Common.{◌≡◌, ℕ, List, map, String, string_bytes, sym, subst}
+use Rattle.std.proofs.Common.{ℕ, List, map, String, string_bytes, sym, subst}
 use Rattle.std.specs.declared.alloc.Global.{Global}
 use Rattle.std.specs.Map.{remove_entry}
 use Rattle.std.specs.Str.{bytes_eq}

@@ -1,11 +1,11 @@
 -- What events keep of a list: distinct versions, and at most one current release.
-use Rattle.std.proofs.Common.{◌≡◌, ℕ, ◌≤◌, Bool, true, false, cond, List, [], ◌∷◌, ◌++◌, length, filter, Option, Some, None, is_some, refl, sym, ap, subst, ◌∙◌, true≢false, find, arith}
+use Rattle.std.proofs.Common.{◌≡◌, ℕ, ◌≤◌, Bool, true, false, cond, List, [], ◌∷◌, length, filter, Option, Some, None, is_some, refl, sym, ap, ◌∙◌, true≢false, find, arith}
 use Rattle.std.specs.Option.{option_map}
 use Rattle.std.specs.Str.{bytes_eq}
 use Rattle.std.proofs.lemmas.Slice.Eq.{bytes_eq-Decides}
 use Rattle.rel_list.specs.declared.status.Status.{Status}
-use Rattle.rel_list.specs.Releases.{Releases, Entry, status_of, of_status, HasDistinctVersions}
-use Rattle.rel_list.specs.Event.{with_statuses, without}
+use Rattle.rel_list.specs.Releases.{Releases, Entry, status_of, HasDistinctVersions}
+use Rattle.rel_list.specs.Event.{with_statuses}
 
 -- the releases of a version
 abbrev pub of_version : List ℕ → Releases → Releases

@@ -1,11 +1,11 @@
 -- An event has a refusal exactly where the list doesn't allow it.
-use Rattle.std.proofs.Common.{◌≡◌, ◌≢◌, ◌↔◌, Bool, true, false, List, [], ◌∷◌, ◌++◌, Option, Some, None, is_some, refl, sym, if◌then◌else◌}
+use Rattle.std.proofs.Common.{◌≡◌, ◌≢◌, ◌↔◌, Bool, true, false, [], ◌∷◌, Option, Some, None, is_some, refl, if◌then◌else◌}
 use Rattle.rel_list.specs.declared.status.Status.{Status}
 use Rattle.rel_list.specs.declared.status.Status.TheVariants.{Unpacked, Current, Old, Permanent}
 use Rattle.rel_list.specs.declared.fault.ListError.{ListError}
 use Rattle.rel_list.specs.declared.fault.ListError.TheVariants as told
 use Rattle.rel_list.specs.Status.{is_current, is_old, is_permanent, runs}
-use Rattle.rel_list.specs.Releases.{Releases, entry, status_of, has_current}
+use Rattle.rel_list.specs.Releases.{Releases, status_of, has_current}
 use Rattle.rel_list.specs.Event.{Event, may_be_installed, may_be_made_permanent, may_be_removed, may_be_rebooted, list_installed, list_made_permanent, without, step}
 use Rattle.rel_list.specs.Event.Event.{made, unpacked, installed, made_permanent, removed, reboot_old, boot}
 use Rattle.rel_list.specs.Refusal.{refusal, listed_refusal}
@@ -72,10 +72,3 @@ refused_where_not_allowed (made_permanent v) es = by_permanence (status_of v es)
 refused_where_not_allowed (removed v) es = by_removal (has_current es) (status_of v es) (without v es)
 refused_where_not_allowed (reboot_old v) es = by_reboot (status_of v es) (list_made_permanent v es)
 refused_where_not_allowed boot es = allows _
-
--- a release that isn't permanent and doesn't run may be removed
-pub removable : (other : Bool) (s : Status) → is_permanent s ≡ false → runs other s ≡ false → may_be_removed (Some s) ≡ true
-removable other Unpacked not_permanent stands = refl
-removable other Current not_permanent stands = sym stands
-removable other Old not_permanent stands = refl
-removable other Permanent not_permanent stands = sym not_permanent

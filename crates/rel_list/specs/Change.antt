@@ -1,5 +1,5 @@
 -- What an event that names a release, or a boot, makes of statuses.
-use Rattle.std.specs.Prelude.{ℕ, List, map, string_bytes, String}
+use Rattle.std.specs.Prelude.{ℕ, List, string_bytes, String}
 use Rattle.std.specs.declared.alloc.Global.{Global}
 use Rattle.std.specs.Str.{bytes_eq}
 use Rattle.rel_list.specs.declared.status.Status.{Status}

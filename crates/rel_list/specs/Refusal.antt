@@ -1,5 +1,5 @@
 -- Why a list doesn't take an event.
-use Rattle.std.specs.Prelude.{◌≡◌, Bool, true, false, IsTrue, List, [], ◌∷◌, is_some, if◌then◌else◌, Option, None, Some}
+use Rattle.std.specs.Prelude.{◌≡◌, Bool, true, false, IsTrue, [], ◌∷◌, is_some, if◌then◌else◌, Option, None, Some}
 use Rattle.rel_list.specs.declared.status.Status.{Status}
 use Rattle.rel_list.specs.declared.fault.ListError.{ListError}
 use Rattle.rel_list.specs.declared.fault.ListError.TheVariants.{NoSuchRelease, ExistingRelease, AlreadyInstalled, BadStatus, Permanent, Running, NoMemory}

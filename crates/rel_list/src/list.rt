@@ -130,17 +130,15 @@ impl ReleaseList {
         ensures refused { IfErr result (IsRefusedWith (removed vsn.now) self.old) }
         ensures unchanged { OnErr result (self.new ≡ self.old) }
     {
-        let Some(status) = self.status(vsn) else {
-            return Err(ListError::NoSuchRelease);
-        };
-        if status.is_permanent() {
-            return Err(ListError::Permanent);
+        match self.status(vsn) {
+            None => Err(ListError::NoSuchRelease),
+            Some(Status::Permanent) => Err(ListError::Permanent),
+            Some(Status::Current) => Err(ListError::Running),
+            Some(Status::Unpacked | Status::Old) => {
+                self.releases.shift_remove(vsn);
+                Ok(())
+            }
         }
-        if self.runs(status) {
-            return Err(ListError::Running);
-        }
-        self.releases.shift_remove(vsn);
-        Ok(())
     }
 
     // Makes the release of this version, an old one, permanent.

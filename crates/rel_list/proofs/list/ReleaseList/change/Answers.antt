@@ -1,4 +1,4 @@
-use Rattle.std.proofs.Common.{◌≡◌, ◌∙◌, ap, sym, subst}
+use Rattle.std.proofs.Common.{◌∙◌, ap, sym, subst}
 use Rattle.rel_list.specs.Event.{with_statuses}
 use Rattle.rel_list.specs.Change.{status_after}
 use Rattle.rel_list.specs.Keyed.{entries_in, IsKept}

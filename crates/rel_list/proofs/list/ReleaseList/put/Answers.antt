@@ -1,7 +1,7 @@
 use Rattle.std.proofs.Common.{rules, ◌≡◌, ◌++◌, ◌∷◌, [], ◌∙◌, sym, ap, subst, string_bytes, None}
 use Rattle.rel_files.specs.Release.{release_of}
 use Rattle.rel_list.specs.Releases.{Releases, entry, status_of}
-use Rattle.rel_list.specs.Keyed.{entries_in, AreKeyed, IsOrderly, IsKept}
+use Rattle.rel_list.specs.Keyed.{entries_in, IsOrderly, IsKept}
 use Rattle.rel_list.proofs.Lookups.{inserted, AreKeyed-push, entries_in-push}
 use Rattle.rel_list.proofs.EventLaws.{orderly-push}
 use Rattle.rel_list.proofs.list.ReleaseList.put.Goals as goal
