@@ -10,13 +10,13 @@ use Rattle.rel_files.specs.Parts.{four_in, is_word}
 use Rattle.rel_files.specs.Release.{release_of}
 use Rattle.rel_files.specs.declared.fault.FileFault.{FileFault}
 use Rattle.rel_files.specs.declared.fault.FileFault.TheVariants as file
-use Rattle.rel_list.specs.declared.event.Event.{Event}
-use Rattle.rel_list.specs.declared.event.Event.TheVariants as memory
 use Rattle.rel_list.specs.declared.fault.ListError.{ListError}
 use Rattle.rel_list.specs.declared.fault.ListError.TheVariants as list_error
 use Rattle.rel_list.specs.Releases.{Releases}
 use Rattle.rel_handler.specs.Limits.{is_small, most_releases}
 use Rattle.rel_handler.specs.Records.{Record, makes, adds}
+use Rattle.rel_handler.specs.declared.records.Recorded.{Recorded}
+use Rattle.rel_handler.specs.declared.records.Recorded.TheVariants as memory
 use Rattle.rel_handler.specs.declared.records.RecordFault.{RecordFault}
 use Rattle.rel_handler.specs.declared.records.RecordFault.TheVariants.{Bad, NoMemory}
 
@@ -35,8 +35,8 @@ abbrev pub parts_in : Value → Option (List ℕ × Value)
 parts_in v =
     option_and_then (λ m. if is_empty_list m.2 && is_word (codes "none") m.3 then option_map (λ word. (word, m.1)) (name_in m.0) else None) (four_in v)
 
--- the record that brings an event
-abbrev pub record_of : Event → Record
+-- a record without where it lies in memory
+abbrev pub record_of : Recorded → Record
 record_of (memory.Made r) = makes (release_of r)
 record_of (memory.Unpacked r) = adds (release_of r)
 

@@ -5,7 +5,7 @@ use Rattle.rel_list.specs.Event.{Event, step, booted}
 use Rattle.rel_list.specs.Event.Event.{made, unpacked, boot}
 use Rattle.rel_handler.specs.Limits.{most_releases, is_small}
 use Rattle.rel_handler.specs.declared.error.HandlerError.{HandlerError}
-use Rattle.rel_handler.specs.declared.error.HandlerError.TheVariants.{ExistingRelease, TooMany, Exists}
+use Rattle.rel_handler.specs.declared.error.HandlerError.TheVariants.{ExistingRelease, TooMany, NoMemory, Exists}
 
 -- the list that came of it, where it is no longer than a node's may be
 abbrev pub kept_short : Releases → Result Releases HandlerError
@@ -17,8 +17,9 @@ allowed refusal None = Err refusal
 allowed refusal (Some es) = kept_short es
 
 -- What the event of a command makes of the list. Refused in this order: a release with too many applications, what the
--- list doesn't allow, one release too many.
+-- list doesn't allow, one release too many. No command brings the other events yet: of these it says what the list allows.
 abbrev pub commanded : Event → Releases → Result Releases HandlerError
 commanded (made r) es = if is_small r then allowed Exists (step (made r) es) else Err TooMany
 commanded (unpacked r) es = if is_small r then allowed ExistingRelease (step (unpacked r) es) else Err TooMany
 commanded boot es = Ok (booted es)
+commanded e es = allowed NoMemory (step e es)

@@ -11,7 +11,7 @@ ghost use Rattle.rel_handler.specs.Records.{record_term, body_of, Record, Spells
 
 use crate::limits::{MOST_RELEASES, is_small};
 use erl_term::{Term, TermFault, print, read_record};
-use rel_files::{FileFault, rel_of_term};
+use rel_files::{FileFault, Rel, rel_of_term};
 use rel_list::{Event, ListError, ReleaseList};
 use std::alloc::{AllocError, Global};
 
@@ -57,7 +57,7 @@ impl From<ListError> for RecordFault {
     fn from(fault: ListError) -> RecordFault {
         match fault {
             ListError::NoMemory => RecordFault::NoMemory,
-            ListError::ExistingRelease => RecordFault::Bad,
+            _ => RecordFault::Bad,
         }
     }
 }
@@ -143,9 +143,16 @@ fn parts_in(term: &Term) -> Option<(&str, &Term)>
     }
 }
 
-// The event that the record of this body brings.
-fn event_in(alloc: Global, body: &[u8]) -> Result<Event, RecordFault>
-    ensures spelled { IfOk result (λ event. Spells body.now (record_of event)) }
+// What a record of a store brings.
+#[derive(Drop)]
+enum Recorded {
+    Made(Rel),
+    Unpacked(Rel),
+}
+
+// What the record of this body brings.
+fn recorded_in(alloc: Global, body: &[u8]) -> Result<Recorded, RecordFault>
+    ensures spelled { IfOk result (λ recorded. Spells body.now (record_of recorded)) }
     ensures bad { IsErrOf result RecordFault.Bad → (r : Record) → Spells body.now r → ⊥ }
 {
     let term = read_record(alloc, body)?;
@@ -158,34 +165,41 @@ fn event_in(alloc: Global, body: &[u8]) -> Result<Event, RecordFault>
     }
     let release = rel_of_term(alloc, rel, 0)?;
     if made {
-        Ok(Event::Made(release))
+        Ok(Recorded::Made(release))
     } else {
-        Ok(Event::Unpacked(release))
+        Ok(Recorded::Unpacked(release))
     }
 }
 
-// Whether the limits allow an event behind this list.
-fn may_stand(event: &Event, list: &ReleaseList) -> bool
-    ensures { result ≡ may_stand (record_of event.now) list.now }
+// Whether the limits allow a record behind this list.
+fn may_stand(recorded: &Recorded, list: &ReleaseList) -> bool
+    ensures { result ≡ may_stand (record_of recorded.now) list.now }
 {
-    match event {
-        Event::Made(release) => is_small(release),
-        Event::Unpacked(release) => {
+    match recorded {
+        Recorded::Made(release) => is_small(release),
+        Recorded::Unpacked(release) => {
             !list.is_empty() && is_small(release) && list.len() < MOST_RELEASES
         }
     }
 }
 
-// Changes the list as an event says that a record brings.
-fn take_event(alloc: Global, list: &mut ReleaseList, event: Event) -> Result<(), RecordFault>
+// Changes the list as a record says.
+fn take_recorded(
+    alloc: Global,
+    list: &mut ReleaseList,
+    recorded: Recorded,
+) -> Result<(), RecordFault>
     requires { (list.old ≡ []) ⊎ (has_one_permanent list.old ≡ true) }
-    ensures taken { OnOk result (assigned (record_of event) list.old ≡ Some list.new) }
-    ensures bad { IsErrOf result RecordFault.Bad → assigned (record_of event) list.old ≡ None }
+    ensures taken { OnOk result (assigned (record_of recorded) list.old ≡ Some list.new) }
+    ensures bad { IsErrOf result RecordFault.Bad → assigned (record_of recorded) list.old ≡ None }
 {
-    if !may_stand(&event, list) {
+    if !may_stand(&recorded, list) {
         return Err(RecordFault::Bad);
     }
-    list.accept(alloc, event)?;
+    match recorded {
+        Recorded::Made(release) => list.accept(alloc, Event::Made(release))?,
+        Recorded::Unpacked(release) => list.accept(alloc, Event::Unpacked(release))?,
+    }
     Ok(())
 }
 
@@ -200,8 +214,8 @@ pub(crate) fn take_record(
         × (assigned r list.old ≡ Some list.new)) }
     ensures bad { IsErrOf result RecordFault.Bad → CannotStand body.now list.old }
 {
-    match event_in(alloc, body) {
-        Ok(event) => take_event(alloc, list, event),
+    match recorded_in(alloc, body) {
+        Ok(recorded) => take_recorded(alloc, list, recorded),
         Err(fault) => Err(fault),
     }
 }

@@ -1,1 +1,6 @@
 mod Lookups
+mod Orderly
+mod EventLaws
+mod BootLaws
+mod RefusalLaws
+mod Kept

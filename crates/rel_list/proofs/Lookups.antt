@@ -1,20 +1,24 @@
 -- What the map finds is what the entries have.
-use Rattle.std.proofs.Common.{◌≡◌, ℕ, Bool, true, false, cond, List, [], ◌∷◌, ◌++◌, map, Option, Some, None, String, string_bytes, refl, sym, ap, ◌∙◌, find}
+use Rattle.std.proofs.Common.{◌≡◌, ℕ, ◌+◌, zero, suc, add-one, Bool, true, false, cond, List, [], ◌∷◌, ◌++◌, map, take, drop, slice_get, Option, Some, None, String, string_bytes, refl, sym, ap, ◌∙◌, find}
 use Rattle.std.specs.declared.alloc.Global.{Global}
 use Rattle.std.specs.declared.hash.BuildHasherDefault.{BuildHasherDefault}
 use Rattle.std.specs.declared.hash.FoldHasher.{FoldHasher}
-use Rattle.std.specs.Map.{lookup, values_of}
+use Rattle.std.specs.Map.{lookup, values_of, remove_entry}
 use Rattle.std.specs.Option.{option_map}
 use Rattle.std.specs.Str.{bytes_eq}
 use Rattle.std.specs.String.{string_eq}
 use Rattle.std.proofs.lemmas.List.{map_push}
 use Rattle.std.proofs.lemmas.Map.Text.{hash_map_text_same}
-use Rattle.indexmap.specs.IndexMap.{IndexMap, insert_entry}
+use Rattle.indexmap.specs.IndexMap.{IndexMap, insert_entry, set_value_at}
 use Rattle.indexmap.proofs.CallerLemmas.{insert_entry-new}
-use Rattle.rel_files.specs.Release.{release_of}
-use Rattle.rel_list.specs.declared.list.ListedRelease.{ListedRelease}
+use Rattle.rel_files.specs.Release.{Release, release_of}
+use Rattle.rel_list.specs.declared.listed.ListedRelease.{ListedRelease}
 use Rattle.rel_list.specs.declared.status.Status.{Status}
-use Rattle.rel_list.specs.Releases.{Entry, status_of}
+use Rattle.rel_list.specs.declared.change.StatusChange.{StatusChange}
+use Rattle.rel_list.specs.Status.{is_current}
+use Rattle.rel_list.specs.Releases.{Entry, status_of, current}
+use Rattle.rel_list.specs.Event.{with_statuses, without}
+use Rattle.rel_list.specs.Change.{status_after, changed}
 use Rattle.rel_list.specs.Keyed.{entry_of, entries_in, AreKeyed}
 
 -- one more entry in front of both
@@ -71,6 +75,18 @@ first_release test (l ∷ ls) = go (test l.status) (first_release test ls)
     go true rest = refl
     go false rest = rest
 
+-- the version of the current release, as it is kept and among the entries
+pub current_version : (ls : List ListedRelease)
+    → option_map (λ (l : ListedRelease). string_bytes l.release.vsn) (find (λ (l : ListedRelease). is_current l.status) ls)
+    ≡ option_map (λ (r : Release). r.vsn) (current (map entry_of ls))
+current_version ls =
+    twice (find (λ (l : ListedRelease). is_current l.status) ls) ∙ ap (option_map (λ (r : Release). r.vsn)) (sym (first_release is_current ls))
+  where
+    twice : (o : Option ListedRelease)
+        → option_map (λ (l : ListedRelease). string_bytes l.release.vsn) o ≡ option_map (λ (r : Release). r.vsn) (option_map (λ (l : ListedRelease). release_of l.release) o)
+    twice None = refl
+    twice (Some l) = refl
+
 -- a further pair, at its version
 pub AreKeyed-push : (ps : List (String Global × ListedRelease)) (k : String Global) (l : ListedRelease)
     → AreKeyed ps → string_bytes k ≡ string_bytes l.release.vsn → AreKeyed (ps ++ (k, l) ∷ [])
@@ -89,3 +105,77 @@ pub inserted : (m : IndexMap (String Global) ListedRelease (BuildHasherDefault F
 inserted m k l keyed same unlisted =
     insert_entry-new string_eq m k l
     ((hash_map_text_same k (string_bytes l.release.vsn) m.entries (sym same)).0 ∙ nothing_at (string_bytes l.release.vsn) m.entries keyed unlisted)
+
+-- the map's pairs, changed as far as here
+abbrev pub changed_to : StatusChange → ℕ → List (String Global × ListedRelease) → List (String Global × ListedRelease)
+changed_to c i ps = map (changed c) (take i ps) ++ drop i ps
+
+-- the next pair is changed too
+next_changed : (c : StatusChange) (i : ℕ) (ps : List (String Global × ListedRelease)) (l : ListedRelease)
+    → slice_get (values_of (changed_to c i ps)) i ≡ Some l
+    → set_value_at (changed_to c i ps) i (record l { status = status_after c (string_bytes l.release.vsn) l.status }) ≡ changed_to c (suc i) ps
+next_changed c zero [] l at = cc
+next_changed c zero (p ∷ ps) l at =
+    let same : l ≡ p.1 = cc at in
+    λ k. (p.0, record (same k) { status = status_after c (string_bytes (same k).release.vsn) (same k).status }) ∷ ps
+next_changed c (suc i) [] l at = cc
+next_changed c (suc i) (p ∷ ps) l at = ap (λ qs. changed c p ∷ qs) (next_changed c i ps l at)
+
+pub changed-more : (c : StatusChange) (i : ℕ) (ps qs : List (String Global × ListedRelease)) (l : ListedRelease) (s : Status)
+    → qs ≡ changed_to c i ps → slice_get (values_of qs) i ≡ Some l → s ≡ status_after c (string_bytes l.release.vsn) l.status
+    → set_value_at qs i (record l { status = s }) ≡ changed_to c (i + 1) ps
+changed-more c i ps qs l s so_far at is =
+    (λ k. set_value_at (so_far k) i (record l { status = is k }))
+    ∙ next_changed c i ps l (ap (λ rs. slice_get (values_of rs) i) (sym so_far) ∙ at)
+    ∙ ap (λ n. changed_to c n ps) (sym (add-one i))
+
+-- where there is no next pair, all are changed
+none_left : (c : StatusChange) (i : ℕ) (ps : List (String Global × ListedRelease)) → slice_get (values_of (changed_to c i ps)) i ≡ None
+    → changed_to c i ps ≡ changed_to c (suc i) ps
+none_left c zero [] past = refl
+none_left c zero (p ∷ ps) past = cc
+none_left c (suc i) [] past = refl
+none_left c (suc i) (p ∷ ps) past = ap (λ qs. changed c p ∷ qs) (none_left c i ps past)
+
+pub changed-all : (c : StatusChange) (i : ℕ) (ps qs : List (String Global × ListedRelease)) → qs ≡ changed_to c i ps → slice_get (values_of qs) i ≡ None
+    → qs ≡ changed_to c (i + 1) ps
+changed-all c i ps qs so_far past =
+    so_far ∙ none_left c i ps (ap (λ rs. slice_get (values_of rs) i) (sym so_far) ∙ past) ∙ ap (λ n. changed_to c n ps) (sym (add-one i))
+
+-- a change of statuses leaves each release at its version
+pub AreKeyed-changed : (c : StatusChange) (ps : List (String Global × ListedRelease)) → AreKeyed ps → AreKeyed (map (changed c) ps)
+AreKeyed-changed c [] keyed = tt
+AreKeyed-changed c (p ∷ ps) keyed = (keyed.0, AreKeyed-changed c ps keyed.1)
+
+-- and is that of the entries
+pub entries_in-changed : (c : StatusChange) (ps : List (String Global × ListedRelease)) → entries_in (map (changed c) ps) ≡ with_statuses (status_after c) (entries_in ps)
+entries_in-changed c [] = refl
+entries_in-changed c (p ∷ ps) = ap (λ es. entry_of (changed c p).1 ∷ es) (entries_in-changed c ps)
+
+-- without a key, the rest stand at their versions
+pub AreKeyed-removed : (v : List ℕ) (ps : List (String Global × ListedRelease)) → AreKeyed ps → AreKeyed (remove_entry (λ k. bytes_eq v (string_bytes k)) ps)
+AreKeyed-removed v [] keyed = tt
+AreKeyed-removed v (p ∷ ps) keyed = go (bytes_eq v (string_bytes p.0)) (AreKeyed-removed v ps keyed.1)
+  where
+    rest : List (String Global × ListedRelease)
+    rest = remove_entry (λ k. bytes_eq v (string_bytes k)) ps
+
+    go : (b : Bool) → AreKeyed rest → AreKeyed (cond b ps (p ∷ rest))
+    go true kept = keyed.1
+    go false kept = (keyed.0, kept)
+
+-- and the entries are those without the release of that version
+pub entries_in-removed : (v : List ℕ) (ps : List (String Global × ListedRelease)) → AreKeyed ps
+    → entries_in (remove_entry (λ k. bytes_eq v (string_bytes k)) ps) ≡ without v (entries_in ps)
+entries_in-removed v [] keyed = refl
+entries_in-removed v (p ∷ ps) keyed =
+    go (bytes_eq v (string_bytes p.0)) (entries_in-removed v ps keyed.1)
+    ∙ ap (λ b. cond b (entries_in ps) (entry_of p.1 ∷ without v (entries_in ps))) (ap (bytes_eq v) keyed.0)
+  where
+    rest : List (String Global × ListedRelease)
+    rest = remove_entry (λ k. bytes_eq v (string_bytes k)) ps
+
+    go : (b : Bool) → entries_in rest ≡ without v (entries_in ps)
+        → entries_in (cond b ps (p ∷ rest)) ≡ cond b (entries_in ps) (entry_of p.1 ∷ without v (entries_in ps))
+    go true kept = refl
+    go false kept = ap (λ es. entry_of p.1 ∷ es) kept

@@ -1,40 +1,112 @@
--- What happens to a list of releases, and what it makes of the list (OTP: release_handler(3)).
-use Rattle.std.specs.Prelude.{List, [], ◌∷◌, ◌++◌, map, Option, None, Some, is_some, if◌then◌else◌}
+-- What happens to a list of releases, and what it makes of the list (OTP: release_handler(3), the table of statuses).
+use Rattle.std.specs.Prelude.{ℕ, Bool, true, false, List, [], ◌∷◌, ◌++◌, map, Option, None, Some, is_some, if◌then◌else◌, string_bytes}
 use Rattle.std.specs.Option.{option_and_then}
+use Rattle.std.specs.Str.{bytes_eq}
 use Rattle.rel_files.specs.Release.{Release, release_of}
 use Rattle.rel_list.specs.declared.status.Status.{Status}
-use Rattle.rel_list.specs.declared.status.Status.TheVariants.{Unpacked, Current, Permanent}
+use Rattle.rel_list.specs.declared.status.Status.TheVariants.{Unpacked, Current, Old, Permanent}
 use Rattle.rel_list.specs.declared.event.Event.{Event as EventInMemory}
 use Rattle.rel_list.specs.declared.event.Event.TheVariants as memory
-use Rattle.rel_list.specs.Releases.{Releases, Entry, status_of}
+use Rattle.rel_list.specs.Releases.{Releases, Entry, status_of, of_status, has_current}
+use Rattle.rel_list.specs.Status.{is_current}
+pub use Rattle.rel_list.specs.Releases.{entry}
 
+-- Releases come in whole; later they are named by their versions.
 pub data Event : Type 0 where
   made : Release → Event
   unpacked : Release → Event
+  installed : List ℕ → Event
+  made_permanent : List ℕ → Event
+  removed : List ℕ → Event
+  reboot_old : List ℕ → Event
   boot : Event
 
 abbrev pub event_of : EventInMemory → Event
 event_of (memory.Made r) = made (release_of r)
 event_of (memory.Unpacked r) = unpacked (release_of r)
+event_of (memory.Installed v) = installed (string_bytes v)
+event_of (memory.MadePermanent v) = made_permanent (string_bytes v)
+event_of (memory.Removed v) = removed (string_bytes v)
+event_of (memory.RebootOld v) = reboot_old (string_bytes v)
+event_of memory.Boot = boot
 
-abbrev pub entry : Release → Status → Entry
-entry r s = record { release = r; status = s }
+-- A release may be installed that is unpacked, old, or permanent while another one is current.
+abbrev pub may_be_installed : Bool → Option Status → Bool
+may_be_installed other_is_current (Some Unpacked) = true
+may_be_installed other_is_current (Some Old) = true
+may_be_installed other_is_current (Some Permanent) = other_is_current
+may_be_installed other_is_current s = false
+
+-- The current release may be made permanent.
+abbrev pub may_be_made_permanent : Option Status → Bool
+may_be_made_permanent (Some Current) = true
+may_be_made_permanent s = false
+
+-- A release may be removed that is unpacked or old.
+abbrev pub may_be_removed : Option Status → Bool
+may_be_removed (Some Unpacked) = true
+may_be_removed (Some Old) = true
+may_be_removed s = false
+
+-- An old release may be rebooted.
+abbrev pub may_be_rebooted : Option Status → Bool
+may_be_rebooted (Some Old) = true
+may_be_rebooted s = false
+
+-- The status of a release behind an installation, of itself or of another one: the installed release becomes current, a
+-- permanent one stays permanent; a former current release becomes old.
+abbrev pub installed_status : Bool → Status → Status
+installed_status true Permanent = Permanent
+installed_status true s = Current
+installed_status false Current = Old
+installed_status false s = s
+
+-- The status of a release behind one that was made permanent, itself or another one: the former permanent one becomes old.
+abbrev pub permanent_status : Bool → Status → Status
+permanent_status true s = Permanent
+permanent_status false Permanent = Old
+permanent_status false s = s
 
 -- the status behind a boot: what was merely installed is unpacked again
 abbrev pub booted_status : Status → Status
 booted_status Current = Unpacked
 booted_status s = s
 
+-- each release with the status that this makes of its version and its status
+abbrev pub with_statuses : (List ℕ → Status → Status) → Releases → Releases
+with_statuses status es = map (λ (e : Entry). record e { status = status e.release.vsn e.status }) es
+
+-- the list behind an installation of this version
+abbrev pub list_installed : List ℕ → Releases → Releases
+list_installed v es = with_statuses (λ vsn s. installed_status (bytes_eq v vsn) s) es
+
+-- the list in which the release of this version is the permanent one
+abbrev pub list_made_permanent : List ℕ → Releases → Releases
+list_made_permanent v es = with_statuses (λ vsn s. permanent_status (bytes_eq v vsn) s) es
+
+-- the list without the release of this version
+abbrev pub without : List ℕ → Releases → Releases
+without v [] = []
+without v (e ∷ es) = if bytes_eq v e.release.vsn then es else e ∷ without v es
+
 -- the list behind a boot: current becomes unpacked, all else stays
 abbrev pub booted : Releases → Releases
 booted es = map (λ (e : Entry). record e { status = booted_status e.status }) es
 
--- The list after an event, where the list allows it: the first release comes in as the permanent one,
--- one whose version isn't there yet comes last, unpacked, and a boot is always allowed.
+-- the versions of the releases whose status a boot changes
+abbrev pub boot_changes : Releases → List (List ℕ)
+boot_changes es = map (λ (e : Entry). e.release.vsn) (of_status is_current es)
+
+-- The list after an event, where the list allows it: the first release comes in as the permanent one, one whose version
+-- isn't there yet comes last, unpacked, and a boot is always allowed.
 abbrev pub step : Event → Releases → Option Releases
 step (made r) [] = Some (entry r Permanent ∷ [])
 step (made r) (e ∷ es) = None
 step (unpacked r) es = if is_some (status_of r.vsn es) then None else Some (es ++ entry r Unpacked ∷ [])
+step (installed v) es = if may_be_installed (has_current es) (status_of v es) then Some (list_installed v es) else None
+step (made_permanent v) es = if may_be_made_permanent (status_of v es) then Some (list_made_permanent v es) else None
+step (removed v) es = if may_be_removed (status_of v es) then Some (without v es) else None
+step (reboot_old v) es = if may_be_rebooted (status_of v es) then Some (list_made_permanent v es) else None
 step boot es = Some (booted es)
 
 -- the list that these events, one after another, make of a list, where each is allowed

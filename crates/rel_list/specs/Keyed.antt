@@ -1,11 +1,12 @@
 -- Releases in a map by their versions.
-use Rattle.std.specs.Prelude.{◌≡◌, List, map, string_bytes, String}
+use Rattle.std.specs.Prelude.{◌≡◌, ◌≤◌, List, length, map, string_bytes, String}
 use Rattle.std.specs.declared.alloc.Global.{Global}
 use Rattle.std.specs.List.{AllByRecursion}
 use Rattle.std.specs.Map.{values_of}
 use Rattle.rel_files.specs.Release.{release_of}
-use Rattle.rel_list.specs.declared.list.ListedRelease.{ListedRelease}
-use Rattle.rel_list.specs.Releases.{Releases, Entry}
+use Rattle.rel_list.specs.declared.listed.ListedRelease.{ListedRelease}
+use Rattle.rel_list.specs.Releases.{Releases, Entry, HasDistinctVersions, of_status}
+use Rattle.rel_list.specs.Status.{is_current}
 
 -- a release of the list without where it lies in memory
 abbrev pub entry_of : ListedRelease → Entry
@@ -18,3 +19,13 @@ entries_in ps = map entry_of (values_of ps)
 -- each release stands at its own version
 abbrev pub AreKeyed : List (String Global × ListedRelease) → Type 0
 AreKeyed ps = AllByRecursion (λ (p : String Global × ListedRelease). string_bytes p.0 ≡ string_bytes p.1.release.vsn) ps
+
+-- No version stands twice, and at most one release is current.
+pub record IsOrderly (es : Releases) : Type 0 where
+  pub distinct : HasDistinctVersions es
+  pub one_current : length (of_status is_current es) ≤ 1
+
+-- what the map of a list keeps
+pub record IsKept (ps : List (String Global × ListedRelease)) : Type 0 where
+  pub keyed : AreKeyed ps
+  pub orderly : IsOrderly (entries_in ps)

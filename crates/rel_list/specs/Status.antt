@@ -1,5 +1,5 @@
 -- The words for the statuses of releases (OTP: release_handler(3), which_releases).
-use Rattle.std.specs.Prelude.{ℕ, List, Bool, true, false, codes}
+use Rattle.std.specs.Prelude.{ℕ, List, Bool, true, false, not, codes}
 use Rattle.rel_list.specs.declared.status.Status.{Status}
 use Rattle.rel_list.specs.declared.status.Status.TheVariants.{Unpacked, Current, Old, Permanent}
 
@@ -14,6 +14,16 @@ abbrev pub is_current : Status → Bool
 is_current Current = true
 is_current s = false
 
+abbrev pub is_old : Status → Bool
+is_old Old = true
+is_old s = false
+
 abbrev pub is_permanent : Status → Bool
 is_permanent Permanent = true
 is_permanent s = false
+
+-- a release with this status runs: it is current, or permanent in a list that has no current one
+abbrev pub runs : Bool → Status → Bool
+runs has_current Current = true
+runs has_current Permanent = not has_current
+runs has_current s = false

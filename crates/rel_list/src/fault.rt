@@ -2,16 +2,32 @@
 ghost use Rattle.std.specs.Prelude.{◌≡◌};
 ghost use Rattle.rel_list.specs.declared.fault.ListError.TheVariants.{NoMemory};
 
+use crate::Status;
 use std::alloc::{AllocError, AllocFailed};
 use thiserror::Error;
 
 /// The condition that an event fails.
 #[derive(Clone, Copy, Debug, PartialEq, Eq, Error)]
 pub enum ListError {
+    /// The list has no release of this version.
+    #[error("NoSuchRelease")]
+    NoSuchRelease,
     /// The list has a release of this version, or has one where it is to get its first.
     #[error("ExistingRelease")]
     ExistingRelease,
-    /// No memory was left. It says nothing of the event.
+    /// The release is to be installed, and runs.
+    #[error("AlreadyInstalled")]
+    AlreadyInstalled,
+    /// The release has this status, and would need another one.
+    #[error("BadStatus {}", .0.as_str())]
+    BadStatus(Status),
+    /// The release is to be removed, and is the one that is booted.
+    #[error("Permanent")]
+    Permanent,
+    /// The release is to be removed, and runs.
+    #[error("Running")]
+    Running,
+    /// No memory was left for a release that the list would take.
     #[error("NoMemory")]
     NoMemory,
 }

@@ -1,20 +1,14 @@
 //! The list of releases.
-ghost use Rattle.std.specs.Prelude.{◌≡◌, ◌↔◌, [], ◌∷◌, ◌++◌, find, length, map, string_bytes, IsTrue, IfErr, OnOk, OnErr, IsErrOf};
-ghost use Rattle.std.specs.Option.{option_map, option_copied};
+ghost use Rattle.std.specs.Prelude.{◌≡◌, ◌↔◌, false, Some, None, [], ◌∷◌, ◌++◌, find, length, map, string_bytes, IsTrue, IfErr, OnOk, OnErr};
+ghost use Rattle.std.specs.Option.{option_map, option_copied, option_to_list};
 ghost use Rattle.rel_list.specs.Status.{is_current, is_permanent};
 
-use crate::{Event, ListError, Status};
+use crate::change::StatusChange;
+use crate::{Event, ListError, ListedRelease, Status};
 use indexmap::IndexMap;
 use rel_files::Rel;
 use std::alloc::Global;
 use std::marker::Model;
-
-/// A release of the list, with its status.
-#[derive(Debug, PartialEq, Drop)]
-pub struct ListedRelease {
-    pub release: Rel,
-    pub status: Status,
-}
 
 /// The releases of a node. A contract sees their entries, in order of coming.
 #[derive(Drop)]
@@ -25,18 +19,22 @@ pub struct ReleaseList {
 
 impl Model for ReleaseList {
     ghost use Rattle.rel_list.specs.Releases.{Releases};
-    ghost use Rattle.rel_list.specs.Keyed.{entries_in, AreKeyed};
+    ghost use Rattle.rel_list.specs.Keyed.{entries_in, IsKept};
 
     ghost Value = { Releases };
 
     ghost view = { λ l. entries_in l.releases.entries };
 
-    ghost invariant = { λ l. AreKeyed l.releases.entries };
+    ghost invariant = { λ l. IsKept l.releases.entries };
 }
 
 impl ReleaseList {
-    ghost use Rattle.rel_list.specs.Event.{event_of, step, entry};
-    ghost use Rattle.rel_list.specs.Releases.{permanent, current, running, status_of};
+    ghost use Rattle.rel_list.specs.Event.{event_of, step, boot_changes, with_statuses};
+    ghost use Rattle.rel_list.specs.Event.Event.{made, unpacked, installed, made_permanent, removed, reboot_old};
+    ghost use Rattle.rel_list.specs.Releases.{entry, permanent, current, running, status_of, has_current};
+    ghost use Rattle.rel_list.specs.Refusal.{IsRefusedWith};
+    ghost use Rattle.rel_list.specs.Change.{status_after};
+    ghost use Rattle.rel_list.specs.Status.{runs};
     ghost use Rattle.rel_list.specs.Keyed.{entry_of};
     ghost use Rattle.rel_files.specs.Release.{release_of};
 
@@ -49,41 +47,147 @@ impl ReleaseList {
         }
     }
 
-    /// Changes the list as the event says.
+    /// Changes the list as the event says. Only an event that brings a release takes memory.
     pub fn accept(&mut self, alloc: Global, event: Event) -> Result<(), ListError>
         ensures accepted { OnOk result (step (event_of event) self.old ≡ Some self.new) }
-        ensures existing { IsErrOf result ListError.ExistingRelease
-            ↔ (step (event_of event) self.old ≡ None) }
-        ensures refused { OnErr result (self.new ≡ self.old) }
+        ensures refused { IfErr result (IsRefusedWith (event_of event) self.old) }
+        ensures unchanged { OnErr result (self.new ≡ self.old) }
     {
         match event {
-            Event::Made(release) => {
-                if !self.is_empty() {
-                    return Err(ListError::ExistingRelease);
-                }
-                self.put(alloc, release, Status::Permanent)
-            }
-            Event::Unpacked(release) => {
-                if self.status(release.vsn.as_str()).is_some() {
-                    return Err(ListError::ExistingRelease);
-                }
-                self.put(alloc, release, Status::Unpacked)
+            Event::Made(release) => self.make(alloc, release),
+            Event::Unpacked(release) => self.unpack(alloc, release),
+            Event::Installed(vsn) => self.install(vsn.as_str()),
+            Event::MadePermanent(vsn) => self.make_permanent(vsn.as_str()),
+            Event::Removed(vsn) => self.remove(vsn.as_str()),
+            Event::RebootOld(vsn) => self.reboot_old(vsn.as_str()),
+            Event::Boot => {
+                self.change(StatusChange::Boot);
+                Ok(())
             }
         }
     }
 
+    // Takes the first release, as the permanent one.
+    fn make(&mut self, alloc: Global, release: Rel) -> Result<(), ListError>
+        ensures accepted { OnOk result (step (made (release_of release)) self.old ≡ Some self.new) }
+        ensures refused { IfErr result (IsRefusedWith (made (release_of release)) self.old) }
+        ensures unchanged { OnErr result (self.new ≡ self.old) }
+    {
+        if !self.is_empty() {
+            return Err(ListError::ExistingRelease);
+        }
+        self.put(alloc, release, Status::Permanent)
+    }
+
+    // Takes a further release, unpacked.
+    fn unpack(&mut self, alloc: Global, release: Rel) -> Result<(), ListError>
+        ensures accepted { OnOk result
+            (step (unpacked (release_of release)) self.old ≡ Some self.new) }
+        ensures refused { IfErr result (IsRefusedWith (unpacked (release_of release)) self.old) }
+        ensures unchanged { OnErr result (self.new ≡ self.old) }
+    {
+        if self.status(release.vsn.as_str()).is_some() {
+            return Err(ListError::ExistingRelease);
+        }
+        self.put(alloc, release, Status::Unpacked)
+    }
+
+    // Makes the release of this version current.
+    fn install(&mut self, vsn: &str) -> Result<(), ListError>
+        ensures accepted { OnOk result (step (installed vsn.now) self.old ≡ Some self.new) }
+        ensures refused { IfErr result (IsRefusedWith (installed vsn.now) self.old) }
+        ensures unchanged { OnErr result (self.new ≡ self.old) }
+    {
+        let Some(status) = self.status(vsn) else {
+            return Err(ListError::NoSuchRelease);
+        };
+        if self.runs(status) {
+            return Err(ListError::AlreadyInstalled);
+        }
+        self.change(StatusChange::Install(vsn));
+        Ok(())
+    }
+
+    // Makes the release of this version, the current one, permanent.
+    fn make_permanent(&mut self, vsn: &str) -> Result<(), ListError>
+        ensures accepted { OnOk result (step (made_permanent vsn.now) self.old ≡ Some self.new) }
+        ensures refused { IfErr result (IsRefusedWith (made_permanent vsn.now) self.old) }
+        ensures unchanged { OnErr result (self.new ≡ self.old) }
+    {
+        let Some(status) = self.status(vsn) else {
+            return Err(ListError::NoSuchRelease);
+        };
+        if !status.is_current() {
+            return Err(ListError::BadStatus(status));
+        }
+        self.change(StatusChange::MakePermanent(vsn));
+        Ok(())
+    }
+
+    // Takes the release of this version out of the list.
+    fn remove(&mut self, vsn: &str) -> Result<(), ListError>
+        ensures accepted { OnOk result (step (removed vsn.now) self.old ≡ Some self.new) }
+        ensures refused { IfErr result (IsRefusedWith (removed vsn.now) self.old) }
+        ensures unchanged { OnErr result (self.new ≡ self.old) }
+    {
+        match self.status(vsn) {
+            None => Err(ListError::NoSuchRelease),
+            Some(Status::Permanent) => Err(ListError::Permanent),
+            Some(Status::Current) => Err(ListError::Running),
+            Some(Status::Unpacked | Status::Old) => {
+                self.releases.shift_remove(vsn);
+                Ok(())
+            }
+        }
+    }
+
+    // Makes the release of this version, an old one, permanent.
+    fn reboot_old(&mut self, vsn: &str) -> Result<(), ListError>
+        ensures accepted { OnOk result (step (reboot_old vsn.now) self.old ≡ Some self.new) }
+        ensures refused { IfErr result (IsRefusedWith (reboot_old vsn.now) self.old) }
+        ensures unchanged { OnErr result (self.new ≡ self.old) }
+    {
+        let Some(status) = self.status(vsn) else {
+            return Err(ListError::NoSuchRelease);
+        };
+        if !status.is_old() {
+            return Err(ListError::BadStatus(status));
+        }
+        self.change(StatusChange::MakePermanent(vsn));
+        Ok(())
+    }
+
     // Puts a release of a new version last.
     fn put(&mut self, alloc: Global, release: Rel, status: Status) -> Result<(), ListError>
-        requires { status_of (string_bytes release.vsn) self.old ≡ None }
+        requires new { status_of (string_bytes release.vsn) self.old ≡ None }
+        requires not_current { is_current status ≡ false }
         ensures added { OnOk result
             (self.new ≡ self.old ++ entry (release_of release) status ∷ []) }
         ensures memory { IfErr result (λ e. e ≡ ListError.NoMemory) }
-        ensures refused { OnErr result (self.new ≡ self.old) }
+        ensures unchanged { OnErr result (self.new ≡ self.old) }
     {
         let vsn = String::from_str(alloc, release.vsn.as_str())?;
         self.releases
             .insert(vsn, ListedRelease { release, status })?;
         Ok(())
+    }
+
+    // Changes the statuses of all releases.
+    fn change(&mut self, change: StatusChange<'_>)
+        ensures { self.new ≡ with_statuses (status_after change.entry) self.old }
+    {
+        change.change(&mut self.releases);
+    }
+
+    // Whether a release with this status runs.
+    fn runs(&self, status: Status) -> bool
+        ensures { result ≡ runs (has_current self.now) status }
+    {
+        match status {
+            Status::Current => true,
+            Status::Permanent => self.current().is_none(),
+            Status::Unpacked | Status::Old => false,
+        }
     }
 
     /// The release that is booted.
@@ -105,6 +209,13 @@ impl ReleaseList {
         ensures { option_map release_of (option_copied result) ≡ running self.now }
     {
         self.current().or(self.permanent())
+    }
+
+    /// The version of the release whose status a boot would change, if there is one.
+    pub fn boot_events(&self) -> Option<&str>
+        ensures { option_to_list (option_map (λ vsn. vsn.now) result) ≡ boot_changes self.now }
+    {
+        first_current(self.releases.values().as_slice()).map(|listed| listed.release.vsn.as_str())
     }
 
     /// The status of the release of this version.

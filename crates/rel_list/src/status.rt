@@ -15,7 +15,8 @@ pub enum Status {
 }
 
 impl Status {
-    ghost use Rattle.rel_list.specs.Status.{status_word, is_current, is_permanent};
+    ghost use Rattle.rel_list.specs.Status.{status_word, is_current, is_old, is_permanent};
+    ghost use Rattle.rel_list.specs.Event.{installed_status, permanent_status, booted_status};
 
     /// The atom for it.
     pub fn as_str(self) -> &'static str
@@ -36,10 +37,50 @@ impl Status {
         matches!(self, Status::Current)
     }
 
+    /// Whether it is the status of a release that was current or permanent.
+    pub fn is_old(self) -> bool
+        ensures { result ≡ is_old self }
+    {
+        matches!(self, Status::Old)
+    }
+
     /// Whether it is the status of the release that is booted.
     pub fn is_permanent(self) -> bool
         ensures { result ≡ is_permanent self }
     {
         matches!(self, Status::Permanent)
+    }
+
+    /// The status behind an installation, of the release itself or of another one.
+    pub fn installed(self, itself: bool) -> Status
+        ensures { result ≡ installed_status itself self }
+    {
+        match (itself, self) {
+            (true, Status::Permanent) => Status::Permanent,
+            (true, _) => Status::Current,
+            (false, Status::Current) => Status::Old,
+            (false, status) => status,
+        }
+    }
+
+    /// The status behind the event that makes the release itself or another one permanent.
+    pub fn made_permanent(self, itself: bool) -> Status
+        ensures { result ≡ permanent_status itself self }
+    {
+        match (itself, self) {
+            (true, _) => Status::Permanent,
+            (false, Status::Permanent) => Status::Old,
+            (false, status) => status,
+        }
+    }
+
+    /// The status behind a boot.
+    pub fn booted(self) -> Status
+        ensures { result ≡ booted_status self }
+    {
+        match self {
+            Status::Current => Status::Unpacked,
+            status => status,
+        }
     }
 }

@@ -1,34 +1,9 @@
 //! What a list shows of its releases, event by event.
-use rel_files::Rel;
-use rel_list::{Event, ReleaseList};
+use crate::lists::{event, release, version};
+use rel_list::ReleaseList;
 use std::alloc::Global;
 use std::process::Abort;
 use std::test::Fail;
-
-fn release(alloc: Global, vsn: &str) -> Result<Rel, Fail> {
-    Ok(Rel {
-        name: String::from_str(alloc, "r")?,
-        vsn: String::from_str(alloc, vsn)?,
-        erts: String::from_str(alloc, "14.2")?,
-        apps: Vec::new(alloc),
-    })
-}
-
-/// A release of this version is made, or else unpacked.
-fn event(alloc: Global, word: &str, vsn: &str) -> Result<Event, Fail> {
-    let release = release(alloc, vsn)?;
-    match word {
-        "made" => Ok(Event::Made(release)),
-        _ => Ok(Event::Unpacked(release)),
-    }
-}
-
-fn version(release: Option<&Rel>) -> &str {
-    match release {
-        Some(release) => release.vsn.as_str(),
-        None => "none",
-    }
-}
 
 /// What each reader of the list gives: the releases with their statuses, and the rest. No list here has a release D.
 fn push_list(text: &mut String, list: &ReleaseList) -> Result<(), Fail> {

@@ -1,7 +1,7 @@
 use Rattle.std.proofs.Common.{rules, ◌≡◌, ◌∙◌, sym, ap}
 use Rattle.std.specs.Option.{option_map, option_copied}
 use Rattle.rel_files.specs.Release.{release_of}
-use Rattle.rel_list.specs.declared.list.ListedRelease.{ListedRelease}
+use Rattle.rel_list.specs.declared.listed.ListedRelease.{ListedRelease}
 use Rattle.rel_list.specs.Releases.{permanent}
 use Rattle.rel_list.specs.Status.{is_permanent}
 use Rattle.rel_list.proofs.Lookups.{first_release}

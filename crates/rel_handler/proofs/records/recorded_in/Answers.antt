@@ -1,6 +1,6 @@
 use Rattle.std.proofs.Common.{rules}
 use Rattle.rel_handler.proofs.Bodies.{no_term, no_parts, no_word, no_release}
-use Rattle.rel_handler.proofs.records.event_in.Goals as goal
+use Rattle.rel_handler.proofs.records.recorded_in.Goals as goal
 
 pub returns-in_err-term-clause-bad : goal.returns-in_err-term-clause-bad
 returns-in_err-term-clause-bad c = no_term c.args.body.now c.in_err-term.field-0.0 c.from_residual.result c.in_err-term.ensures.only c.from_residual.ensures

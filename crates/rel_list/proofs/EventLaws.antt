@@ -1,0 +1,285 @@
+-- What events make of a list, over any events.
+use Rattle.std.proofs.Common.{◌≡◌, ℕ, ◌≤◌, Bool, true, false, cond, List, [], ◌∷◌, ◌++◌, length, filter, Option, Some, None, is_some, refl, sym, ap, subst, ◌∙◌, true≢false, find, arith, if◌then◌else◌}
+use Rattle.std.specs.Option.{option_map, option_and_then}
+use Rattle.std.specs.Str.{bytes_eq}
+use Rattle.rel_files.specs.Release.{Release}
+use Rattle.rel_list.specs.declared.status.Status.{Status}
+use Rattle.rel_list.specs.declared.status.Status.TheVariants.{Unpacked, Current, Old, Permanent}
+use Rattle.rel_list.specs.Status.{is_current, is_permanent}
+use Rattle.rel_list.specs.Releases.{Releases, Entry, entry, status_of, of_status, has_current, HasDistinctVersions}
+use Rattle.rel_list.specs.Event.{Event, may_be_installed, may_be_made_permanent, may_be_removed, may_be_rebooted, installed_status, permanent_status, booted_status, list_installed, list_made_permanent, without, booted, step, list_from, list_after}
+use Rattle.rel_list.specs.Event.Event.{made, unpacked, installed, made_permanent, removed, reboot_old, boot}
+use Rattle.rel_list.specs.Keyed.{IsOrderly}
+use Rattle.rel_list.proofs.Orderly.{of_version, differs_back, first_differs, none_behind, none_at_all, at_most_once, exactly_once, distinct-with_statuses, one_more, as_many, no_more, just_as_many}
+
+abbrev currents : Releases → ℕ
+currents es = length (of_status is_current es)
+
+abbrev permanents : Releases → ℕ
+permanents es = length (of_status is_permanent es)
+
+-- Installation
+
+current-installed : (b : Bool) (s : Status) → is_current (installed_status b s) ≡ true → b ≡ true
+current-installed true s is = refl
+current-installed false Unpacked is = absurd (true≢false (sym is))
+current-installed false Current is = absurd (true≢false (sym is))
+current-installed false Old is = absurd (true≢false (sym is))
+current-installed false Permanent is = absurd (true≢false (sym is))
+
+permanent-installed : (b : Bool) (s : Status) → is_permanent (installed_status b s) ≡ is_permanent s
+permanent-installed true Unpacked = refl
+permanent-installed true Current = refl
+permanent-installed true Old = refl
+permanent-installed true Permanent = refl
+permanent-installed false Unpacked = refl
+permanent-installed false Current = refl
+permanent-installed false Old = refl
+permanent-installed false Permanent = refl
+
+-- The permanent release
+
+current-permanent : (b : Bool) (s : Status) → is_current (permanent_status b s) ≡ true → is_current s ≡ true
+current-permanent true s is = absurd (true≢false (sym is))
+current-permanent false Unpacked is = is
+current-permanent false Current is = is
+current-permanent false Old is = is
+current-permanent false Permanent is = absurd (true≢false (sym is))
+
+permanent-permanent : (b : Bool) (s : Status) → is_permanent (permanent_status b s) ≡ b
+permanent-permanent true s = refl
+permanent-permanent false Unpacked = refl
+permanent-permanent false Current = refl
+permanent-permanent false Old = refl
+permanent-permanent false Permanent = refl
+
+-- Boot
+
+current-booted : (s : Status) → is_current (booted_status s) ≡ true → is_current s ≡ true
+current-booted Unpacked is = is
+current-booted Current is = refl
+current-booted Old is = is
+current-booted Permanent is = is
+
+permanent-booted : (s : Status) → is_permanent (booted_status s) ≡ is_permanent s
+permanent-booted Unpacked = refl
+permanent-booted Current = refl
+permanent-booted Old = refl
+permanent-booted Permanent = refl
+
+pub orderly-installed : (v : List ℕ) (es : Releases) → IsOrderly es → IsOrderly (list_installed v es)
+orderly-installed v es o =
+    let few : currents (list_installed v es) ≤ length (of_version v es) =
+    no_more (λ vsn s. installed_status (bytes_eq v vsn) s) (λ (e : Entry). is_current e.status) (λ (e : Entry). bytes_eq v e.release.vsn)
+    (λ (e : Entry). current-installed (bytes_eq v e.release.vsn) e.status) es in
+    record { distinct = distinct-with_statuses _ es o.distinct; one_current = omega (arith, few, at_most_once v es o.distinct) }
+
+pub orderly-made_permanent : (v : List ℕ) (es : Releases) → IsOrderly es → IsOrderly (list_made_permanent v es)
+orderly-made_permanent v es o =
+    let few : currents (list_made_permanent v es) ≤ currents es =
+    no_more (λ vsn s. permanent_status (bytes_eq v vsn) s) (λ (e : Entry). is_current e.status) (λ (e : Entry). is_current e.status)
+    (λ (e : Entry). current-permanent (bytes_eq v e.release.vsn) e.status) es in
+    record { distinct = distinct-with_statuses _ es o.distinct; one_current = omega (arith, few, o.one_current) }
+
+pub orderly-booted : (es : Releases) → IsOrderly es → IsOrderly (booted es)
+orderly-booted es o =
+    let few : currents (booted es) ≤ currents es =
+    no_more (λ vsn s. booted_status s) (λ (e : Entry). is_current e.status) (λ (e : Entry). is_current e.status) (λ (e : Entry). current-booted e.status) es in
+    record { distinct = distinct-with_statuses (λ vsn s. booted_status s) es o.distinct; one_current = omega (arith, few, o.one_current) }
+
+-- A release that leaves
+
+unlisted-without : (v w : List ℕ) (es : Releases) → status_of w es ≡ None → status_of w (without v es) ≡ None
+unlisted-without v w [] none = refl
+unlisted-without v w (e ∷ es) none = go (bytes_eq v e.release.vsn) (unlisted-without v w es (none_behind w e es none))
+  where
+    go : (b : Bool) → status_of w (without v es) ≡ None → status_of w (cond b es (e ∷ without v es)) ≡ None
+    go true rest = none_behind w e es none
+    go false rest = none_at_all w e (without v es) (first_differs w e es none) rest
+
+distinct-without : (v : List ℕ) (es : Releases) → HasDistinctVersions es → HasDistinctVersions (without v es)
+distinct-without v [] distinct = tt
+distinct-without v (e ∷ es) distinct = go (bytes_eq v e.release.vsn) (distinct-without v es distinct.1)
+  where
+    go : (b : Bool) → HasDistinctVersions (without v es) → HasDistinctVersions (cond b es (e ∷ without v es))
+    go true rest = distinct.1
+    go false rest = (unlisted-without v e.release.vsn es distinct.0, rest)
+
+fewer : (test : Entry → Bool) (v : List ℕ) (es : Releases) → length (filter test (without v es)) ≤ length (filter test es)
+fewer test v [] = omega arith
+fewer test v (e ∷ es) = go (bytes_eq v e.release.vsn) (fewer test v es)
+  where
+    -- the list is no shorter than without its first
+    behind : (p : Bool) → length (filter test es) ≤ length (cond p (e ∷ filter test es) (filter test es))
+    behind true = omega arith
+    behind false = omega arith
+
+    go : (b : Bool) → length (filter test (without v es)) ≤ length (filter test es)
+        → length (filter test (cond b es (e ∷ without v es))) ≤ length (filter test (e ∷ es))
+    go true rest = behind (test e)
+    go false rest = one_more (test e) (test e) e (filter test (without v es)) e (filter test es) (λ is. is) rest
+
+pub orderly-without : (v : List ℕ) (es : Releases) → IsOrderly es → IsOrderly (without v es)
+orderly-without v es o =
+    record { distinct = distinct-without v es o.distinct; one_current = omega (arith, fewer (λ (e : Entry). is_current e.status) v es, o.one_current) }
+
+kept_permanent : (s : Status) → may_be_removed (Some s) ≡ true → is_permanent s ≡ false
+kept_permanent Unpacked is = refl
+kept_permanent Current is = refl
+kept_permanent Old is = refl
+kept_permanent Permanent is = sym is
+
+permanents-without : (v : List ℕ) (es : Releases) → may_be_removed (status_of v es) ≡ true → permanents (without v es) ≡ permanents es
+permanents-without v [] may = refl
+permanents-without v (e ∷ es) may = go (bytes_eq v e.release.vsn) (permanents-without v es) may
+  where
+    go : (b : Bool) → (may_be_removed (status_of v es) ≡ true → permanents (without v es) ≡ permanents es)
+        → may_be_removed (option_map (λ (f : Entry). f.status) (cond b (Some e) (find (λ (f : Entry). bytes_eq v f.release.vsn) es))) ≡ true
+        → permanents (cond b es (e ∷ without v es)) ≡ permanents (e ∷ es)
+    go true rest may = ap (λ b. length (cond b (e ∷ of_status is_permanent es) (of_status is_permanent es))) (sym (kept_permanent e.status may))
+    go false rest may = as_many (is_permanent e.status) (is_permanent e.status) e _ e _ refl (rest may)
+
+-- A release that comes in
+
+unlisted-push : (w : List ℕ) (es : Releases) (n : Entry) → bytes_eq w n.release.vsn ≡ false → status_of w es ≡ None → status_of w (es ++ n ∷ []) ≡ None
+unlisted-push w [] n differs none = none_at_all w n [] differs refl
+unlisted-push w (e ∷ es) n differs none =
+    none_at_all w e (es ++ n ∷ []) (first_differs w e es none) (unlisted-push w es n differs (none_behind w e es none))
+
+distinct-push : (es : Releases) (n : Entry) → status_of n.release.vsn es ≡ None → HasDistinctVersions es → HasDistinctVersions (es ++ n ∷ [])
+distinct-push [] n none distinct = (refl, tt)
+distinct-push (e ∷ es) n none distinct = (
+  unlisted-push e.release.vsn es n (differs_back n.release.vsn e.release.vsn (first_differs n.release.vsn e es none)) distinct.0,
+  distinct-push es n (none_behind n.release.vsn e es none) distinct.1,
+)
+
+no_more-push : (test : Entry → Bool) (es : Releases) (n : Entry) → test n ≡ false → filter test (es ++ n ∷ []) ≡ filter test es
+no_more-push test [] n not_it = ap (λ b. cond b (n ∷ []) []) not_it
+no_more-push test (e ∷ es) n not_it = ap (λ l. cond (test e) (e ∷ l) l) (no_more-push test es n not_it)
+
+pub orderly-push : (es : Releases) (n : Entry) → is_current n.status ≡ false → status_of n.release.vsn es ≡ None → IsOrderly es → IsOrderly (es ++ n ∷ [])
+orderly-push es n not_current none o = record {
+  distinct = distinct-push es n none o.distinct;
+  one_current = subst (λ l. length l ≤ 1) (sym (no_more-push (λ (e : Entry). is_current e.status) es n not_current)) o.one_current;
+}
+
+-- Any event
+
+allowed : (b : Bool) (es next : Releases) → (if b then Some es else None) ≡ Some next → (b ≡ true) × (es ≡ next)
+allowed true es next is = (refl, cc is)
+allowed false es next is = cc
+
+allowed_else : (b : Bool) (es next : Releases) → (if b then None else Some es) ≡ Some next → (b ≡ false) × (es ≡ next)
+allowed_else false es next is = (refl, cc is)
+allowed_else true es next is = cc
+
+unlisted : (o : Option Status) → is_some o ≡ false → o ≡ None
+unlisted None is = refl
+unlisted (Some s) is = absurd (true≢false is)
+
+pub orderly-step : (e : Event) (es next : Releases) → IsOrderly es → step e es ≡ Some next → IsOrderly next
+orderly-step (made r) [] next o is =
+    let single : entry r Permanent ∷ [] ≡ next = cc is in
+    subst IsOrderly single (record { distinct = (refl, tt); one_current = omega arith })
+orderly-step (made r) (e ∷ es) next o is = cc
+orderly-step (unpacked r) es next o is =
+    let a = allowed_else (is_some (status_of r.vsn es)) (es ++ entry r Unpacked ∷ []) next is in
+    subst IsOrderly a.1 (orderly-push es (entry r Unpacked) refl (unlisted (status_of r.vsn es) a.0) o)
+orderly-step (installed v) es next o is =
+    subst IsOrderly (allowed (may_be_installed (has_current es) (status_of v es)) (list_installed v es) next is).1 (orderly-installed v es o)
+orderly-step (made_permanent v) es next o is =
+    subst IsOrderly (allowed (may_be_made_permanent (status_of v es)) (list_made_permanent v es) next is).1 (orderly-made_permanent v es o)
+orderly-step (removed v) es next o is =
+    subst IsOrderly (allowed (may_be_removed (status_of v es)) (without v es) next is).1 (orderly-without v es o)
+orderly-step (reboot_old v) es next o is =
+    subst IsOrderly (allowed (may_be_rebooted (status_of v es)) (list_made_permanent v es) next is).1 (orderly-made_permanent v es o)
+orderly-step boot es next o is =
+    let is_booted : booted es ≡ next = cc is in
+    subst IsOrderly is_booted (orderly-booted es o)
+
+-- exactly one release stays permanent
+listed_current : (o : Option Status) → may_be_made_permanent o ≡ true → is_some o ≡ true
+listed_current None is = is
+listed_current (Some s) is = refl
+
+listed_old : (o : Option Status) → may_be_rebooted o ≡ true → is_some o ≡ true
+listed_old None is = is
+listed_old (Some s) is = refl
+
+permanents-made_permanent : (v : List ℕ) (es : Releases) → HasDistinctVersions es → is_some (status_of v es) ≡ true → permanents (list_made_permanent v es) ≡ 1
+permanents-made_permanent v es distinct listed =
+    just_as_many (λ vsn s. permanent_status (bytes_eq v vsn) s) (λ (e : Entry). is_permanent e.status) (λ (e : Entry). bytes_eq v e.release.vsn)
+    (λ (e : Entry). permanent-permanent (bytes_eq v e.release.vsn) e.status) es
+    ∙ exactly_once v es distinct listed
+
+one_permanent-step : (e : Event) (es next : Releases) → HasDistinctVersions es → permanents es ≡ 1 → step e es ≡ Some next → permanents next ≡ 1
+one_permanent-step (made r) [] next distinct one is = omega (arith, one)
+one_permanent-step (made r) (e ∷ es) next distinct one is = cc
+one_permanent-step (unpacked r) es next distinct one is =
+    let a = allowed_else (is_some (status_of r.vsn es)) (es ++ entry r Unpacked ∷ []) next is in
+    subst (λ l. permanents l ≡ 1) a.1 (ap length (no_more-push (λ (e : Entry). is_permanent e.status) es (entry r Unpacked) refl) ∙ one)
+one_permanent-step (installed v) es next distinct one is =
+    subst (λ l. permanents l ≡ 1) (allowed (may_be_installed (has_current es) (status_of v es)) (list_installed v es) next is).1
+    (just_as_many (λ vsn s. installed_status (bytes_eq v vsn) s) (λ (e : Entry). is_permanent e.status) (λ (e : Entry). is_permanent e.status)
+    (λ (e : Entry). permanent-installed (bytes_eq v e.release.vsn) e.status) es
+    ∙ one)
+one_permanent-step (made_permanent v) es next distinct one is =
+    let a = allowed (may_be_made_permanent (status_of v es)) (list_made_permanent v es) next is in
+    subst (λ l. permanents l ≡ 1) a.1 (permanents-made_permanent v es distinct (listed_current (status_of v es) a.0))
+one_permanent-step (removed v) es next distinct one is =
+    let a = allowed (may_be_removed (status_of v es)) (without v es) next is in
+    subst (λ l. permanents l ≡ 1) a.1 (permanents-without v es a.0 ∙ one)
+one_permanent-step (reboot_old v) es next distinct one is =
+    let a = allowed (may_be_rebooted (status_of v es)) (list_made_permanent v es) next is in
+    subst (λ l. permanents l ≡ 1) a.1 (permanents-made_permanent v es distinct (listed_old (status_of v es) a.0))
+one_permanent-step boot es next distinct one is =
+    let is_booted : booted es ≡ next = cc is in
+    subst (λ l. permanents l ≡ 1) is_booted
+    (just_as_many (λ vsn s. booted_status s) (λ (e : Entry). is_permanent e.status) (λ (e : Entry). is_permanent e.status)
+    (λ (e : Entry). permanent-booted e.status) es
+    ∙ one)
+
+-- Events in a row
+
+-- the list behind the first event
+first_step : (e : Event) (events : List Event) (es end : Releases) → list_from es (e ∷ events) ≡ Some end
+    → (next : Releases) × (step e es ≡ Some next) × (list_from next events ≡ Some end)
+first_step e events es end is = go (step e es) refl is
+  where
+    go : (o : Option Releases) → step e es ≡ o → option_and_then (λ next. list_from next events) o ≡ Some end
+        → (next : Releases) × (step e es ≡ Some next) × (list_from next events ≡ Some end)
+    go None made_of is = cc
+    go (Some next) made_of is = (next, made_of, is)
+
+orderly-from : (events : List Event) (es end : Releases) → IsOrderly es → list_from es events ≡ Some end → IsOrderly end
+orderly-from [] es end o is =
+    let same : es ≡ end = cc is in
+    subst IsOrderly same o
+orderly-from (e ∷ events) es end o is =
+    let s = first_step e events es end is in
+    orderly-from events s.0 end (orderly-step e es s.0 o s.1) s.2
+
+one_permanent-from : (events : List Event) (es end : Releases) → IsOrderly es → permanents es ≡ 1 → list_from es events ≡ Some end → permanents end ≡ 1
+one_permanent-from [] es end o one is =
+    let same : es ≡ end = cc is in
+    subst (λ l. permanents l ≡ 1) same one
+one_permanent-from (e ∷ events) es end o one is =
+    let s = first_step e events es end is in
+    one_permanent-from events s.0 end (orderly-step e es s.0 o s.1) (one_permanent-step e es s.0 o.distinct one s.1) s.2
+
+one_permanent-behind : (before after : List Event) (r : Release) (es end : Releases) → IsOrderly es → list_from es (before ++ made r ∷ after) ≡ Some end → permanents end ≡ 1
+one_permanent-behind [] after r [] end o is =
+    one_permanent-from after (entry r Permanent ∷ []) end (orderly-step (made r) [] (entry r Permanent ∷ []) o refl) refl is
+one_permanent-behind [] after r (e ∷ es) end o is = cc
+one_permanent-behind (e ∷ before) after r es end o is =
+    let s = first_step e (before ++ made r ∷ after) es end is in
+    one_permanent-behind before after r s.0 end (orderly-step e es s.0 o s.1) s.2
+
+pub orderly-empty : IsOrderly []
+orderly-empty = record { distinct = tt; one_current = omega arith }
+
+pub orderly-after : (events : List Event) (es : Releases) → list_after events ≡ Some es → IsOrderly es
+orderly-after events es is = orderly-from events [] es orderly-empty is
+
+pub one_permanent-after : (before after : List Event) (r : Release) (es : Releases) → list_after (before ++ made r ∷ after) ≡ Some es → permanents es ≡ 1
+one_permanent-after before after r es is = one_permanent-behind before after r [] es orderly-empty is

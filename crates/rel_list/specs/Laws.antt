@@ -1,0 +1,40 @@
+-- Laws of the list and its events, whatever keeps them.
+use Rattle.std.specs.Prelude.{◌≡◌, ◌≢◌, ◌↔◌, ◌≤◌, ℕ, List, [], ◌∷◌, ◌++◌, length, true, None, Some}
+use Rattle.rel_files.specs.Release.{Release}
+use Rattle.rel_list.specs.declared.status.Status.{Status}
+use Rattle.rel_list.specs.declared.status.Status.TheVariants.{Permanent}
+use Rattle.rel_list.specs.Status.{is_current, is_permanent}
+use Rattle.rel_list.specs.Releases.{Releases, status_of, of_status, HasDistinctVersions}
+use Rattle.rel_list.specs.Event.{Event, step, booted_status, list_from, list_after}
+use Rattle.rel_list.specs.Event.Event.{made, installed, boot}
+use Rattle.rel_list.specs.Refusal.{refusal}
+
+-- No version stands twice in a list, whatever events made it.
+abbrev pub VersionsAreDistinct : Type 0
+VersionsAreDistinct = (events : List Event) (es : Releases) → list_after events ≡ Some es → HasDistinctVersions es
+
+-- At most one release is current, whatever events made the list.
+abbrev pub AtMostOneIsCurrent : Type 0
+AtMostOneIsCurrent = (events : List Event) (es : Releases) → list_after events ≡ Some es → length (of_status is_current es) ≤ 1
+
+-- Once a first release was made, exactly one release is permanent, whatever events follow.
+abbrev pub OneIsPermanent : Type 0
+OneIsPermanent =
+    (before after : List Event) (r : Release) (es : Releases) → list_after (before ++ made r ∷ after) ≡ Some es → length (of_status is_permanent es) ≡ 1
+
+-- A boot behind a boot changes nothing.
+abbrev pub SecondBootChangesNothing : Type 0
+SecondBootChangesNothing = (es : Releases) → list_from es (boot ∷ boot ∷ []) ≡ list_from es (boot ∷ [])
+
+-- A boot changes the statuses of current releases alone.
+abbrev pub BootChangesCurrentOnes : Type 0
+BootChangesCurrentOnes = (s : Status) → (booted_status s ≢ s) ↔ (is_current s ≡ true)
+
+-- Where a release isn't permanent, its installation, a boot and its installation again give what one installation gives.
+abbrev pub InstallsAlikeBehindABoot : Type 0
+InstallsAlikeBehindABoot =
+    (v : List ℕ) (es : Releases) → status_of v es ≢ Some Permanent → list_from es (installed v ∷ boot ∷ installed v ∷ []) ≡ list_from es (installed v ∷ [])
+
+-- An event has a refusal exactly where the list doesn't allow it.
+abbrev pub RefusedWhereNotAllowed : Type 0
+RefusedWhereNotAllowed = (e : Event) (es : Releases) → (refusal e es ≡ None) ↔ (step e es ≢ None)

@@ -1,0 +1,37 @@
+-- Why a list doesn't take an event.
+use Rattle.std.specs.Prelude.{◌≡◌, Bool, true, false, IsTrue, [], ◌∷◌, is_some, if◌then◌else◌, Option, None, Some}
+use Rattle.rel_list.specs.declared.status.Status.{Status}
+use Rattle.rel_list.specs.declared.fault.ListError.{ListError}
+use Rattle.rel_list.specs.declared.fault.ListError.TheVariants.{NoSuchRelease, ExistingRelease, AlreadyInstalled, BadStatus, Permanent, Running, NoMemory}
+use Rattle.rel_list.specs.Status.{is_current, is_old, is_permanent, runs}
+use Rattle.rel_list.specs.Releases.{Releases, status_of, has_current}
+use Rattle.rel_list.specs.Event.{Event}
+use Rattle.rel_list.specs.Event.Event.{made, unpacked, installed, made_permanent, removed, reboot_old, boot}
+
+-- NoSuchRelease comes first, where no release has the version. Else the status of the release decides.
+abbrev pub listed_refusal : (Status → Option ListError) → Option Status → Option ListError
+listed_refusal by_status None = Some NoSuchRelease
+listed_refusal by_status (Some s) = by_status s
+
+-- Why the list doesn't allow an event: the first condition that the event fails, in the order in which they stand here.
+abbrev pub refusal : Event → Releases → Option ListError
+refusal (made r) [] = None
+refusal (made r) (e ∷ es) = Some ExistingRelease
+refusal (unpacked r) es = if is_some (status_of r.vsn es) then Some ExistingRelease else None
+refusal (installed v) es = listed_refusal (λ s. if runs (has_current es) s then Some AlreadyInstalled else None) (status_of v es)
+refusal (made_permanent v) es = listed_refusal (λ s. if is_current s then None else Some (BadStatus s)) (status_of v es)
+refusal (removed v) es =
+    listed_refusal (λ s. if is_permanent s then Some Permanent else if runs (has_current es) s then Some Running else None) (status_of v es)
+refusal (reboot_old v) es = listed_refusal (λ s. if is_old s then None else Some (BadStatus s)) (status_of v es)
+refusal boot es = None
+
+-- the event brings a release, which takes memory
+abbrev pub brings_release : Event → Bool
+brings_release (made r) = true
+brings_release (unpacked r) = true
+brings_release e = false
+
+-- What an event is refused with: its refusal by the list, or want of memory for a release that the list would take.
+abbrev pub IsRefusedWith : Event → Releases → ListError → Type 0
+IsRefusedWith e es NoMemory = (refusal e es ≡ None) × IsTrue (brings_release e)
+IsRefusedWith e es error = refusal e es ≡ Some error
