@@ -10,7 +10,7 @@ use Rattle.rel_files.specs.File.{HasVersions, HasFault, SaysRelease}
 use Rattle.rel_files.specs.Name.{IsVersion}
 use Rattle.rel_files.specs.Release.{Release}
 use Rattle.rel_list.specs.Event.{Event}
-use Rattle.rel_list.specs.Event.Event.{made, unpacked, boot as booting}
+use Rattle.rel_list.specs.Event.Event.{made, unpacked}
 use Rattle.rel_handler.specs.Limits.{is_small}
 use Rattle.rel_session.specs.AnswerLaws.{is_one_line, HasLinePath}
 use Rattle.rel_session.specs.Commands.{Command, File}
@@ -109,11 +109,11 @@ version_line (b ∷ s) all =
 pub one_line : (s : List ℕ) → IsVersion s → is_one_line s ≡ true
 one_line s version = version_line s (parts (is_in 1 62 (length s)) (list_all (is_in 0x21 0x7E) s) version).1
 
--- the versions of an event's release
+-- the versions of the release that an event brings
 abbrev pub OfEvent : Event → Type 0
 OfEvent (made r) = HasVersions r
 OfEvent (unpacked r) = HasVersions r
-OfEvent booting = Unit {0}
+OfEvent e = Unit {0}
 
 -- An action's text ends where its last line does, and its versions are those of files.
 abbrev pub IsGoodAction : Action → Type 0

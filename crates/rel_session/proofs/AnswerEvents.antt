@@ -4,11 +4,11 @@ use Rattle.std.specs.Prelude.{if◌then◌else◌, ◌==◌, nat_le}
 use Rattle.std.specs.Str.{bytes_eq}
 use Rattle.rel_list.specs.Releases.{Releases}
 use Rattle.rel_list.specs.Event.{Event, step}
-use Rattle.rel_list.specs.Event.Event.{made, unpacked, boot as booting}
+use Rattle.rel_list.specs.Event.Event.{made, unpacked, installed, made_permanent, removed, reboot_old, boot as booting}
 use Rattle.rel_handler.specs.declared.error.BootError.{BootError}
 use Rattle.rel_handler.specs.declared.error.BootError.TheVariants as boot_error
 use Rattle.rel_handler.specs.declared.error.HandlerError.{HandlerError}
-use Rattle.rel_handler.specs.declared.error.HandlerError.TheVariants.{ExistingRelease, TooMany, Exists}
+use Rattle.rel_handler.specs.declared.error.HandlerError.TheVariants.{ExistingRelease, TooMany, Exists, NoMemory}
 use Rattle.rel_handler.specs.Events.{Events, Stored, certain}
 use Rattle.rel_handler.specs.Limits.{is_small, most_releases}
 use Rattle.rel_handler.specs.Image.{holds_a_store}
@@ -101,6 +101,10 @@ plain_list e es = by_event e
     by_event (made r) = small (is_small r) _ (fresh Exists refl (step (made r) es))
     by_event (unpacked r) = small (is_small r) _ (fresh ExistingRelease refl (step (unpacked r) es))
     by_event booting = tt
+    by_event (installed v) = fresh NoMemory refl (step (installed v) es)
+    by_event (made_permanent v) = fresh NoMemory refl (step (made_permanent v) es)
+    by_event (removed v) = fresh NoMemory refl (step (removed v) es)
+    by_event (reboot_old v) = fresh NoMemory refl (step (reboot_old v) es)
 
 -- a change
 changes : (events : Events) (end : ℕ) (c : Transition.Change) (o : Result Releases HandlerError) → IsPlainList o → (a : Reply) → Transition.Changes events end c o a → HasEffect (changed runs c) a

@@ -4,9 +4,9 @@ use Rattle.std.specs.Option.{option_and_then}
 use Rattle.std.specs.Prelude.{if◌then◌else◌, nat_le}
 use Rattle.rel_list.specs.Releases.{Releases}
 use Rattle.rel_list.specs.Event.{Event, step, list_from, list_after}
-use Rattle.rel_list.specs.Event.Event.{made, unpacked, boot as booting}
+use Rattle.rel_list.specs.Event.Event.{made, unpacked, installed, made_permanent, removed, reboot_old, boot as booting}
 use Rattle.rel_handler.specs.declared.error.HandlerError.{HandlerError}
-use Rattle.rel_handler.specs.declared.error.HandlerError.TheVariants.{TooMany, Exists, ExistingRelease}
+use Rattle.rel_handler.specs.declared.error.HandlerError.TheVariants.{TooMany, Exists, ExistingRelease, NoMemory}
 use Rattle.rel_handler.specs.Events.{Events}
 use Rattle.rel_handler.specs.Limits.{is_small, most_releases}
 use Rattle.rel_handler.specs.Taking.{allowed, commanded}
@@ -48,3 +48,7 @@ pub commanded_step : (e : Event) (es end : Releases) → commanded e es ≡ Ok e
 commanded_step (made r) es end is = of_small Exists (is_small r) (step (made r) es) end is
 commanded_step (unpacked r) es end is = of_small ExistingRelease (is_small r) (step (unpacked r) es) end is
 commanded_step booting es end is = let same : step booting es ≡ Some end = cc in same
+commanded_step (installed v) es end is = of_small NoMemory true (step (installed v) es) end is
+commanded_step (made_permanent v) es end is = of_small NoMemory true (step (made_permanent v) es) end is
+commanded_step (removed v) es end is = of_small NoMemory true (step (removed v) es) end is
+commanded_step (reboot_old v) es end is = of_small NoMemory true (step (reboot_old v) es) end is

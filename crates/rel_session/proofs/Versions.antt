@@ -1,14 +1,15 @@
 -- The versions that a session tells are those of files that were read, so that no answer has a newline within.
 use Rattle.std.proofs.Common.{◌≡◌, inl, inr, ℕ, Bool, true, false, List, [], ◌∷◌, ◌++◌, length, codes, find, Option, Some, None, Result, Ok, Err, refl, sym, ap, ◌∙◌, subst}
-use Rattle.std.specs.Prelude.{if◌then◌else◌, is_some}
+use Rattle.std.specs.Prelude.{if◌then◌else◌, is_some, bytes_eq}
 use Rattle.std.specs.Option.{option_and_then, option_map, option_or}
 use Rattle.rel_files.specs.File.{HasVersions}
 use Rattle.rel_files.specs.Release.{Release}
-use Rattle.rel_list.specs.Releases.{Releases, Entry, status_of, permanent, current, running as running_release}
+use Rattle.rel_list.specs.Releases.{Releases, Entry, status_of, has_current, permanent, current, running as running_release}
 use Rattle.rel_list.specs.Status.{is_current, is_permanent}
-use Rattle.rel_list.specs.Event.{Event, step, list_after, booted, entry}
+use Rattle.rel_list.specs.Event.{Event, may_be_installed, may_be_made_permanent, may_be_removed, may_be_rebooted, booted_status, with_statuses, list_installed, list_made_permanent, without, step, list_after, booted, entry}
+use Rattle.rel_list.specs.declared.status.Status.{Status}
 use Rattle.rel_list.specs.declared.status.Status.TheVariants.{Unpacked, Permanent}
-use Rattle.rel_list.specs.Event.Event.{made, unpacked, boot as booting}
+use Rattle.rel_list.specs.Event.Event.{made, unpacked, installed, made_permanent, removed, reboot_old, boot as booting}
 use Rattle.rel_handler.specs.declared.error.HandlerError.{HandlerError}
 use Rattle.rel_handler.specs.declared.error.HandlerError.TheVariants as handler_error
 use Rattle.rel_handler.specs.Events.{Events, Stored, MayHave, certain, uncertain}
@@ -35,9 +36,25 @@ more_versions : (es : Releases) (e : Entry) → HaveVersions es → HasVersions 
 more_versions [] e all one = (one, tt)
 more_versions (f ∷ es) e all one = (all.0, more_versions es e all.1 one)
 
+restated_versions : (f : List ℕ → Status → Status) (es : Releases) → HaveVersions es → HaveVersions (with_statuses f es)
+restated_versions f [] all = tt
+restated_versions f (e ∷ es) all = (all.0, restated_versions f es all.1)
+
 booted_versions : (es : Releases) → HaveVersions es → HaveVersions (booted es)
-booted_versions [] all = tt
-booted_versions (e ∷ es) all = (all.0, booted_versions es all.1)
+booted_versions es all = restated_versions (λ vsn s. booted_status s) es all
+
+fewer_versions : (v : List ℕ) (es : Releases) → HaveVersions es → HaveVersions (without v es)
+fewer_versions v [] all = tt
+fewer_versions v (e ∷ es) all = go (bytes_eq v e.release.vsn) (fewer_versions v es all.1)
+  where
+    go : (b : Bool) → HaveVersions (without v es) → HaveVersions (if b then es else e ∷ without v es)
+    go true rest = all.1
+    go false rest = (all.0, rest)
+
+-- the list that an event makes, where it is allowed
+where_allowed : (b : Bool) (next end : Releases) → HaveVersions next → (if b then Some next else None) ≡ Some end → HaveVersions end
+where_allowed true next end all is = let same : next ≡ end = cc in subst HaveVersions same all
+where_allowed false next end all is = absurd cc
 
 step_versions : (e : Event) (es end : Releases) → OfEvent e → HaveVersions es → step e es ≡ Some end → HaveVersions end
 step_versions (made r) [] end of all is = let same : entry r Permanent ∷ [] ≡ end = cc in subst HaveVersions same (of, tt)
@@ -47,6 +64,13 @@ step_versions (unpacked r) es end of all is = go (is_some (status_of r.vsn es)) 
     go : (b : Bool) → (if b then None else Some (es ++ entry r Unpacked ∷ [])) ≡ Some end → HaveVersions end
     go true is = absurd cc
     go false is = let same : es ++ entry r Unpacked ∷ [] ≡ end = cc in subst HaveVersions same (more_versions es (entry r Unpacked) all of)
+step_versions (installed v) es end of all is =
+    where_allowed (may_be_installed (has_current es) (status_of v es)) (list_installed v es) end (restated_versions _ es all) is
+step_versions (made_permanent v) es end of all is =
+    where_allowed (may_be_made_permanent (status_of v es)) (list_made_permanent v es) end (restated_versions _ es all) is
+step_versions (removed v) es end of all is = where_allowed (may_be_removed (status_of v es)) (without v es) end (fewer_versions v es all) is
+step_versions (reboot_old v) es end of all is =
+    where_allowed (may_be_rebooted (status_of v es)) (list_made_permanent v es) end (restated_versions _ es all) is
 step_versions booting es end of all is = let same : booted es ≡ end = cc in subst HaveVersions same (booted_versions es all)
 
 -- one event more
