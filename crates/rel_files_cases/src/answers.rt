@@ -4,7 +4,7 @@ use std::alloc::{AllocError, Global};
 
 /// The release or the fault, in one of three modes. In `rel` the text is a file. In `term` it is one too, whose term is
 /// kept and read again. In `apps` the text is the applications of a file.
-pub fn answer(alloc: Global, mode: &str, text: &[u8]) -> Result<String, AllocError> {
+pub(crate) fn answer(alloc: Global, mode: &str, text: &[u8]) -> Result<String, AllocError> {
     match mode {
         "rel" => shown(alloc, read_rel(alloc, text)),
         "term" => shown(alloc, of_the_term(alloc, text)),

@@ -29,10 +29,14 @@ fn follow(alloc: Global, list: &mut ReleaseList, events: &[(&str, &str)]) -> Res
     Ok(text)
 }
 
+fn same(rt: &impl Abort, found: &str, wanted: &str) {
+    assert_eq!(rt; found, wanted);
+}
+
 /// These events, beginning with an empty list, show this.
 fn shows(rt: &impl Abort, alloc: Global, events: &[(&str, &str)], want: &str) -> Result<(), Fail> {
     let text = follow(alloc, &mut ReleaseList::new(alloc), events)?;
-    assert_eq!(rt; text.as_str(), want);
+    same(rt, text.as_str(), want);
     Ok(())
 }
 
@@ -64,16 +68,28 @@ Err(ExistingRelease): B unpacked, A unpacked, C unpacked, permanent none, runnin
 
 #[test]
 fn permanent_runs(rt: HostRuntime) -> Result<(), Fail> {
-    let alloc = rt.alloc();
-    let mut list = ReleaseList::new(alloc);
-    let text = follow(alloc, &mut list, &[("made", "A"), ("unpacked", "B")])?;
     let want = "permanent none, running none, A None, D None, len 0, empty true
 Ok(()): A permanent, permanent A, running A, A Some(Permanent), D None, len 1, empty false
 Ok(()): A permanent, B unpacked, permanent A, running A, A Some(Permanent), D None, len 2, empty false
 ";
-    assert_eq!(rt; text.as_str(), want);
+    shows(&rt, rt.alloc(), &[("made", "A"), ("unpacked", "B")], want)
+}
+
+/// Whether this is the release, whole.
+fn is_release(found: Option<&Rel>, release: &Rel) -> bool {
+    match found {
+        Some(found) => found == release,
+        None => false,
+    }
+}
+
+#[test]
+fn permanent_and_running_are_whole(rt: HostRuntime) -> Result<(), Fail> {
+    let alloc = rt.alloc();
+    let mut list = ReleaseList::new(alloc);
+    follow(alloc, &mut list, &[("made", "A"), ("unpacked", "B")])?;
     let first = release(alloc, "A")?;
-    let is_first = list.permanent() == Some(&first) && list.running() == Some(&first);
-    assert!(rt; is_first);
+    assert!(rt; is_release(list.permanent(), &first));
+    assert!(rt; is_release(list.running(), &first));
     Ok(())
 }

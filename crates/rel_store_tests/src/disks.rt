@@ -90,6 +90,11 @@ pub(crate) fn push_bytes(alloc: Global, bytes: &[u8], text: &mut String) -> Resu
     text.push_str(String::from_utf8_lossy(alloc, bytes)?.as_str())
 }
 
+// Writes how many records there are.
+pub(crate) fn push_count(records: &[Vec<u8>], text: &mut String) -> Result<(), AllocError> {
+    write!(text, " {}", records.len())
+}
+
 // Writes how many records an opening finds, or why it refuses.
 pub(crate) fn push_found(
     alloc: Global,
@@ -97,7 +102,7 @@ pub(crate) fn push_found(
     text: &mut String,
 ) -> Result<(), AllocError> {
     match Store::open_disk(alloc, disk) {
-        Ok(store) => write!(text, " {}", store.records().len()),
+        Ok(store) => push_count(store.records(), text),
         Err((error, _disk)) => push_refusal(error, text),
     }
 }

@@ -2,8 +2,8 @@
 ghost use Rattle.rel_store.specs.State.{IsSoundStore};
 
 use crate::disks::{
-    CAPACITY, LOG, create_on, new_store, opened, push_answer, push_found, push_refusal, push_slot,
-    same,
+    CAPACITY, LOG, create_on, new_store, opened, push_answer, push_count, push_found, push_refusal,
+    push_slot, same,
 };
 use rel_disk::{Disk, FailDisk, MemDisk};
 use rel_store::{Store, StoreError};
@@ -55,7 +55,7 @@ fn push_append<D: Disk>(
     let answer = store.append(alloc, b"a.");
     push_answer(answer, text)?;
     push_state(alloc, store, answer.is_err(), text)?;
-    write!(text, " {}", store.records().len())
+    push_count(store.records(), text)
 }
 
 // The same of the store on a disk, or why it isn't opened. Hands the disk back.
@@ -73,9 +73,14 @@ fn append_on<D: Disk + Drop>(alloc: Global, disk: D, text: &mut String) -> Resul
     }
 }
 
-// Writes how often the device failed, and how many records are found then.
+// Writes how often the device failed.
+fn push_failures(failures: u64, text: &mut String) -> Result<(), AllocError> {
+    write!(text, " failures {failures}:")
+}
+
+// Writes that, and how many records are found then.
 fn push_end(alloc: Global, disk: FailDisk<MemDisk>, text: &mut String) -> Result<(), AllocError> {
-    write!(text, " failures {}:", disk.failures())?;
+    push_failures(disk.failures(), text)?;
     push_found(alloc, disk.disk, text)?;
     text.push('\n')
 }
@@ -191,7 +196,7 @@ fn push_write<D: Disk>(
         Ok(()) => push_slot(alloc, store, text)?,
         Err(error) => push_refusal(error, text)?,
     }
-    write!(text, " {}", store.records().len())
+    push_count(store.records(), text)
 }
 
 // The same of the store on a disk, or why it isn't opened. Hands the disk back.

@@ -39,6 +39,14 @@ fn bytes_of_a_new_store(rt: HostRuntime) -> Result<(), Fail> {
     Ok(())
 }
 
+// Writes these records.
+fn push_each(alloc: Global, records: &[Vec<u8>], text: &mut String) -> Result<(), AllocError> {
+    for record in records {
+        push_bytes(alloc, record, text)?;
+    }
+    Ok(())
+}
+
 // Writes the records of the store on a disk.
 fn push_records(
     rt: &impl Abort,
@@ -47,10 +55,7 @@ fn push_records(
     text: &mut String,
 ) -> Result<(), AllocError> {
     let store = opened(rt, alloc, disk);
-    for record in store.records() {
-        push_bytes(alloc, record, text)?;
-    }
-    Ok(())
+    push_each(alloc, store.records(), text)
 }
 
 #[test]
@@ -87,12 +92,16 @@ fn two_records_are_added(rt: HostRuntime) -> Result<(), Fail> {
     Ok(())
 }
 
+// Writes how many bytes these are, and that at 9, which selects the start slot.
+fn push_selector(bytes: &[u8], text: &mut String) -> Result<(), AllocError> {
+    let selector = bytes.get(9).copied().unwrap_or(99);
+    write!(text, " {} {selector}\n", bytes.len())
+}
+
 // Writes the start slot of the store on a disk, and the length and the selector of the disk then.
 fn turn_slot(alloc: Global, disk: MemDisk, text: &mut String) -> Result<MemDisk, Fail> {
     let mut disk = slot_on(alloc, disk, text)?;
-    let bytes = bytes_of(alloc, &mut disk)?;
-    let selector = bytes.get(9).copied().unwrap_or(99);
-    write!(text, " {} {selector}\n", bytes.len())?;
+    push_selector(&bytes_of(alloc, &mut disk)?, text)?;
     Ok(disk)
 }
 
@@ -143,14 +152,36 @@ fn longest_first_record(rt: HostRuntime) -> Result<(), Fail> {
     Ok(())
 }
 
+// Writes whether records of this many bytes fit.
+fn push_fits<D: Disk>(store: &Store<D>, len: usize, text: &mut String) -> Result<(), AllocError> {
+    text.push_str(if store.fits(len) {
+        " fits"
+    } else {
+        " too long"
+    })
+}
+
 #[test]
 fn longest_records(rt: HostRuntime) -> Result<(), Fail> {
     let alloc = rt.alloc();
     let mut store = opened(&rt, alloc, new_store(alloc)?);
-    let (longest, longer) = (store.fits(MAX_BODY), store.fits(MAX_BODY + 1));
-    let mut text = format!(in alloc; "{longest} {longer}")?;
+    let mut text = String::new(alloc);
+    push_fits(&store, MAX_BODY, &mut text)?;
+    push_fits(&store, MAX_BODY + 1, &mut text)?;
     push_answer(store.append(alloc, &dots(alloc, MAX_BODY + 1)?), &mut text)?;
-    same(&rt, text.as_str(), "true false Full");
+    same(&rt, text.as_str(), " fits too long Full");
+    Ok(())
+}
+
+// Writes whether each record has room for three bytes at most.
+fn push_rooms(records: &[Vec<u8>], text: &mut String) -> Result<(), AllocError> {
+    for record in records {
+        text.push_str(if record.capacity() <= 3 {
+            " small"
+        } else {
+            " large"
+        })?;
+    }
     Ok(())
 }
 
@@ -162,10 +193,8 @@ fn reserved_memory_is_given_back(rt: HostRuntime) -> Result<(), Fail> {
     store.reserve(alloc, MAX_BODY)?;
     store.append(alloc, b"a.")?;
     let mut text = String::new(alloc);
-    for record in store.records() {
-        write!(text, "{} ", record.capacity() <= 3)?;
-    }
-    same(&rt, text.as_str(), "true true ");
+    push_rooms(store.records(), &mut text)?;
+    same(&rt, text.as_str(), " small small");
     Ok(())
 }
 
