@@ -1,12 +1,8 @@
 use Rattle.std.proofs.Common.{◌∙◌, inr, subst, IfOk}
 use Rattle.rel_disk.proofs.Moments.{started, goes_on, joined, weakened}
 use Rattle.rel_store.specs.Contents.{AreContentsOf}
-use Rattle.rel_store.proofs.Exits.{no_value}
 use Rattle.rel_store.proofs.Scan.{still_refused}
 use Rattle.rel_store.proofs.opening.read_contents.Goals as goal
-
-pub returns-in_err-sync-clause-any_moment : goal.returns-in_err-sync-clause-any_moment
-returns-in_err-sync-clause-any_moment g c = goes_on g.D.Disk.moment g.D.Disk.left_since c.args.disk.now c.args.disk.now c.sync.new.self (g.D.Disk.may_leave c.args.disk.now) (g.D.Disk.may_leave c.sync.new.self) (started g.D.Disk.moment g.D.Disk.left_since c.args.disk.now (g.D.Disk.may_leave c.args.disk.now) (g.met.D.Disk.only_now c.args.disk.now)) c.sync.ensures.time c.sync.ensures.crash
 
 pub returns-clause-any_moment : goal.returns-clause-any_moment
 returns-clause-any_moment g c =
@@ -31,7 +27,3 @@ returns-clause-ok g c = subst (λ l. IfOk c.read.result (AreContentsOf l)) c.in_
 pub returns-clause-refused : goal.returns-clause-refused
 returns-clause-refused g c =
     still_refused c.read.result (g.D.Disk.seen c.args.disk.now) (g.D.Disk.seen c.sync.new.self) _ _ _ c.in_ok-sync.ensures.same c.sync.ensures.counted c.read.ensures.counted c.read.ensures.refused
-
--- after an error
-pub returns-in_err-sync-clause-ok : goal.returns-in_err-sync-clause-ok
-returns-in_err-sync-clause-ok g c = no_value _ _ c.from_residual.ensures.0
