@@ -1,4 +1,15 @@
 //! The list of a node's releases, each with its status, in memory.
+//!
+//! A [`ReleaseList`] is changed by events alone: a release is made, unpacked, installed, made permanent,
+//! removed or rebooted, or the node boots. `accept` is `Ok` exactly where `step` is defined on the event
+//! and the list, out of memory aside; then the list is what `step` makes of it (clause `accepted`). After
+//! a refusal the list is unchanged (`unchanged`), and the refusal is the first condition that the event
+//! fails, in the order of docs/RULES.md (`refused`). Only an event that brings a release takes memory.
+//! Whatever is asked of the list is answered from its entries, in order of coming; `boot_events` gives
+//! all that a boot would change. A look-up by version goes through a map, which no clause speaks of.
+//!
+//! The functions of `laws` say of these definitions alone that versions are distinct, that one release is
+//! permanent and at most one is current, and that a boot undoes nothing but installations.
 #![tactic(auto)]
 
 mod change;

@@ -2,10 +2,4 @@
 #![tactic(auto)]
 
 #[cfg(test)]
-mod lists;
-#[cfg(test)]
-mod refusals;
-#[cfg(test)]
-mod statuses;
-#[cfg(test)]
 mod tests;

@@ -1,9 +1,33 @@
 //! What a list shows of its releases, event by event.
-use crate::lists::{event, release, version};
-use rel_list::ReleaseList;
+use rel_files::Rel;
+use rel_list::{Event, ReleaseList};
 use std::alloc::Global;
-use std::process::Abort;
 use std::test::Fail;
+
+fn release(alloc: Global, vsn: &str) -> Result<Rel, Fail> {
+    Ok(Rel {
+        name: String::from_str(alloc, "r")?,
+        vsn: String::from_str(alloc, vsn)?,
+        erts: String::from_str(alloc, "14.2")?,
+        apps: Vec::new(alloc),
+    })
+}
+
+/// A release of this version is made, or else unpacked.
+fn event(alloc: Global, word: &str, vsn: &str) -> Result<Event, Fail> {
+    let release = release(alloc, vsn)?;
+    match word {
+        "made" => Ok(Event::Made(release)),
+        _ => Ok(Event::Unpacked(release)),
+    }
+}
+
+fn version(release: Option<&Rel>) -> &str {
+    match release {
+        Some(release) => release.vsn.as_str(),
+        None => "none",
+    }
+}
 
 /// What each reader of the list gives: the releases with their statuses, and the rest. No list here has a release D.
 fn push_list(text: &mut String, list: &ReleaseList) -> Result<(), Fail> {
@@ -29,67 +53,18 @@ fn follow(alloc: Global, list: &mut ReleaseList, events: &[(&str, &str)]) -> Res
     Ok(text)
 }
 
-fn same(rt: &impl Abort, found: &str, wanted: &str) {
-    assert_eq!(rt; found, wanted);
-}
-
-/// These events, beginning with an empty list, show this.
-fn shows(rt: &impl Abort, alloc: Global, events: &[(&str, &str)], want: &str) -> Result<(), Fail> {
-    let text = follow(alloc, &mut ReleaseList::new(alloc), events)?;
-    same(rt, text.as_str(), want);
-    Ok(())
-}
-
-#[test]
-fn lists_one_permanent_release(rt: HostRuntime) -> Result<(), Fail> {
-    let want = "permanent none, running none, A None, D None, len 0, empty true
-Ok(()): A permanent, permanent A, running A, A Some(Permanent), D None, len 1, empty false
-Err(ExistingRelease): A permanent, permanent A, running A, A Some(Permanent), D None, len 1, empty false
-";
-    shows(&rt, rt.alloc(), &[("made", "A"), ("made", "B")], want)
-}
-
-#[test]
-fn twice_is_refused(rt: HostRuntime) -> Result<(), Fail> {
-    let events = [
-        ("unpacked", "B"),
-        ("unpacked", "A"),
-        ("unpacked", "C"),
-        ("unpacked", "A"),
-    ];
-    let want = "permanent none, running none, A None, D None, len 0, empty true
-Ok(()): B unpacked, permanent none, running none, A None, D None, len 1, empty false
-Ok(()): B unpacked, A unpacked, permanent none, running none, A Some(Unpacked), D None, len 2, empty false
-Ok(()): B unpacked, A unpacked, C unpacked, permanent none, running none, A Some(Unpacked), D None, len 3, empty false
-Err(ExistingRelease): B unpacked, A unpacked, C unpacked, permanent none, running none, A Some(Unpacked), D None, len 3, empty false
-";
-    shows(&rt, rt.alloc(), &events, want)
-}
-
 #[test]
 fn permanent_runs(rt: HostRuntime) -> Result<(), Fail> {
+    let alloc = rt.alloc();
+    let mut list = ReleaseList::new(alloc);
+    let text = follow(alloc, &mut list, &[("made", "A"), ("unpacked", "B")])?;
     let want = "permanent none, running none, A None, D None, len 0, empty true
 Ok(()): A permanent, permanent A, running A, A Some(Permanent), D None, len 1, empty false
 Ok(()): A permanent, B unpacked, permanent A, running A, A Some(Permanent), D None, len 2, empty false
 ";
-    shows(&rt, rt.alloc(), &[("made", "A"), ("unpacked", "B")], want)
-}
-
-/// Whether this is the release, whole.
-fn is_release(found: Option<&Rel>, release: &Rel) -> bool {
-    match found {
-        Some(found) => found == release,
-        None => false,
-    }
-}
-
-#[test]
-fn permanent_and_running_are_whole(rt: HostRuntime) -> Result<(), Fail> {
-    let alloc = rt.alloc();
-    let mut list = ReleaseList::new(alloc);
-    follow(alloc, &mut list, &[("made", "A"), ("unpacked", "B")])?;
+    assert_eq!(rt; text.as_str(), want);
     let first = release(alloc, "A")?;
-    assert!(rt; is_release(list.permanent(), &first));
-    assert!(rt; is_release(list.running(), &first));
+    let is_first = list.permanent() == Some(&first) && list.running() == Some(&first);
+    assert!(rt; is_first);
     Ok(())
 }

@@ -1,0 +1,86 @@
+//! The answer to a case.
+use rel_files::Rel;
+use rel_list::{Event, ReleaseList};
+use std::alloc::{AllocError, Global};
+
+/// What a list that is empty at first answers to the events of the text, and the list then. There is one mode, `events`.
+pub fn answer(alloc: Global, mode: &str, text: &[u8]) -> Result<String, AllocError> {
+    match mode {
+        "events" => follow(alloc, String::from_utf8_lossy(alloc, text)?.as_str()),
+        _ => String::from_str(alloc, "no such mode"),
+    }
+}
+
+// The answers to these events, and the list behind them.
+fn follow(alloc: Global, events: &str) -> Result<String, AllocError> {
+    let mut list = ReleaseList::new(alloc);
+    let mut text = String::new(alloc);
+    for words in events.split(", ") {
+        match event(alloc, words)? {
+            Some(event) => push_answer(alloc, &mut text, &mut list, event)?,
+            None => text.push_str("no such event, ")?,
+        }
+    }
+    push_list(&mut text, &list)?;
+    Ok(text)
+}
+
+// Has the list take an event, and appends what it answers.
+fn push_answer(
+    alloc: Global,
+    text: &mut String,
+    list: &mut ReleaseList,
+    event: Event,
+) -> Result<(), AllocError> {
+    match list.accept(alloc, event) {
+        Ok(()) => text.push_str("ok, "),
+        Err(error) => write!(text, "{error}, "),
+    }
+}
+
+// The event of these words: its name, and the version of its release.
+fn event(alloc: Global, words: &str) -> Result<Option<Event>, AllocError> {
+    let (word, vsn) = words.split_once(' ').unwrap_or((words, ""));
+    match word {
+        "made" => Ok(Some(Event::Made(release(alloc, vsn)?))),
+        "unpacked" => Ok(Some(Event::Unpacked(release(alloc, vsn)?))),
+        "installed" => Ok(Some(Event::Installed(String::from_str(alloc, vsn)?))),
+        "permanent" => Ok(Some(Event::MadePermanent(String::from_str(alloc, vsn)?))),
+        "removed" => Ok(Some(Event::Removed(String::from_str(alloc, vsn)?))),
+        "reboot_old" => Ok(Some(Event::RebootOld(String::from_str(alloc, vsn)?))),
+        "boot" => Ok(Some(Event::Boot)),
+        _ => Ok(None),
+    }
+}
+
+fn release(alloc: Global, vsn: &str) -> Result<Rel, AllocError> {
+    Ok(Rel {
+        name: String::from_str(alloc, "r")?,
+        vsn: String::from_str(alloc, vsn)?,
+        erts: String::from_str(alloc, "14.2")?,
+        apps: Vec::new(alloc),
+    })
+}
+
+// The list, each release with the status that is found for its version, and what else is asked of it.
+fn push_list(text: &mut String, list: &ReleaseList) -> Result<(), AllocError> {
+    for listed in list.releases() {
+        let status = list.status(listed.release.vsn.as_str());
+        write!(text, "{} {status:?}, ", listed.release.vsn)?;
+    }
+    write!(text, "len {}", list.len())?;
+    write!(text, ", permanent {}", version(list.permanent()))?;
+    write!(text, ", runs {}", version(list.running()))?;
+    write!(
+        text,
+        ", a boot changes {}",
+        list.boot_events().unwrap_or("none")
+    )
+}
+
+fn version(release: Option<&Rel>) -> &str {
+    match release {
+        Some(release) => release.vsn.as_str(),
+        None => "none",
+    }
+}

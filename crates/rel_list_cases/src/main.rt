@@ -1,0 +1,13 @@
+//! The program `rel_list_cases`: what lists of releases answer to the events on its input, a case a line. [`answer`] has the
+//! modes.
+#![tactic(auto)]
+
+mod answers;
+
+use crate::answers::answer;
+use std::io;
+use text_cases::answer_cases;
+
+fn main(rt: HostRuntime) -> io::Result<()> {
+    answer_cases(&rt, answer)
+}
