@@ -5,7 +5,7 @@ use std::alloc::{AllocError, Global};
 /// The answer in one of four modes. `terms`: each term of the text, with the places where it begins and ends. `record`:
 /// the one term of a record's body. `print`: that term as it is printed. `prefixes`: how many terms each prefix of the
 /// text has. A text that can't be read is answered by its fault.
-pub fn answer(alloc: Global, mode: &str, text: &[u8]) -> Result<String, AllocError> {
+pub(crate) fn answer(alloc: Global, mode: &str, text: &[u8]) -> Result<String, AllocError> {
     match mode {
         "terms" => terms(alloc, text),
         "record" => record(alloc, text),
