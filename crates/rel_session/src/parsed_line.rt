@@ -77,7 +77,9 @@ impl ParsedLine {
                 None => ParsedLine::Command(Command::Bad),
             },
             "create" => ParsedLine::of_option(path_in(alloc, words)?.map(Command::Create)),
-            "set_unpacked" => ParsedLine::of_option(path_in(alloc, words)?.map(Command::SetUnpacked)),
+            "set_unpacked" => ParsedLine::of_option(path_in(alloc, words)?.map(
+                Command::SetUnpacked,
+            )),
             _ => ParsedLine::Command(Command::Bad),
         })
     }
