@@ -97,7 +97,8 @@ impl<D: Disk> Handler<D> {
         ensures counted { D.failures (disk_in self.old) ≤ D.failures (disk_in self.new) }
         ensures refused { IfErr result (CommandRefused D.failures
             (unpacked (release_of file.release))
-            (length (body_of (word_of (adds (release_of file.release))) (value_of file.term))) self.old self.new) }
+            (length (body_of (word_of (adds (release_of file.release))) (value_of file.term)))
+            self.old self.new) }
     {
         if self.dead {
             return Err(HandlerError::Dead);

@@ -16,7 +16,8 @@ pub(crate) enum StatusChange<'a> {
 impl StatusChange<'_> {
     // The status of a release behind the change.
     fn status_after(self, listed: &ListedRelease) -> Status
-        ensures { result ≡ status_after self.entry (string_bytes listed.now.release.vsn) listed.now.status }
+        ensures { result
+            ≡ status_after self.entry (string_bytes listed.now.release.vsn) listed.now.status }
     {
         match self {
             StatusChange::Install(vsn) => {

@@ -4,7 +4,7 @@ use rel_list::{Event, ReleaseList};
 use std::alloc::{AllocError, Global};
 
 /// What a list that is empty at first answers to the events of the text, and the list then. There is one mode, `events`.
-pub fn answer(alloc: Global, mode: &str, text: &[u8]) -> Result<String, AllocError> {
+pub(crate) fn answer(alloc: Global, mode: &str, text: &[u8]) -> Result<String, AllocError> {
     match mode {
         "events" => follow(alloc, String::from_utf8_lossy(alloc, text)?.as_str()),
         _ => String::from_str(alloc, "no such mode"),

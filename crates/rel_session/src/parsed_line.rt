@@ -87,7 +87,8 @@ impl ParsedLine {
     // A command that takes no words.
     fn without_words(words: &[&str], command: Command) -> ParsedLine
         ensures { parsed_line_of result
-            ≡ without_words (map (λ word. word.now) words.now) (whole_command (command_of command)) }
+            ≡ without_words (map (λ word. word.now) words.now)
+            (whole_command (command_of command)) }
     {
         match words {
             [] => ParsedLine::Command(command),

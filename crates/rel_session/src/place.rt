@@ -45,7 +45,8 @@ impl<D: Disk> Place<D> {
         requires file { IsRelFile file }
         requires small { is_small (release_of file.release) ≡ true }
         ensures sound { IsSoundPlace D.seen D.may_leave result.0 }
-        ensures made { Answers D.Disk (λ p a. MakesNode p (found_of file) a) result.1 self result.0 }
+        ensures made { Answers D.Disk (λ p a. MakesNode p (found_of file) a)
+            result.1 self result.0 }
     {
         let disk = match self {
             Place::Idle(disk) => disk,
