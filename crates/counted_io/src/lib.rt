@@ -7,6 +7,8 @@
 //! [`CountedWriter::write`].
 //!
 //! [`CountedWriter::write`] writes all bytes and flushes. Where it fails, it has written a prefix of them.
+//!
+//! Only tested: that a write is flushed. Trusted: the toolchain and `thiserror`.
 #![tactic(auto)]
 
 mod reader;

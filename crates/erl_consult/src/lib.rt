@@ -5,6 +5,8 @@
 //! and a failed write are reported only where one was, and where a write fails a prefix of the listing was written.
 //!
 //! [`ConsultError::exit_status`] is the exit status of the program `consult`.
+//!
+//! Only tested: that a listing is written where memory is there. Trusted: the toolchain and `thiserror`.
 #![tactic(auto)]
 
 mod error;

@@ -8,6 +8,9 @@
 //! has a fault, and that each has one of the two; and that a term that is cut out of its text, with a dot behind it, reads
 //! as that term alone.
 //! Read are atoms, integers of 64 bits, strings, tuples, lists and binaries.
+//!
+//! Only tested: that a text is read where memory is there, small texts with their answers, and texts against Erlang/OTP
+//! (docs/PROOFS.md). Trusted: the toolchain alone.
 #![tactic(auto)]
 
 mod character;

@@ -7,6 +7,8 @@
 //! The functions of `laws` say of these definitions that no text has two readings or two faults, that none both reads and
 //! has a fault, and that each has one of the two; that a term is what its own bytes spell; and that what is read has short
 //! atoms, and at most one bracket more when it is printed (specs/Limits).
+//!
+//! Only tested: that a term is printed where memory is there. Trusted: the toolchain alone.
 #![tactic(auto)]
 
 pub mod laws;

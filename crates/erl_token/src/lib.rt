@@ -9,6 +9,8 @@
 //! What stands between quotes is not copied: it is kept in pieces (`Content`), and written out by `Content::into_string` alone.
 //! The functions of `laws` say of the definitions that the items of a text tile it, and that a row of tokens that is cut
 //! out of its text, with a dot behind it, has the same tokens.
+//!
+//! Only tested: texts against Erlang/OTP (docs/PROOFS.md). Trusted: the toolchain alone.
 #![tactic(auto)]
 
 mod class;

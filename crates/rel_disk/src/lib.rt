@@ -11,6 +11,8 @@
 //! the first sentence is a law: [`images_by_places`] and [`damage_adds_up`].
 //!
 //! Not claimed: that a real file is such a disk, and when a real device fails.
+//!
+//! Only tested: the texts of errors. Trusted: the toolchain and `thiserror`.
 #![tactic(auto)]
 
 mod disk;

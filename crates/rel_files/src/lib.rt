@@ -5,6 +5,8 @@
 //! come in place of any answer and says nothing of the file.
 //!
 //! The functions of `laws` say of these definitions that each file says one release or has one fault, and not both.
+//!
+//! Only tested: that a file is read where memory is there. Trusted: the toolchain alone.
 #![tactic(auto)]
 
 mod draft;

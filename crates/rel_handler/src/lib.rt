@@ -13,6 +13,8 @@
 //!
 //! The clauses speak of the bytes of a store as a whole (`IsImageOf`) and of its records as terms (`Spells`). One proof is
 //! about single bytes: that a store refuses bytes as `NotAStore` or `Damaged` alone (`BadRecords`).
+//!
+//! Only tested: that a call succeeds where memory is there. Trusted: the toolchain and `thiserror`.
 #![tactic(auto)]
 
 mod booting;

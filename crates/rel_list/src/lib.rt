@@ -10,6 +10,9 @@
 //!
 //! The functions of `laws` say of these definitions alone that versions are distinct, that one release is
 //! permanent and at most one is current, and that a boot undoes nothing but installations.
+//!
+//! Only tested: that an event is accepted where memory is there, and the texts of the refusals. Trusted:
+//! the toolchain, `indexmap` and `thiserror`.
 #![tactic(auto)]
 
 mod change;

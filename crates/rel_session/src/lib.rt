@@ -13,6 +13,9 @@
 //! of the input are taken, and each answer is written once its command was read.
 //!
 //! The functions of [`laws`] say what follows for whole runs. docs/ARCHITECTURE.md tells what a further command takes.
+//!
+//! Only tested: that an answer is written before the next line is read, and that memory suffices where it is there.
+//! Trusted: the toolchain, `indexmap` and `thiserror`.
 #![tactic(auto)]
 
 mod ahead;

@@ -10,6 +10,9 @@
 //!
 //! A call that answers `Device` leaves the store to be opened again: from then on each call answers `MustReopen`.
 //! `into_disk` gives the disk back, and so does each refusal of a call that takes one.
+//!
+//! Only tested: that a call succeeds where memory is there, and that an append gives back what was reserved. Trusted: the
+//! toolchain and `thiserror`.
 #![tactic(auto)]
 
 mod bytes;
