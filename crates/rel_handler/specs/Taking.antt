@@ -17,7 +17,8 @@ allowed refusal None = Err refusal
 allowed refusal (Some es) = kept_short es
 
 -- What the event of a command makes of the list. Refused in this order: a release with too many applications, what the
--- list doesn't allow, one release too many. No command brings the other events yet: of these it says what the list allows.
+-- list doesn't allow, one release too many. No command brings the other events yet: of these it says what the list allows,
+-- and NoMemory stands for the list's refusal.
 abbrev pub commanded : Event → Releases → Result Releases HandlerError
 commanded (made r) es = if is_small r then allowed Exists (step (made r) es) else Err TooMany
 commanded (unpacked r) es = if is_small r then allowed ExistingRelease (step (unpacked r) es) else Err TooMany

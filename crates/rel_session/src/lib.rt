@@ -14,7 +14,7 @@
 //!
 //! The functions of [`laws`] say what follows for whole runs. docs/ARCHITECTURE.md tells what a further command takes.
 //!
-//! Only tested: that an answer is written before the next line is read, and that memory suffices where it is there.
+//! Only tested: that an answer is written before the next line is read, and that a session goes on where memory is there.
 //! Trusted: the toolchain, `indexmap` and `thiserror`.
 #![tactic(auto)]
 

@@ -10,7 +10,7 @@ ghost use Rattle.start_record.specs.Text.{Versions, versions_of, AreVersions, Ar
 
 use crate::StartError;
 use crate::error::slot_error;
-use crate::text::{spelled, versions_in};
+use crate::text::{spell, versions_in};
 use crate::version::MAX_VERSION;
 use rel_disk::Disk;
 use rel_store::Store;
@@ -105,7 +105,7 @@ pub fn write_start<D: Disk>(store: &mut Store<D>, start: &Start) -> Result<(), S
     if start.erts.len() > MAX_VERSION || start.vsn.len() > MAX_VERSION {
         return Err(StartError::TooLong);
     }
-    match store.write_slot(spelled(start).as_str().as_bytes()) {
+    match store.write_slot(spell(start).as_str().as_bytes()) {
         Ok(()) => Ok(()),
         Err(error) => Err(slot_error(error)),
     }

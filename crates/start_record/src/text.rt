@@ -12,7 +12,7 @@ pub(crate) const MAX_TEXT: usize = 126;
 
 // The text of a start. It grows in place, since a write takes no memory: so each part is one call with the very clause that is
 // needed, where an array would want the places of its parts.
-pub(crate) fn spelled(start: &Start) -> ArrayString<MAX_TEXT>
+pub(crate) fn spell(start: &Start) -> ArrayString<MAX_TEXT>
     requires { AreTooLong (versions_of start.now) → ⊥ }
     ensures { result.bytes ≡ start_text (versions_of start.now) }
 {
