@@ -20,6 +20,7 @@
 mod booting;
 mod creation;
 mod error;
+mod files;
 mod handler;
 pub mod laws;
 mod limits;
@@ -27,5 +28,6 @@ mod records;
 
 pub use booting::boot;
 pub use error::{BootError, HandlerError};
+pub use files::{Files, FilesError};
 pub use handler::Handler;
 pub use limits::{MOST_APPLICATIONS, MOST_RELEASES};
