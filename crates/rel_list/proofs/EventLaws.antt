@@ -7,7 +7,7 @@ use Rattle.rel_list.specs.declared.status.Status.{Status}
 use Rattle.rel_list.specs.declared.status.Status.TheVariants.{Unpacked, Current, Old, Permanent}
 use Rattle.rel_list.specs.Status.{is_current, is_permanent}
 use Rattle.rel_list.specs.Releases.{Releases, Entry, entry, status_of, of_status, has_current, HasDistinctVersions}
-use Rattle.rel_list.specs.Event.{Event, may_be_installed, may_be_made_permanent, may_be_removed, may_be_rebooted, installed_status, permanent_status, booted_status, list_installed, list_made_permanent, without, booted, step, list_from, list_after}
+use Rattle.rel_list.specs.Event.{Event, may_be_installed, may_be_made_permanent, may_be_removed, may_be_rebooted, installed_status, permanent_status, booted_status, assigned_status, list_installed, list_made_permanent, list_assigned, without, booted, step, list_from, list_after}
 use Rattle.rel_list.specs.Event.Event.{made, unpacked, installed, made_permanent, removed, reboot_old, boot}
 use Rattle.rel_list.specs.Keyed.{IsOrderly}
 use Rattle.rel_list.proofs.Orderly.{of_version, differs_back, first_differs, none_behind, none_at_all, at_most_once, exactly_once, distinct-with_statuses, one_more, as_many, no_more, just_as_many}
@@ -15,7 +15,7 @@ use Rattle.rel_list.proofs.Orderly.{of_version, differs_back, first_differs, non
 abbrev currents : Releases → ℕ
 currents es = length (of_status is_current es)
 
-abbrev permanents : Releases → ℕ
+abbrev pub permanents : Releases → ℕ
 permanents es = length (of_status is_permanent es)
 
 -- Installation
@@ -86,6 +86,19 @@ orderly-booted es o =
     let few : currents (booted es) ≤ currents es =
     no_more (λ vsn s. booted_status s) (λ (e : Entry). is_current e.status) (λ (e : Entry). is_current e.status) (λ (e : Entry). current-booted e.status) es in
     record { distinct = distinct-with_statuses (λ vsn s. booted_status s) es o.distinct; one_current = omega (arith, few, o.one_current) }
+
+-- An assignment
+
+current-assigned : (t : Status) → is_current t ≡ false → (b : Bool) (s : Status) → is_current (assigned_status t b s) ≡ true → is_current s ≡ true
+current-assigned t none true s is = absurd (true≢false (sym is ∙ none))
+current-assigned t none false s is = is
+
+pub orderly-assigned : (v : List ℕ) (t : Status) (es : Releases) → is_current t ≡ false → IsOrderly es → IsOrderly (list_assigned v t es)
+orderly-assigned v t es none o =
+    let few : currents (list_assigned v t es) ≤ currents es =
+    no_more (λ vsn s. assigned_status t (bytes_eq v vsn) s) (λ (e : Entry). is_current e.status) (λ (e : Entry). is_current e.status)
+    (λ (e : Entry). current-assigned t none (bytes_eq v e.release.vsn) e.status) es in
+    record { distinct = distinct-with_statuses _ es o.distinct; one_current = omega (arith, few, o.one_current) }
 
 -- A release that leaves
 
@@ -212,7 +225,7 @@ permanents-made_permanent v es distinct listed =
     (λ (e : Entry). permanent-permanent (bytes_eq v e.release.vsn) e.status) es
     ∙ exactly_once v es distinct listed
 
-one_permanent-step : (e : Event) (es next : Releases) → HasDistinctVersions es → permanents es ≡ 1 → step e es ≡ Some next → permanents next ≡ 1
+pub one_permanent-step : (e : Event) (es next : Releases) → HasDistinctVersions es → permanents es ≡ 1 → step e es ≡ Some next → permanents next ≡ 1
 one_permanent-step (made r) [] next distinct one is = omega (arith, one)
 one_permanent-step (made r) (e ∷ es) next distinct one is = cc
 one_permanent-step (unpacked r) es next distinct one is =

@@ -1,6 +1,7 @@
 mod Lookups
-mod Orderly
-mod EventLaws
+pub mod Orderly
+pub mod EventLaws
 mod BootLaws
 mod RefusalLaws
+mod RestLaws
 mod Kept

@@ -16,7 +16,7 @@ use Rattle.rel_list.specs.declared.listed.ListedRelease.{ListedRelease}
 use Rattle.rel_list.specs.declared.status.Status.{Status}
 use Rattle.rel_list.specs.declared.change.StatusChange.{StatusChange}
 use Rattle.rel_list.specs.Status.{is_current}
-use Rattle.rel_list.specs.Releases.{Entry, status_of, current}
+use Rattle.rel_list.specs.Releases.{Entry, status_of, release_at, current}
 use Rattle.rel_list.specs.Event.{with_statuses, without}
 use Rattle.rel_list.specs.Change.{status_after, changed}
 use Rattle.rel_list.specs.Keyed.{entry_of, entries_in, AreKeyed}
@@ -44,6 +44,16 @@ status_of-entries_in vsn ps keyed =
     ap (option_map (λ (e : Entry). e.status)) (find-entries_in vsn ps keyed) ∙ twice (lookup (λ k. bytes_eq vsn (string_bytes k)) ps)
   where
     twice : (o : Option ListedRelease) → option_map (λ (e : Entry). e.status) (option_map entry_of o) ≡ option_map (λ (l : ListedRelease). l.status) o
+    twice None = refl
+    twice (Some l) = refl
+
+-- and so is its release
+pub release_at-entries_in : (vsn : List ℕ) (ps : List (String Global × ListedRelease)) → AreKeyed ps
+    → release_at vsn (entries_in ps) ≡ option_map (λ (l : ListedRelease). release_of l.release) (lookup (λ k. bytes_eq vsn (string_bytes k)) ps)
+release_at-entries_in vsn ps keyed =
+    ap (option_map (λ (e : Entry). e.release)) (find-entries_in vsn ps keyed) ∙ twice (lookup (λ k. bytes_eq vsn (string_bytes k)) ps)
+  where
+    twice : (o : Option ListedRelease) → option_map (λ (e : Entry). e.release) (option_map entry_of o) ≡ option_map (λ (l : ListedRelease). release_of l.release) o
     twice None = refl
     twice (Some l) = refl
 

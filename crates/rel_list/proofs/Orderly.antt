@@ -12,7 +12,7 @@ abbrev pub of_version : List ℕ → Releases → Releases
 of_version v es = filter (λ (e : Entry). bytes_eq v e.release.vsn) es
 
 -- the status of the first release, or of one behind it
-abbrev status_or : Bool → Entry → Option Entry → Option Status
+abbrev pub status_or : Bool → Entry → Option Entry → Option Status
 status_or b e behind = option_map (λ (f : Entry). f.status) (cond b (Some e) behind)
 
 -- equal versions

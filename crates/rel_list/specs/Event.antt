@@ -72,6 +72,19 @@ abbrev pub booted_status : Status → Status
 booted_status Current = Unpacked
 booted_status s = s
 
+-- The status of a release, of this version, behind an event that takes none out and brings none in.
+abbrev pub status_behind : Event → List ℕ → Status → Status
+status_behind (installed v) vsn s = installed_status (bytes_eq v vsn) s
+status_behind (made_permanent v) vsn s = permanent_status (bytes_eq v vsn) s
+status_behind (reboot_old v) vsn s = permanent_status (bytes_eq v vsn) s
+status_behind boot vsn s = booted_status s
+status_behind e vsn s = s
+
+-- the status of a release behind an assignment of this one, to itself or to another release
+abbrev pub assigned_status : Status → Bool → Status → Status
+assigned_status t true s = t
+assigned_status t false s = s
+
 -- each release with the status that this makes of its version and its status
 abbrev pub with_statuses : (List ℕ → Status → Status) → Releases → Releases
 with_statuses status es = map (λ (e : Entry). record e { status = status e.release.vsn e.status }) es
@@ -83,6 +96,10 @@ list_installed v es = with_statuses (λ vsn s. installed_status (bytes_eq v vsn)
 -- the list in which the release of this version is the permanent one
 abbrev pub list_made_permanent : List ℕ → Releases → Releases
 list_made_permanent v es = with_statuses (λ vsn s. permanent_status (bytes_eq v vsn) s) es
+
+-- the list in which the release of this version has this status
+abbrev pub list_assigned : List ℕ → Status → Releases → Releases
+list_assigned v t es = with_statuses (λ vsn s. assigned_status t (bytes_eq v vsn) s) es
 
 -- the list without the release of this version
 abbrev pub without : List ℕ → Releases → Releases

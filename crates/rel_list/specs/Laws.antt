@@ -1,11 +1,11 @@
 -- Laws of the list and its events, whatever keeps them.
-use Rattle.std.specs.Prelude.{◌≡◌, ◌≢◌, ◌↔◌, ◌≤◌, ℕ, List, [], ◌∷◌, ◌++◌, length, true, None, Some}
+use Rattle.std.specs.Prelude.{◌≡◌, ◌≢◌, ◌↔◌, ◌≤◌, ℕ, List, [], ◌∷◌, ◌++◌, length, map, true, None, Some}
 use Rattle.rel_files.specs.Release.{Release}
 use Rattle.rel_list.specs.declared.status.Status.{Status}
 use Rattle.rel_list.specs.declared.status.Status.TheVariants.{Permanent}
 use Rattle.rel_list.specs.Status.{is_current, is_permanent}
-use Rattle.rel_list.specs.Releases.{Releases, status_of, of_status, HasDistinctVersions}
-use Rattle.rel_list.specs.Event.{Event, step, booted_status, list_from, list_after}
+use Rattle.rel_list.specs.Releases.{Releases, Entry, status_of, of_status, HasDistinctVersions}
+use Rattle.rel_list.specs.Event.{Event, step, booted_status, booted, list_from, list_after}
 use Rattle.rel_list.specs.Event.Event.{made, installed, boot}
 use Rattle.rel_list.specs.Refusal.{refusal}
 
@@ -38,3 +38,18 @@ InstallsAlikeBehindABoot =
 -- An event has a refusal exactly where the list doesn't allow it.
 abbrev pub RefusedWhereNotAllowed : Type 0
 RefusedWhereNotAllowed = (e : Event) (es : Releases) → (refusal e es ≡ None) ↔ (step e es ≢ None)
+
+-- the releases of a list without their statuses
+abbrev pub releases_of : Releases → List Release
+releases_of es = map (λ (e : Entry). e.release) es
+
+-- No version stands twice, a boot changes nothing, and exactly one release is permanent.
+pub record IsAtRest (es : Releases) : Type 0 where
+  pub distinct : HasDistinctVersions es
+  pub as_booted : booted es ≡ es
+  pub one_permanent : length (of_status is_permanent es) ≡ 1
+
+-- Events lead from a list at rest to each other one of the same releases in the same order.
+abbrev pub ListsAtRestAreReached : Type 0
+ListsAtRestAreReached =
+    (es next : Releases) → IsAtRest es → IsAtRest next → releases_of next ≡ releases_of es → (events : List Event) × (list_from es events ≡ Some next)

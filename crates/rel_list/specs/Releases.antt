@@ -21,6 +21,10 @@ entry r s = record { release = r; status = s }
 abbrev pub status_of : List ℕ → Releases → Option Status
 status_of vsn es = option_map (λ (e : Entry). e.status) (find (λ e. bytes_eq vsn e.release.vsn) es)
 
+-- the release of this version
+abbrev pub release_at : List ℕ → Releases → Option Release
+release_at vsn es = option_map (λ (e : Entry). e.release) (find (λ e. bytes_eq vsn e.release.vsn) es)
+
 -- the releases whose status passes a test
 abbrev pub of_status : (Status → Bool) → Releases → Releases
 of_status test es = filter (λ (e : Entry). test e.status) es

@@ -11,6 +11,7 @@ pub(crate) enum StatusChange<'a> {
     Install(&'a str),
     MakePermanent(&'a str),
     Boot,
+    Assign(&'a str, Status),
 }
 
 impl StatusChange<'_> {
@@ -29,6 +30,13 @@ impl StatusChange<'_> {
                     .made_permanent(listed.release.vsn.as_str() == vsn)
             }
             StatusChange::Boot => listed.status.booted(),
+            StatusChange::Assign(vsn, status) => {
+                if listed.release.vsn.as_str() == vsn {
+                    status
+                } else {
+                    listed.status
+                }
+            }
         }
     }
 

@@ -1,4 +1,8 @@
 //! What happens to a list of releases.
+ghost use Rattle.std.specs.Prelude.{◌≡◌};
+ghost use Rattle.rel_list.specs.Event.{event_of, status_behind};
+
+use crate::Status;
 use rel_files::Rel;
 
 /// A change of the list of releases. A release that is in the list is named by its version.
@@ -18,4 +22,21 @@ pub enum Event {
     RebootOld(String),
     /// The node boots.
     Boot,
+}
+
+impl Event {
+    /// The status that a release of this version and this status has behind the event. An event that brings a release, or
+    /// takes one out, leaves the statuses of the others.
+    pub fn status_behind(&self, vsn: &str, status: Status) -> Status
+        ensures { result ≡ status_behind (event_of self.now) vsn.now status }
+    {
+        match self {
+            Event::Installed(installed) => status.installed(installed.as_str() == vsn),
+            Event::MadePermanent(permanent) | Event::RebootOld(permanent) => {
+                status.made_permanent(permanent.as_str() == vsn)
+            }
+            Event::Boot => status.booted(),
+            Event::Made(_) | Event::Unpacked(_) | Event::Removed(_) => status,
+        }
+    }
 }

@@ -1,5 +1,5 @@
 //! Laws of the list and its events, whatever keeps them. Each function does nothing: its contract is the law.
-ghost use Rattle.rel_list.specs.Laws.{VersionsAreDistinct, AtMostOneIsCurrent, OneIsPermanent, SecondBootChangesNothing, BootChangesCurrentOnes, InstallsAlikeBehindABoot, RefusedWhereNotAllowed};
+ghost use Rattle.rel_list.specs.Laws.{VersionsAreDistinct, AtMostOneIsCurrent, OneIsPermanent, SecondBootChangesNothing, BootChangesCurrentOnes, InstallsAlikeBehindABoot, RefusedWhereNotAllowed, ListsAtRestAreReached};
 
 /// No version stands twice in a list, whatever events made it.
 pub fn versions_are_distinct()
@@ -34,4 +34,9 @@ pub fn a_release_installs_alike_behind_a_boot()
 /// An event has a refusal exactly where the list doesn't allow it.
 pub fn an_event_is_refused_where_it_is_not_allowed()
     ensures { RefusedWhereNotAllowed }
+{}
+
+/// Events lead from a list at rest to each other one of the same releases in the same order.
+pub fn a_list_at_rest_is_reached()
+    ensures { ListsAtRestAreReached }
 {}

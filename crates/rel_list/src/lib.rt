@@ -9,7 +9,8 @@
 //! all that a boot would change. A look-up by version goes through a map, which no clause speaks of.
 //!
 //! The functions of `laws` say of these definitions alone that versions are distinct, that one release is
-//! permanent and at most one is current, and that a boot undoes nothing but installations.
+//! permanent and at most one is current, that a boot undoes nothing but installations, and that events lead
+//! from a list at rest to each other one of the same releases.
 //!
 //! Only tested: that an event is accepted where memory is there, and the texts of the refusals. Trusted:
 //! the toolchain, `indexmap` and `thiserror`.
@@ -21,6 +22,7 @@ mod fault;
 pub mod laws;
 mod list;
 mod listed;
+mod refusal;
 mod status;
 
 pub use event::Event;

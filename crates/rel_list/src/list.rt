@@ -1,5 +1,5 @@
 //! The list of releases.
-ghost use Rattle.std.specs.Prelude.{◌≡◌, ◌↔◌, false, Some, None, [], ◌∷◌, ◌++◌, find, length, map, string_bytes, IsTrue, IfErr, OnOk, OnErr};
+ghost use Rattle.std.specs.Prelude.{◌≡◌, ◌↔◌, false, is_some, Some, None, [], ◌∷◌, ◌++◌, find, length, map, string_bytes, IsTrue, IfErr, OnOk, OnErr};
 ghost use Rattle.std.specs.Option.{option_map, option_copied, option_to_list};
 ghost use Rattle.rel_list.specs.Status.{is_current, is_permanent};
 
@@ -29,11 +29,11 @@ impl Model for ReleaseList {
 }
 
 impl ReleaseList {
-    ghost use Rattle.rel_list.specs.Event.{event_of, step, boot_changes, with_statuses};
+    ghost use Rattle.rel_list.specs.Event.{event_of, step, boot_changes, with_statuses, list_assigned};
     ghost use Rattle.rel_list.specs.Event.Event.{made, unpacked, installed, made_permanent, removed, reboot_old};
-    ghost use Rattle.rel_list.specs.Releases.{entry, permanent, current, running, status_of, has_current};
+    ghost use Rattle.rel_list.specs.Releases.{entry, permanent, current, running, status_of, release_at, has_current, HasDistinctVersions};
     ghost use Rattle.rel_list.specs.Refusal.{IsRefusedWith};
-    ghost use Rattle.rel_list.specs.Change.{status_after};
+    ghost use Rattle.rel_list.specs.Change.{status_after, AssignsNoCurrent};
     ghost use Rattle.rel_list.specs.Status.{runs};
     ghost use Rattle.rel_list.specs.Keyed.{entry_of};
     ghost use Rattle.rel_files.specs.Release.{release_of};
@@ -172,15 +172,28 @@ impl ReleaseList {
         Ok(())
     }
 
+    /// Gives the release of this version a status, and answers whether there is one. So a list is read back that was written
+    /// as assignments of statuses, none of them `current`.
+    pub fn assign(&mut self, vsn: &str, status: Status) -> bool
+        requires { is_current status ≡ false }
+        ensures listed { result ≡ is_some (status_of vsn.now self.old) }
+        ensures assigned { self.new ≡ list_assigned vsn.now status self.old }
+    {
+        let is_listed = self.status(vsn).is_some();
+        self.change(StatusChange::Assign(vsn, status));
+        is_listed
+    }
+
     // Changes the statuses of all releases.
     fn change(&mut self, change: StatusChange<'_>)
+        requires { AssignsNoCurrent change }
         ensures { self.new ≡ with_statuses (status_after change.entry) self.old }
     {
         change.change(&mut self.releases);
     }
 
     // Whether a release with this status runs.
-    fn runs(&self, status: Status) -> bool
+    pub(crate) fn runs(&self, status: Status) -> bool
         ensures { result ≡ runs (has_current self.now) status }
     {
         match status {
@@ -218,6 +231,13 @@ impl ReleaseList {
         first_current(self.releases.values().as_slice()).map(|listed| listed.release.vsn.as_str())
     }
 
+    /// The release of this version.
+    pub fn release(&self, vsn: &str) -> Option<&Rel>
+        ensures { option_map release_of (option_copied result) ≡ release_at vsn.now self.now }
+    {
+        self.releases.get(vsn).map(|listed| &listed.release)
+    }
+
     /// The status of the release of this version.
     pub fn status(&self, vsn: &str) -> Option<Status>
         ensures { result ≡ status_of vsn.now self.now }
@@ -225,9 +245,10 @@ impl ReleaseList {
         self.releases.get(vsn).map(|listed| listed.status)
     }
 
-    /// The releases with their statuses, in order of coming.
+    /// The releases with their statuses, in order of coming. No version stands twice.
     pub fn releases(&self) -> &[ListedRelease]
-        ensures { map entry_of result.now ≡ self.now }
+        ensures entries { map entry_of result.now ≡ self.now }
+        ensures distinct { HasDistinctVersions self.now }
     {
         self.releases.values().as_slice()
     }

@@ -13,4 +13,4 @@ returns c =
     ∙ ap (with_statuses (status_after c.args.change)) c.self.view_is
 
 pub invariant_of-self : goal.invariant_of-self
-invariant_of-self c = subst IsKept (sym c.change.ensures) (kept-changed c.args.change c.self.inside.releases.entries c.self.invariant)
+invariant_of-self c = subst IsKept (sym c.change.ensures) (kept-changed c.args.change c.self.inside.releases.entries c.requires c.self.invariant)

@@ -13,4 +13,4 @@ returns c =
     mapped
     ∙ ap (option_map (λ (l : ListedRelease). release_of l.release)) c.first_current.ensures
     ∙ sym (first_release is_current c.releases.result.now)
-    ∙ ap current c.releases.ensures
+    ∙ ap current c.releases.ensures.entries

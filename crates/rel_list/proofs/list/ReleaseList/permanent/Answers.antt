@@ -13,4 +13,4 @@ returns c =
     mapped
     ∙ ap (option_map (λ (l : ListedRelease). release_of l.release)) c.first_permanent.ensures
     ∙ sym (first_release is_permanent c.releases.result.now)
-    ∙ ap permanent c.releases.ensures
+    ∙ ap permanent c.releases.ensures.entries

@@ -1,0 +1,69 @@
+//! Why a list doesn't take an event.
+ghost use Rattle.std.specs.Prelude.{◌≡◌};
+ghost use Rattle.rel_list.specs.Event.{event_of};
+ghost use Rattle.rel_list.specs.Event.Event.{installed, made_permanent, removed, reboot_old};
+ghost use Rattle.rel_list.specs.Refusal.{refusal};
+
+use crate::{Event, ListError, ReleaseList, Status};
+
+impl ReleaseList {
+    /// Why the list doesn't take this event: the first condition that it fails. `accept` refuses it so.
+    pub fn refusal(&self, event: &Event) -> Option<ListError>
+        ensures { result ≡ refusal (event_of event.now) self.now }
+    {
+        match event {
+            Event::Made(_) if self.is_empty() => None,
+            Event::Made(_) => Some(ListError::ExistingRelease),
+            Event::Unpacked(release) => match self.status(release.vsn.as_str()) {
+                Some(_) => Some(ListError::ExistingRelease),
+                None => None,
+            },
+            Event::Installed(vsn) => self.install_refusal(vsn.as_str()),
+            Event::MadePermanent(vsn) => self.permanence_refusal(vsn.as_str()),
+            Event::Removed(vsn) => self.removal_refusal(vsn.as_str()),
+            Event::RebootOld(vsn) => self.reboot_refusal(vsn.as_str()),
+            Event::Boot => None,
+        }
+    }
+
+    fn install_refusal(&self, vsn: &str) -> Option<ListError>
+        ensures { result ≡ refusal (installed vsn.now) self.now }
+    {
+        match self.status(vsn) {
+            None => Some(ListError::NoSuchRelease),
+            Some(status) if self.runs(status) => Some(ListError::AlreadyInstalled),
+            Some(_) => None,
+        }
+    }
+
+    fn permanence_refusal(&self, vsn: &str) -> Option<ListError>
+        ensures { result ≡ refusal (made_permanent vsn.now) self.now }
+    {
+        match self.status(vsn) {
+            None => Some(ListError::NoSuchRelease),
+            Some(Status::Current) => None,
+            Some(status) => Some(ListError::BadStatus(status)),
+        }
+    }
+
+    fn removal_refusal(&self, vsn: &str) -> Option<ListError>
+        ensures { result ≡ refusal (removed vsn.now) self.now }
+    {
+        match self.status(vsn) {
+            None => Some(ListError::NoSuchRelease),
+            Some(Status::Permanent) => Some(ListError::Permanent),
+            Some(Status::Current) => Some(ListError::Running),
+            Some(Status::Unpacked | Status::Old) => None,
+        }
+    }
+
+    fn reboot_refusal(&self, vsn: &str) -> Option<ListError>
+        ensures { result ≡ refusal (reboot_old vsn.now) self.now }
+    {
+        match self.status(vsn) {
+            None => Some(ListError::NoSuchRelease),
+            Some(Status::Old) => None,
+            Some(status) => Some(ListError::BadStatus(status)),
+        }
+    }
+}
