@@ -2,7 +2,7 @@ pub mod Pairs
 mod Members
 pub mod Distinct
 pub mod Options
-mod Texts
+pub mod Texts
 mod Terms
 mod Endings
 pub mod Shape

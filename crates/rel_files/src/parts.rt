@@ -29,7 +29,8 @@ pub(crate) struct RelParts<'a> {
     pub(crate) apps: &'a [Term],
 }
 
-fn list_in(term: &Term) -> Option<&[Term]>
+/// The members of a list.
+pub fn list_in(term: &Term) -> Option<&[Term]>
     ensures { option_map (λ items. members_of items.now) result ≡ list_in (value_of term.now) }
 {
     match term {
@@ -38,7 +39,8 @@ fn list_in(term: &Term) -> Option<&[Term]>
     }
 }
 
-fn pair_in(term: &Term) -> Option<(&Term, &Term)>
+/// The two members of a tuple of two.
+pub fn pair_in(term: &Term) -> Option<(&Term, &Term)>
     ensures { option_map (λ p. (value_of p.0.now, value_of p.1.now)) result
         ≡ pair_in (value_of term.now) }
 {
@@ -60,7 +62,8 @@ fn two(members: &[Term]) -> Option<(&Term, &Term)>
     }
 }
 
-fn four_in(term: &Term) -> Option<(&Term, &Term, &Term, &Term)>
+/// The four members of a tuple of four.
+pub fn four_in(term: &Term) -> Option<(&Term, &Term, &Term, &Term)>
     ensures { option_map (λ p.
         (value_of p.0.now, value_of p.1.now, value_of p.2.now, value_of p.3.now)) result
         ≡ four_in (value_of term.now) }
@@ -83,7 +86,8 @@ fn four(members: &[Term]) -> Option<(&Term, &Term, &Term, &Term)>
     Some((first, second, third, fourth))
 }
 
-fn is_word(term: &Term, word: &str) -> bool
+/// Whether it is the atom of this text.
+pub fn is_word(term: &Term, word: &str) -> bool
     ensures { result ≡ is_word word.now (value_of term.now) }
 {
     match term {

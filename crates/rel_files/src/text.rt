@@ -57,8 +57,8 @@ pub(crate) fn are_numbers(items: &[Term]) -> bool
     true
 }
 
-// The text of these numbers, if they are 1 to 62 characters from the lowest to `~`.
-pub(crate) fn text_in(
+/// The text of these numbers, if they are 1 to 62 characters from the lowest to `~`.
+pub fn text_in(
     alloc: Global,
     lowest: u8,
     items: &[Term],
