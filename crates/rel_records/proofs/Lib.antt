@@ -1,0 +1,10 @@
+pub mod BodyLemmas
+pub mod ReadingLemmas
+pub mod ListLemmas
+pub mod RecordPlaces
+pub mod Progress
+pub mod Within
+pub mod TermLemmas
+pub mod RecordLaws
+pub mod EventRecords
+pub mod WritingLemmas

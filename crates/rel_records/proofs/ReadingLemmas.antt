@@ -1,0 +1,167 @@
+-- What a body spells, by its term.
+use Rattle.std.proofs.Common.{◌≡◌, ◌⊎◌, inl, inr, ℕ, Bool, true, false, List, [], ◌∷◌, codes, Option, Some, None, Result, Ok, Err, refl, sym, ap, ◌∙◌, subst}
+use Rattle.std.specs.Prelude.{IsErr, IsErrOf, IfOk, if◌then◌else◌}
+use Rattle.std.specs.Result.{IsErrAnd}
+use Rattle.std.specs.Option.{option_map, option_and_then}
+use Rattle.std.specs.Str.{bytes_eq}
+use Rattle.std.proofs.lemmas.Slice.Eq.{bytes_eq-Decides}
+use Rattle.erl_term.specs.Value.{Value}
+use Rattle.erl_term.specs.Grammar.{Reading, Reads}
+use Rattle.erl_term.specs.Faults.{IsFault}
+use Rattle.erl_term.specs.OneTerm.{HasTerm}
+use Rattle.erl_term.specs.TermFault.{TermFault}
+use Rattle.erl_term.specs.TermFault.TheVariants as term
+use Rattle.erl_term.proofs.Exact.{one_reading, never_both as reads_or_fails, reads_or_fault}
+use Rattle.rel_files.specs.File.{IsReleaseTerm}
+use Rattle.rel_files.specs.Parts.{pair_in, is_word, list_in}
+use Rattle.rel_files.specs.Release.{Release}
+use Rattle.rel_files.specs.declared.fault.FileFault.{FileFault}
+use Rattle.rel_files.specs.declared.fault.FileFault.TheVariants as file
+use Rattle.rel_records.specs.Parts.{parts_in, record_read, fault_of_text, fault_of_release}
+use Rattle.rel_records.specs.declared.reading.Record.{Record as RecordInMemory}
+use Rattle.rel_records.specs.Record.{Assignment, Record, makes, adds, assigns, removes, release_term}
+use Rattle.rel_records.specs.Reading.{change_of, change_in, assignments_of, version_in, Says, Spells}
+use Rattle.rel_records.specs.declared.fault.RecordFault.{RecordFault}
+use Rattle.rel_records.specs.declared.fault.RecordFault.TheVariants.{Bad}
+use Rattle.rel_records.proofs.BodyLemmas.{one_term, one_word, one_rel, no_change}
+use Rattle.rel_records.proofs.TermLemmas.{SaysOrNot, says_or_not, parts_term}
+
+-- a change assigns or removes
+neither : (a b : Bool) (x : Option (List Assignment)) (y : Option (List ℕ)) (r : Record) → (if a then option_map assigns x else if b then option_map removes y else None) ≡ Some r → ((rel : Release) → r ≡ makes rel → ⊥) × ((rel : Release) → r ≡ adds rel → ⊥)
+neither true b None y r e = absurd cc
+neither true b (Some given) y r e = (λ rel is. cc (e, is), λ rel is. cc (e, is))
+neither false true x None r e = absurd cc
+neither false true x (Some w) r e = (λ rel is. cc (e, is), λ rel is. cc (e, is))
+neither false false x y r e = absurd cc
+
+changes_only : (v : Value) (r : Record) → change_in v ≡ Some r → ((rel : Release) → r ≡ makes rel → ⊥) × ((rel : Release) → r ≡ adds rel → ⊥)
+changes_only v r e = by_pair (pair_in v) e
+  where
+    by_pair : (o : Option (Value × Value)) → option_and_then change_of o ≡ Some r → ((rel : Release) → r ≡ makes rel → ⊥) × ((rel : Release) → r ≡ adds rel → ⊥)
+    by_pair None e = absurd cc
+    by_pair (Some p) e = neither (is_word (codes "status") p.0) (is_word (codes "removed") p.0) (option_and_then assignments_of (list_in p.1)) (version_in p.1) r e
+
+pub change_says : (v : Value) (r : Record) → change_in v ≡ Some r → Says v r
+change_says v (makes x) e = absurd ((changes_only v (makes x) e).0 x refl)
+change_says v (adds x) e = absurd ((changes_only v (adds x) e).1 x refl)
+change_says v (assigns given) e = e
+change_says v (removes w) e = e
+
+-- what is said by no release's term and no change is no record
+pub says_none : (v : Value) → None ≡ parts_in v → change_in v ≡ None → (r : Record) → Says v r → ⊥
+says_none v none still (makes x) (rel, is, says) = cc (none, ap parts_in is)
+says_none v none still (adds x) (rel, is, says) = cc (none, ap parts_in is)
+says_none v none still (assigns given) says = cc (still, says)
+says_none v none still (removes w) says = cc (still, says)
+
+-- A term says a record, or none.
+abbrev pub SaysRecordOrNot : Value → Type 0
+SaysRecordOrNot v = ((r : Record) × Says v r) ⊎ ((r : Record) → Says v r → ⊥)
+
+-- a word that is none of the two says none
+pub no_word : (word : List ℕ) (rel : Value) → bytes_eq word (codes "made") ≡ false → bytes_eq word (codes "unpacked") ≡ false → (r : Record) → Says (release_term word rel) r → ⊥
+no_word word rel made unpacked (makes x) (again, is, says) = cc (made, ap (λ w. bytes_eq w (codes "made")) (one_word word _ rel again is))
+no_word word rel made unpacked (adds x) (again, is, says) = cc (unpacked, ap (λ w. bytes_eq w (codes "unpacked")) (one_word word _ rel again is))
+no_word word rel made unpacked (assigns given) says = cc (says, no_change (release_term word rel) word rel refl)
+no_word word rel made unpacked (removes w) says = cc (says, no_change (release_term word rel) word rel refl)
+
+-- nor does one whose release is none
+pub no_release : (word : List ℕ) (rel : Value) → ((x : Release) → IsReleaseTerm rel x → ⊥) → (r : Record) → Says (release_term word rel) r → ⊥
+no_release word rel never (makes x) (again, is, says) = never x (subst (λ t. IsReleaseTerm t x) (sym (one_rel word _ rel again is)) says)
+no_release word rel never (adds x) (again, is, says) = never x (subst (λ t. IsReleaseTerm t x) (sym (one_rel word _ rel again is)) says)
+no_release word rel never (assigns given) says = cc (says, no_change (release_term word rel) word rel refl)
+no_release word rel never (removes w) says = cc (says, no_change (release_term word rel) word rel refl)
+
+says_record_or_not : (v : Value) → SaysRecordOrNot v
+says_record_or_not v = by_parts (parts_in v) refl
+  where
+    by_release : (word : List ℕ) (rel : Value) → (make : Release → Record) → ((x : Release) → IsReleaseTerm rel x → Says (release_term word rel) (make x)) → SaysOrNot rel → SaysRecordOrNot (release_term word rel)
+    by_release word rel make says (inl (x, is)) = inl (make x, says x is)
+    by_release word rel make says (inr never) = inr (no_release word rel never)
+
+    by_word : (word : List ℕ) (rel : Value) (a : Bool) → bytes_eq word (codes "made") ≡ a → (b : Bool) → bytes_eq word (codes "unpacked") ≡ b → SaysRecordOrNot (release_term word rel)
+    by_word word rel true is b other =
+        by_release word rel makes (λ x says. (rel, ap (λ w. release_term w rel) ((bytes_eq-Decides word (codes "made")).0 is), says)) (says_or_not rel)
+    by_word word rel false is true other =
+        by_release word rel adds (λ x says. (rel, ap (λ w. release_term w rel) ((bytes_eq-Decides word (codes "unpacked")).0 other), says)) (says_or_not rel)
+    by_word word rel false is false other = inr (no_word word rel is other)
+
+    by_change : parts_in v ≡ None → (o : Option Record) → change_in v ≡ o → SaysRecordOrNot v
+    by_change none (Some r) is = inl (r, change_says v r is)
+    by_change none None is = inr (says_none v (sym none) is)
+
+    by_parts : (o : Option (List ℕ × Value)) → parts_in v ≡ o → SaysRecordOrNot v
+    by_parts None is = by_change is (change_in v) refl
+    by_parts (Some (word, rel)) is =
+        subst SaysRecordOrNot (sym (parts_term v word rel is)) (by_word word rel (bytes_eq word (codes "made")) refl (bytes_eq word (codes "unpacked")) refl)
+
+-- A body spells a record, or none.
+abbrev pub SpellsOrNot : List ℕ → Type 0
+SpellsOrNot body = ((r : Record) × Spells body r) ⊎ ((r : Record) → Spells body r → ⊥)
+
+-- what its term doesn't say it doesn't spell
+pub unspelled : (body : List ℕ) (v : Value) → HasTerm 72 body v → ((r : Record) → Says v r → ⊥) → (r : Record) → Spells body r → ⊥
+unspelled body v has never r s = never r (subst (λ t. Says t r) (one_term 72 body s.term v s.text has) s.says)
+
+pub spells_or_not : (body : List ℕ) → SpellsOrNot body
+spells_or_not body = by_reading (reads_or_fault 72 body)
+  where
+    by_term : (v : Value) → HasTerm 72 body v → SaysRecordOrNot v → SpellsOrNot body
+    by_term v has (inl (r, says)) = inl (r, record { term = v; text = has; says = says })
+    by_term v has (inr never) = inr (unspelled body v has never)
+
+    by_terms : (rs : List Reading) → Reads 72 body rs → SpellsOrNot body
+    by_terms [] reads = inr (λ r s. let lost : [] ≡ s.text.0 ∷ [] = one_reading 72 body [] (s.text.0 ∷ []) reads s.text.1 in cc)
+    by_terms (p ∷ q ∷ rs) reads = inr (λ r s. let lost : p ∷ q ∷ rs ≡ s.text.0 ∷ [] = one_reading 72 body (p ∷ q ∷ rs) (s.text.0 ∷ []) reads s.text.1 in cc)
+    by_terms (p ∷ []) reads = by_term p.term (p, reads, refl) (says_record_or_not p.term)
+
+    by_reading : ((rs : List Reading) × Reads 72 body rs) ⊎ ((f : TermFault) × IsFault 72 body f) → SpellsOrNot body
+    by_reading (inl (rs, reads)) = by_terms rs reads
+    by_reading (inr (f, is)) = inr (λ r s. reads_or_fails 72 body (s.text.0 ∷ []) f s.text.1 is)
+
+-- a text without a term spells none
+pub no_term : (body : List ℕ) → ((v : Value) → HasTerm 72 body v → ⊥) → (r : Record) → Spells body r → ⊥
+no_term body never r s = never s.term s.text
+
+not_text : (f : TermFault) → fault_of_text f ≡ Bad → f ≡ term.NoMemory → ⊥
+not_text f bad is = cc (bad, ap fault_of_text is)
+
+not_release : (f : FileFault) → fault_of_release f ≡ Bad → f ≡ file.NoMemory → ⊥
+not_release f bad is = cc (bad, ap fault_of_release is)
+
+-- a fault that is told as a bad record
+told_bad : {T : Type 0} (r : Result T RecordFault) (f : RecordFault) → IsErr r × IsErrAnd r (λ e. e ≡ f) → IsErrOf r Bad → f ≡ Bad
+told_bad (Ok x) f told bad = absurd told.1
+told_bad (Err e) f told bad = sym told.1 ∙ cc bad
+
+-- a fault of the text is that of a body without a term
+pub no_text : {T : Type 0} (body : List ℕ) (f : TermFault) (told : Result T RecordFault) → ((v : Value) → HasTerm 72 body v → f ≡ term.NoMemory) → IsErr told × IsErrAnd told (λ e. e ≡ fault_of_text f)
+    → IsErrOf told Bad → (r : Record) → Spells body r → ⊥
+no_text body f told only is bad = no_term body (λ v has. not_text f (told_bad told (fault_of_text f) is bad) (only v has))
+
+-- and one of the release that of a term without one
+pub no_rel : {T : Type 0} (rel : Value) (f : FileFault) (told : Result T RecordFault) → ((x : Release) → IsReleaseTerm rel x → f ≡ file.NoMemory) → IsErr told × IsErrAnd told (λ e. e ≡ fault_of_release f)
+    → IsErrOf told Bad → (x : Release) → IsReleaseTerm rel x → ⊥
+no_rel rel f told only is bad x says = not_release f (told_bad told (fault_of_release f) is bad) (only x says)
+
+module _ (body : List ℕ) (v : Value) (has : HasTerm 72 body v) where
+  -- a body whose term says a record spells it
+  pub spelled_so : {E : Type 0} → (result : Result RecordInMemory E) → IfOk result (λ r. Says v (record_read r)) → IfOk result (λ r. Spells body (record_read r))
+  spelled_so (Ok r) says = record { term = v; text = has; says = says }
+  spelled_so (Err e) says = tt
+
+  pub release_spelled : {E : Type 0} → (word : List ℕ) (rel : Value) → Some (word, rel) ≡ parts_in v → (result : Result RecordInMemory E) → IfOk result (λ r. Says (release_term word rel) (record_read r)) → IfOk result (λ r. Spells body (record_read r))
+  release_spelled word rel parts result says = spelled_so result (subst (λ t. IfOk result (λ r. Says t (record_read r))) (sym (parts_term v word rel (sym parts))) says)
+
+  pub change_spelled : {E : Type 0} → (result : Result RecordInMemory E) → IfOk result (λ r. change_in v ≡ Some (record_read r)) → IfOk result (λ r. Spells body (record_read r))
+  change_spelled {E = E} result says = spelled_so result (go result says)
+    where
+      go : (o : Result RecordInMemory E) → IfOk o (λ r. change_in v ≡ Some (record_read r)) → IfOk o (λ r. Says v (record_read r))
+      go (Ok r) is = change_says v (record_read r) is
+      go (Err e) is = tt
+
+  pub no_release_spelled : (word : List ℕ) (rel : Value) → Some (word, rel) ≡ parts_in v → ((r : Record) → Says (release_term word rel) r → ⊥) → (r : Record) → Spells body r → ⊥
+  no_release_spelled word rel parts never = unspelled body v has (subst (λ t. (r : Record) → Says t r → ⊥) (sym (parts_term v word rel (sym parts))) never)
+
+  pub no_change_spelled : None ≡ parts_in v → change_in v ≡ None → (r : Record) → Spells body r → ⊥
+  no_change_spelled none still = unspelled body v has (says_none v none still)

@@ -1,0 +1,123 @@
+-- What stands behind a record.
+use Rattle.std.proofs.Common.{◌≡◌, ℕ, Bool, true, false, List, [], ◌∷◌, ◌++◌, length, Some, None, Option, refl, sym, ap, ◌∙◌, subst, cond}
+use Rattle.std.specs.Prelude.{◌&&◌, not, is_some, nat_lt, if◌then◌else◌, codes}
+use Rattle.std.specs.List.{AllByRecursion}
+use Rattle.std.specs.Option.{option_map, option_and_then}
+use Rattle.std.specs.Str.{bytes_eq}
+use Rattle.erl_term.specs.Value.{Value, Values}
+use Rattle.erl_term.specs.Value.Values.{no_values, value}
+use Rattle.rel_files.specs.Parts.{pair_in, list_in, is_word}
+use Rattle.rel_files.specs.Release.{Release}
+use Rattle.rel_list.specs.declared.status.Status.{Status}
+use Rattle.rel_list.specs.declared.status.Status.TheVariants.{Unpacked, Current, Old, Permanent}
+use Rattle.rel_list.specs.Status.{is_current}
+use Rattle.rel_list.specs.Releases.{Releases, Entry, status_of}
+use Rattle.rel_list.specs.Event.{entry, booted, booted_status, step, without, list_assigned, assigned_status, may_be_removed}
+use Rattle.rel_list.specs.Event.Event.{made, unpacked, removed}
+use Rattle.rel_records.specs.Limits.{has_one_permanent, is_small, most_releases}
+use Rattle.rel_records.specs.Record.{Assignment, Record, makes, adds, assigns, removes}
+use Rattle.rel_records.specs.Reading.{assignment_in, assignments_of, change_of, change_in, status_in, version_in, Says, Spells}
+use Rattle.rel_records.specs.Lists.{may_be_assigned, assign_all, taken_by, with_one_permanent, assigned, MakesFrom}
+
+-- a choice that gives a value
+pub chosen : {A : Type 0} (b : Bool) (o : Option A) (x : A) → (if b then o else None) ≡ Some x → (b ≡ true) × (o ≡ Some x)
+chosen true o x e = (refl, e)
+chosen false o x e = absurd cc
+
+-- behind each record exactly one release is permanent
+pub assigned_so : (r : Record) (es next : Releases) → assigned r es ≡ Some next → (taken_by r es ≡ Some next) × (has_one_permanent next ≡ true)
+assigned_so r es next e = go (taken_by r es) e
+  where
+    one : (l : Releases) (b : Bool) → has_one_permanent l ≡ b → (if b then Some l else None) ≡ Some next → (Some l ≡ Some next) × (has_one_permanent next ≡ true)
+    one l true is e = (e, let same : l ≡ next = cc e in ap has_one_permanent (sym same) ∙ is)
+    one l false is e = absurd cc
+
+    go : (o : Option Releases) → with_one_permanent o ≡ Some next → (o ≡ Some next) × (has_one_permanent next ≡ true)
+    go None e = absurd cc
+    go (Some l) e = one l (has_one_permanent l) refl e
+
+pub one_behind : (r : Record) (es next : Releases) → assigned r es ≡ Some next → has_one_permanent next ≡ true
+one_behind r es next e = (assigned_so r es next e).1
+
+-- what has one permanent release stays
+pub kept : (es : Releases) → has_one_permanent es ≡ true → with_one_permanent (Some es) ≡ Some es
+kept es one = ap (λ b. if b then Some es else None) one
+
+-- what is not current is the same behind a boot
+not_current : (s : Status) → not (is_current s) ≡ true → booted_status s ≡ s
+not_current Unpacked e = refl
+not_current Current e = absurd cc
+not_current Old e = refl
+not_current Permanent e = refl
+
+pub both : (a b : Bool) → (a && b) ≡ true → (a ≡ true) × (b ≡ true)
+both true true e = (refl, refl)
+both true false e = absurd cc
+both false b e = absurd cc
+
+-- no assignment of such a status makes a release current
+booted-assigned : (t : Status) → booted_status t ≡ t → (b : Bool) (s : Status) → booted_status s ≡ s → booted_status (assigned_status t b s) ≡ assigned_status t b s
+booted-assigned t new true s old = new
+booted-assigned t new false s old = old
+
+first_booted : (e : Entry) (es : Releases) → booted (e ∷ es) ≡ e ∷ es → booted_status e.status ≡ e.status
+first_booted e es is = ap status_at is
+  where
+    status_at : Releases → Status
+    status_at [] = e.status
+    status_at (f ∷ fs) = f.status
+
+rest_booted : (e : Entry) (es : Releases) → booted (e ∷ es) ≡ e ∷ es → booted es ≡ es
+rest_booted e es is = ap rest is
+  where
+    rest : Releases → Releases
+    rest [] = []
+    rest (f ∷ fs) = fs
+
+booted-list_assigned : (v : List ℕ) (t : Status) (es : Releases) → booted_status t ≡ t → booted es ≡ es → booted (list_assigned v t es) ≡ list_assigned v t es
+booted-list_assigned v t [] new is = refl
+booted-list_assigned v t (e ∷ es) new is =
+    λ k. record e { status = booted-assigned t new (bytes_eq v e.release.vsn) e.status (first_booted e es is) k } ∷ booted-list_assigned v t es new (rest_booted e es is) k
+
+booted-assign_all : (given : List Assignment) (es next : Releases) → assign_all given es ≡ Some next → booted es ≡ es → booted next ≡ next
+booted-assign_all [] es next e is = let same : es ≡ next = cc e in subst (λ l. booted l ≡ l) same is
+booted-assign_all (a ∷ given) es next e is =
+    let (may, rest) = chosen (may_be_assigned a es) (assign_all given (list_assigned a.vsn a.status es)) next e in
+    let (settled, there) = both (not (is_current a.status)) (is_some (status_of a.vsn es)) may in
+    booted-assign_all given (list_assigned a.vsn a.status es) next rest (booted-list_assigned a.vsn a.status es (not_current a.status settled) is)
+
+pub booted-push : (es : Releases) (e : Entry) → booted (es ++ e ∷ []) ≡ booted es ++ record e { status = booted_status e.status } ∷ []
+booted-push [] e = refl
+booted-push (f ∷ es) e = ap (λ l. record f { status = booted_status f.status } ∷ l) (booted-push es e)
+
+-- a boot leaves a removal as it is
+pub booted-without : (v : List ℕ) (es : Releases) → booted (without v es) ≡ without v (booted es)
+booted-without v [] = refl
+booted-without v (e ∷ es) = go (bytes_eq v e.release.vsn) (booted-without v es)
+  where
+    go : (b : Bool) → booted (without v es) ≡ without v (booted es) → booted (if b then es else e ∷ without v es) ≡ (if b then booted es else record e { status = booted_status e.status } ∷ without v (booted es))
+    go true rest = refl
+    go false rest = ap (λ l. record e { status = booted_status e.status } ∷ l) rest
+
+-- no record makes a release current
+pub settled_behind : (r : Record) (es next : Releases) → taken_by r es ≡ Some next → booted es ≡ es → booted next ≡ next
+settled_behind (makes r) [] next e same = let (small, is) = chosen (is_small r) (step (made r) []) next e in let one : entry r Permanent ∷ [] ≡ next = cc is in subst (λ l. booted l ≡ l) one refl
+settled_behind (makes r) (f ∷ fs) next e same = let (small, is) = chosen (is_small r) (step (made r) (f ∷ fs)) next e in absurd cc
+settled_behind (adds r) es next e same =
+    let (small, is) = chosen (is_small r && nat_lt (length es) most_releases) (step (unpacked r) es) next e in
+    let pushed : es ++ entry r Unpacked ∷ [] ≡ next = unless (is_some (status_of r.vsn es)) is in
+    subst (λ l. booted l ≡ l) pushed (booted-push es (entry r Unpacked) ∙ ap (λ l. l ++ entry r Unpacked ∷ []) same)
+  where
+    unless : (b : Bool) → (if b then None else Some (es ++ entry r Unpacked ∷ [])) ≡ Some next → es ++ entry r Unpacked ∷ [] ≡ next
+    unless true e = absurd cc
+    unless false e = cc e
+settled_behind (assigns given) es next e same = booted-assign_all given es next e same
+settled_behind (removes w) es next e same =
+    let (may, is) = chosen (may_be_removed (status_of w es)) (Some (without w es)) next e in
+    let left : without w es ≡ next = cc is in
+    subst (λ l. booted l ≡ l) left (booted-without w es ∙ ap (without w) same)
+
+pub settled_made : (es : Releases) (bodies : List (List ℕ)) (end : Releases) → MakesFrom es bodies end → booted es ≡ es → booted end ≡ end
+settled_made es [] end is same = ap booted is ∙ same ∙ sym is
+settled_made es (body ∷ bodies) end (r, next, spelled, taken, rest) same =
+    settled_made next bodies end rest (settled_behind r es next (assigned_so r es next taken).0 same)

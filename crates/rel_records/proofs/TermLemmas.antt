@@ -1,0 +1,74 @@
+-- What the term of a record says.
+use Rattle.std.proofs.Common.{◌≡◌, ◌⊎◌, inl, inr, ℕ, true, ◌&&◌, List, codes, Option, Some, None, refl, sym, ap, ◌∙◌, subst}
+use Rattle.std.specs.Prelude.{if◌then◌else◌}
+use Rattle.std.specs.Option.{option_map}
+use Rattle.std.proofs.lemmas.Slice.Eq.{bytes_eq-Decides}
+use Rattle.erl_term.specs.Value.{Value}
+use Rattle.erl_term.specs.Value.Value.{atom, list, tuple}
+use Rattle.erl_term.specs.Value.Values.{no_values, value}
+use Rattle.rel_files.specs.File.{IsReleaseTerm}
+use Rattle.rel_files.specs.Form.{form_of, names_in}
+use Rattle.rel_files.specs.Name.{AreDistinct, IsFirstTwice}
+use Rattle.rel_files.specs.Parts.{is_word, four_in}
+use Rattle.rel_files.specs.Release.{Release}
+use Rattle.rel_files.specs.Sketch.{Sketch, sketch_in, release_in}
+use Rattle.rel_files.proofs.Options.{mapped, chained, passed, both}
+use Rattle.rel_files.proofs.Distinct.{distinct_or_twice}
+use Rattle.rel_files.proofs.Outcomes.{sketch_names, form_names, never_both, says}
+use Rattle.rel_files.proofs.Shape.{form_sketch, sketch_in-term}
+use Rattle.rel_files.proofs.Versions.{release_in-form}
+use Rattle.rel_records.specs.Parts.{parts_in, name_in, is_empty_list}
+use Rattle.rel_records.specs.Record.{release_term}
+
+-- A term says a release, or none.
+abbrev pub SaysOrNot : Value → Type 0
+SaysOrNot v = ((r : Release) × IsReleaseTerm v r) ⊎ ((r : Release) → IsReleaseTerm v r → ⊥)
+
+sketch_of_form : (v : Value) (k : Sketch) → sketch_in v ≡ Some k → (r : Release) → IsReleaseTerm v r → form_sketch (form_of r) ≡ k
+sketch_of_form v k e r is = let same : Some (form_sketch (form_of r)) ≡ Some k = sym (sketch_in-term v (form_of r) is.shape) ∙ e in cc
+
+pub says_or_not : (v : Value) → SaysOrNot v
+says_or_not v = by_sketch (sketch_in v) refl
+  where
+    by_release : (k : Sketch) → sketch_in v ≡ Some k → AreDistinct (sketch_names k.apps) → (o : Option Release) → release_in k ≡ o → SaysOrNot v
+    by_release k e distinct (Some r) found = inl (r, says v k r e distinct (sym found))
+    by_release k e distinct None found = inr (λ r is. let lost : None ≡ Some r = sym found ∙ ap release_in (sym (sketch_of_form v k e r is)) ∙ release_in-form r is.versions in cc)
+
+    by_names : (k : Sketch) → sketch_in v ≡ Some k → AreDistinct (sketch_names k.apps) ⊎ ((n : List ℕ) × IsFirstTwice (sketch_names k.apps) n) → SaysOrNot v
+    by_names k e (inl distinct) = by_release k e distinct (release_in k) refl
+    by_names k e (inr (n, twice)) = inr (λ r is.
+        let same : names_in (form_of r) ≡ sketch_names k.apps = sym (form_names (form_of r).apps) ∙ ap (λ (s : Sketch). sketch_names s.apps) (sketch_of_form v k e r is) in
+        never_both (sketch_names k.apps) n (subst AreDistinct same is.distinct) twice)
+
+    by_sketch : (o : Option Sketch) → sketch_in v ≡ o → SaysOrNot v
+    by_sketch None e = inr (λ r is. let lost : None ≡ Some (form_sketch (form_of r)) = sym e ∙ sketch_in-term v (form_of r) is.shape in cc)
+    by_sketch (Some k) e = by_names k e (distinct_or_twice (sketch_names k.apps))
+
+four_term : (v : Value) (m : Value × Value × Value × Value) → four_in v ≡ Some m → v ≡ tuple (value m.0 (value m.1 (value m.2 (value m.3 no_values))))
+four_term (tuple (value v (value w (value x (value y no_values))))) m e =
+    let same : (v, w, x, y) ≡ m = cc in ap (λ (q : Value × Value × Value × Value). tuple (value q.0 (value q.1 (value q.2 (value q.3 no_values))))) same
+four_term v m e = absurd cc
+
+atom_named : (v : Value) (word : List ℕ) → name_in v ≡ Some word → v ≡ atom word
+atom_named (atom s) word e = let same : s ≡ word = cc in ap atom same
+atom_named v word e = absurd cc
+
+word_term : (word : List ℕ) (v : Value) → is_word word v ≡ true → v ≡ atom word
+word_term word (atom s) e = ap atom ((bytes_eq-Decides s word).0 e)
+word_term word v e = absurd cc
+
+empty_term : (v : Value) → is_empty_list v ≡ true → v ≡ list no_values
+empty_term (list no_values) e = refl
+empty_term v e = absurd cc
+
+-- the parts of a term are those of a record's term
+pub parts_term : (v : Value) (word : List ℕ) (rel : Value) → parts_in v ≡ Some (word, rel) → v ≡ release_term word rel
+parts_term v word rel e =
+    let with_word : Value → List ℕ → List ℕ × Value = λ r w. (w, r) in
+    let (m, four, rest) = chained (λ (m : Value × Value × Value × Value). if is_empty_list m.2 && is_word (codes "none") m.3 then option_map (with_word m.1) (name_in m.0) else None) (four_in v) (word, rel) e in
+    let (ends, named) = passed (is_empty_list m.2 && is_word (codes "none") m.3) (option_map (with_word m.1) (name_in m.0)) (word, rel) rest in
+    let (s, name, same) = mapped (with_word m.1) (name_in m.0) (word, rel) named in
+    let (libs, relup) = both (is_empty_list m.2) (is_word (codes "none") m.3) ends in
+    four_term v m four
+    ∙ (λ k. tuple (value (atom_named m.0 s name k) (value m.1 (value (empty_term m.2 libs k) (value (word_term (codes "none") m.3 relup k) no_values)))))
+    ∙ ap (λ (q : List ℕ × Value). release_term q.0 q.1) same

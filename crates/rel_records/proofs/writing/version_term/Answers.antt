@@ -1,0 +1,10 @@
+use Rattle.std.proofs.Common.{◌≡◌, ap, ◌∙◌, map, take}
+use Rattle.std.proofs.lemmas.List.{take_all}
+use Rattle.erl_term.specs.Value.Value.{int}
+use Rattle.rel_files.specs.Form.{list_of, numbers_of}
+use Rattle.rel_records.proofs.writing.version_term.Goals as goal
+
+pub returns : goal.returns
+returns c =
+    c.list_term.ensures ∙ ap list_of c.loop-byte.invariant
+    ∙ ap (λ bytes. list_of (map int (numbers_of bytes))) (take_all c.loop-byte.byte-index c.as_bytes-bytes.result.now c.loop-byte-test.false ∙ c.as_bytes-bytes.ensures.value)

@@ -1,0 +1,7 @@
+pub mod Limits
+pub mod Record
+pub mod Reading
+pub mod Lists
+pub mod Writing
+pub mod Parts
+pub mod Laws

@@ -1,0 +1,60 @@
+-- What records make of a list.
+use Rattle.std.specs.Prelude.{◌≡◌, ℕ, ◌+◌, Bool, true, ◌&&◌, not, List, [], ◌∷◌, ◌++◌, length, nat_lt, is_some, if◌then◌else◌, Option, None, Some}
+use Rattle.std.specs.List.{AllByRecursion}
+use Rattle.std.specs.Option.{option_and_then}
+use Rattle.rel_files.specs.File.{HasVersions}
+use Rattle.rel_list.specs.Releases.{Releases, Entry, status_of}
+use Rattle.rel_list.specs.Status.{is_current}
+use Rattle.rel_list.specs.Event.{step, list_assigned}
+use Rattle.rel_list.specs.Event.Event.{made, unpacked, removed}
+use Rattle.rel_records.specs.Limits.{most_releases, is_small, has_one_permanent}
+use Rattle.rel_records.specs.Record.{Assignment, Record, makes, adds, assigns, removes}
+use Rattle.rel_records.specs.Reading.{Spells}
+
+-- An assignment may be made to a release that is there. None makes a release current.
+abbrev pub may_be_assigned : Assignment → Releases → Bool
+may_be_assigned a es = not (is_current a.status) && is_some (status_of a.vsn es)
+
+-- the list behind assignments, one after another
+abbrev pub assign_all : List Assignment → Releases → Option Releases
+assign_all [] es = Some es
+assign_all (a ∷ given) es = if may_be_assigned a es then assign_all given (list_assigned a.vsn a.status es) else None
+
+-- what a record makes of a list
+abbrev pub taken_by : Record → Releases → Option Releases
+taken_by (makes r) es = if is_small r then step (made r) es else None
+taken_by (adds r) es = if is_small r && nat_lt (length es) most_releases then step (unpacked r) es else None
+taken_by (assigns given) es = assign_all given es
+taken_by (removes v) es = step (removed v) es
+
+-- the list, where exactly one release is permanent
+abbrev pub with_one_permanent : Option Releases → Option Releases
+with_one_permanent None = None
+with_one_permanent (Some es) = if has_one_permanent es then Some es else None
+
+-- the list behind a record, where it may stand
+abbrev pub assigned : Record → Releases → Option Releases
+assigned r es = with_one_permanent (taken_by r es)
+
+-- these bodies, taken in order, lead from the one list to the other
+abbrev pub MakesFrom : Releases → List (List ℕ) → Releases → Type 0
+MakesFrom es [] end = end ≡ es
+MakesFrom es (body ∷ bodies) end = (r : Record) × (next : Releases) × Spells body r × (assigned r es ≡ Some next) × MakesFrom next bodies end
+
+-- These bodies, taken in order, make this list: there are some, so that one release is permanent.
+abbrev pub Makes : List (List ℕ) → Releases → Type 0
+Makes bodies es = MakesFrom [] bodies es × (has_one_permanent es ≡ true)
+
+-- the body is that of no record which may stand behind this list
+abbrev pub CannotStand : List ℕ → Releases → Type 0
+CannotStand body es = (r : Record) → Spells body r → assigned r es ≡ None
+
+-- The first record that may not stand there, counted from 1; 1 where there is no record.
+pub data IsBadRecord : List (List ℕ) → ℕ → Type 0 where
+  none_at_all : IsBadRecord [] 1
+  bad_after : (before : List (List ℕ)) (body : List ℕ) (rest : List (List ℕ)) (es : Releases)
+      → MakesFrom [] before es → CannotStand body es → IsBadRecord (before ++ body ∷ rest) (length before + 1)
+
+-- each release of the list has the versions of a file
+abbrev pub HaveVersions : Releases → Type 0
+HaveVersions es = AllByRecursion (λ (e : Entry). HasVersions e.release) es

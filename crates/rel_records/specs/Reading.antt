@@ -1,0 +1,55 @@
+-- Which record a body spells.
+use Rattle.std.specs.Prelude.{◌≡◌, ℕ, true, ◌&&◌, List, [], ◌∷◌, codes, if◌then◌else◌, Option, None, Some}
+use Rattle.std.specs.Option.{option_map, option_and_then}
+use Rattle.erl_term.specs.Value.{Value, Values}
+use Rattle.erl_term.specs.Value.Value.{atom, list}
+use Rattle.erl_term.specs.Value.Values.{no_values, value}
+use Rattle.erl_term.specs.OneTerm.{HasTerm}
+use Rattle.rel_files.specs.File.{IsReleaseTerm}
+use Rattle.rel_files.specs.Parts.{list_in, pair_in, is_word}
+use Rattle.rel_files.specs.Sketch.{text_in}
+use Rattle.rel_list.specs.declared.status.Status.{Status}
+use Rattle.rel_list.specs.declared.status.Status.TheVariants.{Unpacked, Old, Permanent}
+use Rattle.rel_records.specs.Record.{Assignment, Record, makes, adds, assigns, removes, release_term}
+
+-- the text of a version
+abbrev pub version_in : Value → Option (List ℕ)
+version_in v = option_and_then (text_in 0x21) (list_in v)
+
+-- A status that is written: `current` never is.
+abbrev pub status_in : Value → Option Status
+status_in v =
+    if is_word (codes "unpacked") v then Some Unpacked
+    else if is_word (codes "old") v then Some Old
+    else if is_word (codes "permanent") v then Some Permanent
+    else None
+
+abbrev pub assignment_in : Value → Option Assignment
+assignment_in v =
+    option_and_then (λ p. option_and_then (λ vsn. option_map (λ s. record { vsn = vsn; status = s }) (status_in p.1)) (version_in p.0)) (pair_in v)
+
+abbrev pub assignments_of : Values → Option (List Assignment)
+assignments_of no_values = Some []
+assignments_of (value v vs) = option_and_then (λ a. option_map (λ given. a ∷ given) (assignments_of vs)) (assignment_in v)
+
+-- the record of a pair: {status, Assignments} or {removed, Vsn}
+abbrev pub change_of : Value × Value → Option Record
+change_of p =
+    if is_word (codes "status") p.0 then option_map assigns (option_and_then assignments_of (list_in p.1))
+    else if is_word (codes "removed") p.0 then option_map removes (version_in p.1)
+    else None
+
+abbrev pub change_in : Value → Option Record
+change_in v = option_and_then change_of (pair_in v)
+
+-- The term says this record.
+abbrev pub Says : Value → Record → Type 0
+Says v (makes r) = (rel : Value) × (v ≡ release_term (codes "made") rel) × IsReleaseTerm rel r
+Says v (adds r) = (rel : Value) × (v ≡ release_term (codes "unpacked") rel) × IsReleaseTerm rel r
+Says v r = change_in v ≡ Some r
+
+-- This body of a store's record spells this record. It is read with 72 brackets open at once.
+pub record Spells (body : List ℕ) (r : Record) : Type 0 where
+  pub term : Value
+  pub text : HasTerm 72 body term
+  pub says : Says term r

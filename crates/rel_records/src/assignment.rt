@@ -1,0 +1,77 @@
+// Statuses as a record assigns them.
+ghost use Rattle.std.specs.Prelude.{◌≡◌, map, string_bytes, IfOk};
+ghost use Rattle.std.specs.Option.{option_map};
+ghost use Rattle.erl_term.specs.Value.{value_of, members_of};
+ghost use Rattle.rel_records.specs.Parts.{assignment_read};
+ghost use Rattle.rel_records.specs.Reading.{version_in, status_in, assignment_in, assignments_of};
+
+use erl_term::Term;
+use rel_files::{is_word, list_in, pair_in, text_in};
+use rel_list::Status;
+use std::alloc::{AllocError, Global};
+
+// The release of this version gets this status.
+#[derive(Drop)]
+pub(crate) struct Assignment {
+    pub(crate) vsn: String,
+    pub(crate) status: Status,
+}
+
+// The text of a version.
+pub(crate) fn version_in(alloc: Global, term: &Term) -> Result<Option<String>, AllocError>
+    ensures { IfOk result (λ vsn. option_map string_bytes vsn ≡ version_in (value_of term.now)) }
+{
+    match list_in(term) {
+        Some(items) => text_in(alloc, b'!', items),
+        None => Ok(None),
+    }
+}
+
+// A status that is written: `current` never is.
+fn status_in(term: &Term) -> Option<Status>
+    ensures { result ≡ status_in (value_of term.now) }
+{
+    if is_word(term, "unpacked") {
+        Some(Status::Unpacked)
+    } else if is_word(term, "old") {
+        Some(Status::Old)
+    } else if is_word(term, "permanent") {
+        Some(Status::Permanent)
+    } else {
+        None
+    }
+}
+
+// What `{Vsn, Status}` assigns.
+fn assignment_in(alloc: Global, term: &Term) -> Result<Option<Assignment>, AllocError>
+    ensures { IfOk result (λ a. option_map assignment_read a ≡ assignment_in (value_of term.now)) }
+{
+    let Some((vsn, status)) = pair_in(term) else {
+        return Ok(None);
+    };
+    let Some(vsn) = version_in(alloc, vsn)? else {
+        return Ok(None);
+    };
+    let Some(status) = status_in(status) else {
+        return Ok(None);
+    };
+    Ok(Some(Assignment { vsn, status }))
+}
+
+// What a list of such pairs assigns, in order.
+pub(crate) fn assignments_in(
+    alloc: Global,
+    items: &[Term],
+) -> Result<Option<Vec<Assignment>>, AllocError>
+    ensures { IfOk result (λ all. option_map (λ v. map assignment_read v.items) all
+        ≡ assignments_of (members_of items.now)) }
+{
+    let mut all = Vec::with_capacity(alloc, items.len())?;
+    for item in items {
+        let Some(assignment) = assignment_in(alloc, item)? else {
+            return Ok(None);
+        };
+        all.push(assignment)?;
+    }
+    Ok(Some(all))
+}

@@ -1,0 +1,113 @@
+// What records make of a list.
+ghost use Rattle.std.specs.Prelude.{◌≡◌, ◌⊎◌, ℕ, true, map, None, Some, IsErrOf, IfOk, IfErr, OnOk};
+ghost use Rattle.rel_records.specs.Limits.{has_one_permanent};
+ghost use Rattle.rel_records.specs.Lists.{assign_all, taken_by, assigned, Makes, CannotStand, IsBadRecord};
+ghost use Rattle.rel_records.specs.Parts.{assignment_read, record_read};
+ghost use Rattle.rel_records.specs.Reading.{Spells};
+ghost use Rattle.rel_records.specs.Record.{Record as RecordInSpecs};
+
+use crate::assignment::Assignment;
+use crate::fault::{RecordFault, RecordsError};
+use crate::limits::{MOST_RELEASES, is_small};
+use crate::reading::{Record, record_in};
+use rel_list::{Event, ReleaseList};
+use std::alloc::Global;
+
+// Gives these releases these statuses, one after another.
+fn assign_all(list: &mut ReleaseList, assignments: &[Assignment]) -> Result<(), RecordFault>
+    ensures assigned { OnOk result
+        (assign_all (map assignment_read assignments.now) list.old ≡ Some list.new) }
+    ensures bad { IfErr result (λ _.
+        assign_all (map assignment_read assignments.now) list.old ≡ None) }
+{
+    for assignment in assignments {
+        if assignment.status.is_current()
+            || !list.assign(assignment.vsn.as_str(), assignment.status)
+        {
+            return Err(RecordFault::Bad);
+        }
+    }
+    Ok(())
+}
+
+// Changes the list as a record says, where it may stand behind it.
+fn take(alloc: Global, list: &mut ReleaseList, said: Record) -> Result<(), RecordFault>
+    ensures taken { OnOk result (assigned (record_read said) list.old ≡ Some list.new) }
+    ensures bad { IsErrOf result RecordFault.Bad → assigned (record_read said) list.old ≡ None }
+{
+    change(alloc, list, said)?;
+    if has_one_permanent(list) {
+        Ok(())
+    } else {
+        Err(RecordFault::Bad)
+    }
+}
+
+// Changes the list as a record says, where the limits allow it.
+fn change(alloc: Global, list: &mut ReleaseList, said: Record) -> Result<(), RecordFault>
+    ensures taken { OnOk result (taken_by (record_read said) list.old ≡ Some list.new) }
+    ensures bad { IsErrOf result RecordFault.Bad → taken_by (record_read said) list.old ≡ None }
+{
+    match said {
+        Record::Made(release) if is_small(&release) => {
+            Ok(list.accept(alloc, Event::Made(release))?)
+        }
+        Record::Unpacked(release) if is_small(&release) && list.len() < MOST_RELEASES => {
+            Ok(list.accept(alloc, Event::Unpacked(release))?)
+        }
+        Record::Made(_) | Record::Unpacked(_) => Err(RecordFault::Bad),
+        Record::Statuses(assignments) => assign_all(list, assignments.as_slice()),
+        Record::Removed(vsn) => Ok(list.accept(alloc, Event::Removed(vsn))?),
+    }
+}
+
+// Whether exactly one release of the list is permanent.
+fn has_one_permanent(list: &ReleaseList) -> bool
+    ensures { result ≡ has_one_permanent list.now }
+{
+    let releases = list.releases();
+    let mut count = 0usize;
+    for listed in releases {
+        if listed.status.is_permanent() {
+            count += 1;
+        }
+    }
+    count == 1
+}
+
+// Changes the list as the record of this body says.
+fn take_record(alloc: Global, list: &mut ReleaseList, body: &[u8]) -> Result<(), RecordFault>
+    ensures taken { OnOk result ((r : RecordInSpecs) × Spells body.now r
+        × (assigned r list.old ≡ Some list.new)) }
+    ensures bad { IsErrOf result RecordFault.Bad → CannotStand body.now list.old }
+{
+    match record_in(alloc, body) {
+        Ok(said) => take(alloc, list, said),
+        Err(fault) => Err(fault),
+    }
+}
+
+/// The list that these records of a store make, each taken as what it says of the releases and their statuses. No release of
+/// it is current.
+///
+/// Refusals: `BadRecord` with the number of the first record that no command could have written where it stands, and
+/// `NoMemory`.
+pub fn read_list(alloc: Global, records: &[Vec<u8>]) -> Result<ReleaseList, RecordsError>
+    ensures made { IfOk result (Makes (map (λ v. v.items) records.now)) }
+    ensures bad { IfErr result (λ e. (e ≡ RecordsError.NoMemory)
+        ⊎ ((i : ℕ) × (e ≡ RecordsError.BadRecord i)
+        × IsBadRecord (map (λ v. v.items) records.now) i)) }
+{
+    let mut list = ReleaseList::new(alloc);
+    for (i, body) in records.iter().enumerate() {
+        match take_record(alloc, &mut list, body.as_slice()) {
+            Ok(()) => {}
+            Err(RecordFault::Bad) => return Err(RecordsError::BadRecord(i as u64 + 1)),
+            Err(RecordFault::NoMemory) => return Err(RecordsError::NoMemory),
+        }
+    }
+    if list.is_empty() {
+        return Err(RecordsError::BadRecord(1));
+    }
+    Ok(list)
+}

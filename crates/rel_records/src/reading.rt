@@ -1,0 +1,134 @@
+// Which record a body spells.
+ghost use Rattle.std.specs.Prelude.{◌≡◌, None, Some, IsErrOf, IfOk};
+ghost use Rattle.std.specs.Option.{option_map, option_and_then};
+ghost use Rattle.erl_term.specs.Value.{value_of};
+ghost use Rattle.rel_records.specs.Parts.{name_in, is_empty_list, parts_in, record_read};
+ghost use Rattle.rel_files.specs.Parts.{list_in};
+ghost use Rattle.rel_records.specs.Reading.{assignments_of, change_in, change_of, Says, Spells};
+ghost use Rattle.rel_records.specs.Record.{Record as RecordInSpecs, assigns, release_term};
+
+use crate::assignment::{Assignment, assignments_in, version_in};
+use crate::fault::RecordFault;
+use crate::writing::{MADE, UNPACKED};
+use erl_term::{Term, read_record};
+use rel_files::{Rel, four_in, is_word, list_in, pair_in, rel_of_term};
+use std::alloc::{AllocError, Global};
+
+// What a record of a store says.
+#[derive(Drop)]
+pub(crate) enum Record {
+    Made(Rel),
+    Unpacked(Rel),
+    Statuses(Vec<Assignment>),
+    Removed(String),
+}
+
+fn name_in(term: &Term) -> Option<&str>
+    ensures { option_map (λ name. name.now) result ≡ name_in (value_of term.now) }
+{
+    match term {
+        Term::Atom(name) => Some(name.as_str()),
+        _ => None,
+    }
+}
+
+fn is_empty_list(term: &Term) -> bool
+    ensures { result ≡ is_empty_list (value_of term.now) }
+{
+    match term {
+        Term::List(members) => match members.split_first() {
+            None => true,
+            Some(_) => false,
+        },
+        _ => false,
+    }
+}
+
+// The word of a record that brings a release, and the term of the release.
+fn parts_in(term: &Term) -> Option<(&str, &Term)>
+    ensures { option_map (λ p. (p.0.now, value_of p.1.now)) result ≡ parts_in (value_of term.now) }
+{
+    let (word, rel, libs, relup) = four_in(term)?;
+    if is_empty_list(libs) && is_word(relup, "none") {
+        Some((name_in(word)?, rel))
+    } else {
+        None
+    }
+}
+
+// The record of `{status, Assignments}` or `{removed, Vsn}`.
+fn change_of(alloc: Global, word: &Term, value: &Term) -> Result<Option<Record>, AllocError>
+    ensures { IfOk result (λ r. option_map record_read r
+        ≡ change_of (value_of word.now, value_of value.now)) }
+{
+    if is_word(word, "status") {
+        statuses_in(alloc, value)
+    } else if is_word(word, "removed") {
+        match version_in(alloc, value)? {
+            Some(vsn) => Ok(Some(Record::Removed(vsn))),
+            None => Ok(None),
+        }
+    } else {
+        Ok(None)
+    }
+}
+
+fn statuses_in(alloc: Global, value: &Term) -> Result<Option<Record>, AllocError>
+    ensures { IfOk result (λ r. option_map record_read r
+        ≡ option_map assigns (option_and_then assignments_of (list_in (value_of value.now)))) }
+{
+    let Some(items) = list_in(value) else {
+        return Ok(None);
+    };
+    match assignments_in(alloc, items)? {
+        Some(all) => Ok(Some(Record::Statuses(all))),
+        None => Ok(None),
+    }
+}
+
+// The record that brings a release.
+fn release_record(alloc: Global, word: &str, rel: &Term) -> Result<Record, RecordFault>
+    ensures says { IfOk result (λ r.
+        Says (release_term word.now (value_of rel.now)) (record_read r)) }
+    ensures bad { IsErrOf result RecordFault.Bad → (r : RecordInSpecs)
+        → Says (release_term word.now (value_of rel.now)) r → ⊥ }
+{
+    let made = word == MADE;
+    if !made && word != UNPACKED {
+        return Err(RecordFault::Bad);
+    }
+    let release = rel_of_term(alloc, rel, 0)?;
+    if made {
+        Ok(Record::Made(release))
+    } else {
+        Ok(Record::Unpacked(release))
+    }
+}
+
+// The record that changes the list in place.
+fn change_record(alloc: Global, term: &Term) -> Result<Record, RecordFault>
+    ensures says { IfOk result (λ r.
+        change_in (value_of term.now) ≡ Some (record_read r)) }
+    ensures bad { IsErrOf result RecordFault.Bad → change_in (value_of term.now) ≡ None }
+{
+    let Some((word, value)) = pair_in(term) else {
+        return Err(RecordFault::Bad);
+    };
+    match change_of(alloc, word, value)? {
+        Some(record) => Ok(record),
+        None => Err(RecordFault::Bad),
+    }
+}
+
+// What the record of this body says.
+pub(crate) fn record_in(alloc: Global, body: &[u8]) -> Result<Record, RecordFault>
+    ensures spelled { IfOk result (λ r. Spells body.now (record_read r)) }
+    ensures bad { IsErrOf result RecordFault.Bad
+        → (r : RecordInSpecs) → Spells body.now r → ⊥ }
+{
+    let term = read_record(alloc, body)?;
+    match parts_in(&term) {
+        Some((word, rel)) => release_record(alloc, word, rel),
+        None => change_record(alloc, &term),
+    }
+}

@@ -1,0 +1,178 @@
+// The bodies of the records that commands write.
+ghost use Rattle.std.specs.Prelude.{◌≡◌, map, codes, string_bytes, None, IfOk, OnOk};
+ghost use Rattle.erl_term.specs.OneTerm.{HasTerm};
+ghost use Rattle.erl_term.specs.Value.{Value, value_of};
+ghost use Rattle.erl_term.specs.Value.Value.{atom};
+ghost use Rattle.erl_term.specs.Within.{IsWithin};
+ghost use Rattle.rel_files.specs.File.{IsReleaseTerm};
+ghost use Rattle.rel_files.specs.Form.{list_of, numbers_term, numbers_of};
+ghost use Rattle.rel_files.specs.Release.{Release};
+ghost use Rattle.rel_list.specs.Event.{event_of};
+ghost use Rattle.rel_list.specs.Keyed.{entry_of};
+ghost use Rattle.rel_list.specs.Refusal.{refusal};
+ghost use Rattle.rel_records.specs.Lists.{HaveVersions};
+ghost use Rattle.rel_records.specs.Reading.{Spells};
+ghost use Rattle.rel_records.specs.Record.{makes, adds, release_term, pair_term, assignment_term, term_of, body_of, printed};
+ghost use Rattle.rel_records.specs.Writing.{changes, assignment_of, record_of, IsOfListed, Tells};
+
+use erl_term::{Term, print};
+use rel_list::{Event, ListedRelease, ReleaseList, Status};
+use std::alloc::{AllocError, Global};
+
+// The word of the record that makes a node.
+pub(crate) const MADE: &str = "made";
+
+// The word of the record that brings a further release.
+pub(crate) const UNPACKED: &str = "unpacked";
+
+/// The body of the record that makes a node with the release of this term.
+pub fn made_body(alloc: Global, rel: Term) -> Result<String, AllocError>
+    requires { IsWithin 65 (value_of rel) }
+    ensures body { IfOk result (λ body. (r : Release)
+        → string_bytes body ≡ body_of (value_of rel) (makes r)) }
+    ensures spells { IfOk result (λ body. (r : Release) → IsReleaseTerm (value_of rel) r
+        → Spells (string_bytes body) (makes r)) }
+{
+    let term = release_term(alloc, MADE, rel)?;
+    body_of(alloc, &term)
+}
+
+/// The body of the record that brings a further release, of this term.
+pub fn unpacked_body(alloc: Global, rel: Term) -> Result<String, AllocError>
+    requires { IsWithin 65 (value_of rel) }
+    ensures body { IfOk result (λ body. (r : Release)
+        → string_bytes body ≡ body_of (value_of rel) (adds r)) }
+    ensures spells { IfOk result (λ body. (r : Release) → IsReleaseTerm (value_of rel) r
+        → Spells (string_bytes body) (adds r)) }
+{
+    let term = release_term(alloc, UNPACKED, rel)?;
+    body_of(alloc, &term)
+}
+
+/// The body of the record of an event that changes this list and brings no release.
+pub fn change_body(
+    alloc: Global,
+    list: &ReleaseList,
+    event: &Event,
+) -> Result<String, AllocError>
+    requires listed { IsOfListed (event_of event.now) }
+    requires allowed { refusal (event_of event.now) list.now ≡ None }
+    requires versions { HaveVersions list.now }
+    ensures body { IfOk result (λ body. (rel : Value)
+        → string_bytes body ≡ body_of rel (record_of (event_of event.now) list.now)) }
+    ensures spells { IfOk result (λ body.
+        Spells (string_bytes body) (record_of (event_of event.now) list.now)) }
+
+    // What a boot makes of the record is what the event makes of the list.
+    ensures tells { OnOk result (Tells (event_of event.now) list.now) }
+{
+    let releases = list.releases();
+    let term = change_term(alloc, releases, event)?;
+    body_of(alloc, &term)
+}
+
+// The printed term and a dot.
+fn body_of(alloc: Global, term: &Term) -> Result<String, AllocError>
+    ensures printed { IfOk result (λ body. string_bytes body ≡ printed (value_of term.now)) }
+    ensures read_back { IsWithin 72 (value_of term.now)
+        → IfOk result (λ body. HasTerm 72 (string_bytes body) (value_of term.now)) }
+{
+    let mut body = print(alloc, term)?;
+    body.push_str(".")?;
+    Ok(body)
+}
+
+// The term of the record that brings a release, of this term.
+fn release_term(alloc: Global, word: &str, rel: Term) -> Result<Term, AllocError>
+    ensures { IfOk result (λ term. value_of term ≡ release_term word.now (value_of rel)) }
+{
+    let mut members = Vec::with_capacity(alloc, 4)?;
+    members.push(Term::Atom(String::from_str(alloc, word)?))?;
+    members.push(rel)?;
+    members.push(Term::List(Vec::new(alloc)))?;
+    members.push(Term::Atom(String::from_str(alloc, "none")?))?;
+    Ok(Term::Tuple(members))
+}
+
+// The term of the record of an event.
+fn change_term(
+    alloc: Global,
+    releases: &[ListedRelease],
+    event: &Event,
+) -> Result<Term, AllocError>
+    requires { IsOfListed (event_of event.now) }
+    ensures { IfOk result (λ term. (rel : Value) → value_of term
+        ≡ term_of rel (record_of (event_of event.now) (map entry_of releases.now))) }
+{
+    if let Event::Removed(vsn) = event {
+        let vsn = version_term(alloc, vsn.as_str())?;
+        return pair_term(alloc, atom_term(alloc, "removed")?, vsn);
+    }
+    let statuses = assignment_terms(alloc, releases, event)?;
+    pair_term(alloc, atom_term(alloc, "status")?, list_term(statuses))
+}
+
+// The statuses that the event changes, in the order of the list.
+fn assignment_terms(
+    alloc: Global,
+    releases: &[ListedRelease],
+    event: &Event,
+) -> Result<Vec<Term>, AllocError>
+    ensures { IfOk result (λ terms. map value_of terms.items
+        ≡ map assignment_term (changes (event_of event.now) (map entry_of releases.now))) }
+{
+    let mut terms = Vec::new(alloc);
+    for listed in releases {
+        let status = event.status_behind(listed.release.vsn.as_str(), listed.status);
+        if status != listed.status {
+            terms.push(assignment_term(alloc, listed, status.booted())?)?;
+        }
+    }
+    Ok(terms)
+}
+
+// A release with this status.
+fn assignment_term(
+    alloc: Global,
+    listed: &ListedRelease,
+    status: Status,
+) -> Result<Term, AllocError>
+    ensures { IfOk result (λ term. value_of term ≡ assignment_term
+        (record { vsn = string_bytes listed.now.release.vsn; status = status })) }
+{
+    let vsn = version_term(alloc, listed.release.vsn.as_str())?;
+    pair_term(alloc, vsn, atom_term(alloc, status.as_str())?)
+}
+
+// A text of a version as a term: the list of its characters.
+fn version_term(alloc: Global, vsn: &str) -> Result<Term, AllocError>
+    ensures { IfOk result (λ term. value_of term ≡ numbers_term (numbers_of vsn.now)) }
+{
+    let bytes = vsn.as_bytes();
+    let mut characters = Vec::new(alloc);
+    for byte in bytes {
+        characters.push(Term::Int(i64::from(*byte)))?;
+    }
+    Ok(list_term(characters))
+}
+
+fn list_term(members: Vec<Term>) -> Term
+    ensures { value_of result ≡ list_of (map value_of members.items) }
+{
+    Term::List(members)
+}
+
+fn atom_term(alloc: Global, word: &str) -> Result<Term, AllocError>
+    ensures { IfOk result (λ term. value_of term ≡ atom word.now) }
+{
+    Ok(Term::Atom(String::from_str(alloc, word)?))
+}
+
+fn pair_term(alloc: Global, first: Term, second: Term) -> Result<Term, AllocError>
+    ensures { IfOk result (λ term. value_of term ≡ pair_term (value_of first) (value_of second)) }
+{
+    let mut members = Vec::with_capacity(alloc, 2)?;
+    members.push(first)?;
+    members.push(second)?;
+    Ok(Term::Tuple(members))
+}
