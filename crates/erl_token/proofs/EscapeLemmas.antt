@@ -269,18 +269,6 @@ braced_closed bytes at to code size h e some is long =
 pub escape_end : (bytes : List ℕ) (at : ℕ) → byte_in (slice_get bytes at) ≡ None → unfinished ≡ escape (drop at bytes)
 escape_end bytes at e = sym (next_none bytes at _ e)
 
-byte_of_digit : (bytes : List ℕ) (at x d : ℕ) → byte_in (slice_get bytes at) ≡ Some x → digit_in 8 (slice_get bytes at) ≡ Some d → is_digit x 8 ≡ true
-byte_of_digit bytes at x d e digit =
-    let i = digit_at 8 bytes at d digit in
-    let byte = slice_get_byte (slice_get bytes at) x e in
-    let same : i.byte ≡ x = cc in
-    ap (λ y. is_digit y 8) (sym same) ∙ i.digit
-
-pub escape_octal : (bytes : List ℕ) (at x d : ℕ) → byte_in (slice_get bytes at) ≡ Some x → digit_in 8 (slice_get bytes at) ≡ Some d → octal (drop at bytes) ≡ escape (drop at bytes)
-escape_octal bytes at x d e digit =
-    let byte = slice_get_byte (slice_get bytes at) x e in
-    ap octal (drop_some bytes at x byte) ∙ sym (next_some bytes at x _ e ∙ rw (byte_of_digit bytes at x d e digit) refl)
-
 pub escape_hexadecimal : (bytes : List ℕ) (at x : ℕ) → byte_in (slice_get bytes at) ≡ Some x → x ≡ 120 → hexadecimal (drop (at + 1) bytes) ≡ escape (drop at bytes)
 escape_hexadecimal bytes at x e is = sym (next_some bytes at x _ e ∙ rw is refl)
 

@@ -169,14 +169,6 @@ join_ends : (p : ℕ) (is : List Item) → ends_at p (join is) ≡ ends_at p is
 join_ends p [] = refl
 join_ends p (i ∷ is) = put_ends p i (join is) ∙ join_ends i.to is
 
-put_some : (i : Item) (js : List Item) → 0 < length (put_item i js)
-put_some i [] = omega arith
-put_some i (j ∷ js) = go (joined i.token j.token)
-  where
-    go : (o : Option Token) → 0 < length (in_front i o j js)
-    go None = omega arith
-    go (Some u) = omega arith
-
 -- what is joined as tokens of a term is such tokens
 put_goods : (i : Item) (js : List Item) → Goods (put_item i js) → (is_of_term i.token ≡ true) × Goods js
 put_goods i [] g = (go (is_of_term i.token) g, refl)

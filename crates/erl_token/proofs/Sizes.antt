@@ -253,9 +253,6 @@ choice_holds : (b : Bool) (most : ℕ) (s t : Spelling) → SpellingHolds most s
 choice_holds true most s t h k = h
 choice_holds false most s t h k = k
 
-alone_holds : (most : ℕ) (t : Token) → 0 < most → SpellingHolds most (alone t)
-alone_holds most t some = (omega arith, omega arith)
-
 name_holds : (at most : ℕ) (s : List ℕ) (size : ℕ) → Holds most size → SpellingHolds most (name_spelling at s size)
 name_holds at most s size h =
     choice_holds (nat_le (length (chars s)) 255) most (record { token = name s; size = size }) (alone (broken some_name (BadToken at))) h (omega arith, omega (arith, h.0, h.1))

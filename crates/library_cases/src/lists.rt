@@ -1,21 +1,14 @@
-//! The answer to a case.
+//! Lists of releases, as they follow events.
 use rel_files::Rel;
 use rel_list::{Event, ReleaseList};
 use std::alloc::{AllocError, Global};
 
-/// What a list that is empty at first answers to the events of the text, and the list then. There is one mode, `events`.
-pub(crate) fn answer(alloc: Global, mode: &str, text: &[u8]) -> Result<String, AllocError> {
-    match mode {
-        "events" => follow(alloc, String::from_utf8_lossy(alloc, text)?.as_str()),
-        _ => String::from_str(alloc, "no such mode"),
-    }
-}
-
-// The answers to these events, and the list behind them.
-fn follow(alloc: Global, events: &str) -> Result<String, AllocError> {
+/// What a list that is empty at first answers to these events, and the list behind them.
+pub(crate) fn follow(alloc: Global, events: &[u8]) -> Result<String, AllocError> {
+    let events = String::from_utf8_lossy(alloc, events)?;
     let mut list = ReleaseList::new(alloc);
     let mut text = String::new(alloc);
-    for words in events.split(", ") {
+    for words in events.as_str().split(", ") {
         match event(alloc, words)? {
             Some(event) => push_answer(alloc, &mut text, &mut list, event)?,
             None => text.push_str("no such event, ")?,
@@ -25,8 +18,8 @@ fn follow(alloc: Global, events: &str) -> Result<String, AllocError> {
     Ok(text)
 }
 
-// Has the list take an event, and appends what it answers.
-fn push_answer(
+/// Has the list take an event, and appends what it answers.
+pub(crate) fn push_answer(
     alloc: Global,
     text: &mut String,
     list: &mut ReleaseList,
@@ -38,8 +31,8 @@ fn push_answer(
     }
 }
 
-// The event of these words: its name, and the version of its release.
-fn event(alloc: Global, words: &str) -> Result<Option<Event>, AllocError> {
+/// The event of these words: its name, and the version of its release.
+pub(crate) fn event(alloc: Global, words: &str) -> Result<Option<Event>, AllocError> {
     let (word, vsn) = words.split_once(' ').unwrap_or((words, ""));
     match word {
         "made" => Ok(Some(Event::Made(release(alloc, vsn)?))),
@@ -53,7 +46,8 @@ fn event(alloc: Global, words: &str) -> Result<Option<Event>, AllocError> {
     }
 }
 
-fn release(alloc: Global, vsn: &str) -> Result<Rel, AllocError> {
+/// The release of this version, without applications.
+pub(crate) fn release(alloc: Global, vsn: &str) -> Result<Rel, AllocError> {
     Ok(Rel {
         name: String::from_str(alloc, "r")?,
         vsn: String::from_str(alloc, vsn)?,
@@ -78,7 +72,8 @@ fn push_list(text: &mut String, list: &ReleaseList) -> Result<(), AllocError> {
     )
 }
 
-fn version(release: Option<&Rel>) -> &str {
+/// The version of a release.
+pub(crate) fn version(release: Option<&Rel>) -> &str {
     match release {
         Some(release) => release.vsn.as_str(),
         None => "none",

@@ -1,22 +1,9 @@
-//! The answer to a case.
+//! Terms, as `erl_term` reads and prints them.
 use erl_term::{TermFault, print, read_record, read_terms};
 use std::alloc::{AllocError, Global};
 
-/// The answer in one of four modes. `terms`: each term of the text, with the places where it begins and ends. `record`:
-/// the one term of a record's body. `print`: that term as it is printed. `prefixes`: how many terms each prefix of the
-/// text has. A text that can't be read is answered by its fault.
-pub(crate) fn answer(alloc: Global, mode: &str, text: &[u8]) -> Result<String, AllocError> {
-    match mode {
-        "terms" => terms(alloc, text),
-        "record" => record(alloc, text),
-        "print" => printed(alloc, text),
-        "prefixes" => prefixes(alloc, text),
-        _ => String::from_str(alloc, "no such mode"),
-    }
-}
-
-// Each term with its places, or the fault.
-fn terms(alloc: Global, text: &[u8]) -> Result<String, AllocError> {
+/// Each term with its places, or the fault.
+pub(crate) fn terms(alloc: Global, text: &[u8]) -> Result<String, AllocError> {
     let terms = match read_terms(alloc, text) {
         Ok(terms) => terms,
         Err(fault) => return fault.to_string(alloc),
@@ -33,16 +20,16 @@ fn terms(alloc: Global, text: &[u8]) -> Result<String, AllocError> {
     Ok(shown)
 }
 
-// The one term, or the fault.
-fn record(alloc: Global, text: &[u8]) -> Result<String, AllocError> {
+/// The one term of a record's body, or the fault.
+pub(crate) fn record(alloc: Global, text: &[u8]) -> Result<String, AllocError> {
     match read_record(alloc, text) {
         Ok(term) => format!(in alloc; "{term:?}"),
         Err(fault) => fault.to_string(alloc),
     }
 }
 
-// The one term as it is printed, or the fault. A clone of it is the same term.
-fn printed(alloc: Global, text: &[u8]) -> Result<String, AllocError> {
+/// The one term as it is printed, or the fault. A clone of it is the same term.
+pub(crate) fn printed(alloc: Global, text: &[u8]) -> Result<String, AllocError> {
     match read_record(alloc, text) {
         Ok(term) if term.clone()? == term => print(alloc, &term),
         Ok(_) => String::from_str(alloc, "another clone"),
@@ -50,9 +37,9 @@ fn printed(alloc: Global, text: &[u8]) -> Result<String, AllocError> {
     }
 }
 
-// How many terms each prefix has, or its fault. Prefixes in a row with the same answer are one entry, with the least and
-// the greatest of their lengths.
-fn prefixes(alloc: Global, text: &[u8]) -> Result<String, AllocError> {
+/// How many terms each prefix has, or its fault. Prefixes in a row with the same answer are one entry, with the least and
+/// the greatest of their lengths.
+pub(crate) fn prefixes(alloc: Global, text: &[u8]) -> Result<String, AllocError> {
     let mut shown = String::new(alloc);
     let mut least = 0;
     let mut found = count(alloc, &[]);

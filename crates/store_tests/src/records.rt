@@ -1,10 +1,10 @@
 // The bytes of a store, its records and its start slot.
-use crate::callers::append_both;
 use crate::disks::{
     CAPACITY, LOG, bytes_of, create_on, new_store, opened, patch, push_answer, push_bytes,
     push_found, push_slot, same, two_records,
 };
 use crate::failures::slot_on;
+use crate::store_callers::append_both;
 use rel_disk::{Disk, MemDisk};
 use rel_store::{MAX_BODY, Store};
 use std::alloc::{AllocError, Global};

@@ -1,15 +1,12 @@
 // Disks in memory, among them disks that are full and disks that fail.
 ghost use Rattle.std.specs.Prelude.{◌≡◌, []};
 
-use crate::callers::append;
+use crate::disk_callers::append;
+use crate::disks::same;
 use rel_disk::{DeviceFault, Disk, FailDisk, MemDisk};
 use std::alloc::{AllocError, Global};
 use std::process::Abort;
 use std::test::Fail;
-
-fn same(rt: &impl Abort, found: &str, wanted: &str) {
-    assert_eq!(rt; found, wanted);
-}
 
 // The number of a word. A word that is none stands for a place past any end.
 fn number(word: &str) -> usize {

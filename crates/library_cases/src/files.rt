@@ -1,4 +1,4 @@
-//! The answer to a case.
+//! Release files, as `rel_files` reads them.
 use rel_files::{FileFault, Rel, RelApp, read_rel, read_rel_file, rel_of_term};
 use std::alloc::{AllocError, Global};
 

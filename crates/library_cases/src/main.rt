@@ -1,0 +1,17 @@
+//! The program `library_cases`: what the libraries make of the texts on its input, a case a line. [`answer`] has the modes:
+//! terms that `erl_term` reads and prints, release files that `rel_files` reads, and lists of releases of `rel_list`.
+#![tactic(auto)]
+
+mod answers;
+mod files;
+mod lists;
+mod readers;
+mod terms;
+
+use crate::answers::answer;
+use std::io;
+use text_cases::answer_cases;
+
+fn main(rt: HostRuntime) -> io::Result<()> {
+    answer_cases(&rt, answer)
+}

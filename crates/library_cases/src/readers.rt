@@ -1,0 +1,43 @@
+//! Lists of releases, as each reader of them shows them.
+use crate::lists::{event, push_answer, release, version};
+use rel_list::ReleaseList;
+use std::alloc::{AllocError, Global};
+
+/// What each reader of a list that is empty at first gives, and then the answer to each event with what they give behind
+/// it. At the end stands whether the release A is the permanent one and runs.
+pub(crate) fn follow(alloc: Global, events: &[u8]) -> Result<String, AllocError> {
+    let events = String::from_utf8_lossy(alloc, events)?;
+    let mut list = ReleaseList::new(alloc);
+    let mut text = String::new(alloc);
+    push_readers(&mut text, &list)?;
+    for words in events.as_str().split(", ") {
+        if let Some(event) = event(alloc, words)? {
+            push_answer(alloc, &mut text, &mut list, event)?;
+            push_readers(&mut text, &list)?;
+        }
+    }
+    push_whether_permanent(alloc, &mut text, &list)?;
+    Ok(text)
+}
+
+// What each reader gives: the releases with their statuses, and the rest. No list here has a release D.
+fn push_readers(text: &mut String, list: &ReleaseList) -> Result<(), AllocError> {
+    for listed in list.releases() {
+        write!(text, "{} {}, ", listed.release.vsn, listed.status.as_str())?;
+    }
+    write!(text, "permanent {}, ", version(list.permanent()))?;
+    write!(text, "runs {}, ", version(list.running()))?;
+    write!(text, "A {:?}, D {:?}, ", list.status("A"), list.status("D"))?;
+    write!(text, "len {}, empty {}; ", list.len(), list.is_empty())
+}
+
+// Whether the release A, as the events have it, is the permanent one and runs.
+fn push_whether_permanent(
+    alloc: Global,
+    text: &mut String,
+    list: &ReleaseList,
+) -> Result<(), AllocError> {
+    let first = release(alloc, "A")?;
+    let is_first = list.permanent() == Some(&first) && list.running() == Some(&first);
+    write!(text, "A is permanent and runs: {is_first}")
+}

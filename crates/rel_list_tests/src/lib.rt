@@ -1,5 +1,0 @@
-//! Tests of `rel_list`.
-#![tactic(auto)]
-
-#[cfg(test)]
-mod tests;
