@@ -1,5 +1,5 @@
 -- Calls that did nothing.
-use Rattle.std.proofs.Common.{ℕ, ◌+◌, ◌-◌, min, List, [], ◌++◌, length, take, drop, sym, ap, ◌∙◌, take-append-drop, length-take, length-drop}
+use Rattle.std.proofs.Common.{ℕ, ◌+◌, min, List, [], ◌++◌, take, drop, sym, ap, ◌∙◌, take-append-drop, length-take, length-drop}
 use Rattle.std.proofs.lemmas.List.{append-nil, drop-drop}
 use Rattle.rel_disk.specs.Damage.{Torn, Cut}
 

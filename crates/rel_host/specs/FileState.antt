@@ -1,5 +1,5 @@
 -- A disk over a file, as contracts see it.
-use Rattle.std.specs.Prelude.{◌≡◌, ◌⊎◌, ℕ, ◌+◌, ◌-◌, ◌≤◌, ◌^◌, min, Bool, true, false, List, [], length}
+use Rattle.std.specs.Prelude.{◌≡◌, ◌⊎◌, ℕ, ◌+◌, ◌-◌, ◌≤◌, ◌^◌, min, Bool, true, false, [], length}
 use Rattle.rel_disk.specs.Calls.{Call, synced}
 use Rattle.rel_disk.specs.MemState.{MemState, HasRoomFor, after_call, after_fault}
 

@@ -10,13 +10,12 @@ ghost use Rattle.rel_host.specs.FileState.{IsOpened, Does, Fails, FailsToSync, a
 use crate::read_within;
 use rel_disk::{DeviceFault, Disk, MemDisk};
 use std::alloc::{AllocError, Global};
-use std::fs;
 use std::fs::{File, OpenOptions};
-use std::io;
 use std::io::ErrorKind;
 use std::marker::Model;
 use std::os::unix::fs::FileExt;
 use std::rt::Files;
+use std::{fs, io};
 use thiserror::Error;
 
 /// The most bytes of the file.
@@ -75,7 +74,11 @@ impl Model for FileDisk {
 impl FileDisk {
     /// Opens a file and reads it whole. A missing file is made empty, and its folder is synced. The file is locked as long as the
     /// disk is there, so a second opening is refused, also by another process.
-    pub fn open<R: Files<File = File>>(host: &R, alloc: Global, path: &str) -> Result<Self, OpenError>
+    pub fn open<R: Files<File = File>>(
+        host: &R,
+        alloc: Global,
+        path: &str,
+    ) -> Result<Self, OpenError>
         ensures { IfOk result IsOpened }
     {
         let file = open_file(host, path).map_err(|_| OpenError::CantOpen)?;
@@ -256,16 +259,27 @@ fn folder_of(path: &str) -> &str {
 }
 
 // The file's bytes, which a crash leaves.
-fn read_file(alloc: Global, mut file: &File) -> Result<Vec<u8>, OpenError>
+fn read_file(alloc: Global, file: &File) -> Result<Vec<u8>, OpenError>
     ensures { IfOk result (λ bytes. length bytes.items ≤ 67108864) }
 {
     if file.sync_all().is_err() {
         return Err(OpenError::CantRead);
+    }
+    if has_more(file, CAPACITY) {
+        return Err(OpenError::TooLong);
     }
     match read_within(alloc, file, CAPACITY) {
         Ok(Some(bytes)) => Ok(bytes),
         Ok(None) => Err(OpenError::TooLong),
         Err(e) if e.kind() == ErrorKind::OutOfMemory => Err(OpenError::NoMemory),
         Err(_) => Err(OpenError::CantRead),
+    }
+}
+
+// Whether the host reports more bytes than these of a file, so that it need not be read to refuse it.
+fn has_more(file: &File, limit: usize) -> bool {
+    match file.metadata() {
+        Ok(found) => found.len() > limit as u64,
+        Err(_) => false,
     }
 }

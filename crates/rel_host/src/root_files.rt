@@ -5,10 +5,8 @@ ghost use Rattle.rel_host.specs.Paths.{climbs, IsBelow, Gives};
 use crate::read_within;
 use rel_handler::{Files, FilesError};
 use std::alloc::{AllocError, Global};
-use std::fs;
-use std::io;
 use std::io::ErrorKind;
-use std::rt;
+use std::{fs, io, rt};
 
 /// The most bytes of a file.
 const MOST_BYTES: usize = 1_048_576;
@@ -37,7 +35,10 @@ impl<R: rt::Files + Drop> RootFiles<R> {
     fn read_file(&self, alloc: Global, path: &str) -> Result<Vec<u8>, FilesError>
         ensures short { IfOk result (λ bytes. length bytes.items ≤ 1048576) }
     {
-        if !fs::metadata(&self.host, path).map_err(files_error)?.is_file() {
+        if !fs::metadata(&self.host, path)
+            .map_err(files_error)?
+            .is_file()
+        {
             return Err(FilesError::Unreadable);
         }
         let file = fs::open(&self.host, path).map_err(files_error)?;

@@ -1,5 +1,5 @@
 use Rattle.std.proofs.Common.{◌≡◌, ◌∙◌, ap, codes, map, sym, subst, true}
-use Rattle.clap.specs.Words.{App, HasMatchesOf, app_of, fault_of, is_simple, is_simple_and_free, takes}
+use Rattle.clap.specs.Words.{App, HasMatchesOf, fault_of, is_simple_and_free, takes}
 use Rattle.rel_host.specs.Options.{relnode}
 use Rattle.rel_host.proofs.OptionLemmas.{relnode_is_simple, relnode_is_free, refusal_is, value_is}
 use Rattle.rel_host.proofs.options.read_options.Goals as goal
