@@ -1,0 +1,4 @@
+mod DamageLemmas
+mod OptionLemmas
+mod PathLemmas
+mod ReaderLemmas

@@ -1,0 +1,3 @@
+pub mod FileState
+pub mod Options
+pub mod Paths

@@ -1,0 +1,285 @@
+// A disk over a file of the host.
+ghost use Rattle.std.specs.Prelude.{◌≡◌, ◌+◌, ◌-◌, ◌≤◌, length, slice_range, false, IfOk, IsOk, IsErr, OnOk, OnErr};
+ghost use Rattle.rel_disk.specs.Calls.{wrote, cut_to, synced, content};
+ghost use Rattle.rel_disk.specs.Damage.{Torn, Cut, Follows, Within};
+ghost use Rattle.rel_disk.specs.ImageLaws.{content_is_image, counts_now, only_now};
+ghost use Rattle.rel_disk.specs.Images.{Image, ImageSince};
+ghost use Rattle.rel_disk.specs.Moments.{HasFailed};
+ghost use Rattle.rel_host.specs.FileState.{IsOpened, Does, Fails, FailsToSync, all_failures, broken};
+
+use crate::read_within;
+use rel_disk::{DeviceFault, Disk, MemDisk};
+use std::alloc::{AllocError, Global};
+use std::fs::{File, OpenOptions};
+use std::io::ErrorKind;
+use std::marker::Model;
+use std::os::unix::fs::FileExt;
+use std::rt::Files;
+use std::{fs, io};
+use thiserror::Error;
+
+/// The most bytes of the file.
+const CAPACITY: usize = 67_108_864;
+
+/// The bytes of the log of the disk in memory.
+const LOG: usize = 134_217_728;
+
+/// Why a file isn't opened as a disk.
+#[derive(Clone, Copy, Debug, PartialEq, Eq, Error)]
+pub enum OpenError {
+    /// It can't be opened or made, or is no file.
+    #[error("the file can't be opened")]
+    CantOpen,
+    /// Another process has it open as a disk, or it can't be locked.
+    #[error("the file is in use")]
+    InUse,
+    /// It can't be read, or what is read can't be made durable.
+    #[error("the file can't be read")]
+    CantRead,
+    /// It has more than 67,108,864 bytes.
+    #[error("the file is too long")]
+    TooLong,
+    /// No memory was left. It says nothing of the file.
+    #[error("no memory was left")]
+    NoMemory,
+}
+
+/// A disk over a file. Reads come from a disk in memory, which has the file's bytes. Sizes are in bytes.
+///
+/// A write and a cut are noted in memory first, so that the damage that a fault of the file leaves is among the images, and
+/// then done on the file. A call for which the memory has no room fails and doesn't touch the file. A sync is done on the file
+/// first. A fault of the file is a `DeviceFault`, and from then on every write, cut and sync fails. Reads still answer: they
+/// give what the memory has, which is one of the images.
+///
+/// No clause can name the bytes of the file itself. That it has what the memory has, and that a crash leaves of it one of
+/// the images, is trusted. So it is a premise that bytes that were not written since the last sync stay over a crash, also
+/// where bytes beside them in one sector were written.
+#[derive(Drop)]
+pub struct FileDisk {
+    file: File,
+    memory: MemDisk,
+    faults: u64,
+    is_broken: bool,
+}
+
+// Clauses see the disk in memory, the faults, and whether the file has failed.
+impl Model for FileDisk {
+    ghost use Rattle.rel_host.specs.FileState.{FileState};
+
+    ghost Value = { FileState };
+
+    ghost view = { λ d. record { memory = d.memory; faults = d.faults; is_broken = d.is_broken } };
+}
+
+impl FileDisk {
+    /// Opens a file and reads it whole. A missing file is made empty, and its folder is synced. The file is locked as long as the
+    /// disk is there, so a second opening is refused, also by another process.
+    pub fn open<R: Files<File = File>>(
+        host: &R,
+        alloc: Global,
+        path: &str,
+    ) -> Result<Self, OpenError>
+        ensures { IfOk result IsOpened }
+    {
+        let file = open_file(host, path).map_err(|_| OpenError::CantOpen)?;
+        if file.try_lock().is_err() {
+            return Err(OpenError::InUse);
+        }
+        let bytes = read_file(alloc, &file)?;
+        match MemDisk::with_bytes(alloc, &bytes, CAPACITY, LOG) {
+            Ok(memory) => Ok(FileDisk::over(file, memory)),
+            Err(_) => Err(OpenError::NoMemory),
+        }
+    }
+
+    /// A disk over this file, of which the disk in memory reads the bytes.
+    pub fn over(file: File, memory: MemDisk) -> Self
+        ensures { result ≡ record { memory = memory; faults = 0; is_broken = false } }
+    {
+        FileDisk {
+            file,
+            memory,
+            faults: 0,
+            is_broken: false,
+        }
+    }
+
+    // Counts a fault of the file, after which the file isn't touched any more.
+    fn fail(&mut self) -> Result<(), DeviceFault>
+        ensures err { IsErr result }
+        ensures failed { self.new ≡ broken self.old }
+        ensures counted { all_failures self.old ≤ all_failures self.new }
+        ensures cause { HasFailed (all_failures self.old) (all_failures self.new) }
+    {
+        self.is_broken = true;
+        self.faults = self.faults.saturating_add(1);
+        Err(DeviceFault)
+    }
+}
+
+impl Disk for FileDisk {
+    ghost seen = { λ d. content d.memory.first d.memory.calls };
+
+    ghost may_leave = { λ d. Image d.memory.first d.memory.calls };
+
+    ghost moment = { λ d. length d.memory.calls };
+
+    ghost left_since = { λ d. ImageSince d.memory.first d.memory.calls };
+
+    ghost failures = { all_failures };
+
+    ghost reads_an_image = { λ d. content_is_image d.memory.first d.memory.calls };
+
+    ghost counts_now = { λ d. counts_now d.memory.first d.memory.calls };
+
+    ghost only_now = { λ d. only_now d.memory.first d.memory.calls };
+
+    fn len(&mut self) -> Result<u64, DeviceFault>
+        ensures value { result ≡ Ok (length (content self.old.memory.first self.old.memory.calls)) }
+        ensures same { self.new ≡ self.old }
+    {
+        self.memory.len()
+    }
+
+    fn read(&mut self, at: u64, buf: &mut [u8]) -> Result<(), DeviceFault>
+        requires { at + length buf.old
+            ≤ length (content self.old.memory.first self.old.memory.calls) }
+        ensures ok { IsOk result }
+        ensures bytes { buf.new ≡ slice_range (content self.old.memory.first self.old.memory.calls)
+            at (at + length buf.old) }
+        ensures same { self.new ≡ self.old }
+    {
+        self.memory.read(at, buf)
+    }
+
+    fn write_at(&mut self, at: u64, bytes: &[u8]) -> Result<(), DeviceFault>
+        requires { at ≤ length (content self.old.memory.first self.old.memory.calls) }
+        ensures done { OnOk result (Does (wrote at bytes.now) self.old self.new) }
+        ensures failed { OnErr result (Fails (wrote at bytes.now) self.old self.new) }
+
+        // As of every disk.
+        ensures part { Torn at (length bytes.now)
+            (content self.old.memory.first self.old.memory.calls)
+            (content self.new.memory.first self.new.memory.calls) }
+        ensures crash { Follows (Torn at (length bytes.now))
+            (Image self.old.memory.first self.old.memory.calls)
+            (Image self.new.memory.first self.new.memory.calls) }
+        ensures counted { all_failures self.old ≤ all_failures self.new }
+        ensures cause { IsErr result → HasFailed (all_failures self.old) (all_failures self.new) }
+    {
+        if self.is_broken {
+            return self.fail();
+        }
+        if self.memory.write_at(at, bytes).is_err() {
+            return Err(DeviceFault);
+        }
+        if self.file.write_all_at(bytes, at).is_err() {
+            return self.fail();
+        }
+        Ok(())
+    }
+
+    fn cut(&mut self, len: u64) -> Result<(), DeviceFault>
+        requires { len ≤ length (content self.old.memory.first self.old.memory.calls) }
+        ensures done { OnOk result (Does (cut_to len) self.old self.new) }
+        ensures failed { OnErr result (Fails (cut_to len) self.old self.new) }
+
+        // As of every disk.
+        ensures part { Cut len (content self.old.memory.first self.old.memory.calls)
+            (content self.new.memory.first self.new.memory.calls) }
+        ensures crash { Follows (Cut len) (Image self.old.memory.first self.old.memory.calls)
+            (Image self.new.memory.first self.new.memory.calls) }
+        ensures counted { all_failures self.old ≤ all_failures self.new }
+        ensures cause { IsErr result → HasFailed (all_failures self.old) (all_failures self.new) }
+    {
+        if self.is_broken {
+            return self.fail();
+        }
+        if self.memory.cut(len).is_err() {
+            return Err(DeviceFault);
+        }
+        if self.file.set_len(len).is_err() {
+            return self.fail();
+        }
+        Ok(())
+    }
+
+    fn sync(&mut self) -> Result<(), DeviceFault>
+        ensures done { OnOk result (Does synced self.old self.new) }
+        ensures failed { OnErr result (FailsToSync self.old self.new) }
+
+        // As of every disk.
+        ensures crash { Within (Image self.old.memory.first self.old.memory.calls)
+            (Image self.new.memory.first self.new.memory.calls) }
+        ensures counted { all_failures self.old ≤ all_failures self.new }
+        ensures cause { IsErr result → HasFailed (all_failures self.old) (all_failures self.new) }
+    {
+        if self.is_broken || self.file.sync_all().is_err() {
+            return self.fail();
+        }
+        self.memory.sync()
+    }
+
+    fn failures(&self) -> u64 {
+        self.memory.failures().saturating_add(self.faults)
+    }
+}
+
+// Opens a file for reads and writes, or makes it.
+fn open_file<R: Files<File = File>>(host: &R, path: &str) -> io::Result<File> {
+    let found = OpenOptions::new().read(true).write(true).open(host, path);
+    let file = match found {
+        Err(e) if e.kind() == ErrorKind::NotFound => make_file(host, path)?,
+        found => found?,
+    };
+    if !file.metadata()?.is_file() {
+        return Err(io::Error::from(ErrorKind::InvalidInput));
+    }
+    Ok(file)
+}
+
+// Makes a file, which outlives a crash once its folder is synced.
+fn make_file<R: Files<File = File>>(host: &R, path: &str) -> io::Result<File> {
+    let file = OpenOptions::new()
+        .read(true)
+        .write(true)
+        .create(true)
+        .open(host, path)?;
+    fs::open(host, folder_of(path))?.sync_all()?;
+    Ok(file)
+}
+
+// The folder of a file.
+fn folder_of(path: &str) -> &str {
+    match path.rsplit_once('/') {
+        None => ".",
+        Some(("", _)) => "/",
+        Some((folder, _)) => folder,
+    }
+}
+
+// The file's bytes, which a crash leaves.
+fn read_file(alloc: Global, file: &File) -> Result<Vec<u8>, OpenError>
+    ensures { IfOk result (λ bytes. length bytes.items ≤ 67108864) }
+{
+    if file.sync_all().is_err() {
+        return Err(OpenError::CantRead);
+    }
+    if has_more(file, CAPACITY) {
+        return Err(OpenError::TooLong);
+    }
+    match read_within(alloc, file, CAPACITY) {
+        Ok(Some(bytes)) => Ok(bytes),
+        Ok(None) => Err(OpenError::TooLong),
+        Err(e) if e.kind() == ErrorKind::OutOfMemory => Err(OpenError::NoMemory),
+        Err(_) => Err(OpenError::CantRead),
+    }
+}
+
+// Whether the host reports more bytes than these of a file, so that it need not be read to refuse it.
+fn has_more(file: &File, limit: usize) -> bool {
+    match file.metadata() {
+        Ok(found) => found.len() > limit as u64,
+        Err(_) => false,
+    }
+}

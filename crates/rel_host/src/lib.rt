@@ -1,0 +1,25 @@
+//! What a node's program takes from its host: its options, files below a folder, and a disk over a file.
+//!
+//! [`FileDisk`] is a `rel_disk::Disk` over a file. Its contracts are those of every disk, and say each state exactly
+//! (clauses `done` and `failed`): a call reports a failure only where the memory had no room or the file failed, and once
+//! the file has failed, every write, cut and sync fails.
+//!
+//! [`RootFiles`] reads files below a folder. The clause `outside` says that a path that does not lead below it is Missing,
+//! and `is_below` says which paths those are. [`read_within`] gives all bytes of a reader, or reports that there are more
+//! than a limit (clauses `whole` and `short`).
+//!
+//! [`read_options`] has `clap`'s exact meaning of the arguments (clauses `given`, `taken` and `refused`).
+//!
+//! Only tested: what the calls do to files. Trusted: that a file has the bytes that were written to it and outlives a
+//! crash as a disk does, the toolchain with its file calls, `clap` and `thiserror`.
+#![tactic(auto)]
+
+mod file_disk;
+mod options;
+mod readers;
+mod root_files;
+
+pub use file_disk::{FileDisk, OpenError};
+pub use options::{Options, OptionsError, read_options};
+pub use readers::read_within;
+pub use root_files::{RootFiles, is_below};

@@ -1,0 +1,118 @@
+// Files below a folder of the host.
+ghost use Rattle.std.specs.Prelude.{◌≡◌, ◌≢◌, ◌≤◌, ◌↔◌, IsTrue, true, None, Ok, Err, IfOk, IfErr, length};
+ghost use Rattle.rel_host.specs.Paths.{climbs, IsBelow, Gives};
+
+use crate::read_within;
+use rel_handler::{Files, FilesError};
+use std::alloc::{AllocError, Global};
+use std::io::ErrorKind;
+use std::{fs, io, rt};
+
+/// The most bytes of a file.
+const MOST_BYTES: usize = 1_048_576;
+
+/// Files by their paths below a folder. Without a folder there is none.
+///
+/// A path is Missing where it doesn't lead below the folder ([`is_below`]), where nothing is there, and where it goes through a
+/// file that is no folder. A folder, and what can't be read, is Unreadable. Of a longer file than 1,048,576 bytes one byte more
+/// is read at most. Symbolic links are followed, so what they lead to may be outside.
+#[derive(Drop)]
+pub struct RootFiles<R: rt::Files + Drop> {
+    host: R,
+    /// The folder.
+    pub root: Option<String>,
+}
+
+impl<R: rt::Files + Drop> RootFiles<R> {
+    /// The files below this folder of the host.
+    pub fn new(host: R, root: Option<String>) -> Self
+        ensures { result.root ≡ root }
+    {
+        RootFiles { host, root }
+    }
+
+    // Reads what is there, which is a file.
+    fn read_file(&self, alloc: Global, path: &str) -> Result<Vec<u8>, FilesError>
+        ensures short { IfOk result (λ bytes. length bytes.items ≤ 1048576) }
+    {
+        if !fs::metadata(&self.host, path)
+            .map_err(files_error)?
+            .is_file()
+        {
+            return Err(FilesError::Unreadable);
+        }
+        let file = fs::open(&self.host, path).map_err(files_error)?;
+        match read_within(alloc, file, MOST_BYTES).map_err(files_error)? {
+            Some(bytes) => Ok(bytes),
+            None => Err(FilesError::TooLarge),
+        }
+    }
+}
+
+impl<R: rt::Files + Drop> Files for RootFiles<R> {
+    ghost gives = { λ files. Gives files.root };
+
+    fn read(&self, alloc: Global, path: &str) -> Result<Vec<u8>, FilesError>
+        ensures no_root { self.now.root ≡ None → result ≡ Err FilesError.Missing }
+        ensures outside { (IsBelow path.now → ⊥) → result ≡ Err FilesError.Missing }
+
+        // As of all files.
+        ensures read { IfOk result (λ bytes. Gives self.now.root path.now (Ok bytes.items)) }
+        ensures short { IfOk result (λ bytes. length bytes.items ≤ 1048576) }
+        ensures refused { IfErr result (λ e. e ≢ FilesError.NoMemory
+            → Gives self.now.root path.now (Err e)) }
+    {
+        let Some(root) = &self.root else {
+            return Err(FilesError::Missing);
+        };
+        if !is_below(path) {
+            return Err(FilesError::Missing);
+        }
+        let Ok(whole) = joined(alloc, root.as_str(), path) else {
+            return Err(FilesError::NoMemory);
+        };
+        self.read_file(alloc, whole.as_str())
+    }
+}
+
+// The path of a file below a folder.
+fn joined(alloc: Global, root: &str, path: &str) -> Result<String, AllocError> {
+    let mut whole = String::from_str(alloc, root)?;
+    whole.push('/')?;
+    whole.push_str(path)?;
+    Ok(whole)
+}
+
+// What the host's fault says of a file.
+fn files_error(error: io::Error) -> FilesError {
+    match error.kind() {
+        ErrorKind::NotFound | ErrorKind::NotADirectory | ErrorKind::InvalidFilename => {
+            FilesError::Missing
+        }
+        ErrorKind::OutOfMemory => FilesError::NoMemory,
+        _ => FilesError::Unreadable,
+    }
+}
+
+/// Whether a path leads below the folder in which it begins: it isn't empty, doesn't begin with `/`, and has no part `..` and no
+/// byte 0.
+pub fn is_below(path: &str) -> bool
+    ensures { IsTrue result ↔ IsBelow path.now }
+{
+    let bytes = path.as_bytes();
+    !bytes.is_empty() && bytes[0] != b'/' && !bytes.contains(&0) && !has_part_up(path)
+}
+
+// Whether a path has a part `..`.
+fn has_part_up(path: &str) -> bool
+    ensures { result ≡ climbs path.now }
+{
+    let mut rest = path;
+    while let Some((part, behind)) = rest.split_once('/') {
+        if part == ".." {
+            return true;
+        }
+        rest = behind;
+    }
+    rest == ".."
+}
