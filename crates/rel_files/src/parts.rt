@@ -1,4 +1,4 @@
-//! What stands where in the terms of a release file.
+//! What stands where in the terms of a release file. What reads other files of a release takes the general ones from here.
 ghost use Rattle.std.specs.Prelude.{◌≡◌, codes};
 ghost use Rattle.std.specs.Option.{option_map};
 ghost use Rattle.erl_term.specs.Value.{members_of, value_of};
@@ -29,7 +29,8 @@ pub(crate) struct RelParts<'a> {
     pub(crate) apps: &'a [Term],
 }
 
-fn list_in(term: &Term) -> Option<&[Term]>
+/// The members of a list.
+pub fn list_in(term: &Term) -> Option<&[Term]>
     ensures { option_map (λ items. members_of items.now) result ≡ list_in (value_of term.now) }
 {
     match term {
@@ -38,7 +39,8 @@ fn list_in(term: &Term) -> Option<&[Term]>
     }
 }
 
-fn pair_in(term: &Term) -> Option<(&Term, &Term)>
+/// The two members of a tuple of two.
+pub fn pair_in(term: &Term) -> Option<(&Term, &Term)>
     ensures { option_map (λ p. (value_of p.0.now, value_of p.1.now)) result
         ≡ pair_in (value_of term.now) }
 {
@@ -48,7 +50,8 @@ fn pair_in(term: &Term) -> Option<(&Term, &Term)>
     }
 }
 
-fn two(members: &[Term]) -> Option<(&Term, &Term)>
+/// The two terms of a row of two.
+pub fn two(members: &[Term]) -> Option<(&Term, &Term)>
     ensures { option_map (λ p. (value_of p.0.now, value_of p.1.now)) result
         ≡ two (members_of members.now) }
 {
@@ -60,7 +63,8 @@ fn two(members: &[Term]) -> Option<(&Term, &Term)>
     }
 }
 
-fn four_in(term: &Term) -> Option<(&Term, &Term, &Term, &Term)>
+/// The four members of a tuple of four.
+pub fn four_in(term: &Term) -> Option<(&Term, &Term, &Term, &Term)>
     ensures { option_map (λ p.
         (value_of p.0.now, value_of p.1.now, value_of p.2.now, value_of p.3.now)) result
         ≡ four_in (value_of term.now) }
@@ -71,8 +75,9 @@ fn four_in(term: &Term) -> Option<(&Term, &Term, &Term, &Term)>
     }
 }
 
+/// The four terms of a row of four.
 #[tactic(auto, using(crate::proofs::Pairs::two_more))]
-fn four(members: &[Term]) -> Option<(&Term, &Term, &Term, &Term)>
+pub fn four(members: &[Term]) -> Option<(&Term, &Term, &Term, &Term)>
     ensures { option_map (λ p.
         (value_of p.0.now, value_of p.1.now, value_of p.2.now, value_of p.3.now)) result
         ≡ four (members_of members.now) }
@@ -83,7 +88,8 @@ fn four(members: &[Term]) -> Option<(&Term, &Term, &Term, &Term)>
     Some((first, second, third, fourth))
 }
 
-fn is_word(term: &Term, word: &str) -> bool
+/// Whether it is the atom of this text.
+pub fn is_word(term: &Term, word: &str) -> bool
     ensures { result ≡ is_word word.now (value_of term.now) }
 {
     match term {
