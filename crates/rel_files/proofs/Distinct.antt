@@ -21,6 +21,10 @@ use Rattle.rel_files.specs.Name.{AreDistinct, IsFirstTwice}
 abbrev pub names : List AppDraft → List (List ℕ)
 names as' = map (λ (a : AppDraft). string_bytes a.name) as'
 
+-- the texts that references are to
+abbrev pub texts : List (Bor (List ℕ)) → List (List ℕ)
+texts ks = map (λ (k : Bor (List ℕ)). k.now) ks
+
 -- whether a name is among these
 abbrev pub is_listed : List ℕ → List (List ℕ) → Bool
 is_listed n ns = list_any (bytes_eq n) ns
@@ -82,51 +86,51 @@ AreDistinct-push (m ∷ ms) n distinct new =
     apart (inl later) = distinct.0 later
     apart (inr same) = new (subst (Contains (m ∷ ms)) (sym same) (Contains-get_or (m ∷ ms) 0 m (omega arith)))
 
--- the names of the first so many applications, and one more
-names-more : (as' : List AppDraft) (i : ℕ) (a : AppDraft) → i < length as' → get_or as' i a ≡ a
-    → names (take (i + 1) as') ≡ names (take i as') ++ string_bytes a.name ∷ []
-names-more as' i a within is =
-    ap names (take_more as' i a within ∙ ap (λ b. take i as' ++ b ∷ []) is)
-    ∙ map_push (λ (b : AppDraft). string_bytes b.name) (take i as') a
+-- the first so many names, and one more
+texts-more : (as' : List (Bor (List ℕ))) (i : ℕ) (a : Bor (List ℕ)) → i < length as' → get_or as' i a ≡ a
+    → texts (take (i + 1) as') ≡ texts (take i as') ++ a.now ∷ []
+texts-more as' i a within is =
+    ap texts (take_more as' i a within ∙ ap (λ b. take i as' ++ b ∷ []) is)
+    ∙ map_push (λ (b : Bor (List ℕ)). b.now) (take i as') a
 
 -- the names are those up to the place of one, that one, and those behind it
-names-split : (as' : List AppDraft) (i : ℕ) (a : AppDraft) → i < length as' → get_or as' i a ≡ a
-    → names as' ≡ names (take i as') ++ (string_bytes a.name ∷ names (drop (i + 1) as'))
-names-split as' i a within is =
-    ap names (sym (take-append-drop i as') ∙ ap (λ l. take i as' ++ l) (drop-cons as' i a within ∙ ap (λ b. b ∷ drop (suc i) as') is))
-    ∙ map-append (λ (b : AppDraft). string_bytes b.name) (take i as') (a ∷ drop (suc i) as')
-    ∙ ap (λ j. names (take i as') ++ (string_bytes a.name ∷ names (drop j as'))) (sym (add-one i))
+texts-split : (as' : List (Bor (List ℕ))) (i : ℕ) (a : Bor (List ℕ)) → i < length as' → get_or as' i a ≡ a
+    → texts as' ≡ texts (take i as') ++ (a.now ∷ texts (drop (i + 1) as'))
+texts-split as' i a within is =
+    ap texts (sym (take-append-drop i as') ∙ ap (λ l. take i as' ++ l) (drop-cons as' i a within ∙ ap (λ b. b ∷ drop (suc i) as') is))
+    ∙ map-append (λ (b : Bor (List ℕ)). b.now) (take i as') (a ∷ drop (suc i) as')
+    ∙ ap (λ j. texts (take i as') ++ (a.now ∷ texts (drop j as'))) (sym (add-one i))
 
 -- the first name twice, from what stands before it
-pub twice_at : (as' : List AppDraft) (i : ℕ) (a : AppDraft) (n : List ℕ) → i < length as' → get_or as' i a ≡ a → n ≡ string_bytes a.name
-    → AreDistinct (names (take i as')) → is_listed n (names (take i as')) ≡ true → IsFirstTwice (names as') n
+pub twice_at : (as' : List (Bor (List ℕ))) (i : ℕ) (a : Bor (List ℕ)) (n : List ℕ) → i < length as' → get_or as' i a ≡ a → n ≡ a.now
+    → AreDistinct (texts (take i as')) → is_listed n (texts (take i as')) ≡ true → IsFirstTwice (texts as') n
 twice_at as' i a n within is named distinct listed = record {
-  before = names (take i as');
-  after = names (drop (i + 1) as');
-  is = names-split as' i a within is ∙ ap (λ m. names (take i as') ++ (m ∷ names (drop (i + 1) as'))) (sym named);
+  before = texts (take i as');
+  after = texts (drop (i + 1) as');
+  is = texts-split as' i a within is ∙ ap (λ m. texts (take i as') ++ (m ∷ texts (drop (i + 1) as'))) (sym named);
   distinct = distinct;
-  twice = found n (names (take i as')) listed;
+  twice = found n (texts (take i as')) listed;
 }
 
--- the names of one application more are seen
-pub seen-more : (as' : List AppDraft) (i : ℕ) (a : AppDraft) (n : Bor (List ℕ)) (ks ks' : List (Bor (List ℕ))) → i < length as' → get_or as' i a ≡ a → n.now ≡ string_bytes a.name
-    → ((q : List ℕ) → is_seen q ks ≡ is_listed q (names (take i as')))
+-- one name more is seen
+pub seen-more : (as' : List (Bor (List ℕ))) (i : ℕ) (a : Bor (List ℕ)) (n : Bor (List ℕ)) (ks ks' : List (Bor (List ℕ))) → i < length as' → get_or as' i a ≡ a → n.now ≡ a.now
+    → ((q : List ℕ) → is_seen q ks ≡ is_listed q (texts (take i as')))
     → ks' ≡ insert_key (λ (x y : Bor (List ℕ)). slice_cmp nat_cmp x.now y.now) ks n
-    → (q : List ℕ) → is_seen q ks' ≡ is_listed q (names (take (i + 1) as'))
+    → (q : List ℕ) → is_seen q ks' ≡ is_listed q (texts (take (i + 1) as'))
 seen-more as' i a n ks ks' within is named seen put q =
     ap (is_seen q) put
     ∙ is_seen-insert q ks n
     ∙ ap (λ b. bytes_eq q n.now || b) (seen q)
-    ∙ sym (is_listed-push q (names (take i as')) n.now)
-    ∙ ap (λ m. is_listed q (names (take i as') ++ m ∷ [])) named
-    ∙ ap (is_listed q) (sym (names-more as' i a within is))
+    ∙ sym (is_listed-push q (texts (take i as')) n.now)
+    ∙ ap (λ m. is_listed q (texts (take i as') ++ m ∷ [])) named
+    ∙ ap (is_listed q) (sym (texts-more as' i a within is))
 
 -- and they are distinct, if the one more is new
-pub distinct-more : (as' : List AppDraft) (i : ℕ) (a : AppDraft) (n : List ℕ) → i < length as' → get_or as' i a ≡ a → n ≡ string_bytes a.name
-    → AreDistinct (names (take i as')) → is_listed n (names (take i as')) ≡ false → AreDistinct (names (take (i + 1) as'))
+pub distinct-more : (as' : List (Bor (List ℕ))) (i : ℕ) (a : Bor (List ℕ)) (n : List ℕ) → i < length as' → get_or as' i a ≡ a → n ≡ a.now
+    → AreDistinct (texts (take i as')) → is_listed n (texts (take i as')) ≡ false → AreDistinct (texts (take (i + 1) as'))
 distinct-more as' i a n within is named distinct new =
-    subst AreDistinct (ap (λ m. names (take i as') ++ m ∷ []) named ∙ sym (names-more as' i a within is))
-    (AreDistinct-push (names (take i as')) n distinct (not_found n (names (take i as')) new))
+    subst AreDistinct (ap (λ m. texts (take i as') ++ m ∷ []) named ∙ sym (texts-more as' i a within is))
+    (AreDistinct-push (texts (take i as')) n distinct (not_found n (texts (take i as')) new))
 
 -- names behind distinct ones
 distinct_or_twice_behind : (before after : List (List ℕ)) → AreDistinct before → AreDistinct (before ++ after) ⊎ ((n : List ℕ) × IsFirstTwice (before ++ after) n)

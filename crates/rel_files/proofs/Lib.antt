@@ -11,4 +11,5 @@ pub mod Outcomes
 mod Files
 pub mod OneFault
 pub mod Either
+pub mod OneTermFiles
 mod Limits

@@ -20,7 +20,7 @@ use Rattle.rel_files.proofs.Versions.{release_in-form, from_release}
 use Rattle.rel_files.proofs.Outcomes.{sketch_names, form_names, clash, never_both, one_release}
 
 -- the first name that stands a second time is one
-one_twice : (ns : List (List ℕ)) (m n : List ℕ) → IsFirstTwice ns m → IsFirstTwice ns n → m ≡ n
+pub one_twice : (ns : List (List ℕ)) (m n : List ℕ) → IsFirstTwice ns m → IsFirstTwice ns n → m ≡ n
 one_twice ns m n p q = go (places p.before p.after q.before q.after m n (sym p.is ∙ q.is))
   where
     go : AreSame p.before p.after q.before q.after m n ⊎ (IsBefore p.before p.after q.before q.after m n ⊎ IsBefore q.before q.after p.before p.after n m) → m ≡ n

@@ -6,4 +6,5 @@ pub mod File
 pub mod Parts
 pub mod Sketch
 pub mod Sketched
+pub mod Kind
 pub mod Laws

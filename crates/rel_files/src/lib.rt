@@ -4,23 +4,26 @@
 //! one; a refusal is the file's fault, the first in the order of [`FileFault`]'s cases. Out of memory may
 //! come in place of any answer and says nothing of the file.
 //!
+//! [`read_one_term`], `parts`, `text` and `duplicates` are what readers of other files of a release share, with the kinds of
+//! such files (specs/Kind).
+//!
 //! The functions of `laws` say of these definitions that each file says one release or has one fault, and not both.
 //!
 //! Only tested: that a file is read where memory is there. Trusted: the toolchain alone.
 #![tactic(auto)]
 
 mod draft;
-mod duplicates;
+pub mod duplicates;
 mod ending;
 mod fault;
 pub mod laws;
-mod parts;
+mod one_term;
+pub mod parts;
 mod reader;
 mod release;
-mod text;
+pub mod text;
 
 pub use fault::FileFault;
-pub use parts::{four_in, is_word, list_in, pair_in};
+pub use one_term::{FileTerm, read_one_term};
 pub use reader::{RelFile, read_rel, read_rel_file, rel_of_term};
 pub use release::{Rel, RelApp, StartType};
-pub use text::text_in;

@@ -1,4 +1,4 @@
-//! What stands where in the terms of a release file.
+//! What stands where in the terms of a release file. What reads other files of a release takes the general ones from here.
 ghost use Rattle.std.specs.Prelude.{◌≡◌, codes};
 ghost use Rattle.std.specs.Option.{option_map};
 ghost use Rattle.erl_term.specs.Value.{members_of, value_of};
@@ -50,7 +50,8 @@ pub fn pair_in(term: &Term) -> Option<(&Term, &Term)>
     }
 }
 
-fn two(members: &[Term]) -> Option<(&Term, &Term)>
+/// The two terms of a row of two.
+pub fn two(members: &[Term]) -> Option<(&Term, &Term)>
     ensures { option_map (λ p. (value_of p.0.now, value_of p.1.now)) result
         ≡ two (members_of members.now) }
 {
@@ -74,8 +75,9 @@ pub fn four_in(term: &Term) -> Option<(&Term, &Term, &Term, &Term)>
     }
 }
 
+/// The four terms of a row of four.
 #[tactic(auto, using(crate::proofs::Pairs::two_more))]
-fn four(members: &[Term]) -> Option<(&Term, &Term, &Term, &Term)>
+pub fn four(members: &[Term]) -> Option<(&Term, &Term, &Term, &Term)>
     ensures { option_map (λ p.
         (value_of p.0.now, value_of p.1.now, value_of p.2.now, value_of p.3.now)) result
         ≡ four (members_of members.now) }

@@ -1,4 +1,4 @@
-//! The texts of a file: names, and lists of numbers.
+//! The texts of a file: names, versions and lists of numbers, as what reads other files of a release needs them too.
 ghost use Rattle.std.specs.Prelude.{◌≡◌, ◌<◌, IfOk, IfSome, map, string_bytes};
 ghost use Rattle.std.specs.List.{list_all};
 ghost use Rattle.std.specs.Option.{option_map};
@@ -22,15 +22,15 @@ fn are_name_bytes(bytes: &[u8]) -> bool
     bytes.iter().all(|byte| is_name_byte(*byte))
 }
 
-// Whether it is a name of an application or a module.
-pub(crate) fn is_name(name: &str) -> bool
+/// Whether it is a name of an application or a module: 1 to 255 letters, digits and `_ @ . -`.
+pub fn is_name(name: &str) -> bool
     ensures { result ≡ is_name name.now }
 {
     1 <= name.len() && name.len() <= 255 && are_name_bytes(name.as_bytes())
 }
 
-// The name that an atom is.
-pub(crate) fn name_in(term: &Term) -> Option<&str>
+/// The name of an application or a module that an atom is.
+pub fn name_in(term: &Term) -> Option<&str>
     ensures { option_map (λ name. name.now) result ≡ name_in (value_of term.now) }
 {
     match term {
@@ -45,8 +45,8 @@ fn is_number(term: &Term) -> bool
     matches!(term, Term::Int(_))
 }
 
-// Whether all of them are numbers.
-pub(crate) fn are_numbers(items: &[Term]) -> bool
+/// Whether all of them are numbers, as the characters of a string are.
+pub fn are_numbers(items: &[Term]) -> bool
     ensures { result ≡ are_numbers (members_of items.now) }
 {
     for item in items {
@@ -58,11 +58,7 @@ pub(crate) fn are_numbers(items: &[Term]) -> bool
 }
 
 /// The text of these numbers, if they are 1 to 62 characters from the lowest to `~`.
-pub fn text_in(
-    alloc: Global,
-    lowest: u8,
-    items: &[Term],
-) -> Result<Option<String>, AllocError>
+pub fn text_in(alloc: Global, lowest: u8, items: &[Term]) -> Result<Option<String>, AllocError>
     ensures { IfOk result (λ text.
         option_map string_bytes text ≡ text_in lowest (members_of items.now)) }
 {
@@ -104,8 +100,8 @@ fn character_in(lowest: u8, term: &Term) -> Option<char>
     }
 }
 
-// The names, if each is one.
-pub(crate) fn names_of(alloc: Global, items: &[Term]) -> Result<Option<Vec<String>>, AllocError>
+/// The names of applications or modules that atoms are, if each is one.
+pub fn names_of(alloc: Global, items: &[Term]) -> Result<Option<Vec<String>>, AllocError>
     ensures { IfOk result (λ names.
         option_map (λ v. map string_bytes v.items) names ≡ names_of (members_of items.now)) }
 {

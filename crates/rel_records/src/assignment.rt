@@ -6,7 +6,8 @@ ghost use Rattle.rel_records.specs.Parts.{assignment_read};
 ghost use Rattle.rel_records.specs.Reading.{version_in, status_in, assignment_in, assignments_of};
 
 use erl_term::Term;
-use rel_files::{is_word, list_in, pair_in, text_in};
+use rel_files::parts::{is_word, list_in, pair_in};
+use rel_files::text::text_in;
 use rel_list::Status;
 use std::alloc::{AllocError, Global};
 

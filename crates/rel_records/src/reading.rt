@@ -11,7 +11,8 @@ use crate::assignment::{Assignment, assignments_in, version_in};
 use crate::fault::RecordFault;
 use crate::writing::{MADE, UNPACKED};
 use erl_term::{Term, read_record};
-use rel_files::{Rel, four_in, is_word, list_in, pair_in, rel_of_term};
+use rel_files::parts::{four_in, is_word, list_in, pair_in};
+use rel_files::{Rel, rel_of_term};
 use std::alloc::{AllocError, Global};
 
 // What a record of a store says.

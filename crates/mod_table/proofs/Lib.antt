@@ -1,0 +1,4 @@
+pub mod Triples
+pub mod Sameness
+pub mod FirstChange
+pub mod Readings

@@ -1,0 +1,11 @@
+pub mod Table
+pub mod Codes
+pub mod Same
+pub mod Decide
+pub mod Parts
+pub mod Rows
+pub mod Children
+pub mod Headed
+pub mod InMemory
+pub mod File
+pub mod Laws

@@ -1,0 +1,175 @@
+//! The table of a worker.
+ghost use Rattle.std.specs.Prelude.{◌≡◌, IfOk, map};
+ghost use Rattle.std.specs.List.{list_all};
+ghost use Rattle.std.specs.Option.{option_map};
+ghost use Rattle.erl_term.specs.Value.{members_of, value_of};
+ghost use Rattle.mod_table.specs.Decide.{step_of, change_of};
+ghost use Rattle.mod_table.specs.Headed.{has_versions, row_has_version, worker_in};
+ghost use Rattle.mod_table.specs.InMemory.{old_of, row_of};
+
+use crate::parts::{is_version, number_in, version_in};
+use crate::row::Row;
+use crate::row_reader::rows_in;
+use crate::{Old, Step};
+use erl_term::Term;
+use rel_files::parts::{four, list_in};
+use rel_files::text::name_in;
+use std::alloc::{AllocError, Global};
+use std::marker::Model;
+
+/// The table of a worker. Contracts see it as its name, its version, its first state and its rows.
+#[derive(Debug, Drop)]
+pub struct Worker {
+    name: String,
+    vsn: String,
+    first: u32,
+    rows: Vec<Row>,
+}
+
+impl Model for Worker {
+    ghost use Rattle.std.specs.Prelude.{map, string_bytes};
+    ghost use Rattle.mod_table.specs.Table.{WorkerTable};
+    ghost use Rattle.mod_table.specs.Codes.{worker_code};
+    ghost use Rattle.mod_table.specs.InMemory.{row_of};
+
+    ghost Value = { WorkerTable };
+
+    ghost coded = { worker_code };
+
+    ghost view = { λ w. record {
+      name = string_bytes w.name;
+      vsn = string_bytes w.vsn;
+      first = w.first;
+      rows = map row_of w.rows.items;
+    } };
+}
+
+impl Worker {
+    /// The module.
+    pub fn name(&self) -> &str
+        ensures { result.now ≡ self.now.name }
+    {
+        self.name.as_str()
+    }
+
+    /// The version of the module.
+    pub fn vsn(&self) -> &str
+        ensures { result.now ≡ self.now.vsn }
+    {
+        self.vsn.as_str()
+    }
+
+    /// The state in which a process starts.
+    pub fn first(&self) -> u32
+        ensures { result ≡ self.now.first }
+    {
+        self.first
+    }
+
+    /// What comes of a call in this state, with this input. It takes no memory.
+    pub fn step(&self, state: u32, input: u32) -> Step
+        ensures { result ≡ step_of self.now.rows state input }
+    {
+        first_step(self.rows.as_slice(), state, input)
+    }
+
+    /// The state after a change of code from this version, with this extra term. Nothing where the change fails. It takes no
+    /// memory.
+    pub fn change(&self, old: &Old, extra: &Term, state: u32) -> Option<u32>
+        ensures { result ≡ change_of self.now.rows (old_of old.now) (value_of extra.now) state }
+    {
+        first_change(self.rows.as_slice(), old, extra, state)
+    }
+
+    /// An equal table.
+    pub fn copy(&self, alloc: Global) -> Result<Worker, AllocError>
+        ensures { IfOk result (λ copied. copied ≡ self.now) }
+    {
+        Ok(Worker {
+            name: String::from_str(alloc, self.name.as_str())?,
+            vsn: String::from_str(alloc, self.vsn.as_str())?,
+            first: self.first,
+            rows: copied_rows(alloc, self.rows.as_slice())?,
+        })
+    }
+
+    // From what follows the first word of its term. Nothing for another shape.
+    pub(crate) fn read(alloc: Global, members: &[Term]) -> Result<Option<Worker>, AllocError>
+        ensures { IfOk result (λ w. w ≡ worker_in (members_of members.now)) }
+    {
+        let Some((name, vsn, first, rows)) = four(members) else {
+            return Ok(None);
+        };
+        let Some(name) = name_in(name) else {
+            return Ok(None);
+        };
+        let Some(vsn) = version_in(alloc, vsn)? else {
+            return Ok(None);
+        };
+        let Some(first) = number_in(first) else {
+            return Ok(None);
+        };
+        let Some(rows) = list_in(rows) else {
+            return Ok(None);
+        };
+        let Some(rows) = rows_in(alloc, rows)? else {
+            return Ok(None);
+        };
+        Ok(Some(Worker {
+            name: String::from_str(alloc, name)?,
+            vsn,
+            first,
+            rows,
+        }))
+    }
+
+    // Whether each version in it is one.
+    pub(crate) fn has_versions(&self) -> bool
+        ensures { result ≡ has_versions self.now }
+    {
+        is_version(self.vsn.as_str()) && rows_have_versions(self.rows.as_slice())
+    }
+}
+
+fn first_step(rows: &[Row], state: u32, input: u32) -> Step
+    ensures { result ≡ step_of (map row_of rows.now) state input }
+{
+    for row in rows {
+        if let Some(step) = row.step(state, input) {
+            return step;
+        }
+    }
+    Step::Crashes
+}
+
+fn first_change(rows: &[Row], old: &Old, extra: &Term, state: u32) -> Option<u32>
+    ensures { result ≡ change_of (map row_of rows.now) (old_of old.now) (value_of extra.now) state }
+{
+    for row in rows {
+        if let Some(next) = row.change(old, extra, state) {
+            return Some(next);
+        }
+    }
+    None
+}
+
+fn copied_rows(alloc: Global, rows: &[Row]) -> Result<Vec<Row>, AllocError>
+    ensures { IfOk result (λ copied. map row_of copied.items ≡ map row_of rows.now) }
+{
+    let mut copied = Vec::with_capacity(alloc, rows.len())?;
+    for row in rows {
+        copied.push(row.copy(alloc)?)?;
+    }
+    Ok(copied)
+}
+
+fn rows_have_versions(rows: &[Row]) -> bool
+    ensures { result ≡ list_all row_has_version (map row_of rows.now) }
+{
+    for row in rows {
+        if !row.has_version() {
+            return false;
+        }
+    }
+    true
+}
