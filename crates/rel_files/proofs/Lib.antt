@@ -2,13 +2,13 @@ pub mod Pairs
 mod Members
 pub mod Distinct
 pub mod Options
-mod Texts
+pub mod Texts
 mod Terms
 mod Endings
 pub mod Shape
 pub mod Versions
 pub mod Outcomes
-mod Files
+pub mod Files
 pub mod OneFault
 pub mod Either
-mod Limits
+pub mod Limits

@@ -20,5 +20,7 @@ mod release;
 mod text;
 
 pub use fault::FileFault;
+pub use parts::{list_in, pair_in};
 pub use reader::{RelFile, read_rel, read_rel_file, rel_of_term};
 pub use release::{Rel, RelApp, StartType};
+pub use text::{name_in, names_of, text_in};

@@ -29,7 +29,8 @@ pub(crate) struct RelParts<'a> {
     pub(crate) apps: &'a [Term],
 }
 
-fn list_in(term: &Term) -> Option<&[Term]>
+/// The members of a list.
+pub fn list_in(term: &Term) -> Option<&[Term]>
     ensures { option_map (λ items. members_of items.now) result ≡ list_in (value_of term.now) }
 {
     match term {
@@ -38,7 +39,8 @@ fn list_in(term: &Term) -> Option<&[Term]>
     }
 }
 
-fn pair_in(term: &Term) -> Option<(&Term, &Term)>
+/// The two members of a tuple.
+pub fn pair_in(term: &Term) -> Option<(&Term, &Term)>
     ensures { option_map (λ p. (value_of p.0.now, value_of p.1.now)) result
         ≡ pair_in (value_of term.now) }
 {

@@ -29,8 +29,8 @@ pub(crate) fn is_name(name: &str) -> bool
     1 <= name.len() && name.len() <= 255 && are_name_bytes(name.as_bytes())
 }
 
-// The name that an atom is.
-pub(crate) fn name_in(term: &Term) -> Option<&str>
+/// The name that an atom is.
+pub fn name_in(term: &Term) -> Option<&str>
     ensures { option_map (λ name. name.now) result ≡ name_in (value_of term.now) }
 {
     match term {
@@ -57,8 +57,8 @@ pub(crate) fn are_numbers(items: &[Term]) -> bool
     true
 }
 
-// The text of these numbers, if they are 1 to 62 characters from the lowest to `~`.
-pub(crate) fn text_in(
+/// The text of these numbers, if they are 1 to 62 characters from the lowest to `~`.
+pub fn text_in(
     alloc: Global,
     lowest: u8,
     items: &[Term],
@@ -104,8 +104,8 @@ fn character_in(lowest: u8, term: &Term) -> Option<char>
     }
 }
 
-// The names, if each is one.
-pub(crate) fn names_of(alloc: Global, items: &[Term]) -> Result<Option<Vec<String>>, AllocError>
+/// The names, if each is one.
+pub fn names_of(alloc: Global, items: &[Term]) -> Result<Option<Vec<String>>, AllocError>
     ensures { IfOk result (λ names.
         option_map (λ v. map string_bytes v.items) names ≡ names_of (members_of items.now)) }
 {

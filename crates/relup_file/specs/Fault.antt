@@ -1,0 +1,18 @@
+-- The fault of a relup file.
+use Rattle.std.specs.Prelude.{ℕ, List, ◌++◌, codes, decimal}
+use Rattle.erl_term.specs.TermFault.{TermFault}
+use Rattle.erl_term.specs.TermFault.TheVariants as term
+use Rattle.erl_term.specs.FaultTexts.{term_fault_text}
+use Rattle.relup_file.specs.declared.fault.RelupFault.{RelupFault}
+use Rattle.relup_file.specs.declared.fault.RelupFault.TheVariants.{BadTerm, BadShape, NoMemory}
+
+-- the fault of a file that is no row of terms; want of memory says nothing of the terms
+abbrev pub relup_fault_of : TermFault → RelupFault
+relup_fault_of term.NoMemory = NoMemory
+relup_fault_of e = BadTerm e
+
+-- how a fault is shown
+abbrev pub relup_fault_text : RelupFault → List ℕ
+relup_fault_text (BadTerm e) = term_fault_text e
+relup_fault_text (BadShape entry) = codes "BadShape " ++ decimal entry
+relup_fault_text NoMemory = codes "NoMemory"

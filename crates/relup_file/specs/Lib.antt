@@ -1,0 +1,7 @@
+pub mod Fault
+pub mod Instruction
+pub mod Form
+pub mod Parts
+pub mod Outline
+pub mod File
+pub mod Laws
