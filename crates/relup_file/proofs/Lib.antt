@@ -5,3 +5,5 @@ pub mod InstructionLemmas
 pub mod EntryLemmas
 pub mod RelupLemmas
 pub mod Printed
+pub mod FileLemmas
+pub mod ScriptLemmas

@@ -5,3 +5,5 @@ pub mod Parts
 pub mod Outline
 pub mod File
 pub mod Laws
+pub mod Script
+pub mod Search
