@@ -58,11 +58,7 @@ pub(crate) fn are_numbers(items: &[Term]) -> bool
 }
 
 /// The text of these numbers, if they are 1 to 62 characters from the lowest to `~`.
-pub fn text_in(
-    alloc: Global,
-    lowest: u8,
-    items: &[Term],
-) -> Result<Option<String>, AllocError>
+pub fn text_in(alloc: Global, lowest: u8, items: &[Term]) -> Result<Option<String>, AllocError>
     ensures { IfOk result (λ text.
         option_map string_bytes text ≡ text_in lowest (members_of items.now)) }
 {

@@ -3,11 +3,11 @@ use Rattle.std.proofs.Common.{◌≡◌, ℕ, List, [], ◌∷◌, map, Option, 
 use Rattle.std.specs.List.{AllByRecursion}
 use Rattle.std.specs.Option.{option_map, option_and_then}
 use Rattle.erl_term.specs.Value.{Value, Values, values_of}
-use Rattle.erl_term.specs.Value.Value.{int, atom, list, tuple}
+use Rattle.erl_term.specs.Value.Value.{atom, tuple}
 use Rattle.erl_term.specs.Value.Values.{no_values, value}
 use Rattle.rel_files.specs.Name.{IsName}
 use Rattle.rel_files.proofs.Options.{mapped, chained}
-use Rattle.relup_file.specs.Instruction.{FetchForm, SuspensionForm, PurgingForm, ConversionForm, CallForm, Instruction}
+use Rattle.relup_file.specs.Instruction.{Instruction}
 use Rattle.relup_file.specs.Instruction.Instruction.{load_object_code, point_of_no_return, suspend, load, code_change, resume, remove, purge, stop, start, apply, sync_nodes, restart_new_emulator, restart_emulator}
 use Rattle.relup_file.specs.Form.{one, command, atoms_term, instruction_term, IsInstruction, SpellsScript}
 use Rattle.relup_file.specs.Parts.{all_in, one_in, modules_in, fetch_in, suspensions_in, purging_in, conversion_in, call_in, bare_in, over_modules, single_in, tagged_in, instruction_in, script_in}

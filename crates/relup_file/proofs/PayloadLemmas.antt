@@ -1,9 +1,9 @@
 -- What stands behind the word of an instruction, both ways.
-use Rattle.std.proofs.Common.{◌≡◌, ℕ, Bool, true, false, List, [], ◌∷◌, map, Option, Some, None, if◌then◌else◌, refl, ap, subst, ◌∙◌}
+use Rattle.std.proofs.Common.{◌≡◌, ℕ, List, map, Option, Some, None, ap, subst, ◌∙◌}
 use Rattle.std.specs.List.{AllByRecursion}
 use Rattle.std.specs.Option.{option_map, option_and_then}
-use Rattle.erl_term.specs.Value.{Value, Values, values_of}
-use Rattle.erl_term.specs.Value.Value.{int, atom, list, tuple}
+use Rattle.erl_term.specs.Value.{Value, Values}
+use Rattle.erl_term.specs.Value.Value.{atom, list}
 use Rattle.erl_term.specs.Value.Values.{no_values, value}
 use Rattle.rel_files.specs.Name.{IsName}
 use Rattle.rel_files.specs.Form.{list_of}
@@ -14,7 +14,7 @@ use Rattle.relup_file.specs.declared.instruction.Direction.{Direction}
 use Rattle.relup_file.specs.declared.instruction.Timeout.{Timeout}
 use Rattle.relup_file.specs.declared.instruction.PurgeMode.{PurgeMode}
 use Rattle.relup_file.specs.Instruction.{FetchForm, SuspensionForm, PurgingForm, ChangeForm, ConversionForm, CallForm}
-use Rattle.relup_file.specs.Form.{one, pair_term, triple_term, text_term, atoms_term, purge_word, direction_word, timeout_term, limited_term, fetch_term, suspension_term, purging_term, change_term, mode_members, conversion_members, call_term, IsFetch, IsSuspension, IsChange}
+use Rattle.relup_file.specs.Form.{one, pair_term, triple_term, text_term, atoms_term, purge_word, timeout_term, limited_term, fetch_term, suspension_term, purging_term, change_term, mode_members, conversion_members, call_term, IsFetch, IsSuspension, IsChange}
 use Rattle.relup_file.specs.Parts.{all_in, one_in, triple_in, word_in, version_in, modules_in, purge_mode_in, mode_in, timeout_in, fetch_in, limited_in, suspension_in, suspensions_in, purging_in, change_in, changes_in, with_changes, with_mode, conversion_in, call_in}
 use Rattle.relup_file.proofs.Pieces.{all_in-terms, from_all, from_list, from_one, from_pair, from_triple, from_word, name_in-atom, from_name, modules_in-atoms, from_modules, version_in-text, from_version, purge_mode_of-word, from_purge_mode, direction_of-word, from_mode, timeout_in-term, from_timeout}
 

@@ -19,7 +19,7 @@ use Rattle.relup_file.specs.declared.instruction.Timeout.TheVariants.{Default, I
 use Rattle.relup_file.specs.declared.instruction.PurgeMode.{PurgeMode}
 use Rattle.relup_file.specs.declared.instruction.PurgeMode.TheVariants.{Soft, Brutal}
 use Rattle.relup_file.specs.Form.{one, pair_term, triple_term, text_term, atoms_term, purge_word, direction_word, timeout_term, is_natural, IsTimeout}
-use Rattle.relup_file.specs.Parts.{all_in, one_in, triple_in, word_in, version_in, modules_in, purge_mode_of, purge_mode_in, direction_of, mode_in, timeout_of, timeout_in}
+use Rattle.relup_file.specs.Parts.{all_in, one_in, triple_in, word_in, version_in, modules_in, purge_mode_of, purge_mode_in, direction_of, mode_in, timeout_in}
 
 -- which of two words a text is
 pub choose : {A : Type 0} (P : Type 0) (s w : List ℕ) (a b : Option A) (x : A) → (s ≡ w → a ≡ Some x → P) → (b ≡ Some x → P)

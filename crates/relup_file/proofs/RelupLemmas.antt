@@ -1,5 +1,5 @@
 -- Relups, both ways: what is read of a term is what it says, or its fault.
-use Rattle.std.proofs.Common.{◌≡◌, ◌≢◌, ℕ, ◌+◌, suc, List, [], ◌∷◌, ◌++◌, length, map, Option, Some, None, Result, Ok, Err, IfOk, IfErr, MatchResult, ◌⊎◌, inl, inr, refl, sym, ap, subst, ◌∙◌, arith}
+use Rattle.std.proofs.Common.{◌≡◌, ◌≢◌, ℕ, ◌+◌, suc, List, [], ◌∷◌, ◌++◌, length, map, Option, Some, None, Result, Ok, Err, IfOk, IfErr, MatchResult, inl, inr, refl, sym, ap, subst, ◌∙◌, arith}
 use Rattle.std.specs.List.{AllByRecursion}
 use Rattle.std.specs.Option.{option_map, option_and_then}
 use Rattle.erl_term.specs.Value.{Value, Values, values_of}
@@ -11,10 +11,9 @@ use Rattle.relup_file.specs.declared.fault.RelupFault.{RelupFault}
 use Rattle.relup_file.specs.declared.fault.RelupFault.TheVariants.{BadTerm, BadShape, NoMemory}
 use Rattle.relup_file.specs.declared.relup.Relup.{Relup}
 use Rattle.relup_file.specs.Instruction.{Instruction, EntryForm, RelupForm, relup_of}
-use Rattle.relup_file.specs.Instruction.Instruction.{point_of_no_return}
-use Rattle.relup_file.specs.Form.{triple_term, instruction_term, entry_term, relup_term, SpellsScript, IsEntryTerm, AreEntryTerms, IsOuter, IsRelupTerm, IsInstruction, IsScript, IsEntry, IsRelup}
+use Rattle.relup_file.specs.Form.{triple_term, instruction_term, entry_term, relup_term, SpellsScript, IsEntryTerm, AreEntryTerms, IsOuter, IsRelupTerm, IsScript, IsEntry, IsRelup}
 use Rattle.relup_file.specs.Parts.{triple_in, version_in, entry_in, put_entry, entries_in, Outer, outer_in, join, from_outer, relup_in, TellsBad}
-use Rattle.relup_file.specs.File.{HasNoOuter, HasBadEntry, HasTermFault, IsTermFault}
+use Rattle.relup_file.specs.File.{HasBadEntry, HasTermFault, IsTermFault}
 use Rattle.relup_file.proofs.Pieces.{from_list, from_triple, version_in-text, from_version}
 use Rattle.relup_file.proofs.InstructionLemmas.{list_of_values}
 use Rattle.relup_file.proofs.EntryLemmas.{entries_in-terms, from_entries, IsFirstBad, from_bad, entries_in-bad}

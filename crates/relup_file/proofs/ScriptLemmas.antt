@@ -1,6 +1,6 @@
 -- Scripts and their faults: what is found in a script is its fault.
-use Rattle.std.proofs.Common.{◌≡◌, ℕ, ◌+◌, ◌<◌, suc, Bool, true, false, ◌&&◌, List, [], ◌∷◌, ◌++◌, length, Option, Some, None, if◌then◌else◌, ◌⊎◌, inl, inr, refl, sym, ap, subst, ◌∙◌, arith}
-use Rattle.std.specs.Prelude.{is_some, ◌↔◌, Result, Ok, Err}
+use Rattle.std.proofs.Common.{◌≡◌, ℕ, ◌+◌, ◌<◌, suc, Bool, true, false, List, [], ◌∷◌, ◌++◌, length, Option, Some, None, if◌then◌else◌, ◌⊎◌, inl, inr, refl, sym, ap, subst, ◌∙◌, arith}
+use Rattle.std.specs.Prelude.{is_some}
 use Rattle.std.specs.List.{AllByRecursion}
 use Rattle.std.specs.Option.{option_map}
 use Rattle.rel_files.proofs.Options.{mapped, both, both_true}
@@ -10,7 +10,7 @@ use Rattle.relup_file.specs.declared.script.Side.{Side}
 use Rattle.relup_file.specs.declared.script.Side.TheVariants.{Early, Late}
 use Rattle.relup_file.specs.Instruction.{Instruction}
 use Rattle.relup_file.specs.Instruction.Instruction.{point_of_no_return}
-use Rattle.relup_file.specs.Script.{is_point, is_supported, may_precede, may_follow, may_stand, IsRight, points, IsRunnable, fault_at, IsFirstFault, HasWrong, IsScriptFault, split_point, first_fault, part_fault, split_fault, script_fault}
+use Rattle.relup_file.specs.Script.{is_point, is_supported, may_stand, IsRight, points, IsRunnable, fault_at, IsFirstFault, HasWrong, IsScriptFault, split_point, first_fault, part_fault, split_fault, script_fault}
 
 -- The faults of one side.
 right_none : (side : Side) (n : ℕ) (i : Instruction) → IsRight side i → fault_at side n i ≡ None

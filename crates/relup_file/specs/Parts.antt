@@ -1,5 +1,5 @@
 -- What is read of the terms of a relup.
-use Rattle.std.specs.Prelude.{◌≡◌, ℕ, suc, ◌+◌, Bool, List, [], ◌∷◌, Option, None, Some, Result, Ok, Err, codes, if◌then◌else◌}
+use Rattle.std.specs.Prelude.{◌≡◌, ℕ, ◌+◌, List, [], ◌∷◌, Option, None, Some, Result, Ok, Err, codes, if◌then◌else◌}
 use Rattle.std.specs.Option.{option_map, option_and_then}
 use Rattle.std.specs.Str.{bytes_eq}
 use Rattle.erl_term.specs.Value.{Value, Values}
@@ -17,7 +17,7 @@ use Rattle.relup_file.specs.declared.fault.RelupFault.{RelupFault}
 use Rattle.relup_file.specs.declared.fault.RelupFault.TheVariants.{BadTerm, BadShape, NoMemory}
 use Rattle.relup_file.specs.Instruction.{FetchForm, SuspensionForm, PurgingForm, ChangeForm, ConversionForm, CallForm, Instruction, EntryForm, RelupForm}
 use Rattle.relup_file.specs.Instruction.Instruction.{load_object_code, point_of_no_return, suspend, load, code_change, resume, remove, purge, stop, start, apply, sync_nodes, restart_new_emulator, restart_emulator}
-use Rattle.relup_file.specs.Form.{direction_word, purge_word, timeout_term, is_natural}
+use Rattle.relup_file.specs.Form.{direction_word, purge_word, is_natural}
 
 -- the values of all, where each has one
 abbrev pub all_in : {A : Type 0} → (Value → Option A) → Values → Option (List A)

@@ -1,9 +1,9 @@
 -- What may stand where in a script, and why a script isn't run (OTP: appup(4); what stands before the point is this project's own).
-use Rattle.std.specs.Prelude.{◌≡◌, ◌⊎◌, ℕ, ◌+◌, ◌<◌, Bool, true, false, ◌&&◌, ◌||◌, not, IsTrue, List, [], ◌∷◌, ◌++◌, length, Option, None, Some, is_some, codes, if◌then◌else◌}
+use Rattle.std.specs.Prelude.{◌≡◌, ◌⊎◌, ℕ, ◌+◌, ◌<◌, Bool, true, false, ◌&&◌, ◌||◌, IsTrue, List, [], ◌∷◌, ◌++◌, length, Option, None, Some, is_some, codes, if◌then◌else◌}
 use Rattle.std.specs.List.{AllByRecursion}
 use Rattle.std.specs.Option.{option_map}
 use Rattle.std.specs.Str.{bytes_eq}
-use Rattle.erl_term.specs.Value.{Value, Values}
+use Rattle.erl_term.specs.Value.{Values}
 use Rattle.erl_term.specs.Value.Value.{atom}
 use Rattle.erl_term.specs.Value.Values.{no_values, value}
 use Rattle.relup_file.specs.declared.fault.ScriptFault.{ScriptFault}

@@ -1,5 +1,5 @@
 -- Which script leads from one release to another (OTP: release_handler:install_release/1).
-use Rattle.std.specs.Prelude.{ℕ, List, Option, None, Some, string_bytes}
+use Rattle.std.specs.Prelude.{ℕ, List, Option, None, Some}
 use Rattle.std.specs.Option.{option_map, option_and_then}
 use Rattle.std.specs.List.{find}
 use Rattle.std.specs.Str.{bytes_eq}

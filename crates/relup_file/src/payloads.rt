@@ -38,11 +38,7 @@ pub(crate) fn fetch_in(alloc: Global, term: &Term) -> Result<Option<Fetch>, Allo
 }
 
 // `{Mod, Timeout}`.
-fn limited_in(
-    alloc: Global,
-    name: &Term,
-    timeout: &Term,
-) -> Result<Option<Suspension>, AllocError>
+fn limited_in(alloc: Global, name: &Term, timeout: &Term) -> Result<Option<Suspension>, AllocError>
     ensures { IfOk result (λ o.
         option_map suspension_of o ≡ limited_in (value_of name.now, value_of timeout.now)) }
 {

@@ -40,7 +40,7 @@ pub fn find_script<'a>(
 ) -> Result<Found<'a>, NoMatchingRelup>
     ensures { option_map found_of (result_ok result)
         ≡ script_between target.now (option_map (λ r. relup_of r.now) target_relup.entry)
-            running.now (option_map (λ r. relup_of r.now) running_relup.entry) }
+        running.now (option_map (λ r. relup_of r.now) running_relup.entry) }
 {
     if let Some(found) = upgrade(running, target_relup) {
         return Ok(found);

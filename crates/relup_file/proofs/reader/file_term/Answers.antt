@@ -1,5 +1,4 @@
 use Rattle.std.proofs.Common.{rules, ◌≡◌, ◌∷◌, [], Some, None, slice_get, sym, ap, ◌∙◌}
-use Rattle.erl_term.specs.Value.{value_of}
 use Rattle.erl_term.specs.Grammar.{Reading}
 use Rattle.rel_files.proofs.Files.{several, alone}
 use Rattle.rel_files.proofs.Limits.{last_keeps_limits}

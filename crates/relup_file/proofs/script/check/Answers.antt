@@ -1,6 +1,5 @@
-use Rattle.std.proofs.Common.{◌≡◌, Some, None, Ok, Err, ap, refl, ◌∙◌, sym}
+use Rattle.std.proofs.Common.{Err, ap, refl, sym}
 use Rattle.relup_file.specs.Instruction.{script_of}
-use Rattle.relup_file.specs.Script.{script_fault}
 use Rattle.relup_file.proofs.ScriptLemmas.{runnable, not_runnable, tells_one, tells_none}
 use Rattle.relup_file.proofs.script.check.Goals as goal
 

@@ -1,8 +1,7 @@
-use Rattle.std.proofs.Common.{◌≡◌, ◌∷◌, map, take, pos, codes, string_bytes}
+use Rattle.std.proofs.Common.{◌≡◌, map, take}
 use Rattle.erl_term.specs.Value.{value_of}
-use Rattle.erl_term.specs.Value.Value.{int, atom}
-use Rattle.relup_file.specs.Instruction.{suspension_of, change_of, instruction_of, entry_of}
-use Rattle.relup_file.specs.Form.{suspension_term, change_term, instruction_term, entry_term}
+use Rattle.relup_file.specs.Instruction.{change_of}
+use Rattle.relup_file.specs.Form.{change_term}
 use Rattle.relup_file.proofs.spelling.changes_term.Given as goal
 
 abbrev pub invariant-loop-change : goal.invariant-loop-change

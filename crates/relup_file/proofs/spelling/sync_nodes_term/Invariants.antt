@@ -1,8 +1,6 @@
-use Rattle.std.proofs.Common.{◌≡◌, ◌∷◌, map, take, pos, codes, string_bytes}
+use Rattle.std.proofs.Common.{◌≡◌, ◌∷◌, map, take, codes}
 use Rattle.erl_term.specs.Value.{value_of}
-use Rattle.erl_term.specs.Value.Value.{int, atom}
-use Rattle.relup_file.specs.Instruction.{suspension_of, change_of, instruction_of, entry_of}
-use Rattle.relup_file.specs.Form.{suspension_term, change_term, instruction_term, entry_term}
+use Rattle.erl_term.specs.Value.Value.{atom}
 use Rattle.relup_file.proofs.spelling.sync_nodes_term.Given as goal
 
 abbrev pub invariant-loop-term : goal.invariant-loop-term

@@ -1,4 +1,3 @@
-use Rattle.std.proofs.Common.{rules, refl}
 use Rattle.relup_file.specs.Instruction.{instruction_of}
 use Rattle.relup_file.specs.Parts.{instruction_in}
 use Rattle.relup_file.proofs.Rows.{row_more}
