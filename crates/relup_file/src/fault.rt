@@ -77,13 +77,18 @@ pub enum ScriptFault {
 }
 
 impl Display for ScriptFault {
+    ghost use Rattle.std.specs.Prelude.{Some};
+    ghost use Rattle.relup_file.specs.Fault.{script_fault_text};
+
+    ghost output = { λ f. Some (script_fault_text f) };
+
     fn fmt<W: fmt::Write>(&self, f: &mut Formatter<W>) -> fmt::Result {
-        f.write_str(match self {
-            ScriptFault::NoPoint => "NoPoint",
-            ScriptFault::TwoPoints => "TwoPoints",
-            ScriptFault::Misplaced(_) => "Misplaced",
-            ScriptFault::Unsupported(_) => "Unsupported",
-        })
+        match self {
+            ScriptFault::NoPoint => f.write_str("NoPoint"),
+            ScriptFault::TwoPoints => f.write_str("TwoPoints"),
+            ScriptFault::Misplaced(_) => f.write_str("Misplaced"),
+            ScriptFault::Unsupported(_) => f.write_str("Unsupported"),
+        }
     }
 }
 

@@ -6,7 +6,7 @@ ghost use Rattle.erl_term.specs.Within.{IsWithin};
 ghost use Rattle.rel_files.specs.Form.{list_of};
 ghost use Rattle.relup_file.specs.Instruction.{script_of, entry_of, relup_of};
 ghost use Rattle.relup_file.specs.Form.{instruction_term, entry_term, relup_term, IsRelup};
-ghost use Rattle.relup_file.specs.File.{HasFileTerm, SaysRelup};
+ghost use Rattle.relup_file.specs.File.{SaysRelup};
 
 use crate::spelling::instruction_term;
 use crate::terms::{text_term, triple_term};

@@ -1,5 +1,5 @@
 //! Whether a script can be run.
-ghost use Rattle.std.specs.Prelude.{◌≡◌, ◌+◌, ◌<◌, ◌^◌, ◌↔◌, length, map, IsOk, None, Ok, Err};
+ghost use Rattle.std.specs.Prelude.{◌≡◌, ◌+◌, ◌<◌, ◌^◌, ◌↔◌, length, IsOk, None, Ok, Err};
 ghost use Rattle.std.specs.Option.{option_map};
 ghost use Rattle.relup_file.specs.Instruction.{instruction_of, script_of};
 ghost use Rattle.relup_file.specs.Script.{is_point, is_supported, may_precede, may_follow, may_stand, fault_at, part_fault, split_point, script_fault, IsRunnable, IsScriptFault};

@@ -2,7 +2,7 @@
 ghost use Rattle.std.specs.Prelude.{◌≡◌, map};
 ghost use Rattle.std.specs.Option.{option_map};
 ghost use Rattle.std.specs.Result.{result_ok};
-ghost use Rattle.relup_file.specs.Instruction.{RelupForm, entry_of, relup_of};
+ghost use Rattle.relup_file.specs.Instruction.{entry_of, relup_of};
 ghost use Rattle.relup_file.specs.Search.{found_of, entry_for, of_entry, upgrade, downgrade, script_between};
 
 use crate::{Direction, Instr, Relup, RelupEntry};
@@ -14,6 +14,10 @@ use std::fmt::{self, Display, Formatter};
 pub struct NoMatchingRelup;
 
 impl Display for NoMatchingRelup {
+    ghost use Rattle.std.specs.Prelude.{Some, codes};
+
+    ghost output = { λ _. Some (codes "NoMatchingRelup") };
+
     fn fmt<W: fmt::Write>(&self, f: &mut Formatter<W>) -> fmt::Result {
         f.write_str("NoMatchingRelup")
     }

@@ -1,7 +1,6 @@
 //! The terms of instructions.
 ghost use Rattle.std.specs.Prelude.{◌≡◌, IfOk, codes, map, string_bytes};
 ghost use Rattle.erl_term.specs.Value.{members_of, value_of};
-ghost use Rattle.erl_term.specs.Value.Value.{tuple};
 ghost use Rattle.rel_files.specs.Form.{list_of};
 ghost use Rattle.relup_file.specs.Instruction.{fetch_of, suspension_of, purging_of, change_of, conversion_of, call_of, instruction_of};
 ghost use Rattle.relup_file.specs.Form.{one, command, atoms_term, purge_word, direction_word, timeout_term, fetch_term, suspension_term, purging_term, change_term, conversion_members, call_term, instruction_term};

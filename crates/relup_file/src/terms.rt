@@ -1,7 +1,7 @@
 //! Terms of texts and of terms.
 ghost use Rattle.std.specs.Prelude.{◌≡◌, IfOk, map, string_bytes};
-ghost use Rattle.erl_term.specs.Value.{value_of, members_of};
-ghost use Rattle.erl_term.specs.Value.Value.{atom, list};
+ghost use Rattle.erl_term.specs.Value.{value_of};
+ghost use Rattle.erl_term.specs.Value.Value.{atom};
 ghost use Rattle.relup_file.specs.Form.{one, pair_term, triple_term, command, text_term, atoms_term};
 
 use erl_term::Term;
