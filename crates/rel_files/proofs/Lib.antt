@@ -8,8 +8,8 @@ mod Endings
 pub mod Shape
 pub mod Versions
 pub mod Outcomes
-mod Files
+pub mod Files
 pub mod OneFault
 pub mod Either
 pub mod OneTermFiles
-mod Limits
+pub mod Limits

@@ -23,6 +23,8 @@ pub enum FilesError {
 
 /// Files by their paths, which are compared byte by byte.
 pub trait Files {
+    ghost use Rattle.rel_handler.specs.declared.files.FilesError.{FilesError};
+
     /// What a read of a path may give: the file's bytes, or why it isn't read. Of files that nobody changes it is one.
     ghost gives: { Self → List ℕ → Result (List ℕ) FilesError → Type 0 };
 

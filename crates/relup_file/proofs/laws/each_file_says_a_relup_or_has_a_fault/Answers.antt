@@ -1,0 +1,5 @@
+use Rattle.relup_file.proofs.FileLemmas.{says_or_fault}
+use Rattle.relup_file.proofs.laws.each_file_says_a_relup_or_has_a_fault.Goals as goal
+
+pub returns : goal.returns
+returns c = says_or_fault

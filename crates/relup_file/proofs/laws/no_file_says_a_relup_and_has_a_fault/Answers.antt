@@ -1,0 +1,5 @@
+use Rattle.relup_file.proofs.FileLemmas.{never_both}
+use Rattle.relup_file.proofs.laws.no_file_says_a_relup_and_has_a_fault.Goals as goal
+
+pub returns : goal.returns
+returns c = never_both

@@ -1,0 +1,9 @@
+pub mod Fault
+pub mod Instruction
+pub mod Form
+pub mod Parts
+pub mod Outline
+pub mod File
+pub mod Laws
+pub mod Script
+pub mod Search

@@ -1,0 +1,95 @@
+//! Why bytes are no relup, and why a script isn't run.
+ghost use Rattle.std.specs.Prelude.{◌≡◌};
+ghost use Rattle.relup_file.specs.declared.fault.RelupFault.TheVariants.{NoMemory};
+ghost use Rattle.relup_file.specs.Fault.{relup_fault_of};
+
+use erl_term::TermFault;
+use std::alloc::{AllocError, AllocFailed};
+use std::fmt::{self, Display, Formatter};
+
+/// What is wrong with a relup file. It is shown by its name, and by its place or its entry.
+#[derive(Clone, Copy, Debug, PartialEq, Eq)]
+pub enum RelupFault {
+    /// It is no row of terms.
+    BadTerm(TermFault),
+    /// The first entry that is none, counted from 1, upgrades first. 0 where the file has not one term, or one of another
+    /// shape.
+    BadShape(usize),
+    /// No memory was left. It says nothing of the file.
+    NoMemory,
+}
+
+impl From<AllocError> for RelupFault {
+    ghost from_gives = { λ _ f. f ≡ NoMemory };
+
+    fn from(_: AllocError) -> RelupFault {
+        RelupFault::NoMemory
+    }
+}
+
+impl<T: Drop> From<AllocFailed<T>> for RelupFault {
+    ghost from_gives = { λ _ f. f ≡ NoMemory };
+
+    fn from(_: AllocFailed<T>) -> RelupFault {
+        RelupFault::NoMemory
+    }
+}
+
+impl From<TermFault> for RelupFault {
+    ghost from_gives = { λ e f. f ≡ relup_fault_of e };
+
+    fn from(fault: TermFault) -> RelupFault {
+        match fault {
+            TermFault::NoMemory => RelupFault::NoMemory,
+            fault => RelupFault::BadTerm(fault),
+        }
+    }
+}
+
+impl Display for RelupFault {
+    ghost use Rattle.std.specs.Prelude.{Some};
+    ghost use Rattle.relup_file.specs.Fault.{relup_fault_text};
+
+    ghost output = { λ f. Some (relup_fault_text f) };
+
+    fn fmt<W: fmt::Write>(&self, f: &mut Formatter<W>) -> fmt::Result {
+        match self {
+            RelupFault::BadTerm(fault) => write!(f, "{fault}"),
+            RelupFault::BadShape(entry) => write!(f, "BadShape {entry}"),
+            RelupFault::NoMemory => f.write_str("NoMemory"),
+        }
+    }
+}
+
+impl std::error::Error for RelupFault {}
+
+/// Why a script isn't run. An instruction is told by its place, counted from 1. It is shown by its name alone.
+#[derive(Clone, Copy, Debug, PartialEq, Eq)]
+pub enum ScriptFault {
+    /// It has no point of no return.
+    NoPoint,
+    /// It has more than one.
+    TwoPoints,
+    /// The first instruction at fault stands on the wrong side of the point.
+    Misplaced(usize),
+    /// The first instruction at fault can't be run anywhere.
+    Unsupported(usize),
+}
+
+impl Display for ScriptFault {
+    ghost use Rattle.std.specs.Prelude.{Some};
+    ghost use Rattle.relup_file.specs.Fault.{script_fault_text};
+
+    ghost output = { λ f. Some (script_fault_text f) };
+
+    fn fmt<W: fmt::Write>(&self, f: &mut Formatter<W>) -> fmt::Result {
+        match self {
+            ScriptFault::NoPoint => f.write_str("NoPoint"),
+            ScriptFault::TwoPoints => f.write_str("TwoPoints"),
+            ScriptFault::Misplaced(_) => f.write_str("Misplaced"),
+            ScriptFault::Unsupported(_) => f.write_str("Unsupported"),
+        }
+    }
+}
+
+impl std::error::Error for ScriptFault {}

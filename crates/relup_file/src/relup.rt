@@ -1,0 +1,25 @@
+//! A relup, as its file has it.
+use crate::Instr;
+use erl_term::Term;
+
+/// The script between a release and another one.
+#[derive(Debug, PartialEq, Drop)]
+pub struct RelupEntry {
+    /// The version of the other release.
+    pub vsn: String,
+    /// What the file says about the script: any term.
+    pub descr: Term,
+    /// Where the file has no instructions it is the point of no return alone.
+    pub script: Vec<Instr>,
+}
+
+/// What a relup file says.
+#[derive(Debug, PartialEq, Drop)]
+pub struct Relup {
+    /// The version of the release that the file belongs to.
+    pub vsn: String,
+    /// The upgrades to this release, each with the version that it starts from.
+    pub ups: Vec<RelupEntry>,
+    /// The downgrades from this release, each with the version that it leads to.
+    pub downs: Vec<RelupEntry>,
+}

@@ -1,0 +1,102 @@
+//! The answer to a case.
+use erl_term::print;
+use relup_file::{
+    Direction, Found, Relup, RelupFault, ScriptFault, check, find_script, print_relup, read_relup,
+};
+use std::alloc::{AllocError, Global};
+
+/// The answer in one of four modes. In `relup` the text is a file; the answer is the text that the relup is printed as.
+/// In `script` the text is the instructions of a file's only upgrade, and the answer is again the text of the file. In
+/// `check` the text is such instructions too, and the answer is whether they can be run. In `find` it is the version of a
+/// target, that of the running release, and their relups, of which one can be empty, with blanks and a bar between.
+pub(crate) fn answer(alloc: Global, mode: &str, text: &[u8]) -> Result<String, AllocError> {
+    match mode {
+        "relup" => printed(alloc, read_relup(alloc, text)),
+        "script" => printed(alloc, with_script(alloc, text)?),
+        "check" => checked(alloc, with_script(alloc, text)?),
+        "find" => searched(alloc, text),
+        _ => String::from_str(alloc, "no such mode"),
+    }
+}
+
+// Reads a file whose only upgrade has these instructions.
+fn with_script(alloc: Global, script: &[u8]) -> Result<Result<Relup, RelupFault>, AllocError> {
+    let mut file = Vec::from_slice(alloc, b"{\"B\",[{\"A\",[],[")?;
+    file.extend_from_slice(script)?;
+    file.extend_from_slice(b"]}],[]}.")?;
+    Ok(read_relup(alloc, &file))
+}
+
+// The text of a relup, or the fault.
+fn printed(alloc: Global, read: Result<Relup, RelupFault>) -> Result<String, AllocError> {
+    match read {
+        Ok(relup) => print_relup(alloc, &relup),
+        Err(fault) => fault.to_string(alloc),
+    }
+}
+
+// Whether the script of the first upgrade can be run.
+fn checked(alloc: Global, read: Result<Relup, RelupFault>) -> Result<String, AllocError> {
+    let relup = match read {
+        Ok(relup) => relup,
+        Err(fault) => return fault.to_string(alloc),
+    };
+    match relup.ups.first() {
+        Some(entry) => shown_check(alloc, check(&entry.script)),
+        None => String::from_str(alloc, "no upgrade"),
+    }
+}
+
+fn shown_check(alloc: Global, answer: Result<(), ScriptFault>) -> Result<String, AllocError> {
+    match answer {
+        Ok(()) => String::from_str(alloc, "ok"),
+        Err(fault) => match fault {
+            ScriptFault::Misplaced(n) => format!(in alloc; "{fault} {n}"),
+            ScriptFault::Unsupported(n) => format!(in alloc; "{fault} {n}"),
+            _ => fault.to_string(alloc),
+        },
+    }
+}
+
+// What is found with these versions and relups.
+fn searched(alloc: Global, text: &[u8]) -> Result<String, AllocError> {
+    let Ok(text) = str::from_utf8(text) else {
+        return String::from_str(alloc, "no text");
+    };
+    let Some((target, rest)) = text.split_once(' ') else {
+        return String::from_str(alloc, "no target");
+    };
+    let Some((running, relups)) = rest.split_once(' ') else {
+        return String::from_str(alloc, "no running release");
+    };
+    let Some((above, below)) = relups.split_once('|') else {
+        return String::from_str(alloc, "no relups");
+    };
+    found_between(alloc, target, above, running, below)
+}
+
+fn found_between(
+    alloc: Global,
+    target: &str,
+    above: &str,
+    running: &str,
+    below: &str,
+) -> Result<String, AllocError> {
+    let above = read_relup(alloc, above.as_bytes()).ok();
+    let below = read_relup(alloc, below.as_bytes()).ok();
+    match find_script(target, above.as_ref(), running, below.as_ref()) {
+        Ok(found) => shown_found(alloc, found),
+        Err(none) => none.to_string(alloc),
+    }
+}
+
+fn shown_found(alloc: Global, found: Found<'_>) -> Result<String, AllocError> {
+    let descr = print(alloc, found.descr)?;
+    let direction = match found.direction {
+        Direction::Up => "up from",
+        Direction::Down => "down to",
+    };
+    let other = found.other;
+    let count = found.script.len();
+    format!(in alloc; "{direction} {other}, {descr}, {count} instructions")
+}
