@@ -57,7 +57,7 @@ pub(crate) fn release(alloc: Global, vsn: &str) -> Result<Rel, AllocError> {
 }
 
 // The list, each release with the status that is found for its version, and what else is asked of it.
-fn push_list(text: &mut String, list: &ReleaseList) -> Result<(), AllocError> {
+pub(crate) fn push_list(text: &mut String, list: &ReleaseList) -> Result<(), AllocError> {
     for listed in list.releases() {
         let status = list.status(listed.release.vsn.as_str());
         write!(text, "{} {status:?}, ", listed.release.vsn)?;

@@ -6,6 +6,7 @@ mod answers;
 mod files;
 mod lists;
 mod readers;
+mod records;
 mod terms;
 
 use crate::answers::answer;

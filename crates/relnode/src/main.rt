@@ -1,13 +1,19 @@
-//! The program `relnode`: a session of a node on standard input and output, and on an empty disk in memory.
+//! The program `relnode`: a session of a node on standard input and output.
 //!
-//! What it writes and what it leaves is said by `rel_session`. A session that ends before its input is reported on
-//! standard error, with the text and the exit status of its error (`exit_text`, `exit_status`).
+//! `relnode [--store FILE]`: the node is on a disk over this file, which a further session goes on with. Without the option
+//! it is on an empty disk in memory. `--root DIR` is read, and refused as bad arguments, since sessions don't read files
+//! below a folder yet.
+//!
+//! What a session writes and what it leaves is said by `rel_session`; what a disk over a file trusts, by `rel_host`. A
+//! program that ends before its input reports it on standard error, with the text and the exit status of its error.
 #![tactic(auto)]
 
 use counted_io::CountedWriter;
-use rel_disk::MemDisk;
+use rel_disk::{Disk, MemDisk};
+use rel_host::{FileDisk, OpenError, Options, OptionsError, read_options};
 use rel_session::{Input, SessionError, session};
 use std::alloc::Global;
+use std::env;
 use std::io;
 use std::process::ExitCode;
 
@@ -17,20 +23,92 @@ const DISK: usize = 8_388_608;
 /// How many bytes its log of calls holds.
 const LOG: usize = 2 * DISK;
 
-fn main(rt: HostRuntime) -> ExitCode {
-    let Err(error) = run(&rt, rt.alloc()) else {
-        return ExitCode::SUCCESS;
-    };
-    let text = error.exit_text();
-    let _ = eprintln!(rt; "relnode: {text}");
-    ExitCode::from(error.exit_status())
+/// Why the program ends before its input.
+#[derive(Clone, Copy)]
+enum Failure {
+    /// Its arguments are none that it has.
+    BadArguments,
+    /// The session ended early, or its disk could not be had.
+    Session(SessionError),
 }
 
-/// A session on standard input and output, and on an empty disk in memory.
-fn run(rt: &HostRuntime, alloc: Global) -> Result<(), SessionError> {
-    let disk = MemDisk::new(alloc, DISK, LOG)?;
-    let mut input = Input::new(alloc, rt.reader())?;
+impl Failure {
+    /// The exit status.
+    fn exit_status(self) -> u8 {
+        match self {
+            Failure::BadArguments => 2,
+            Failure::Session(error) => error.exit_status(),
+        }
+    }
+
+    /// What is reported behind the program's name.
+    fn exit_text(self) -> &'static str {
+        match self {
+            Failure::BadArguments => "bad arguments",
+            Failure::Session(error) => error.exit_text(),
+        }
+    }
+}
+
+fn main(rt: HostRuntime) -> ExitCode {
+    let Err(failure) = run(&rt, rt.alloc()) else {
+        return ExitCode::SUCCESS;
+    };
+    let text = failure.exit_text();
+    let _ = eprintln!(rt; "relnode: {text}");
+    ExitCode::from(failure.exit_status())
+}
+
+/// A session on the disk that the arguments name.
+fn run(rt: &HostRuntime, alloc: Global) -> Result<(), Failure> {
+    match arguments(rt, alloc)? {
+        Options {
+            store: Some(path),
+            root: None,
+        } => match FileDisk::open(rt, alloc, path.as_str()) {
+            Ok(disk) => run_on(rt, alloc, disk),
+            Err(OpenError::NoMemory) => Err(Failure::Session(SessionError::NoMemory)),
+            Err(_) => Err(Failure::Session(SessionError::Read)),
+        },
+        Options {
+            store: None,
+            root: None,
+        } => match MemDisk::new(alloc, DISK, LOG) {
+            Ok(disk) => run_on(rt, alloc, disk),
+            Err(_) => Err(Failure::Session(SessionError::NoMemory)),
+        },
+        Options {
+            store: _,
+            root: Some(_),
+        } => Err(Failure::BadArguments),
+    }
+}
+
+/// The options that the program was given.
+fn arguments(rt: &HostRuntime, alloc: Global) -> Result<Options, Failure> {
+    let Ok(arguments) = env::args(rt) else {
+        return Err(Failure::BadArguments);
+    };
+    let words: Vec<String> = match arguments.skip(1).collect(alloc) {
+        Ok(words) => words,
+        Err(_) => return Err(Failure::Session(SessionError::NoMemory)),
+    };
+    match read_options(alloc, words.as_slice()) {
+        Ok(options) => Ok(options),
+        Err(OptionsError::BadArguments) => Err(Failure::BadArguments),
+        Err(OptionsError::NoMemory) => Err(Failure::Session(SessionError::NoMemory)),
+    }
+}
+
+/// A session on standard input and output, and on this disk.
+fn run_on<D: Disk>(rt: &HostRuntime, alloc: Global, disk: D) -> Result<(), Failure> {
+    let Ok(mut input) = Input::new(alloc, rt.reader()) else {
+        return Err(Failure::Session(SessionError::NoMemory));
+    };
     let mut output = CountedWriter::new(io::writer(rt));
     let (_disk, ended) = session(alloc, disk, &mut input, &mut output);
-    ended
+    match ended {
+        Ok(()) => Ok(()),
+        Err(error) => Err(Failure::Session(error)),
+    }
 }

@@ -1,0 +1,52 @@
+//! Lists of releases, as records of a store make them.
+use crate::lists::{event, push_list};
+use rel_list::Event;
+use rel_records::laws::records_make_versions;
+use rel_records::{change_body, read_list};
+use std::alloc::{AllocError, Global};
+
+/// The list that these bodies make, each on a line of its own, or which one is bad.
+pub(crate) fn list(alloc: Global, bodies: &[u8]) -> Result<String, AllocError> {
+    let bodies = lines(alloc, bodies)?;
+    let mut text = String::new(alloc);
+    match read_list(alloc, bodies.as_slice()) {
+        Ok(list) => push_list(&mut text, &list)?,
+        Err(error) => write!(text, "{error}")?,
+    }
+    Ok(text)
+}
+
+/// The body of the record that the event on the first line writes behind the list that the other lines make.
+pub(crate) fn written(alloc: Global, text: &[u8]) -> Result<String, AllocError> {
+    let Some(end) = text.iter().position(|byte| *byte == b'\n') else {
+        return String::from_str(alloc, "no list");
+    };
+    let words = String::from_utf8_lossy(alloc, &text[..end])?;
+    let bodies = lines(alloc, &text[end + 1..])?;
+    match event(alloc, words.as_str())? {
+        Some(event) => body(alloc, bodies.as_slice(), &event),
+        None => String::from_str(alloc, "no such event"),
+    }
+}
+
+fn body(alloc: Global, bodies: &[Vec<u8>], event: &Event) -> Result<String, AllocError> {
+    records_make_versions();
+    let Ok(list) = read_list(alloc, bodies) else {
+        return String::from_str(alloc, "no list");
+    };
+    if let Some(error) = list.refusal(event) {
+        return format!(in alloc; "{error}");
+    }
+    match event {
+        Event::Made(_) | Event::Unpacked(_) => String::from_str(alloc, "brings a release"),
+        event => change_body(alloc, &list, event),
+    }
+}
+
+fn lines(alloc: Global, text: &[u8]) -> Result<Vec<Vec<u8>>, AllocError> {
+    let mut lines = Vec::new(alloc);
+    for line in text.split(|byte| *byte == b'\n') {
+        lines.push(Vec::from_slice(alloc, line)?)?;
+    }
+    Ok(lines)
+}
