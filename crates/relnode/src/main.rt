@@ -101,7 +101,7 @@ fn arguments(rt: &HostRuntime, alloc: Global) -> Result<Options, Failure> {
 }
 
 /// A session on standard input and output, and on this disk.
-fn run_on<D: Disk>(rt: &HostRuntime, alloc: Global, disk: D) -> Result<(), Failure> {
+fn run_on<D: Disk + Drop>(rt: &HostRuntime, alloc: Global, disk: D) -> Result<(), Failure> {
     let Ok(mut input) = Input::new(alloc, rt.reader()) else {
         return Err(Failure::Session(SessionError::NoMemory));
     };
