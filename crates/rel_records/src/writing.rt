@@ -50,11 +50,7 @@ pub fn unpacked_body(alloc: Global, rel: Term) -> Result<String, AllocError>
 }
 
 /// The body of the record of an event that changes this list and brings no release.
-pub fn change_body(
-    alloc: Global,
-    list: &ReleaseList,
-    event: &Event,
-) -> Result<String, AllocError>
+pub fn change_body(alloc: Global, list: &ReleaseList, event: &Event) -> Result<String, AllocError>
     requires listed { IsOfListed (event_of event.now) }
     requires allowed { refusal (event_of event.now) list.now ≡ None }
     requires versions { HaveVersions list.now }
@@ -95,11 +91,7 @@ fn release_term(alloc: Global, word: &str, rel: Term) -> Result<Term, AllocError
 }
 
 // The term of the record of an event.
-fn change_term(
-    alloc: Global,
-    releases: &[ListedRelease],
-    event: &Event,
-) -> Result<Term, AllocError>
+fn change_term(alloc: Global, releases: &[ListedRelease], event: &Event) -> Result<Term, AllocError>
     requires { IsOfListed (event_of event.now) }
     ensures { IfOk result (λ term. (rel : Value) → value_of term
         ≡ term_of rel (record_of (event_of event.now) (map entry_of releases.now))) }

@@ -13,9 +13,8 @@ use rel_disk::{Disk, MemDisk};
 use rel_host::{FileDisk, OpenError, Options, OptionsError, read_options};
 use rel_session::{Input, SessionError, session};
 use std::alloc::Global;
-use std::env;
-use std::io;
 use std::process::ExitCode;
+use std::{env, io};
 
 /// How many bytes the disk in memory holds.
 const DISK: usize = 8_388_608;
