@@ -60,26 +60,25 @@ fn main(rt: HostRuntime) -> ExitCode {
 
 /// A session on the disk that the arguments name.
 fn run(rt: &HostRuntime, alloc: Global) -> Result<(), Failure> {
-    match arguments(rt, alloc)? {
-        Options {
-            store: Some(path),
-            root: None,
-        } => match FileDisk::open(rt, alloc, path.as_str()) {
-            Ok(disk) => run_on(rt, alloc, disk),
-            Err(OpenError::NoMemory) => Err(Failure::Session(SessionError::NoMemory)),
-            Err(_) => Err(Failure::Session(SessionError::Read)),
-        },
-        Options {
-            store: None,
-            root: None,
-        } => match MemDisk::new(alloc, DISK, LOG) {
+    let Options { store, root } = arguments(rt, alloc)?;
+    if root.is_some() {
+        return Err(Failure::BadArguments);
+    }
+    match store {
+        Some(path) => run_on_file(rt, alloc, path.as_str()),
+        None => match MemDisk::new(alloc, DISK, LOG) {
             Ok(disk) => run_on(rt, alloc, disk),
             Err(_) => Err(Failure::Session(SessionError::NoMemory)),
         },
-        Options {
-            store: _,
-            root: Some(_),
-        } => Err(Failure::BadArguments),
+    }
+}
+
+/// A session on the disk over the file of this path.
+fn run_on_file(rt: &HostRuntime, alloc: Global, path: &str) -> Result<(), Failure> {
+    match FileDisk::open(rt, alloc, path) {
+        Ok(disk) => run_on(rt, alloc, disk),
+        Err(OpenError::NoMemory) => Err(Failure::Session(SessionError::NoMemory)),
+        Err(_) => Err(Failure::Session(SessionError::Read)),
     }
 }
 
