@@ -1,15 +1,19 @@
 -- A node that is booted, and one that is made.
 use Rattle.std.proofs.Common.{◌≡◌, inl, inr, ◌⊎◌, ℕ, true, false, List, [], ◌∷◌, Ok, refl, sym, ap, ◌∙◌, subst}
-use Rattle.std.specs.Prelude.{codes}
-use Rattle.erl_term.specs.OneTerm.{HasTerm}
-use Rattle.erl_term.specs.Value.{Value}
 use Rattle.rel_disk.proofs.Moments.{started, weakened}
-use Rattle.rel_files.specs.File.{IsReleaseTerm}
 use Rattle.rel_files.specs.Release.{Release}
 use Rattle.rel_list.specs.declared.status.Status.TheVariants.{Permanent}
 use Rattle.rel_list.specs.Releases.{Releases}
 use Rattle.rel_list.specs.Event.{entry, booted}
 use Rattle.rel_list.specs.Event.Event.{made}
+use Rattle.rel_records.specs.Limits.{is_small}
+use Rattle.rel_records.specs.Lists.{Makes, IsBadRecord}
+use Rattle.rel_records.specs.Reading.{Spells}
+use Rattle.rel_records.specs.Record.{makes}
+use Rattle.rel_records.specs.declared.fault.RecordsError.{RecordsError}
+use Rattle.rel_records.specs.declared.fault.RecordsError.TheVariants as fault
+use Rattle.rel_records.proofs.ListLemmas.{makes_not_bad}
+use Rattle.rel_records.proofs.RecordLaws.{as_booted}
 use Rattle.rel_store.specs.Creation.{IsNoneOrNew, IsBegunAt, IsUnwritten, Creates}
 use Rattle.rel_store.specs.Moments.{IsTornFrom}
 use Rattle.rel_store.specs.Records.{records_of}
@@ -17,19 +21,12 @@ use Rattle.rel_store.specs.State as store
 use Rattle.rel_store.specs.declared.store.Store.{Store}
 use Rattle.rel_handler.specs.Events.{Known, doubted, IsNoneOrOfPrefix}
 use Rattle.rel_handler.specs.Image.{IsImageOf}
-use Rattle.rel_handler.specs.Limits.{is_small}
 use Rattle.rel_handler.specs.Moments.{Begins, BeginsAt}
-use Rattle.rel_handler.specs.Records.{makes, record_term, Spells, Makes, IsBadRecord}
+use Rattle.rel_handler.specs.Refusals.{told_records}
 use Rattle.rel_handler.specs.State.{IsSound}
 use Rattle.rel_handler.specs.declared.error.BootError.{BootError}
 use Rattle.rel_handler.specs.declared.error.BootError.TheVariants as boot
 use Rattle.rel_handler.proofs.Images.{first_record, while_creating}
-use Rattle.rel_handler.proofs.ListLemmas.{makes_not_bad}
-use Rattle.rel_handler.proofs.RecordPlaces.{settled_made}
-
--- what was read from records is as it is behind a boot
-pub as_booted : (bodies : List (List ℕ)) (es : Releases) → Makes bodies es → booted es ≡ es
-as_booted bodies es makes_it = settled_made [] bodies es makes_it.0 refl
 
 -- a list that was read from the records of a store
 pub made_again : (bodies records : List (List ℕ)) (es : Releases) → bodies ≡ records → Makes bodies es → Makes records (booted es)
@@ -48,10 +45,14 @@ image_so c bodies records es same makes_it read = (record { bodies = records; st
 pub read_so : (c : List ℕ) (bodies records : List (List ℕ)) → bodies ≡ records → records_of c ≡ Ok records → records_of c ≡ Ok bodies
 read_so c bodies records same read = read ∙ ap (λ bs. Ok bs) (sym same)
 
+-- the device failed, or memory was refused
+abbrev pub IsLack : BootError → Type 0
+IsLack e = (e ≡ boot.Device) ⊎ (e ≡ boot.NoMemory)
+
 -- bytes that stand for a list have no bad record
-pub only_memory : (c : List ℕ) (bodies records : List (List ℕ)) (es : Releases) (e : BootError) → bodies ≡ records → records_of c ≡ Ok records → IsImageOf c es
-    → (e ≡ boot.NoMemory) ⊎ ((i : ℕ) × (e ≡ boot.BadRecord i) × IsBadRecord bodies i) → (e ≡ boot.Device) ⊎ (e ≡ boot.NoMemory)
-only_memory c bodies records es e same read image (inl memory) = inr memory
+pub only_memory : (c : List ℕ) (bodies records : List (List ℕ)) (es : Releases) (e : RecordsError) → bodies ≡ records → records_of c ≡ Ok records → IsImageOf c es
+    → (e ≡ fault.NoMemory) ⊎ ((i : ℕ) × (e ≡ fault.BadRecord i) × IsBadRecord bodies i) → IsLack (told_records e)
+only_memory c bodies records es e same read image (inl memory) = inr (ap told_records memory)
 only_memory c bodies records es e same read image (inr (i, is, bad)) =
     let here : image.bodies ≡ bodies = cc (read, image.store, same) in
     absurd (makes_not_bad bodies (booted es) i (subst (λ bs. Makes bs (booted es)) here image.list) bad)
@@ -81,7 +82,3 @@ module _ {D : Type 0} (seen : D → List ℕ) (may_leave : D → List ℕ → Ty
 pub made_new : (r : Release) (body : List ℕ) (records : List (List ℕ)) (es : Releases) → is_small r ≡ true → Spells body (makes r) → records ≡ body ∷ [] → es ≡ entry r Permanent ∷ [] → Makes records (booted es)
 made_new r body records es small spelled is listed =
     subst (λ rs. Makes rs (booted es)) (sym is) (subst (λ l. Makes (body ∷ []) (booted l)) (sym listed) (first_record r body small spelled))
-
--- the same bytes spell the same record
-pub spelled_made : (bytes body : List ℕ) (rel : Value) (r : Release) → bytes ≡ body → HasTerm 72 body (record_term (codes "made") rel) → IsReleaseTerm rel r → Spells bytes (makes r)
-spelled_made bytes body rel r same text says = record { rel = rel; text = subst (λ b. HasTerm 72 b (record_term (codes "made") rel)) (sym same) text; says = says }

@@ -1,35 +1,40 @@
--- A handler at rest, and one that commits a release.
-use Rattle.std.proofs.Common.{◌≡◌, ℕ, ◌+◌, ◌<◌, ◌≤◌, true, false, List, [], ◌∷◌, ◌++◌, length, Some, None, Result, Ok, Err, sym, ap, ◌∙◌, subst, arith, length-append}
-use Rattle.std.specs.Prelude.{is_err, is_some, IfErr, IsErr, OnOk, nat_le, if◌then◌else◌, codes}
-use Rattle.std.proofs.lemmas.Bool.Decides.{nat_tests}
+-- A handler at rest, and one that commits an event.
+use Rattle.std.proofs.Common.{◌≡◌, inl, inr, ⊎_elim, ℕ, ◌+◌, ◌≤◌, true, false, List, [], ◌∷◌, ◌++◌, length, Some, Result, Ok, Err, refl, sym, ap, ◌∙◌, subst, arith}
+use Rattle.std.proofs.lemmas.Bool.{cases_lt}
+use Rattle.std.specs.Prelude.{is_err, IfErr, IsErr, OnOk}
+use Rattle.rel_disk.specs.declared.disk.Disk.{Ghosts}
 use Rattle.rel_disk.specs.Moments.{LeavesOnly, HasFailed}
-use Rattle.rel_disk.proofs.Moments.{started, weakened, both}
-use Rattle.erl_term.specs.OneTerm.{HasTerm}
-use Rattle.erl_term.specs.Value.{Value}
-use Rattle.rel_files.specs.File.{IsReleaseTerm}
+use Rattle.rel_disk.proofs.Moments.{started, joined, weakened, both}
 use Rattle.rel_files.specs.Release.{Release}
-use Rattle.rel_list.specs.declared.status.Status.TheVariants.{Unpacked}
-use Rattle.rel_list.specs.Releases.{Releases, status_of}
-use Rattle.rel_list.specs.Event.{Event, entry, booted, step, list_after}
+use Rattle.rel_list.specs.Releases.{Releases, permanent}
+use Rattle.rel_list.specs.Event.{Event, booted, step, list_after}
 use Rattle.rel_list.specs.Event.Event.{unpacked}
-use Rattle.rel_store.specs.Changed.{LeavesOthers, IsInRecord}
-use Rattle.rel_store.specs.Layout.{base_of}
+use Rattle.rel_records.specs.Lists.{Makes, HaveVersions}
+use Rattle.rel_records.specs.Reading.{Spells}
+use Rattle.rel_records.specs.Record.{adds}
+use Rattle.rel_records.proofs.EventRecords.{unpacked_tells}
+use Rattle.rel_records.proofs.RecordLaws.{make_versions}
+use Rattle.rel_store.specs.Changed.{LeavesOthers, IsInRecord, IsInOtherSlot}
+use Rattle.rel_store.specs.Layout.{slot_with, base_of}
 use Rattle.rel_store.proofs.Moments as stores
-use Rattle.rel_store.specs.Records.{StandsEither}
+use Rattle.rel_store.specs.Records.{records_of, StandsEither, StandsWithEither}
 use Rattle.rel_store.specs.State as store
 use Rattle.rel_store.specs.declared.error.StoreError.{StoreError}
 use Rattle.rel_store.specs.declared.error.StoreError.TheVariants as fault
 use Rattle.rel_store.specs.declared.store.Store.{Store}
+use Rattle.rel_handler.specs.Commits.{Commits, IsDone, IsRecordFor, Keeps, IsStarted}
 use Rattle.rel_handler.specs.Events.{Events, uncertain, IsStoredAs}
-use Rattle.rel_handler.specs.Image.{IsImageAt}
-use Rattle.rel_handler.specs.Limits.{is_small, most_releases}
-use Rattle.rel_handler.specs.Records.{adds, record_term, Spells, Makes}
-use Rattle.rel_handler.specs.State.{disk_in, list_in, is_dead, end_in, IsSound}
-use Rattle.rel_handler.specs.Taking.{commanded, allowed}
-use Rattle.rel_handler.specs.declared.error.HandlerError.TheVariants.{ExistingRelease, TooMany}
+use Rattle.rel_handler.specs.Image.{IsImageAt, HasSpace}
+use Rattle.rel_handler.specs.Refusals.{CommandRefused}
+use Rattle.rel_handler.specs.State.{disk_in, list_in, is_dead, end_in, start_in, IsSound, IsSame}
+use Rattle.rel_handler.specs.Taking.{commanded}
+use Rattle.start_record.specs.Text.{Versions, start_text as text_of_start}
+use Rattle.rel_handler.specs.Files.{started as start_versions}
+use Rattle.rel_handler.specs.declared.error.HandlerError.{HandlerError}
+use Rattle.rel_handler.specs.declared.error.HandlerError.TheVariants.{Device}
 use Rattle.rel_handler.specs.declared.handler.Handler.{Handler}
-use Rattle.rel_handler.proofs.Images.{each_image, stored_before, while_unpacking, with_record}
-use Rattle.rel_handler.proofs.UnpackLemmas.{with_it, unpacks}
+use Rattle.rel_handler.proofs.CommandLemmas.{commanded_step, small_and_few}
+use Rattle.rel_handler.proofs.Images.{ends_so, each_image, stored_before, stored_after, while_committing, with_record}
 
 -- what holds of a call that didn't fail
 pub opened : {T E : Type 0} (r : Result T E) (P : Type 0) → false ≡ is_err r → OnOk r P → P
@@ -41,32 +46,23 @@ pub no_success : {T E : Type 0} (P : Type 0) (r : Result T E) → IsErr r → On
 no_success P (Ok v) err = cc err
 no_success P (Err e) err = tt
 
--- the same bytes spell the same record
-pub spelled_so : (bytes body : List ℕ) (rel : Value) (r : Release) → bytes ≡ body → HasTerm 72 body (record_term (codes "unpacked") rel) → IsReleaseTerm rel r → Spells bytes (adds r)
-spelled_so bytes body rel r same text says = record { rel = rel; text = subst (λ b. HasTerm 72 b (record_term (codes "unpacked") rel)) (sym same) text; says = says }
+-- nothing changed
+pub all_same : {D : Type 0} (h : Handler D) → IsSame h h
+all_same h = record { disk = refl; list = refl; dead = refl; end = refl }
 
--- a new release that the limits allow is allowed
-pub allowed_so : (r : Release) (es : Releases) → is_small r ≡ true → is_some (status_of r.vsn es) ≡ false → length es < 32 → commanded (unpacked r) es ≡ Ok (with_it r es)
-allowed_so r es small fresh few = unpacks r es small fresh short
-  where
-    short : nat_le (length (with_it r es)) most_releases ≡ true
-    short = grind (arith, nat_tests, length-append es (entry r Unpacked ∷ []))
+-- the releases of a list have versions as they have them behind a boot
+versions-booted : (es : Releases) → HaveVersions (booted es) → HaveVersions es
+versions-booted [] all = tt
+versions-booted (e ∷ es) all = (all.0, versions-booted es all.1)
 
--- one that is one too many is refused
-pub too_many_so : (r : Release) (es : Releases) → is_small r ≡ true → is_some (status_of r.vsn es) ≡ false → 32 ≤ length es → commanded (unpacked r) es ≡ Err TooMany
-too_many_so r es small fresh many =
-    ap (λ b. if b then allowed ExistingRelease (step (unpacked r) es) else Err TooMany) small
-    ∙ ap (λ b. allowed ExistingRelease (if b then None else Some (with_it r es))) fresh
-    ∙ ap (λ b. if b then Ok (with_it r es) else Err TooMany) long
-  where
-    long : nat_le (length (with_it r es)) most_releases ≡ false
-    long = grind (arith, nat_tests, length-append es (entry r Unpacked ∷ []))
+pub have_versions : (bodies : List (List ℕ)) (es : Releases) → Makes bodies (booted es) → HaveVersions es
+have_versions bodies es makes_it = versions-booted es (make_versions bodies (booted es) makes_it)
 
--- the list that comes of it is the one that the list's own step gives
-pub accepted_so : (r : Release) (es end : Releases) → is_small r ≡ true → is_some (status_of r.vsn es) ≡ false → length es < 32 → step (unpacked r) es ≡ Some end → commanded (unpacked r) es ≡ Ok end
-accepted_so r es end small fresh few stepped =
-    let is : end ≡ with_it r es = cc (stepped, ap (λ b. if b then None else Some (with_it r es)) fresh) in
-    allowed_so r es small fresh few ∙ ap (λ l. Ok l) (sym is)
+-- the record of a release that may come in
+pub unpacked_told : (r : Release) (es next : Releases) (body : List ℕ) → Spells body (adds r) → commanded (unpacked r) es ≡ Ok next → IsRecordFor body (unpacked r) es
+unpacked_told r es next body spelled is =
+    let (small, few) = small_and_few r es next is in
+    record { spells = spelled; tells = unpacked_tells r es small few }
 
 -- an append that fails where there is room failed by the device
 pub failed_so : {D : Type 0} (failures : D → ℕ) (old new : Store D) (n : ℕ) (r : Result (Unit {0}) StoreError) → true ≡ is_err r
@@ -81,44 +77,182 @@ failed_so failures old new n (Err fault.NotAStore) err refused fits room works =
 failed_so failures old new n (Err (fault.Damaged at)) err refused fits room works = absurd refused
 failed_so failures old new n (Err fault.Exists) err refused fits room works = absurd refused
 
-module _ {D : Type 0} (moment : D → ℕ) (left_since : D → ℕ → List ℕ → Type 0) (seen : D → List ℕ) (may_leave : D → List ℕ → Type 0) (h : Handler D) (s : IsSound seen may_leave h) (alive : is_dead h ≡ false) where
-  pub settled_store : store.IsSettled seen may_leave h.store
-  settled_store = s.store.settled (s.works alive)
+module _ {D : Type 0} (v : Ghosts D) (h : Handler D) (s : IsSound v.seen v.may_leave h) where
+  module _ (alive : is_dead h ≡ false) where
+    settled_store : store.IsSettled v.seen v.may_leave h.store
+    settled_store = s.store.settled (s.works alive)
 
-  -- each image of its disk stands for its list
-  pub image_now : (c : List ℕ) → may_leave (disk_in h) c → IsImageAt c (list_in h) (end_in h)
-  image_now c now = each_image seen may_leave h.store (list_in h) settled_store (s.list alive) c now
+    -- each image of its disk stands for its list
+    image_now : (c : List ℕ) → v.may_leave (disk_in h) c → IsImageAt c (list_in h) (end_in h)
+    image_now c now = each_image v.seen v.may_leave h.store (list_in h) settled_store (s.list alive) c now
 
-  -- a command that hasn't touched the disk
-  pub resting : (new : D) → new ≡ disk_in h → ((c : List ℕ) → left_since (disk_in h) (moment (disk_in h)) c → may_leave (disk_in h) c)
-      → (e : Event) (size : ℕ) (events : Events) → list_after events ≡ Some (list_in h) → LeavesOnly moment left_since (disk_in h) new (IsStoredAs (uncertain events (end_in h) e size))
-  resting new same only_now e size events after =
-      subst (λ d. LeavesOnly moment left_since (disk_in h) d (IsStoredAs (uncertain events (end_in h) e size))) (sym same)
-      (started moment left_since (disk_in h) (IsStoredAs (uncertain events (end_in h) e size)) (λ c left. stored_before events (end_in h) e size (list_in h) c after (image_now c (only_now c left))))
+    -- The start record is being written, and the records stay.
+    module _ (new : Store D) (sound : store.IsSoundStore v.seen v.may_leave new) (text other : List ℕ) (leaves : LeavesOnly v.moment v.left_since (disk_in h) (store.disk_in new) (StandsWithEither (store.records_in h.store) text other))
+        (kept : LeavesOnly v.moment v.left_since (disk_in h) (store.disk_in new) (LeavesOthers (IsInOtherSlot (v.seen (disk_in h))) (v.seen (disk_in h))))
+        (end : store.end_in new ≡ end_in h) (counted : v.failures (disk_in h) ≤ v.failures (store.disk_in new)) where
+      records_stay : (c : List ℕ) → StandsWithEither (store.records_in h.store) text other c → records_of c ≡ Ok (store.records_in h.store)
+      records_stay c (inl stands) = stands.records
+      records_stay c (inr stands) = stands.records
 
-  -- a record that is being appended behind a reservation
-  module _ (reserved : Store D) (same : store.IsSame h.store reserved) (r : Release) (end : Releases) (body : List ℕ) (spelled : Spells body (adds r)) (allows : commanded (unpacked r) (list_in h) ≡ Ok end) where
+      starting : LeavesOnly v.moment v.left_since (disk_in h) (store.disk_in new) (λ c. IsImageAt c (list_in h) (end_in h))
+      starting =
+          weakened v.moment v.left_since (disk_in h) (store.disk_in new) _ (λ c. IsImageAt c (list_in h) (end_in h))
+          (λ c either. record {
+            image_of = record { bodies = store.records_in h.store; store = records_stay c either.0; list = s.list alive };
+            ends =
+                ends_so c (store.records_in h.store) (base_of (v.seen (disk_in h))) (records_stay c either.0) (stores.base_kept_by_start v.moment v.left_since v.seen v.may_leave h.store settled_store c either.1)
+                ∙ ap (λ g. g + 1) (sym settled_store.end);
+          })
+          (both v.moment v.left_since (disk_in h) (store.disk_in new) _ _ leaves kept)
+
+      -- the device failed in it
+      pub keeps_dead : Keeps v h (record { store = new; list = h.list; dead = true })
+      keeps_dead = record {
+        sound = record { store = sound; works = λ living. cc living; list = λ living. cc living };
+        list = refl;
+        end = end;
+        any_moment = starting;
+        counted = counted;
+      }
+
+      -- it is there
+      module _ (settled : store.IsSettled v.seen v.may_leave new) (records : store.records_in new ≡ store.records_in h.store) where
+        makes_still : Makes (store.records_in new) (booted h.list)
+        makes_still = subst (λ bodies. Makes bodies (booted h.list)) (sym records) (s.list alive)
+
+        pub keeps : Keeps v h (record { store = new; list = h.list; dead = false })
+        keeps = record {
+          sound = record { store = sound; works = λ living. settled.works; list = λ living. makes_still };
+          list = refl;
+          end = end;
+          any_moment = starting;
+          counted = counted;
+        }
+
+        pub images_still : (c : List ℕ) → v.may_leave (store.disk_in new) c → IsImageAt c h.list (store.end_in new)
+        images_still c now = each_image v.seen v.may_leave new h.list settled makes_still c now
+
+  module _ (only_now : (c : List ℕ) → v.left_since (disk_in h) (v.moment (disk_in h)) c → v.may_leave (disk_in h) c) (e : Event) (size : ℕ) where
+    -- a command that hasn't touched the disk
+    resting : (new : D) → new ≡ disk_in h → is_dead h ≡ false → (events : Events) → list_after events ≡ Some (list_in h)
+        → LeavesOnly v.moment v.left_since (disk_in h) new (IsStoredAs (uncertain events (end_in h) e size))
+    resting new same alive events after =
+        subst (λ d. LeavesOnly v.moment v.left_since (disk_in h) d (IsStoredAs (uncertain events (end_in h) e size))) (sym same)
+        (started v.moment v.left_since (disk_in h) (IsStoredAs (uncertain events (end_in h) e size)) (λ c left. stored_before events (end_in h) e size (list_in h) c after (image_now alive c (only_now c left))))
+
+    -- a command that has changed nothing
+    pub unchanged : Commits v e size h h
+    unchanged = record { sound = s; any_moment = resting (disk_in h) refl; counted = omega arith }
+
+    -- one that has taken memory alone
+    module _ (reserved : Store D) (sound : store.IsSoundStore v.seen v.may_leave reserved) (same : store.IsSame h.store reserved) where
+      pub rested : Commits v e size h (record { store = reserved; list = h.list; dead = h.dead })
+      rested = record {
+        sound = record {
+          store = sound;
+          works = λ alive. same.failed ∙ s.works alive;
+          list = λ alive. subst (λ bodies. Makes bodies (booted h.list)) (sym same.records) (s.list alive);
+        };
+        any_moment = resting (store.disk_in reserved) same.disk;
+        counted = subst (λ d. v.failures (disk_in h) ≤ v.failures d) (sym same.disk) (omega arith);
+      }
+
+      pub same_but_memory : IsSame h (record { store = reserved; list = h.list; dead = h.dead })
+      same_but_memory = record { disk = same.disk; list = refl; dead = refl; end = same.end }
+
+  -- A record is appended behind a reservation. Then the list is the new one, and the node works again or doesn't.
+  module _ (alive : is_dead h ≡ false) (reserved : Store D) (same : store.IsSame h.store reserved) (e : Event) (next : Releases) (body : List ℕ) (told : IsRecordFor body e (list_in h)) (is : step e (list_in h) ≡ Some next) where
     pub reserved_works : store.has_failed reserved ≡ false
     reserved_works = same.failed ∙ s.works alive
 
     -- the records begin where they began
-    base_there : (c : List ℕ) → LeavesOthers (IsInRecord (store.gate_in reserved) (length body)) (seen (disk_in h)) c → base_of c ≡ base_of (seen (disk_in h))
+    base_there : (c : List ℕ) → LeavesOthers (IsInRecord (store.gate_in reserved) (length body)) (v.seen (disk_in h)) c → base_of c ≡ base_of (v.seen (disk_in h))
     base_there c leaves =
         let same_gate : store.gate_in reserved ≡ store.gate_in h.store = omega (arith, same.end) in
-        stores.base_kept moment left_since seen may_leave h.store settled_store (length body) c (subst (λ g. LeavesOthers (IsInRecord g (length body)) (seen (disk_in h)) c) same_gate leaves)
+        stores.base_kept v.moment v.left_since v.seen v.may_leave h.store (settled_store alive) (length body) c (subst (λ g. LeavesOthers (IsInRecord g (length body)) (v.seen (disk_in h)) c) same_gate leaves)
 
-    pub committing : (new : D) (text : List ℕ) → LeavesOnly moment left_since (store.disk_in reserved) new (StandsEither (store.records_in reserved) body text)
-        → LeavesOnly moment left_since (store.disk_in reserved) new (LeavesOthers (IsInRecord (store.gate_in reserved) (length body)) (seen (store.disk_in reserved)))
-        → (events : Events) → list_after events ≡ Some (list_in h) → (size : ℕ) → length body ≡ size → LeavesOnly moment left_since (disk_in h) new (IsStoredAs (uncertain events (end_in h) (unpacked r) size))
-    committing new text leaves kept events after size long =
-        subst (λ n. LeavesOnly moment left_since (disk_in h) new (IsStoredAs (uncertain events (end_in h) (unpacked r) n))) long
-        (subst (λ d. LeavesOnly moment left_since d new (IsStoredAs (uncertain events (end_in h) (unpacked r) (length body)))) same.disk
-        (weakened moment left_since (store.disk_in reserved) new _ (IsStoredAs (uncertain events (end_in h) (unpacked r) (length body)))
-        (λ c either. while_unpacking r (list_in h) end (store.records_in h.store) body text events (s.list alive) spelled allows after (base_of (seen (disk_in h))) (end_in h) (ap (λ g. g + 1) settled_store.end) c
-        (subst (λ bodies. StandsEither bodies body text c) same.records either.0, base_there c (subst (λ d. LeavesOthers (IsInRecord (store.gate_in reserved) (length body)) (seen d) c) same.disk either.1)))
-        (both moment left_since (store.disk_in reserved) new _ _ leaves kept)))
+    committing : (new : D) (text : List ℕ) → LeavesOnly v.moment v.left_since (store.disk_in reserved) new (StandsEither (store.records_in reserved) body text)
+        → LeavesOnly v.moment v.left_since (store.disk_in reserved) new (LeavesOthers (IsInRecord (store.gate_in reserved) (length body)) (v.seen (store.disk_in reserved)))
+        → (events : Events) → list_after events ≡ Some (list_in h) → LeavesOnly v.moment v.left_since (disk_in h) new (IsStoredAs (uncertain events (end_in h) e (length body)))
+    committing new text leaves kept events after =
+        subst (λ d. LeavesOnly v.moment v.left_since d new (IsStoredAs (uncertain events (end_in h) e (length body)))) same.disk
+        (weakened v.moment v.left_since (store.disk_in reserved) new _ (IsStoredAs (uncertain events (end_in h) e (length body)))
+        (λ c either. while_committing e (list_in h) next (store.records_in h.store) body text events (s.list alive) told is after (base_of (v.seen (disk_in h))) (end_in h) (ap (λ g. g + 1) (settled_store alive).end) c
+        (subst (λ bodies. StandsEither bodies body text c) same.records either.0, base_there c (subst (λ d. LeavesOthers (IsInRecord (store.gate_in reserved) (length body)) (v.seen d) c) same.disk either.1)))
+        (both v.moment v.left_since (store.disk_in reserved) new _ _ leaves kept))
 
-    -- the store then makes the new list
-    pub committed : (new : List (List ℕ)) → new ≡ store.records_in reserved ++ body ∷ [] → Makes new (booted end)
-    committed new is =
-        subst (λ bodies. Makes bodies (booted end)) (sym (is ∙ ap (λ bodies. bodies ++ body ∷ []) same.records)) (with_record r (list_in h) end (store.records_in h.store) body (s.list alive) spelled allows)
+    module _ (new : Store D) (sound : store.IsSoundStore v.seen v.may_leave new) (text : List ℕ) (leaves : LeavesOnly v.moment v.left_since (store.disk_in reserved) (store.disk_in new) (StandsEither (store.records_in reserved) body text))
+        (kept : LeavesOnly v.moment v.left_since (store.disk_in reserved) (store.disk_in new) (LeavesOthers (IsInRecord (store.gate_in reserved) (length body)) (v.seen (store.disk_in reserved))))
+        (counted : v.failures (store.disk_in reserved) ≤ v.failures (store.disk_in new)) where
+      counted_so : v.failures (disk_in h) ≤ v.failures (store.disk_in new)
+      counted_so = subst (λ d. v.failures d ≤ v.failures (store.disk_in new)) same.disk counted
+
+      -- the device failed in it
+      pub commits_dead : Commits v e (length body) h (record { store = new; list = next; dead = true })
+      commits_dead = record {
+        sound = record { store = sound; works = λ living. cc living; list = λ living. cc living };
+        any_moment = λ living events after. committing (store.disk_in new) text leaves kept events after;
+        counted = counted_so;
+      }
+
+      -- it is there
+      module _ (settled : store.IsSettled v.seen v.may_leave new) (added : store.records_in new ≡ store.records_in reserved ++ body ∷ []) where
+        makes_next : Makes (store.records_in new) (booted next)
+        makes_next =
+            subst (λ bodies. Makes bodies (booted next)) (sym (added ∙ ap (λ bodies. bodies ++ body ∷ []) same.records)) (with_record e (list_in h) next (store.records_in h.store) body (s.list alive) told is)
+
+        pub commits : Commits v e (length body) h (record { store = new; list = next; dead = false })
+        commits = record {
+          sound = record { store = sound; works = λ living. settled.works; list = λ living. makes_next };
+          any_moment = λ living events after. committing (store.disk_in new) text leaves kept events after;
+          counted = counted_so;
+        }
+
+        pub is_done : commanded e (list_in h) ≡ Ok next → HasSpace (end_in h) (length body) → store.end_in new ≡ store.end_in reserved + (5 + length body) → IsDone v e (length body) h (record { store = new; list = next; dead = false })
+        is_done accepted fits end = record {
+          works = refl;
+          accepted = accepted;
+          acknowledged = λ c now. each_image v.seen v.may_leave new next settled makes_next c now;
+          fits = fits;
+          end = end ∙ ap (λ n. n + (5 + length body)) same.end;
+        }
+
+  -- A committed event with the start record written behind it.
+  module _ (e : Event) (size : ℕ) (mid : Handler D) (commits : Commits v e size h mid) (is_done : IsDone v e size h mid) (new : Handler D) (keeps : Keeps v mid new) where
+    pub commits_then : Commits v e size h new
+    commits_then = record {
+      sound = keeps.sound;
+      any_moment = λ alive events after.
+          joined v.moment v.left_since (disk_in h) (disk_in mid) (disk_in new) (IsStoredAs (uncertain events (end_in h) e size)) (commits.any_moment alive events after)
+          (weakened v.moment v.left_since (disk_in mid) (disk_in new) _ (IsStoredAs (uncertain events (end_in h) e size))
+          (λ c image. stored_after events (end_in h) e size (list_in h) (list_in mid) c after (commanded_step e (list_in h) (list_in mid) is_done.accepted) (subst (IsImageAt c (list_in mid)) is_done.end image)) keeps.any_moment);
+      counted = omega (arith, commits.counted, keeps.counted);
+    }
+
+    pub is_done_then : is_dead new ≡ false → ((c : List ℕ) → v.may_leave (disk_in new) c → IsImageAt c (list_in new) (end_in new)) → IsDone v e size h new
+    is_done_then works images = record {
+      works = works;
+      accepted = is_done.accepted ∙ ap (λ l. Ok l) (sym keeps.list);
+      acknowledged = images;
+      fits = is_done.fits;
+      end = keeps.end ∙ is_done.end;
+    }
+
+    -- the device failed when the event was committed already
+    pub fails_then : is_dead h ≡ false → HasFailed (v.failures (disk_in mid)) (v.failures (disk_in new)) → is_dead new ≡ true → CommandRefused v.failures e size h new Device
+    fails_then alive failed gone = ((alive, (list_in mid, is_done.accepted), is_done.fits), failed_behind failed, gone)
+      where
+        failed_behind : HasFailed (v.failures (disk_in mid)) (v.failures (disk_in new)) → HasFailed (v.failures (disk_in h)) (v.failures (disk_in new))
+        failed_behind (inl rose) = inl (omega (arith, commits.counted))
+        failed_behind (inr stood) = ⊎_elim (λ less. inl (omega (arith, keeps.counted, stood))) (λ same. inr (omega arith)) (cases_lt (v.failures (disk_in h)) (v.failures (disk_in mid)))
+
+    pub refused_then : (r : Result (Unit {0}) HandlerError) → is_dead h ≡ false → IfErr r (λ why. (why ≡ Device) × HasFailed (v.failures (disk_in mid)) (v.failures (disk_in new)) × (is_dead new ≡ true))
+        → IfErr r (CommandRefused v.failures e size h new)
+    refused_then (Ok x) alive failed = tt
+    refused_then (Err why) alive (is, failed, gone) = subst (CommandRefused v.failures e size h new) (sym is) (fails_then alive failed gone)
+
+-- the start record is that of the permanent release then
+pub started_then : {D : Type 0} (seen : D → List ℕ) (new : Handler D) (r : Result (Unit {0}) HandlerError) (versions : Versions) (release : Release) → versions ≡ start_versions release → permanent (list_in new) ≡ Some release
+    → OnOk r (start_in seen new ≡ slot_with (text_of_start versions)) → OnOk r (IsStarted seen new)
+started_then seen new (Err why) versions release is listed written = tt
+started_then seen new (Ok x) versions release is listed written = record { release = release; listed = listed; start = written ∙ ap (λ vs. slot_with (text_of_start vs)) is }

@@ -1,13 +1,20 @@
 -- Which lists the images of a disk stand for.
-use Rattle.std.proofs.Common.{◌≡◌, inl, inr, ℕ, ◌+◌, length, arith, Bool, true, false, List, [], ◌∷◌, ◌++◌, Some, Ok, Err, refl, sym, ap, ◌∙◌, subst}
+use Rattle.std.proofs.Common.{◌≡◌, inl, inr, ℕ, ◌+◌, length, arith, Bool, true, false, List, [], ◌∷◌, ◌++◌, Some, None, Ok, refl, sym, ap, ◌∙◌, subst}
 use Rattle.std.specs.Prelude.{is_some, if◌then◌else◌}
-use Rattle.std.specs.Result.{result_ok}
 use Rattle.std.proofs.lemmas.List.{append-nil}
 use Rattle.rel_files.specs.Release.{Release}
 use Rattle.rel_list.specs.declared.status.Status.TheVariants.{Permanent}
 use Rattle.rel_list.specs.Releases.{Releases}
 use Rattle.rel_list.specs.Event.{Event, entry, booted, step, list_after}
-use Rattle.rel_list.specs.Event.Event.{made, unpacked, boot}
+use Rattle.rel_list.specs.Event.Event.{made, boot}
+use Rattle.rel_records.specs.Limits.{is_small}
+use Rattle.rel_records.specs.Lists.{with_one_permanent, assigned, MakesFrom, Makes}
+use Rattle.rel_records.specs.Reading.{Spells}
+use Rattle.rel_records.specs.Record.{makes}
+use Rattle.rel_records.specs.Writing.{record_of}
+use Rattle.rel_records.proofs.EventRecords.{one-booted}
+use Rattle.rel_records.proofs.ListLemmas.{makes-push, makes_once}
+use Rattle.rel_records.proofs.RecordPlaces.{one_behind}
 use Rattle.rel_store.specs.Creation.{IsNoneOrNew}
 use Rattle.rel_store.specs.Records.{records_of, StandsEither, space, records_or_none, end_of}
 use Rattle.rel_store.specs.Layout.{base_of}
@@ -15,19 +22,14 @@ use Rattle.rel_store.proofs.Scan.{space-push}
 use Rattle.rel_store.proofs.Whole.{sound}
 use Rattle.rel_store.specs.State.{records_in, end_in, IsSettled}
 use Rattle.rel_store.specs.declared.store.Store.{Store}
+use Rattle.rel_handler.specs.Commits.{IsRecordFor}
 use Rattle.rel_handler.specs.Events.{Known, doubted, IsPrefix, IsOfPrefix, IsNoneOrOfPrefix, uncertain, IsStoredAs}
 use Rattle.rel_handler.specs.Image.{IsImageOf, IsImageAt, holds_a_store}
-use Rattle.rel_handler.specs.Limits.{is_small}
 use Rattle.rel_handler.specs.Moments.{BootsTo}
-use Rattle.rel_handler.specs.Records.{makes, adds, Spells, with_one_permanent, assigned, MakesFrom, Makes}
-use Rattle.rel_handler.specs.Taking.{allowed, commanded}
-use Rattle.rel_handler.specs.declared.error.HandlerError.TheVariants.{TooMany, Exists}
 use Rattle.rel_handler.proofs.Lists.{list_after-push}
-use Rattle.rel_handler.proofs.ListLemmas.{makes-push, makes_once}
-use Rattle.rel_handler.proofs.UnpackLemmas.{unpacked_behind_a_boot, steps}
 
 -- where a store ends, by its base and its records
-ends_so : (bytes : List ℕ) (bodies : List (List ℕ)) (base : ℕ) → records_of bytes ≡ Ok bodies → base_of bytes ≡ base → end_of bytes ≡ (base + space bodies) + 1
+pub ends_so : (bytes : List ℕ) (bodies : List (List ℕ)) (base : ℕ) → records_of bytes ≡ Ok bodies → base_of bytes ≡ base → end_of bytes ≡ (base + space bodies) + 1
 ends_so bytes bodies base read at = ap (λ r. (base_of bytes + space (records_or_none r)) + 1) read ∙ ap (λ b. (b + space bodies) + 1) at
 
 -- where a settled store ends
@@ -80,26 +82,25 @@ as_after events e es end c after next image =
     let all = list_after-push events e es end after next in
     record { events = events ++ e ∷ []; prefix = prefix_with events e end all; list = end; after = all; image_of = image }
 
--- with the record the store makes the list with the release
-pub with_record : (r : Release) (es end : Releases) (bodies : List (List ℕ)) (body : List ℕ) → Makes bodies (booted es) → Spells body (adds r) → commanded (unpacked r) es ≡ Ok end
-    → Makes (bodies ++ body ∷ []) (booted end)
-with_record r es end bodies body (so_far, one) spelled allows =
-    let behind = unpacked_behind_a_boot r es end allows one in
-    (makes-push [] bodies (booted es) body (adds r) (booted end) so_far spelled behind.0, behind.1)
+-- With the record of an event the store makes the list behind it.
+pub with_record : (e : Event) (es next : Releases) (bodies : List (List ℕ)) (body : List ℕ) → Makes bodies (booted es) → IsRecordFor body e es → step e es ≡ Some next → Makes (bodies ++ body ∷ []) (booted next)
+with_record e es next bodies body (so_far, one) told is =
+    let behind : assigned (record_of e es) (booted es) ≡ Some (booted next) = told.tells next is (sym (one-booted es) ∙ one) in
+    (makes-push [] bodies (booted es) body (record_of e es) (booted next) so_far told.spells behind, one_behind (record_of e es) (booted es) (booted next) behind)
 
--- The record of an unpacked release is being appended: the store makes the list from before it or the one with it.
-pub while_unpacking : (r : Release) (es end : Releases) (bodies : List (List ℕ)) (body text : List ℕ) (events : List Event)
-    → Makes bodies (booted es) → Spells body (adds r) → commanded (unpacked r) es ≡ Ok end → list_after events ≡ Some es
+-- The record of an event is being appended: the store makes the list from before it or the one behind it.
+pub while_committing : (e : Event) (es next : Releases) (bodies : List (List ℕ)) (body text : List ℕ) (events : List Event)
+    → Makes bodies (booted es) → IsRecordFor body e es → step e es ≡ Some next → list_after events ≡ Some es
     → (base ends : ℕ) → ends ≡ (base + space bodies) + 1
-    → (c : List ℕ) → StandsEither bodies body text c × (base_of c ≡ base) → IsStoredAs (uncertain events ends (unpacked r) (length body)) c
-while_unpacking r es end bodies body text events makes_it spelled allows after base ends at c (inl stands, kept) =
-    stored_before events ends (unpacked r) (length body) es c after (record {
+    → (c : List ℕ) → StandsEither bodies body text c × (base_of c ≡ base) → IsStoredAs (uncertain events ends e (length body)) c
+while_committing e es next bodies body text events makes_it told is after base ends at c (inl stands, kept) =
+    stored_before events ends e (length body) es c after (record {
       image_of = record { bodies = bodies; store = stands.records; list = makes_it };
       ends = ends_so c bodies base stands.records kept ∙ sym at;
     })
-while_unpacking r es end bodies body text events makes_it spelled allows after base ends at c (inr stands, kept) =
-    stored_after events ends (unpacked r) (length body) es end c after (steps r es end allows) (record {
-      image_of = record { bodies = bodies ++ body ∷ []; store = stands.records; list = with_record r es end bodies body makes_it spelled allows };
+while_committing e es next bodies body text events makes_it told is after base ends at c (inr stands, kept) =
+    stored_after events ends e (length body) es next c after is (record {
+      image_of = record { bodies = bodies ++ body ∷ []; store = stands.records; list = with_record e es next bodies body makes_it told is };
       ends = ends_so c (bodies ++ body ∷ []) base stands.records kept ∙ omega (arith, at, space-push bodies body);
     })
 
@@ -108,7 +109,7 @@ pub first_record : (r : Release) (body : List ℕ) → is_small r ≡ true → S
 first_record r body small spelled = ((makes r, entry r Permanent ∷ [], spelled, there, refl), refl)
   where
     there : assigned (makes r) [] ≡ Some (entry r Permanent ∷ [])
-    there = ap (λ b. with_one_permanent (result_ok (if b then allowed Exists (step (made r) []) else Err TooMany))) small
+    there = ap (λ b. with_one_permanent (if b then step (made r) [] else None)) small
 
 -- A creation leaves no store or one of a prefix.
 pub while_creating : (r : Release) (body start : List ℕ) → is_small r ≡ true → Spells body (makes r) → (c : List ℕ) → IsNoneOrNew body start c → IsNoneOrOfPrefix (doubted [] (made r)) c

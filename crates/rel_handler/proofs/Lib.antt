@@ -1,13 +1,6 @@
-pub mod Lists
-pub mod BodyLemmas
-pub mod Bodies
-pub mod ListLemmas
-pub mod UnpackLemmas
-pub mod RecordPlaces
-pub mod Progress
+mod Lists
+pub mod CommandLemmas
 pub mod Images
-pub mod Commits
 pub mod Boots
-pub mod Within
-pub mod TermLemmas
-pub mod BadRecords
+mod BadRecords
+pub mod Commits

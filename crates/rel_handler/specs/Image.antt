@@ -4,7 +4,7 @@ use Rattle.rel_list.specs.Releases.{Releases}
 use Rattle.rel_list.specs.Event.{booted}
 use Rattle.rel_store.specs.Layout.{has_magic}
 use Rattle.rel_store.specs.Records.{records_of, end_of}
-use Rattle.rel_handler.specs.Records.{Makes}
+use Rattle.rel_records.specs.Lists.{Makes}
 
 -- These bytes stand for the list: they are a whole store, whose records make the list as it is behind a boot.
 pub record IsImageOf (image : List ℕ) (es : Releases) : Type 0 where

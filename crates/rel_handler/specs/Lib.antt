@@ -1,11 +1,9 @@
-pub mod Limits
 pub mod Taking
-pub mod Records
 pub mod Files
-pub mod Parts
 pub mod Image
 pub mod Events
 pub mod State
+pub mod Commits
 pub mod Refusals
 pub mod Moments
 pub mod Laws

@@ -8,12 +8,14 @@ use Rattle.rel_store.specs.Records.{records_of}
 use Rattle.rel_store.specs.declared.error.StoreError.{StoreError}
 use Rattle.rel_store.specs.declared.error.StoreError.TheVariants as store
 use Rattle.rel_handler.specs.Image.{holds_a_store, first_end, HasSpace}
-use Rattle.rel_handler.specs.Limits.{is_small}
-use Rattle.rel_handler.specs.Records.{IsBadRecord}
+use Rattle.rel_records.specs.Limits.{is_small}
+use Rattle.rel_records.specs.Lists.{IsBadRecord}
+use Rattle.rel_records.specs.declared.fault.RecordsError.{RecordsError}
+use Rattle.rel_records.specs.declared.fault.RecordsError.TheVariants as records
 use Rattle.rel_handler.specs.State.{disk_in, list_in, is_dead, end_in, IsSame}
 use Rattle.rel_handler.specs.Taking.{commanded}
 use Rattle.rel_handler.specs.declared.error.HandlerError.{HandlerError}
-use Rattle.rel_handler.specs.declared.error.HandlerError.TheVariants.{ExistingRelease, TooMany, Device, Full, Dead, NoMemory, Exists}
+use Rattle.rel_handler.specs.declared.error.HandlerError.TheVariants.{TooMany, Device, Full, Dead, NoMemory, Exists}
 use Rattle.rel_handler.specs.declared.error.BootError.{BootError}
 use Rattle.rel_handler.specs.declared.error.BootError.TheVariants as boot
 use Rattle.rel_handler.specs.declared.handler.Handler.{Handler}
@@ -30,16 +32,15 @@ IsAllowed e old = (is_dead old ≡ false) × ((es : Releases) × (commanded e (l
 abbrev pub IsPossible : {D : Type 0} → Event → ℕ → Handler D → Type 0
 IsPossible e size old = (is_dead old ≡ false) × ((es : Releases) × (commanded e (list_in old) ≡ Ok es)) × HasSpace (end_in old) size
 
--- Why a command is refused that brings a release with this event, and a record with a body of so many bytes. Nothing has
--- changed then, unless the device failed: then the handler is dead.
+-- Why a command with this event, and a record with a body of so many bytes, is refused: for the device, the store, memory,
+-- or as the list refuses it. Nothing has changed then, unless the device failed: then the handler is dead.
 abbrev pub CommandRefused : {D : Type 0} → (D → ℕ) → Event → ℕ → Handler D → Handler D → HandlerError → Type 0
 CommandRefused failures e size old new Dead = (is_dead old ≡ true) × IsSame old new
-CommandRefused failures e size old new ExistingRelease = IsRefused e old ExistingRelease × IsSame old new
-CommandRefused failures e size old new TooMany = IsRefused e old TooMany × IsSame old new
 CommandRefused failures e size old new Full = IsAllowed e old × (HasSpace (end_in old) size → ⊥) × IsSame old new
 CommandRefused failures e size old new NoMemory = (is_dead old ≡ false) × IsSame old new
 CommandRefused failures e size old new Device = IsPossible e size old × HasFailed (failures (disk_in old)) (failures (disk_in new)) × (is_dead new ≡ true)
 CommandRefused failures e size old new Exists = ⊥
+CommandRefused failures e size old new why = IsRefused e old why × IsSame old new
 
 -- Why a node isn't made with this release, on a disk with these bytes, by a record with a body of so many. Nothing has been
 -- written then, unless the device failed.
@@ -89,3 +90,8 @@ IsCreateError store.NotAStore = ⊥
 IsCreateError (store.Damaged at) = ⊥
 IsCreateError store.MustReopen = ⊥
 IsCreateError e = Unit {0}
+
+-- what a boot tells of records that make no list
+abbrev pub told_records : RecordsError → BootError
+told_records (records.BadRecord i) = boot.BadRecord i
+told_records records.NoMemory = boot.NoMemory

@@ -1,9 +1,10 @@
 -- A handler as its callers see it: its disk, its list, and what is known of them.
-use Rattle.std.specs.Prelude.{◌≡◌, ℕ, Bool, false, List, Result, Ok, Err}
+use Rattle.std.specs.Prelude.{◌≡◌, ℕ, Bool, false, List, [], Option, None, Some, Result, Ok, Err}
+use Rattle.rel_files.specs.Release.{Release}
 use Rattle.rel_list.specs.Releases.{Releases}
 use Rattle.rel_list.specs.Event.{booted}
 use Rattle.rel_store.specs.State as of_store
-use Rattle.rel_handler.specs.Records.{Makes}
+use Rattle.rel_records.specs.Lists.{Makes}
 use Rattle.rel_handler.specs.declared.handler.Handler.{Handler}
 
 -- its disk
@@ -44,3 +45,8 @@ pub record IsSame {D : Type 0} (old new : Handler D) : Type 0 where
   pub list : list_in new ≡ list_in old
   pub dead : is_dead new ≡ is_dead old
   pub end : end_in new ≡ end_in old
+
+-- the version of a release that a node has, as of the permanent one
+abbrev pub version_of : Option Release → List ℕ
+version_of None = []
+version_of (Some r) = r.vsn

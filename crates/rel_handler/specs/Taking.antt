@@ -1,26 +1,46 @@
--- What the event of a command makes of a node's list, or why the command is refused.
-use Rattle.std.specs.Prelude.{length, nat_le, if◌then◌else◌, Option, None, Some, Result, Ok, Err}
+-- What the event of a command makes of a node's list, or why the command is refused; and the size of its record.
+use Rattle.std.specs.Prelude.{ℕ, [], length, nat_le, if◌then◌else◌, Option, None, Some, Result, Ok, Err}
+use Rattle.rel_files.specs.Form.{tuple_of}
+use Rattle.rel_list.specs.declared.fault.ListError.{ListError}
+use Rattle.rel_list.specs.declared.fault.ListError.TheVariants as list
 use Rattle.rel_list.specs.Releases.{Releases}
-use Rattle.rel_list.specs.Event.{Event, step, booted}
-use Rattle.rel_list.specs.Event.Event.{made, unpacked, boot}
-use Rattle.rel_handler.specs.Limits.{most_releases, is_small}
+use Rattle.rel_list.specs.Event.{Event, step}
+use Rattle.rel_list.specs.Event.Event.{made, unpacked}
+use Rattle.rel_list.specs.Refusal.{refusal}
+use Rattle.rel_records.specs.Limits.{most_releases, is_small}
+use Rattle.rel_records.specs.Record.{body_of}
+use Rattle.rel_records.specs.Writing.{record_of}
 use Rattle.rel_handler.specs.declared.error.HandlerError.{HandlerError}
-use Rattle.rel_handler.specs.declared.error.HandlerError.TheVariants.{ExistingRelease, TooMany, NoMemory, Exists}
+use Rattle.rel_handler.specs.declared.error.HandlerError.TheVariants.{NoSuchRelease, ExistingRelease, AlreadyInstalled, BadStatus, Permanent, Running, TooMany, NoMemory}
 
--- the list that came of it, where it is no longer than a node's may be
-abbrev pub kept_short : Releases → Result Releases HandlerError
-kept_short es = if nat_le (length es) most_releases then Ok es else Err TooMany
+-- what a node answers for a refusal of its list
+abbrev pub list_refusal : ListError → HandlerError
+list_refusal list.NoSuchRelease = NoSuchRelease
+list_refusal list.ExistingRelease = ExistingRelease
+list_refusal list.AlreadyInstalled = AlreadyInstalled
+list_refusal (list.BadStatus s) = BadStatus s
+list_refusal list.Permanent = Permanent
+list_refusal list.Running = Running
+list_refusal list.NoMemory = NoMemory
 
--- what the list allows, or this refusal
-abbrev pub allowed : HandlerError → Option Releases → Result Releases HandlerError
-allowed refusal None = Err refusal
-allowed refusal (Some es) = kept_short es
+-- the list's refusal, or what comes of the list; there is always one of the two, so NoMemory stands for nothing here
+abbrev pub refused_or : Option ListError → Option Releases → Result Releases HandlerError
+refused_or (Some why) o = Err (list_refusal why)
+refused_or None (Some es) = Ok es
+refused_or None None = Err NoMemory
+
+-- the list, where it is no longer than a node's may be
+abbrev pub kept_short : Result Releases HandlerError → Result Releases HandlerError
+kept_short (Ok es) = if nat_le (length es) most_releases then Ok es else Err TooMany
+kept_short (Err why) = Err why
 
 -- What the event of a command makes of the list. Refused in this order: a release with too many applications, what the
--- list doesn't allow, one release too many. No command brings the other events yet: of these it says what the list allows,
--- and NoMemory stands for the list's refusal.
+-- list doesn't allow, one release too many.
 abbrev pub commanded : Event → Releases → Result Releases HandlerError
-commanded (made r) es = if is_small r then allowed Exists (step (made r) es) else Err TooMany
-commanded (unpacked r) es = if is_small r then allowed ExistingRelease (step (unpacked r) es) else Err TooMany
-commanded boot es = Ok (booted es)
-commanded e es = allowed NoMemory (step e es)
+commanded (made r) es = if is_small r then refused_or (refusal (made r) es) (step (made r) es) else Err TooMany
+commanded (unpacked r) es = if is_small r then kept_short (refused_or (refusal (unpacked r) es) (step (unpacked r) es)) else Err TooMany
+commanded e es = refused_or (refusal e es) (step e es)
+
+-- How many bytes the body of the record has of an event that brings no release; so any term stands for its release's.
+abbrev pub change_size : Event → Releases → ℕ
+change_size e es = length (body_of (tuple_of []) (record_of e es))

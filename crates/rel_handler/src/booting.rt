@@ -1,5 +1,5 @@
 // A node is read from its disk again.
-ghost use Rattle.std.specs.Prelude.{◌≡◌, ◌⊎◌, ℕ, ◌≤◌, List, map, false, IfOk, IfErr, MatchResult};
+ghost use Rattle.std.specs.Prelude.{◌≡◌, ◌⊎◌, ℕ, ◌≤◌, List, false, IfOk, IfErr, MatchResult};
 ghost use Rattle.rel_disk.specs.Moments.{LeavesOnly};
 ghost use Rattle.rel_list.specs.Releases.{Releases};
 ghost use Rattle.rel_list.specs.Event.{booted};
@@ -8,14 +8,12 @@ ghost use Rattle.rel_store.specs.Records.{end_of};
 ghost use Rattle.rel_handler.specs.Events.{Known, IsOfPrefix};
 ghost use Rattle.rel_handler.specs.Image.{IsImageOf, IsImageAt};
 ghost use Rattle.rel_handler.specs.Moments.{BootsTo, IsSynced};
-ghost use Rattle.rel_handler.specs.Records.{Makes, IsBadRecord};
 ghost use Rattle.rel_handler.specs.Refusals.{BootRefused, told_boot, IsOpenError};
 ghost use Rattle.rel_handler.specs.State.{disk_in, disk_of, list_in, is_dead, end_in, IsSound};
 
-use crate::records::{RecordFault, take_record};
 use crate::{BootError, Handler};
 use rel_disk::Disk;
-use rel_list::ReleaseList;
+use rel_records::read_list;
 use rel_store::{Store, StoreError};
 use std::alloc::Global;
 
@@ -63,31 +61,10 @@ pub fn boot<D: Disk>(alloc: Global, disk: D) -> Result<Handler<D>, (BootError, D
                 list,
                 dead: false,
             }),
-            Err(error) => Err((error, store.into_disk())),
+            Err(error) => Err((BootError::from(error), store.into_disk())),
         },
         Err((error, disk)) => Err((boot_error(error), disk)),
     }
-}
-
-// The list that these records make.
-fn read_list(alloc: Global, records: &[Vec<u8>]) -> Result<ReleaseList, BootError>
-    ensures made { IfOk result (Makes (map (λ v. v.items) records.now)) }
-    ensures bad { IfErr result (λ e. (e ≡ BootError.NoMemory)
-        ⊎ ((i : ℕ) × (e ≡ BootError.BadRecord i)
-        × IsBadRecord (map (λ v. v.items) records.now) i)) }
-{
-    let mut list = ReleaseList::new(alloc);
-    for (i, body) in records.iter().enumerate() {
-        match take_record(alloc, &mut list, body.as_slice()) {
-            Ok(()) => {}
-            Err(RecordFault::Bad) => return Err(BootError::BadRecord(i as u64 + 1)),
-            Err(RecordFault::NoMemory) => return Err(BootError::NoMemory),
-        }
-    }
-    if list.is_empty() {
-        return Err(BootError::BadRecord(1));
-    }
-    Ok(list)
 }
 
 // What a boot tells of a store that isn't opened.

@@ -1,37 +1,34 @@
 // A node is made.
-ghost use Rattle.std.specs.Prelude.{◌≡◌, ℕ, ◌≤◌, List, [], ◌∷◌, ◌++◌, length, true, false, codes, string_bytes, IfOk, IfErr, OnOk, IsErr};
-ghost use Rattle.erl_term.specs.OneTerm.{HasTerm};
-ghost use Rattle.erl_term.specs.Value.{value_of};
+ghost use Rattle.std.specs.Prelude.{◌≡◌, ℕ, ◌≤◌, List, [], ◌∷◌, length, true, false, string_bytes, IfOk, IfErr, OnOk, IsErr};
 ghost use Rattle.rel_files.specs.Release.{release_of};
-ghost use Rattle.rel_list.specs.Releases.{Releases};
-ghost use Rattle.rel_list.specs.Event.{entry};
+ghost use Rattle.rel_list.specs.Releases.{Releases, entry};
 ghost use Rattle.rel_list.specs.Event.Event.{made};
+ghost use Rattle.rel_records.specs.Limits.{is_small};
+ghost use Rattle.rel_records.specs.Reading.{Spells};
+ghost use Rattle.rel_records.specs.Record.{makes};
 ghost use Rattle.rel_store.specs.Layout.{slot_with};
 ghost use Rattle.rel_handler.specs.Events.{doubted};
-ghost use Rattle.rel_handler.specs.Files.{IsRelFile, start_text};
+ghost use Rattle.rel_handler.specs.Files.{IsRelFile, start_text, made_size};
 ghost use Rattle.rel_handler.specs.Image.{IsImageOf, IsImageAt, holds_a_store, end_behind, first_end, HasSpace};
-ghost use Rattle.rel_handler.specs.Limits.{is_small};
 ghost use Rattle.rel_handler.specs.Moments.{Begins, BeginsAt, WritesNothing};
-ghost use Rattle.rel_handler.specs.Records.{body_of, record_term, word_of, makes};
 ghost use Rattle.rel_handler.specs.Refusals.{CreateRefused, told_create, IsCreateError};
 ghost use Rattle.rel_handler.specs.State.{disk_in, disk_of, list_in, is_dead, end_in, start_in, IsSound};
 ghost use Rattle.rel_list.specs.declared.status.Status.TheVariants.{Permanent};
 
-use crate::limits::is_small;
-use crate::records::{MADE, spell};
 use crate::{Handler, HandlerError};
 use rel_disk::Disk;
 use rel_files::{Rel, RelFile};
 use rel_list::{Event, ReleaseList};
+use rel_records::{is_small, made_body};
 use rel_store::{Store, StoreError};
 use std::alloc::{AllocError, Global};
 
 impl<D: Disk> Handler<D> {
     /// Makes a node on a disk that has none, with a release from its file as the permanent one.
     ///
-    /// Told in this order: `TooMany` for its applications, `Exists`, `Full`; `NoMemory` may come in place of `Exists` and
-    /// `Full`. Nothing has been written then. After `Device` the disk has no store or the new one, once the first sync has
-    /// succeeded; before that nothing but its first byte was written. The disk comes back with each refusal.
+    /// Refusals, in this order: `TooMany` for its applications, `Exists`, `Full`; `NoMemory` may come in place of `Exists`
+    /// and `Full`. Nothing has been written then. After `Device` the disk has no store or the new one, once the first sync
+    /// has succeeded; before that nothing but its first byte was written. The disk comes back with each refusal.
     pub fn create(alloc: Global, disk: D, file: RelFile) -> Result<Handler<D>, (HandlerError, D)>
         requires { IsRelFile file }
         ensures sound { IfOk result (IsSound D.seen D.may_leave) }
@@ -43,10 +40,9 @@ impl<D: Disk> Handler<D> {
             → D.may_leave (disk_in handler) c → IsImageAt c (list_in handler) (end_in handler)) }
         ensures start { IfOk result (λ handler. start_in D.seen handler
             ≡ slot_with (start_text (release_of file.release))) }
-        ensures fits { OnOk result (HasSpace first_end
-            (length (body_of (word_of (makes (release_of file.release))) (value_of file.term)))) }
-        ensures end { IfOk result (λ handler. end_in handler ≡ end_behind first_end
-            (length (body_of (word_of (makes (release_of file.release))) (value_of file.term)))) }
+        ensures fits { OnOk result (HasSpace first_end (made_size file)) }
+        ensures end { IfOk result (λ handler. end_in handler
+            ≡ end_behind first_end (made_size file)) }
 
         // A crash at any moment from the first sync on leaves no store, or one that stands for the list with the release.
         ensures any_moment { Begins D.seen D.may_leave D.moment D.left_since
@@ -64,8 +60,7 @@ impl<D: Disk> Handler<D> {
 
         ensures counted { D.failures disk ≤ D.failures (disk_of result) }
         ensures refused { IfErr result (λ e. CreateRefused (D.seen disk) (release_of file.release)
-            (length (body_of (word_of (makes (release_of file.release))) (value_of file.term)))
-            (D.failures disk) (D.failures e.1)
+            (made_size file) (D.failures disk) (D.failures e.1)
             (WritesNothing D.seen D.may_leave D.moment D.left_since disk e.1) e.0) }
     {
         if !is_small(&file.release) {
@@ -98,17 +93,16 @@ impl NewNode {
     // All of it, or nothing where memory is refused.
     fn of(alloc: Global, file: RelFile) -> Result<NewNode, AllocError>
         requires { IsRelFile file }
-        ensures body { IfOk result (λ new. string_bytes new.body
-            ≡ body_of (codes "made") (value_of file.term)) }
-        ensures read_back { IfOk result (λ new. HasTerm 72 (string_bytes new.body)
-            (record_term (codes "made") (value_of file.term))) }
+        ensures body { IfOk result (λ new. length (string_bytes new.body) ≡ made_size file) }
+        ensures spells { IfOk result (λ new.
+            Spells (string_bytes new.body) (makes (release_of file.release))) }
         ensures start { IfOk result (λ new. string_bytes new.start
             ≡ start_text (release_of file.release)) }
         ensures list { IfOk result (λ new.
             new.list ≡ entry (release_of file.release) Permanent ∷ []) }
     {
         let start = start_text(alloc, &file.release)?;
-        let body = spell(alloc, MADE, file.term)?;
+        let body = made_body(alloc, file.term)?;
         let mut list = ReleaseList::new(alloc);
         if list.accept(alloc, Event::Made(file.release)).is_err() {
             return Err(AllocError);

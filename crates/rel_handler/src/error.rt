@@ -2,16 +2,35 @@
 ghost use Rattle.std.specs.Prelude.{◌≡◌};
 ghost use Rattle.rel_handler.specs.declared.error.HandlerError.TheVariants as command;
 ghost use Rattle.rel_handler.specs.declared.error.BootError.TheVariants as boot;
+ghost use Rattle.rel_handler.specs.Refusals.{told_records};
+ghost use Rattle.rel_handler.specs.Taking.{list_refusal};
 
+use rel_list::{ListError, Status};
+use rel_records::RecordsError;
 use std::alloc::{AllocError, AllocFailed};
 use thiserror::Error;
 
 /// Why a command was refused. Nothing has changed then, but after `Device`.
 #[derive(Clone, Copy, Debug, PartialEq, Eq, Error)]
 pub enum HandlerError {
+    /// The list has no release of this version.
+    #[error("NoSuchRelease")]
+    NoSuchRelease,
     /// The list has a release of this version.
     #[error("ExistingRelease")]
     ExistingRelease,
+    /// The release is to be installed, and runs.
+    #[error("AlreadyInstalled")]
+    AlreadyInstalled,
+    /// The release has this status, and would need another one.
+    #[error("BadStatus {}", .0.as_str())]
+    BadStatus(Status),
+    /// The release is to be removed, and is the one that is booted.
+    #[error("Permanent")]
+    Permanent,
+    /// The release is to be removed, and runs.
+    #[error("Running")]
+    Running,
     /// The release has more applications than a release may have, or would be one more than a node may have.
     #[error("TooMany")]
     TooMany,
@@ -30,6 +49,22 @@ pub enum HandlerError {
     /// A node is on the disk already.
     #[error("Exists")]
     Exists,
+}
+
+impl From<ListError> for HandlerError {
+    ghost from_gives = { λ e h. h ≡ list_refusal e };
+
+    fn from(error: ListError) -> HandlerError {
+        match error {
+            ListError::NoSuchRelease => HandlerError::NoSuchRelease,
+            ListError::ExistingRelease => HandlerError::ExistingRelease,
+            ListError::AlreadyInstalled => HandlerError::AlreadyInstalled,
+            ListError::BadStatus(status) => HandlerError::BadStatus(status),
+            ListError::Permanent => HandlerError::Permanent,
+            ListError::Running => HandlerError::Running,
+            ListError::NoMemory => HandlerError::NoMemory,
+        }
+    }
 }
 
 impl From<AllocError> for HandlerError {
@@ -68,10 +103,13 @@ pub enum BootError {
     BadRecord(u64),
 }
 
-impl From<AllocError> for BootError {
-    ghost from_gives = { λ _ e. e ≡ boot.NoMemory };
+impl From<RecordsError> for BootError {
+    ghost from_gives = { λ e b. b ≡ told_records e };
 
-    fn from(_: AllocError) -> BootError {
-        BootError::NoMemory
+    fn from(error: RecordsError) -> BootError {
+        match error {
+            RecordsError::BadRecord(number) => BootError::BadRecord(number),
+            RecordsError::NoMemory => BootError::NoMemory,
+        }
     }
 }

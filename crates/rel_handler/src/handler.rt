@@ -1,26 +1,23 @@
 // A node's releases on a disk, and the commands on them.
-ghost use Rattle.std.specs.Prelude.{◌≡◌, ℕ, ◌≤◌, List, length, true, false, Some, Ok, string_bytes, IfErr, OnOk, MatchResult};
-ghost use Rattle.erl_term.specs.Value.{value_of};
-ghost use Rattle.rel_disk.specs.Moments.{LeavesOnly};
+ghost use Rattle.std.specs.Prelude.{◌≡◌, true, false, string_bytes, Ok, Err, IfOk, IfErr, OnOk, MatchOption, MatchResult};
 ghost use Rattle.rel_files.specs.Release.{release_of};
-ghost use Rattle.rel_list.specs.Event.{list_after};
-ghost use Rattle.rel_list.specs.Event.Event.{unpacked};
-ghost use Rattle.rel_handler.specs.Events.{Events, IsStoredAs, uncertain};
-ghost use Rattle.rel_handler.specs.Image.{IsImageAt, end_behind, HasSpace};
-ghost use Rattle.rel_handler.specs.Records.{body_of, word_of, adds};
+ghost use Rattle.rel_list.specs.Event.Event.{unpacked, installed, made_permanent, removed};
+ghost use Rattle.rel_list.specs.Releases.{Releases, running};
+ghost use Rattle.rel_handler.specs.Commits.{Commits, IsDone, IsStarted};
+ghost use Rattle.rel_handler.specs.Files.{IsRelFile, unpacked_size, started};
 ghost use Rattle.rel_handler.specs.Refusals.{CommandRefused};
-ghost use Rattle.rel_handler.specs.State.{disk_in, list_in, is_dead, end_in, start_in, IsSound};
-ghost use Rattle.rel_handler.specs.Taking.{commanded};
-ghost use Rattle.rel_handler.specs.Files.{IsRelFile};
+ghost use Rattle.rel_handler.specs.State.{disk_in, list_in, is_dead, start_in, version_of, IsSound};
+ghost use Rattle.start_record.specs.Text.{versions_of};
+ghost use Rattle.rel_handler.specs.Taking.{commanded, change_size};
 
 use crate::HandlerError;
-use crate::limits::{MOST_RELEASES, is_small};
-use crate::records::{UNPACKED, spell};
 use rel_disk::Disk;
-use rel_files::RelFile;
+use rel_files::{Rel, RelFile};
 use rel_list::{Event, ReleaseList};
+use rel_records::{MOST_RELEASES, is_small, unpacked_body};
 use rel_store::Store;
-use std::alloc::Global;
+use start_record::Start;
+use std::alloc::{AllocError, Global};
 
 /// A node's releases on a disk.
 #[derive(Drop)]
@@ -29,6 +26,13 @@ pub struct Handler<D: Disk> {
     pub(crate) list: ReleaseList,
     // a boot has to come first
     pub(crate) dead: bool,
+}
+
+/// A release was installed.
+#[derive(Debug, PartialEq, Drop)]
+pub struct Installed {
+    /// The version of the release that ran before.
+    pub other: String,
 }
 
 impl<D: Disk> Handler<D> {
@@ -64,73 +68,139 @@ impl<D: Disk> Handler<D> {
         }
     }
 
-    /// Takes in a release as unpacked, from its file. At `Ok` it is acknowledged: from then on each crash leaves a disk that
-    /// stands for the list with it.
+    /// Takes in a release as unpacked, from its file. At `Ok` it is acknowledged (`done`).
     ///
-    /// Told in this order: `Dead`, `TooMany` for its applications, `ExistingRelease`, `TooMany` for the node's releases,
-    /// `Full`; `NoMemory` may come in place of each but the first. Nothing has changed then. `Device` comes only where the
-    /// list allows the release and its record fits; then the handler is dead, and the disk stands for its list with the
-    /// release or without.
+    /// Refusals, in this order: `Dead`, `TooMany` for its applications, `ExistingRelease`, `TooMany` for the node's
+    /// releases, `Full`; `NoMemory` may come in place of each but the first. Nothing has changed then. `Device` comes only
+    /// where the list allows the release and its record fits; then the handler is dead, and the disk stands for its list
+    /// with the release or without.
     pub fn set_unpacked(&mut self, alloc: Global, file: RelFile) -> Result<(), HandlerError>
         requires sound { IsSound D.seen D.may_leave self.old }
         requires file { IsRelFile file }
-        ensures sound { IsSound D.seen D.may_leave self.new }
-        ensures works { OnOk result (is_dead self.new ≡ false) }
-        ensures accepted { OnOk result (commanded (unpacked (release_of file.release))
-            (list_in self.old) ≡ Ok (list_in self.new)) }
-        ensures acknowledged { OnOk result ((c : List ℕ) → D.may_leave (disk_in self.new) c
-            → IsImageAt c (list_in self.new) (end_in self.new)) }
+        ensures commits { Commits D.Disk (unpacked (release_of file.release)) (unpacked_size file)
+            self.old self.new }
+        ensures done { OnOk result (IsDone D.Disk (unpacked (release_of file.release))
+            (unpacked_size file) self.old self.new) }
         ensures start { OnOk result (start_in D.seen self.new ≡ start_in D.seen self.old) }
-        ensures fits { OnOk result (HasSpace (end_in self.old)
-            (length (body_of (word_of (adds (release_of file.release))) (value_of file.term)))) }
-        ensures end { OnOk result (end_in self.new ≡ end_behind (end_in self.old)
-            (length (body_of (word_of (adds (release_of file.release))) (value_of file.term)))) }
-
-        // Whatever the events so far, a crash at any moment of the call leaves the store of their list, or of the list with
-        // this one, which is in doubt.
-        ensures any_moment { is_dead self.old ≡ false
-            → (events : Events) → list_after events ≡ Some (list_in self.old)
-            → LeavesOnly D.moment D.left_since (disk_in self.old) (disk_in self.new)
-            (IsStoredAs (uncertain events (end_in self.old) (unpacked (release_of file.release))
-            (length (body_of (word_of (adds (release_of file.release))) (value_of file.term))))) }
-
-        ensures counted { D.failures (disk_in self.old) ≤ D.failures (disk_in self.new) }
         ensures refused { IfErr result (CommandRefused D.failures
-            (unpacked (release_of file.release))
-            (length (body_of (word_of (adds (release_of file.release))) (value_of file.term)))
-            self.old self.new) }
+            (unpacked (release_of file.release)) (unpacked_size file) self.old self.new) }
     {
         if self.dead {
             return Err(HandlerError::Dead);
         }
-        if !is_small(&file.release) {
-            return Err(HandlerError::TooMany);
+        if let Some(why) = unpacking_refusal(&self.list, &file.release) {
+            return Err(why);
         }
-        if self.list.status(file.release.vsn.as_str()).is_some() {
-            return Err(HandlerError::ExistingRelease);
-        }
-        if self.list.len() >= MOST_RELEASES {
-            return Err(HandlerError::TooMany);
-        }
-        let body = spell(alloc, UNPACKED, file.term)?;
-        if !self.store.fits(body.len()) {
-            return Err(HandlerError::Full);
-        }
-        if self.store.reserve(alloc, body.len()).is_err() {
-            return Err(HandlerError::NoMemory);
-        }
-        if self
-            .list
-            .accept(alloc, Event::Unpacked(file.release))
-            .is_err()
-        {
-            return Err(HandlerError::NoMemory);
-        }
-        self.dead = true;
-        if self.store.append(alloc, body.as_bytes()).is_err() {
-            return Err(HandlerError::Device);
-        }
-        self.dead = false;
-        Ok(())
+        let body = unpacked_body(alloc, file.term)?;
+        self.commit(alloc, Event::Unpacked(file.release), body.as_str())
     }
+
+    /// Installs a release: it is current until the next boot. At `Ok` that is acknowledged (`done`).
+    ///
+    /// Refusals, in this order: `Dead`, `NoSuchRelease`, `AlreadyInstalled`, `Full`; else as `set_unpacked`.
+    pub fn install_release(&mut self, alloc: Global, vsn: &str) -> Result<Installed, HandlerError>
+        requires { IsSound D.seen D.may_leave self.old }
+        ensures commits { Commits D.Disk (installed vsn.now)
+            (change_size (installed vsn.now) (list_in self.old)) self.old self.new }
+        ensures done { OnOk result (IsDone D.Disk (installed vsn.now)
+            (change_size (installed vsn.now) (list_in self.old)) self.old self.new) }
+        ensures start { OnOk result (start_in D.seen self.new ≡ start_in D.seen self.old) }
+        ensures other { IfOk result (λ i. string_bytes i.other
+            ≡ version_of (running (list_in self.old))) }
+        ensures refused { IfErr result (CommandRefused D.failures (installed vsn.now)
+            (change_size (installed vsn.now) (list_in self.old)) self.old self.new) }
+    {
+        if self.dead {
+            return Err(HandlerError::Dead);
+        }
+        let other = running_version(alloc, &self.list)?;
+        let vsn = String::from_str(alloc, vsn)?;
+        self.change(alloc, Event::Installed(vsn))?;
+        Ok(Installed { other })
+    }
+
+    /// Makes the current release, of this version, the permanent one: the list is committed, then the start record. At `Ok`
+    /// both are acknowledged (`done`, `start`).
+    ///
+    /// Refusals, in this order: `Dead`, `NoSuchRelease`, `BadStatus`, `Full`; else as `set_unpacked`. After a `Device` the
+    /// list has the event or not, and the start record is the old one or the new.
+    pub fn make_permanent(&mut self, alloc: Global, vsn: &str) -> Result<(), HandlerError>
+        requires { IsSound D.seen D.may_leave self.old }
+        ensures commits { Commits D.Disk (made_permanent vsn.now)
+            (change_size (made_permanent vsn.now) (list_in self.old)) self.old self.new }
+        ensures done { OnOk result (IsDone D.Disk (made_permanent vsn.now)
+            (change_size (made_permanent vsn.now) (list_in self.old)) self.old self.new) }
+        ensures start { OnOk result (IsStarted D.seen self.new) }
+        ensures refused { IfErr result (CommandRefused D.failures (made_permanent vsn.now)
+            (change_size (made_permanent vsn.now) (list_in self.old)) self.old self.new) }
+    {
+        if self.dead {
+            return Err(HandlerError::Dead);
+        }
+        let Some(release) = self.list.release(vsn) else {
+            return Err(HandlerError::NoSuchRelease);
+        };
+        let start = start_of(alloc, release)?;
+        let vsn = String::from_str(alloc, vsn)?;
+        self.change(alloc, Event::MadePermanent(vsn))?;
+        self.commit_start(&start)
+    }
+
+    /// Takes a release out of the list. At `Ok` that is acknowledged (`done`).
+    ///
+    /// Refusals, in this order: `Dead`, `NoSuchRelease`, `Permanent`, `Running`, `Full`; else as `set_unpacked`.
+    pub fn remove_release(&mut self, alloc: Global, vsn: &str) -> Result<(), HandlerError>
+        requires { IsSound D.seen D.may_leave self.old }
+        ensures commits { Commits D.Disk (removed vsn.now)
+            (change_size (removed vsn.now) (list_in self.old)) self.old self.new }
+        ensures done { OnOk result (IsDone D.Disk (removed vsn.now)
+            (change_size (removed vsn.now) (list_in self.old)) self.old self.new) }
+        ensures start { OnOk result (start_in D.seen self.new ≡ start_in D.seen self.old) }
+        ensures refused { IfErr result (CommandRefused D.failures (removed vsn.now)
+            (change_size (removed vsn.now) (list_in self.old)) self.old self.new) }
+    {
+        if self.dead {
+            return Err(HandlerError::Dead);
+        }
+        let vsn = String::from_str(alloc, vsn)?;
+        self.change(alloc, Event::Removed(vsn))
+    }
+}
+
+// Why a node with this list takes in no such release.
+fn unpacking_refusal(list: &ReleaseList, release: &Rel) -> Option<HandlerError>
+    ensures { MatchOption result
+        ((es : Releases) × (commanded (unpacked (release_of release.now)) list.now ≡ Ok es))
+        (λ why. commanded (unpacked (release_of release.now)) list.now ≡ Err why) }
+{
+    if !is_small(release) {
+        return Some(HandlerError::TooMany);
+    }
+    if list.status(release.vsn.as_str()).is_some() {
+        return Some(HandlerError::ExistingRelease);
+    }
+    if list.len() >= MOST_RELEASES {
+        return Some(HandlerError::TooMany);
+    }
+    None
+}
+
+// The version of the release that runs.
+fn running_version(alloc: Global, list: &ReleaseList) -> Result<String, AllocError>
+    ensures { IfOk result (λ vsn. string_bytes vsn ≡ version_of (running list.now)) }
+{
+    match list.running() {
+        Some(release) => String::from_str(alloc, release.vsn.as_str()),
+        None => Ok(String::new(alloc)),
+    }
+}
+
+// What a node with this release as the permanent one starts.
+fn start_of(alloc: Global, release: &Rel) -> Result<Start, AllocError>
+    ensures { IfOk result (λ start. versions_of start ≡ started (release_of release.now)) }
+{
+    Ok(Start {
+        erts: String::from_str(alloc, release.erts.as_str())?,
+        vsn: String::from_str(alloc, release.vsn.as_str())?,
+    })
 }

@@ -1,33 +1,33 @@
 //! A node's releases on a disk, under commands that survive a stop at any moment.
 //!
 //! A [`Handler`] keeps the list of a node's releases, and on a disk a store with a record for each change of it. `create`
-//! makes a node, `set_unpacked` brings a further release, `boot` reads the node from its disk again.
+//! makes a node, `set_unpacked` brings a further release, `install_release`, `make_permanent` and `remove_release` change the
+//! list, `boot` reads the node from its disk again.
 //!
 //! Each command is an event of the list (`step`). Stopped at any moment of a call (of `create` from its first sync on, and
 //! then it may also be no store), the disk stands for the list of a prefix of the accepted events that holds every
 //! acknowledged one (`IsOfPrefix`), and a boot of it answers that list, as it is behind a boot, or refuses for memory or
-//! the device alone. After an `Ok` the disk stands for the list with the command's event. A refusal changes nothing, but
-//! after `Device` the handler is dead until the next boot.
+//! the device alone. After an `Ok` the disk stands for the list with the command's event (`IsDone`), and behind a creation
+//! or a `make_permanent` the start record is that of the permanent release. A refusal changes nothing, but after `Device`
+//! the handler is dead until the next boot. What the start record says behind a failure or a crash is not stated yet.
 //!
 //! The law `a_disk_boots_or_is_refused` says of all bytes that they stand for one list or a boot refuses them, never both.
 //!
-//! The clauses speak of the bytes of a store as a whole (`IsImageOf`) and of its records as terms (`Spells`). One proof is
-//! about single bytes: that a store refuses bytes as `NotAStore` or `Damaged` alone (`BadRecords`).
+//! The clauses speak of the bytes of a store as a whole (`IsImageOf`) and of its records by `rel_records` (`Makes`). One
+//! proof is about single bytes: that a store refuses bytes as `NotAStore` or `Damaged` alone (`BadRecords`).
 //!
 //! Only tested: that a call succeeds where memory is there. Trusted: the toolchain and `thiserror`.
 #![tactic(auto)]
 
 mod booting;
+mod commit;
 mod creation;
 mod error;
 mod files;
 mod handler;
 pub mod laws;
-mod limits;
-mod records;
 
 pub use booting::boot;
 pub use error::{BootError, HandlerError};
 pub use files::{Files, FilesError};
-pub use handler::Handler;
-pub use limits::{MOST_APPLICATIONS, MOST_RELEASES};
+pub use handler::{Handler, Installed};

@@ -2,6 +2,6 @@ mod Lookups
 pub mod Orderly
 pub mod EventLaws
 mod BootLaws
-mod RefusalLaws
-mod RestLaws
+pub mod RefusalLaws
+pub mod RestLaws
 mod Kept

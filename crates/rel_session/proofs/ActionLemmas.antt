@@ -9,12 +9,13 @@ use Rattle.rel_files.specs.Fault.{Fault}
 use Rattle.rel_files.specs.File.{HasVersions, HasFault, SaysRelease}
 use Rattle.rel_files.specs.Name.{IsVersion}
 use Rattle.rel_files.specs.Release.{Release}
+use Rattle.rel_list.specs.Releases.{Releases, running as running_release}
 use Rattle.rel_list.specs.Event.{Event}
 use Rattle.rel_list.specs.Event.Event.{made, unpacked}
-use Rattle.rel_handler.specs.Limits.{is_small}
+use Rattle.rel_records.specs.Limits.{is_small}
 use Rattle.rel_session.specs.AnswerLaws.{is_one_line, HasLinePath}
 use Rattle.rel_session.specs.Commands.{Command, File}
-use Rattle.rel_session.specs.Commands.Command.{file, create, set_unpacked, boot, releases, quit, bad}
+use Rattle.rel_session.specs.Commands.Command.{file, create, set_unpacked, install, permanent, remove, boot, releases, quit, bad}
 use Rattle.rel_session.specs.Commands.File.{bytes, too_large}
 use Rattle.rel_session.specs.Files.{Files, Found, Says, usable, IsFound}
 use Rattle.rel_session.specs.LawsBelow.{FileLaws}
@@ -22,9 +23,9 @@ use Rattle.rel_session.specs.Node.{Place, releases_after}
 use Rattle.rel_session.specs.Node.Place.{raw, closed, running, dead}
 use Rattle.rel_session.specs.Refusals.{Refusal}
 use Rattle.rel_session.specs.Refusals.Refusal.{too_many}
-use Rattle.rel_session.specs.Transition.{Action, ComesTo, OnNode, listed, creation, unpacking}
+use Rattle.rel_session.specs.Transition.{Action, ComesTo, OnNode, listed, creation, unpacking, version_of}
 use Rattle.rel_session.specs.Transition.Action.{answers, makes_node, changes_node, boots_node}
-use Rattle.rel_session.proofs.AnswerLines.{parts, joined, IsWhole, HasLine, refusal_whole, listing_whole}
+use Rattle.rel_session.proofs.AnswerLines.{parts, joined, IsWhole, HasLine, refusal_whole, listing_whole, installed_plain}
 
 module _ (laws : FileLaws) where
   -- A file says one thing.
@@ -80,6 +81,9 @@ one_action laws files p q (file path f) x y kinds is also = inl (is ∙ sym also
 one_action laws files p q (create path) x y kinds (found, there, is) (again, there_too, also) = inl (is ∙ ap creation (one_found laws path (files path) found again there there_too) ∙ sym also)
 one_action laws files p q (set_unpacked path) x y kinds is also =
     inl (on_node _ x y p q kinds (λ here here_too. here.2 ∙ ap unpacking (one_found laws path (files path) here.0 here_too.0 here.1 here_too.1) ∙ sym here_too.2) is also)
+one_action laws files p q (install vsn) x y kinds is also = inl (is ∙ sym also)
+one_action laws files p q (permanent vsn) x y kinds is also = inl (is ∙ sym also)
+one_action laws files p q (remove vsn) x y kinds is also = inl (is ∙ sym also)
 one_action laws files p q boot x y kinds is also = inl (is ∙ sym also)
 one_action laws files p q releases x y kinds is also = inr (is, also)
 one_action laws files p q quit x y kinds is also = absurd is
@@ -93,6 +97,9 @@ some_action laws files (running events end) (set_unpacked path) = let (found, th
 some_action laws files (raw x) (set_unpacked path) = inr (_, refl)
 some_action laws files (closed s) (set_unpacked path) = inr (_, refl)
 some_action laws files (dead s) (set_unpacked path) = inr (_, refl)
+some_action laws files p (install vsn) = inr (_, refl)
+some_action laws files p (permanent vsn) = inr (_, refl)
+some_action laws files p (remove vsn) = inr (_, refl)
 some_action laws files p boot = inr (_, refl)
 some_action laws files p releases = inr (_, refl)
 some_action laws files p quit = inl refl
@@ -119,7 +126,7 @@ OfEvent e = Unit {0}
 abbrev pub IsGoodAction : Action → Type 0
 IsGoodAction (answers text) = IsWhole text
 IsGoodAction (makes_node found) = HasVersions found.release
-IsGoodAction (changes_node c) = OfEvent c.event × (is_one_line c.vsn ≡ true)
+IsGoodAction (changes_node c) = OfEvent c.event × ((list : Releases) → is_one_line (c.details list) ≡ true)
 IsGoodAction boots_node = Unit {0}
 
 good_as : (x y : Action) → x ≡ y → IsGoodAction y → IsGoodAction x
@@ -149,7 +156,7 @@ good_creation (Ok found) good = good
 
 good_unpacking : (found : Result Found Refusal) → IsGoodFound found → IsGoodAction (unpacking found)
 good_unpacking (Err why) good = refusal_whole why good
-good_unpacking (Ok found) good = (good, one_line found.release.vsn good.own)
+good_unpacking (Ok found) good = (good, λ list. one_line found.release.vsn good.own)
 
 whole_list : (p : Place) → IsWhole (listed p)
 whole_list (raw x) behind = refl
@@ -164,6 +171,9 @@ good_action files (running events end) (set_unpacked path) does line (found, the
 good_action files (raw x) (set_unpacked path) does line is = good_as does _ is (λ behind. refl)
 good_action files (closed s) (set_unpacked path) does line is = good_as does _ is (λ behind. refl)
 good_action files (dead s) (set_unpacked path) does line is = good_as does _ is (λ behind. refl)
+good_action files p (install vsn) does line is = good_as does _ is (tt, λ list. installed_plain (version_of (running_release list)))
+good_action files p (permanent vsn) does line is = good_as does _ is (tt, λ list. refl)
+good_action files p (remove vsn) does line is = good_as does _ is (tt, λ list. refl)
 good_action files p boot does line is = good_as does _ is tt
 good_action files p releases does line is = good_as does _ is (whole_list p)
 good_action files p quit does line is = absurd is

@@ -4,17 +4,20 @@ use Rattle.std.specs.Prelude.{if◌then◌else◌, ◌==◌, nat_le}
 use Rattle.std.specs.Str.{bytes_eq}
 use Rattle.rel_list.specs.Releases.{Releases}
 use Rattle.rel_list.specs.Event.{Event, step}
+use Rattle.rel_list.specs.Refusal.{refusal}
+use Rattle.rel_list.specs.declared.fault.ListError.{ListError}
+use Rattle.rel_list.specs.declared.fault.ListError.TheVariants as list
 use Rattle.rel_list.specs.Event.Event.{made, unpacked, installed, made_permanent, removed, reboot_old, boot as booting}
 use Rattle.rel_handler.specs.declared.error.BootError.{BootError}
 use Rattle.rel_handler.specs.declared.error.BootError.TheVariants as boot_error
 use Rattle.rel_handler.specs.declared.error.HandlerError.{HandlerError}
-use Rattle.rel_handler.specs.declared.error.HandlerError.TheVariants.{ExistingRelease, TooMany, Exists, NoMemory}
+use Rattle.rel_handler.specs.declared.error.HandlerError.TheVariants.{TooMany}
 use Rattle.rel_handler.specs.Events.{Events, Stored, certain}
-use Rattle.rel_handler.specs.Limits.{is_small, most_releases}
+use Rattle.rel_records.specs.Limits.{is_small, most_releases}
 use Rattle.rel_handler.specs.Image.{holds_a_store}
-use Rattle.rel_handler.specs.Records.{body_of}
+use Rattle.rel_records.specs.Record.{makes as makes_record, body_of}
 use Rattle.rel_handler.specs.Refusals.{IsBootRefusal}
-use Rattle.rel_handler.specs.Taking.{commanded, allowed}
+use Rattle.rel_handler.specs.Taking.{list_refusal, refused_or, kept_short, commanded}
 use Rattle.rel_session.specs.Commands.{Command}
 use Rattle.rel_session.specs.Files.{Files, Found}
 use Rattle.rel_session.specs.LawsBelow.{FileLaws}
@@ -85,33 +88,47 @@ IsPlainList (Err why) = report_of (refusal_line (refusal_of (handler_refusal why
 plain_list : (e : Event) (es : Releases) → IsPlainList (commanded e es)
 plain_list e es = by_event e
   where
-    short : (b : Bool) (l : Releases) → IsPlainList (if b then Ok l else Err TooMany)
-    short true l = tt
-    short false l = refl
+    by_error : (why : ListError) → report_of (refusal_line (refusal_of (handler_refusal (list_refusal why)))) ≡ nothing_done
+    by_error list.NoSuchRelease = refl
+    by_error list.ExistingRelease = refl
+    by_error list.AlreadyInstalled = refl
+    by_error (list.BadStatus s) = refl
+    by_error list.Permanent = refl
+    by_error list.Running = refl
+    by_error list.NoMemory = refl
 
-    fresh : (why : HandlerError) → IsPlainList (Err why) → (o : Option Releases) → IsPlainList (allowed why o)
-    fresh why plain None = plain
-    fresh why plain (Some l) = short (nat_le (length l) most_releases) l
+    taken : (o : Option ListError) (s : Option Releases) → IsPlainList (refused_or o s)
+    taken (Some why) s = by_error why
+    taken None (Some l) = tt
+    taken None None = refl
+
+    short : (o : Result Releases HandlerError) → IsPlainList o → IsPlainList (kept_short o)
+    short (Err why) plain = plain
+    short (Ok l) plain = go (nat_le (length l) most_releases)
+      where
+        go : (b : Bool) → IsPlainList (if b then Ok l else Err TooMany)
+        go true = tt
+        go false = refl
 
     small : (b : Bool) (o : Result Releases HandlerError) → IsPlainList o → IsPlainList (if b then o else Err TooMany)
     small true o plain = plain
     small false o plain = refl
 
     by_event : (e : Event) → IsPlainList (commanded e es)
-    by_event (made r) = small (is_small r) _ (fresh Exists refl (step (made r) es))
-    by_event (unpacked r) = small (is_small r) _ (fresh ExistingRelease refl (step (unpacked r) es))
-    by_event booting = tt
-    by_event (installed v) = fresh NoMemory refl (step (installed v) es)
-    by_event (made_permanent v) = fresh NoMemory refl (step (made_permanent v) es)
-    by_event (removed v) = fresh NoMemory refl (step (removed v) es)
-    by_event (reboot_old v) = fresh NoMemory refl (step (reboot_old v) es)
+    by_event (made r) = small (is_small r) _ (taken (refusal (made r) es) (step (made r) es))
+    by_event (unpacked r) = small (is_small r) _ (short _ (taken (refusal (unpacked r) es) (step (unpacked r) es)))
+    by_event booting = taken (refusal booting es) (step booting es)
+    by_event (installed v) = taken (refusal (installed v) es) (step (installed v) es)
+    by_event (made_permanent v) = taken (refusal (made_permanent v) es) (step (made_permanent v) es)
+    by_event (removed v) = taken (refusal (removed v) es) (step (removed v) es)
+    by_event (reboot_old v) = taken (refusal (reboot_old v) es) (step (reboot_old v) es)
 
 -- a change
-changes : (events : Events) (end : ℕ) (c : Transition.Change) (o : Result Releases HandlerError) → IsPlainList o → (a : Reply) → Transition.Changes events end c o a → HasEffect (changed runs c) a
-changes events end c (Err why) plain a is = effect_as (changed runs c) a _ is (ap (changed runs c) (sym plain))
-changes events end c (Ok list) plain a (inl (fits, inl is)) = effect_as (changed runs c) a _ is refl
-changes events end c (Ok list) plain a (inl (fits, inr is)) = effect_as (changed runs c) a _ is refl
-changes events end c (Ok list) plain a (inr (over_it, is)) = effect_as (changed runs c) a _ is refl
+changes : (events : Events) (end : ℕ) (c : Transition.Change) (l : Releases) (o : Result Releases HandlerError) → IsPlainList o → (a : Reply) → Transition.Changes events end c l o a → HasEffect (changed runs c) a
+changes events end c l (Err why) plain a is = effect_as (changed runs c) a _ is (ap (changed runs c) (sym plain))
+changes events end c l (Ok list) plain a (inl (fits, inl is)) = effect_as (changed runs c) a _ is refl
+changes events end c l (Ok list) plain a (inl (fits, inr is)) = effect_as (changed runs c) a _ is refl
+changes events end c l (Ok list) plain a (inr (over_it, is)) = effect_as (changed runs c) a _ is refl
 
 -- create
 makes_on : (x : List ℕ) (found : Found) (size : ℕ) (b : Bool) (a : Reply) → Transition.MakesOn x found.release size b a → HasEffect (created of_bytes found) a
@@ -120,7 +137,7 @@ makes_on x found size false a (inl (fits, is)) = effect_as (created of_bytes fou
 makes_on x found size false a (inr (over_it, is)) = effect_as (created of_bytes found) a _ is refl
 
 makes : (p : Place) (found : Found) (a : Reply) → Transition.MakesNode p found a → HasEffect (created (kind_of p) found) a
-makes (raw x) found a (inl is) = makes_on x found (length (body_of (codes "made") found.term)) (holds_a_store x) a is
+makes (raw x) found a (inl is) = makes_on x found (length (body_of found.term (makes_record found.release))) (holds_a_store x) a is
 makes (raw x) found a (inr (torn, is)) = effect_as (created of_bytes found) a _ is refl
 makes (closed s) found a (inl is) = effect_as (created at_rest found) a _ is refl
 makes (closed s) found a (inr is) = effect_as (created at_rest found) a _ is refl
@@ -165,7 +182,7 @@ acted k boots_node t = booted k t
 acts : (p : Place) (does : Transition.Action) (a : Reply) → Transition.Acts p does a → HasEffect (acted (kind_of p) does) a
 acts p (answers text) a is = effect_as (acted (kind_of p) (answers text)) a _ is refl
 acts p (makes_node found) a is = makes p found a is
-acts (running events end) (changes_node c) a is = changes events end c (commanded c.event (releases_after events)) (plain_list c.event (releases_after events)) a is
+acts (running events end) (changes_node c) a is = changes events end c (releases_after events) (commanded c.event (releases_after events)) (plain_list c.event (releases_after events)) a is
 acts (raw x) (changes_node c) a is = effect_as (changed of_bytes c) a _ is refl
 acts (closed s) (changes_node c) a is = effect_as (changed at_rest c) a _ is refl
 acts (dead s) (changes_node c) a is = effect_as (changed fails c) a _ is refl

@@ -27,9 +27,9 @@ use Rattle.rel_session.specs.Listing.{listing, release_line, text_value, applica
 use Rattle.erl_term.specs.FaultTexts.{term_fault_text}
 use Rattle.rel_files.specs.Fault.{file_fault_text}
 use Rattle.rel_session.specs.Refusals.{Refusal, refusal_line, boot_line}
-use Rattle.rel_session.specs.Refusals.Refusal.{existing_release, bad_file, missing_file, too_many, device, full, dead, no_memory, exists}
+use Rattle.rel_session.specs.Refusals.Refusal.{no_such_release, existing_release, already_installed, bad_status, permanent, is_running, bad_file, missing_file, too_many, device, full, dead, no_memory, exists}
 use Rattle.rel_session.specs.AnswerLaws.{is_one_line}
-use Rattle.rel_session.specs.Transition.{ok_line}
+use Rattle.rel_session.specs.Transition.{ok_line, done_line, installed_details}
 
 -- Where a reader of answers stands: at the start of one or of a line of a listing, within such a line, or in the last line.
 pub data Mode : Type 0 where
@@ -112,6 +112,9 @@ decimal_plain n = digits_plain 64 n [] refl
 pub ok_whole : (vsn : List ℕ) → is_one_line vsn ≡ true → IsWhole (ok_line vsn)
 ok_whole vsn line behind = ap (λ t. codes "ok " ++ t) (ends_behind vsn (codes "\n") line newline behind)
 
+pub done_whole : (details : List ℕ) → is_one_line details ≡ true → IsWhole (done_line details)
+done_whole details line behind = ap (λ t. codes "ok" ++ t) (ends_behind details (codes "\n") line newline behind)
+
 -- the texts of faults
 term_fault_plain : (f : TermFault) → is_one_line (term_fault_text f) ≡ true
 term_fault_plain (term.BadToken at) = decimal_plain at
@@ -135,8 +138,19 @@ HasLine (bad_file path fault) = is_one_line path ≡ true
 HasLine (missing_file path) = is_one_line path ≡ true
 HasLine why = Unit {0}
 
+word_plain : (s : Status) → is_one_line (status_word s) ≡ true
+word_plain Unpacked = refl
+word_plain Current = refl
+word_plain Old = refl
+word_plain Permanent = refl
+
 pub refusal_whole : (why : Refusal) → HasLine why → IsWhole (refusal_line why)
+refusal_whole no_such_release line behind = refl
 refusal_whole existing_release line behind = refl
+refusal_whole already_installed line behind = refl
+refusal_whole (bad_status s) line behind = ap (λ t. codes "error handler 4 BadStatus " ++ t) (ends_behind (status_word s) (codes "\n") (word_plain s) newline behind)
+refusal_whole permanent line behind = refl
+refusal_whole is_running line behind = refl
 refusal_whole (bad_file path fault) line behind =
     ap (λ t. codes "error handler 8 BadFile " ++ t)
     (ends_behind path (codes " " ++ (file_fault_text fault ++ codes "\n")) line (λ more. ap (λ t. codes " " ++ t) (ends_behind (file_fault_text fault) (codes "\n") (fault_plain fault) newline more)) behind)
@@ -230,6 +244,10 @@ numbers_plain (x ∷ s) = (decimal_plain x, numbers_plain s)
 
 text_plain : (s : List ℕ) → is_one_line (text_of (text_value s)) ≡ true
 text_plain s = list_plain (numbers s) (numbers_plain s)
+
+-- the details of an installation are a line
+pub installed_plain : (other : List ℕ) → is_one_line (installed_details other) ≡ true
+installed_plain other = append_plain (text_of (text_value other)) (codes " [] []") (text_plain other) refl
 
 applications_plain : (apps : List Application) → ArePlain (texts_of (values_of (map application_value apps)))
 applications_plain [] = tt

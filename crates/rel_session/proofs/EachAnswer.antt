@@ -11,7 +11,7 @@ use Rattle.rel_handler.specs.declared.error.BootError.{BootError}
 use Rattle.rel_handler.specs.declared.error.HandlerError.{HandlerError}
 use Rattle.rel_handler.specs.Events.{Events, certain}
 use Rattle.rel_handler.specs.Image.{IsImageOf, holds_a_store, store_end, first_end, end_behind, HasSpace}
-use Rattle.rel_handler.specs.Records.{body_of}
+use Rattle.rel_records.specs.Record.{makes as makes_record, body_of}
 use Rattle.rel_handler.specs.Refusals.{IsBootRefusal}
 use Rattle.rel_handler.specs.Taking.{commanded}
 use Rattle.rel_session.specs.Commands.{Command}
@@ -27,9 +27,10 @@ use Rattle.rel_session.specs.Run.Ending.{ended, cut_off}
 use Rattle.rel_session.specs.AnswerLaws.{IsCertain, HasList, HasAnswer, EachHasAnAnswer}
 use Rattle.rel_session.specs.Transition
 use Rattle.rel_session.specs.Transition.Action.{answers, makes_node, changes_node, boots_node}
+use Rattle.rel_handler.proofs.CommandLemmas.{commanded_step}
 use Rattle.rel_session.proofs.ActionLemmas.{some_action}
 use Rattle.rel_session.proofs.Histories.{events_of_image}
-use Rattle.rel_session.proofs.ListLemmas.{list_after-push, commanded_step}
+use Rattle.rel_session.proofs.ListLemmas.{list_after-push}
 use Rattle.rel_session.proofs.LoopLemmas.{replies_next}
 
 -- A record fits or it does not.
@@ -63,18 +64,21 @@ fair_reply P a is works fair = record { given = a; is = is; works = works; fair 
 mapped : (P Q : Reply → Type 0) → ((a : Reply) → P a → Q a) → Has P → Has Q
 mapped P Q f has = record { given = has.given; is = f has.given has.is; works = has.works; fair = has.fair }
 
-changes : (events : Events) (end : ℕ) (list : Releases) (c : Transition.Change) → list_after events ≡ Some list → Has (Transition.Changes events end c (commanded c.event (releases_after events)))
+changes : (events : Events) (end : ℕ) (list : Releases) (c : Transition.Change) → list_after events ≡ Some list → Has (Transition.Changes events end c (releases_after events) (commanded c.event (releases_after events)))
 changes events end list c after = by_list (commanded c.event (releases_after events)) refl
   where
-    by_room : (grown : Releases) → commanded c.event (releases_after events) ≡ Ok grown → HasSpace end c.size ⊎ (HasSpace end c.size → ⊥) → Has (Transition.Changes events end c (Ok grown))
+    size : ℕ
+    size = c.size (releases_after events)
+
+    by_room : (grown : Releases) → commanded c.event (releases_after events) ≡ Ok grown → HasSpace end size ⊎ (HasSpace end size → ⊥) → Has (Transition.Changes events end c (releases_after events) (Ok grown))
     by_room grown e (inl fits) =
         let allowed : commanded c.event list ≡ Ok grown = ap (λ o. commanded c.event (list_or_none o)) (sym after) ∙ e in
-        fair_reply _ _ (inl (fits, inl refl)) refl (runs (events ++ c.event ∷ []) (end_behind end c.size) grown (list_after-push events c.event list grown after (commanded_step c.event list grown allowed)))
+        fair_reply _ _ (inl (fits, inl refl)) refl (runs (events ++ c.event ∷ []) (end_behind end size) grown (list_after-push events c.event list grown after (commanded_step c.event list grown allowed)))
     by_room grown e (inr over_it) = fair_reply _ _ (inr (over_it, refl)) refl (runs events end list after)
 
-    by_list : (o : Result Releases HandlerError) → commanded c.event (releases_after events) ≡ o → Has (Transition.Changes events end c o)
+    by_list : (o : Result Releases HandlerError) → commanded c.event (releases_after events) ≡ o → Has (Transition.Changes events end c (releases_after events) o)
     by_list (Err why) e = fair_reply _ _ refl refl (runs events end list after)
-    by_list (Ok grown) e = by_room grown e (fits_or_not end c.size)
+    by_list (Ok grown) e = by_room grown e (fits_or_not end size)
 
 makes_on : (x : List ℕ) (r : Release) (size : ℕ) (b : Bool) → Has (Transition.MakesOn x r size b)
 makes_on x r size true = fair_reply _ _ refl refl (of_raw x)
@@ -86,7 +90,7 @@ makes_on x r size false = go (fits_or_not first_end size)
 
 makes : (p : Place) (found : Found) → IsFair p → Has (Transition.MakesNode p found)
 makes p found (of_raw x) =
-    let size = length (body_of (codes "made") found.term) in
+    let size = length (body_of found.term (makes_record found.release)) in
     mapped (Transition.MakesOn x found.release size (holds_a_store x)) (Transition.MakesNode (raw x) found) (λ a is. inl is) (makes_on x found.release size (holds_a_store x))
 makes p found (rests events end list after) = fair_reply _ _ (inl refl) refl (rests events end list after)
 makes p found (runs events end list after) = fair_reply _ _ refl refl (runs events end list after)

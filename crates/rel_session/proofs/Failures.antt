@@ -5,7 +5,7 @@ use Rattle.rel_list.specs.Releases.{Releases}
 use Rattle.rel_handler.specs.declared.error.HandlerError.{HandlerError}
 use Rattle.rel_handler.specs.Events.{Events, Stored, certain}
 use Rattle.rel_handler.specs.Image.{holds_a_store}
-use Rattle.rel_handler.specs.Records.{body_of}
+use Rattle.rel_records.specs.Record.{makes as makes_record, body_of}
 use Rattle.rel_handler.specs.Taking.{commanded}
 use Rattle.rel_session.specs.Commands.{Command}
 use Rattle.rel_session.specs.Device.{Device, HasFailed}
@@ -27,11 +27,11 @@ IsPlain a = (a.outcome.in_doubt ≡ None) ⊎ ((a.outcome.failed ≡ true) × (a
 plain : (a b : Reply) → a ≡ b → IsPlain b → IsPlain a
 plain a b is of = subst IsPlain (sym is) of
 
-changes : (events : Events) (end : ℕ) (c : Transition.Change) (o : Result Releases HandlerError) (a : Reply) → Transition.Changes events end c o a → IsPlain a
-changes events end c (Err why) a is = plain a _ is (inl refl)
-changes events end c (Ok list) a (inl (fits, inl is)) = plain a _ is (inl refl)
-changes events end c (Ok list) a (inl (fits, inr is)) = plain a _ is (inr (refl, refl))
-changes events end c (Ok list) a (inr (over, is)) = plain a _ is (inl refl)
+changes : (events : Events) (end : ℕ) (c : Transition.Change) (l : Releases) (o : Result Releases HandlerError) (a : Reply) → Transition.Changes events end c l o a → IsPlain a
+changes events end c l (Err why) a is = plain a _ is (inl refl)
+changes events end c l (Ok list) a (inl (fits, inl is)) = plain a _ is (inl refl)
+changes events end c l (Ok list) a (inl (fits, inr is)) = plain a _ is (inr (refl, refl))
+changes events end c l (Ok list) a (inr (over, is)) = plain a _ is (inl refl)
 
 makes_on : (bytes : List ℕ) (found : Found) (size : ℕ) (b : Bool) (a : Reply) → Transition.MakesOn bytes found.release size b a → IsPlain a
 makes_on bytes found size true a is = plain a _ is (inl refl)
@@ -39,7 +39,7 @@ makes_on bytes found size false a (inl (fits, is)) = plain a _ is (inl refl)
 makes_on bytes found size false a (inr (over, is)) = plain a _ is (inl refl)
 
 makes : (p : Place) (found : Found) (a : Reply) → Transition.MakesNode p found a → IsPlain a
-makes (raw bytes) found a (inl is) = makes_on bytes found (length (body_of (codes "made") found.term)) (holds_a_store bytes) a is
+makes (raw bytes) found a (inl is) = makes_on bytes found (length (body_of found.term (makes_record found.release))) (holds_a_store bytes) a is
 makes (raw bytes) found a (inr (torn, is)) = plain a _ is (inr (refl, refl))
 makes (closed s) found a (inl is) = plain a _ is (inl refl)
 makes (closed s) found a (inr is) = plain a _ is (inr (refl, refl))
@@ -63,7 +63,7 @@ acts p (answers text) a is = plain a _ is (inl refl)
 acts p (makes_node found) a is = makes p found a is
 acts (raw bytes) (changes_node c) a is = plain a _ is (inl refl)
 acts (closed s) (changes_node c) a is = plain a _ is (inl refl)
-acts (running events end) (changes_node c) a is = changes events end c (commanded c.event (releases_after events)) a is
+acts (running events end) (changes_node c) a is = changes events end c (releases_after events) (commanded c.event (releases_after events)) a is
 acts (dead s) (changes_node c) a is = plain a _ is (inl refl)
 acts p boots_node a is = boots p a is
 

@@ -1,46 +1,90 @@
 -- The events behind a list that a store's records make.
-use Rattle.std.proofs.Common.{◌≡◌, ℕ, Bool, true, false, List, [], ◌∷◌, ◌++◌, Some, None, Result, Ok, Err, refl, sym, ap, ◌∙◌}
-use Rattle.std.specs.Prelude.{if◌then◌else◌}
-use Rattle.std.specs.Result.{result_ok}
-use Rattle.rel_list.specs.Releases.{Releases}
-use Rattle.rel_list.specs.Event.{Event, booted, step, list_after}
-use Rattle.rel_list.specs.Event.Event.{made, unpacked, boot as booting}
+use Rattle.std.proofs.Common.{◌≡◌, ◌⊎◌, inl, inr, ℕ, Bool, true, false, List, [], ◌∷◌, ◌++◌, length, Option, Some, None, is_some, refl, sym, ap, ◌∙◌, subst, arith}
+use Rattle.std.specs.Prelude.{◌&&◌, ◌==◌, not, nat_lt}
+use Rattle.std.specs.Option.{option_and_then}
+use Rattle.std.proofs.lemmas.Bool.Decides.{nat_tests}
+use Rattle.rel_files.specs.Release.{Release}
+use Rattle.rel_list.specs.declared.status.Status.{Status}
+use Rattle.rel_list.specs.Keyed.{IsOrderly}
+use Rattle.rel_list.specs.Laws.{releases_of, IsAtRest}
+use Rattle.rel_list.specs.Releases.{Releases, of_status, status_of}
+use Rattle.rel_list.specs.Status.{is_current, is_permanent}
+use Rattle.rel_list.specs.Event.{Event, booted, step, list_assigned, list_from, list_after}
+use Rattle.rel_list.specs.Event.Event.{made, unpacked, removed, boot as booting}
+use Rattle.rel_list.proofs.EventLaws.{orderly-after, orderly-assigned}
+use Rattle.rel_list.proofs.RestLaws.{rest_reached}
+use Rattle.rel_records.specs.Limits.{has_one_permanent, is_small, most_releases}
+use Rattle.rel_records.specs.Lists.{may_be_assigned, assign_all, assigned, MakesFrom}
+use Rattle.rel_records.specs.Record.{Assignment, Record, makes, adds, assigns, removes}
+use Rattle.rel_records.proofs.RecordPlaces.{chosen, both, assigned_so, settled_behind}
 use Rattle.rel_handler.specs.Events.{Events}
 use Rattle.rel_handler.specs.Image.{IsImageOf}
-use Rattle.rel_handler.specs.Limits.{has_one_permanent}
-use Rattle.rel_handler.specs.Records.{Record, makes, adds, with_one_permanent, assigned, MakesFrom}
-use Rattle.rel_handler.specs.Taking.{commanded}
-use Rattle.rel_handler.specs.declared.error.HandlerError.{HandlerError}
-use Rattle.rel_session.proofs.ListLemmas.{list_after-push, commanded_step}
+use Rattle.rel_session.proofs.ListLemmas.{list_after-push, list_from-append}
 
-abbrev pub event_in : Record → Event
-event_in (makes r) = made r
-event_in (adds r) = unpacked r
+-- Assignments keep the releases, and no version stands twice behind them.
+releases-assigned : (v : List ℕ) (t : Status) (es : Releases) → releases_of (list_assigned v t es) ≡ releases_of es
+releases-assigned v t [] = refl
+releases-assigned v t (e ∷ es) = ap (λ (l : List Release). e.release ∷ l) (releases-assigned v t es)
 
-abbrev taken : Releases → Result Releases HandlerError
-taken es = Ok es
+not_so : (b : Bool) → not b ≡ true → b ≡ false
+not_so true e = absurd cc
+not_so false e = refl
 
--- what the list behind a record was made by
-taken_so : (o : Result Releases HandlerError) (end : Releases) → with_one_permanent (result_ok o) ≡ Some end → o ≡ Ok end
-taken_so (Err why) end e = absurd cc
-taken_so (Ok es) end e = by_one (has_one_permanent es) e
+kept_by : (given : List Assignment) (es next : Releases) → IsOrderly es → assign_all given es ≡ Some next → IsOrderly next × (releases_of next ≡ releases_of es)
+kept_by [] es next orderly is = let same : es ≡ next = cc is in (subst IsOrderly same orderly, ap releases_of (sym same))
+kept_by (a ∷ given) es next orderly is =
+    let (may, rest) = chosen (may_be_assigned a es) (assign_all given (list_assigned a.vsn a.status es)) next is in
+    let (settled, there) = both (not (is_current a.status)) (is_some (status_of a.vsn es)) may in
+    let (so, same) = kept_by given (list_assigned a.vsn a.status es) next (orderly-assigned a.vsn a.status es (not_so (is_current a.status) settled) orderly) rest in
+    (so, same ∙ releases-assigned a.vsn a.status es)
+
+is_one : (n : ℕ) → (n == 1) ≡ true → n ≡ 1
+is_one n e = grind (arith, nat_tests)
+
+at_rest : (es : Releases) → IsOrderly es → booted es ≡ es → has_one_permanent es ≡ true → IsAtRest es
+at_rest es orderly still one = record { distinct = orderly.distinct; as_booted = still; one_permanent = is_one (length (of_status is_permanent es)) one }
+
+-- events that lead from the one list to the other
+abbrev Leads : Releases → Releases → Type 0
+Leads es next = (more : Events) × (list_from es more ≡ Some next)
+
+one_event : (e : Event) (es next : Releases) → step e es ≡ Some next → Leads es next
+one_event e es next is = (e ∷ [], ap (option_and_then (λ (l : Releases). Some l)) is)
+
+-- a list without releases has no permanent one
+none_permanent : (next : Releases) → releases_of next ≡ [] → has_one_permanent next ≡ true → ⊥
+none_permanent [] same one = cc one
+none_permanent (e ∷ next) same one = cc same
+
+-- What a record makes of a list, events make of it.
+behind_record : (r : Record) (es next : Releases) → IsOrderly es → booted es ≡ es → (es ≡ []) ⊎ (has_one_permanent es ≡ true) → assigned r es ≡ Some next → Leads es next
+behind_record (makes x) es next orderly still one taken = one_event (made x) es next (chosen (is_small x) (step (made x) es) next (assigned_so (makes x) es next taken).0).1
+behind_record (adds x) es next orderly still one taken =
+    one_event (unpacked x) es next (chosen (is_small x && nat_lt (length es) most_releases) (step (unpacked x) es) next (assigned_so (adds x) es next taken).0).1
+behind_record (removes v) es next orderly still one taken = one_event (removed v) es next (assigned_so (removes v) es next taken).0
+behind_record (assigns given) es next orderly still one taken = by_one one
   where
-    by_one : (b : Bool) → (if b then Some es else None) ≡ Some end → taken es ≡ taken end
-    by_one true e = let same : es ≡ end = cc in ap taken same
-    by_one false e = absurd cc
+    assigned_there : assign_all given es ≡ Some next
+    assigned_there = (assigned_so (assigns given) es next taken).0
 
-pub stepped : (r : Record) (es next : Releases) → assigned r es ≡ Some next → step (event_in r) es ≡ Some next
-stepped (makes r) es next e = commanded_step (made r) es next (taken_so (commanded (made r) es) next e)
-stepped (adds r) es next e = commanded_step (unpacked r) es next (taken_so (commanded (unpacked r) es) next e)
+    by_one : (es ≡ []) ⊎ (has_one_permanent es ≡ true) → Leads es next
+    by_one (inl none) = absurd (none_permanent next ((kept_by given es next orderly assigned_there).1 ∙ ap releases_of none) (assigned_so (assigns given) es next taken).1)
+    by_one (inr permanent) =
+        let (so, same) = kept_by given es next orderly assigned_there in
+        rest_reached es next (at_rest es orderly still permanent)
+        (at_rest next so (settled_behind (assigns given) es next assigned_there still) (assigned_so (assigns given) es next taken).1) same
 
-events_behind : (events : Events) (es : Releases) (bodies : List (List ℕ)) (end : Releases) → list_after events ≡ Some es → MakesFrom es bodies end → (all : Events) × (list_after all ≡ Some end)
-events_behind events es [] end after is = (events, after ∙ ap (λ l. Some l) (sym is))
-events_behind events es (body ∷ bodies) end after (r, between, spelled, taken, rest) =
-    events_behind (events ++ event_in r ∷ []) between bodies end (list_after-push events (event_in r) es between after (stepped r es between taken)) rest
+events_behind : (events : Events) (es : Releases) (bodies : List (List ℕ)) (end : Releases) → list_after events ≡ Some es → booted es ≡ es → (es ≡ []) ⊎ (has_one_permanent es ≡ true)
+    → MakesFrom es bodies end → (all : Events) × (list_after all ≡ Some end)
+events_behind events es [] end after still one is = (events, after ∙ ap (λ l. Some l) (sym is))
+events_behind events es (body ∷ bodies) end after still one (r, between, spelled, taken, rest) =
+    let (more, leads) = behind_record r es between (orderly-after events es after) still one taken in
+    let (next, permanent) = assigned_so r es between taken in
+    events_behind (events ++ more) between bodies end (list_from-append [] events more es between after leads) (settled_behind r es between next still) (inr permanent) rest
 
 -- A list that a disk stands for is one behind events, and behind a boot then.
 pub events_of_image : (image : List ℕ) (es : Releases) → IsImageOf image es → booted es ≡ es → (events : Events) × (list_after events ≡ Some es) × (list_after (events ++ booting ∷ []) ≡ Some es)
 events_of_image image es of still =
-    let (events, after) = events_behind [] [] of.bodies (booted es) refl of.list.0 in
+    let (events, after) = events_behind [] [] of.bodies (booted es) refl refl (inl refl) of.list.0 in
     let before : list_after events ≡ Some es = after ∙ ap (λ l. Some l) still in
     (events, before, list_after-push events booting es es before (ap (λ l. Some l) still))

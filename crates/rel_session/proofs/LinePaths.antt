@@ -1,14 +1,17 @@
 -- The paths of an input's commands lie within its lines, and the versions of a store are those of its records.
-use Rattle.std.proofs.Common.{◌≡◌, ℕ, Bool, true, false, not, List, [], ◌∷◌, ◌++◌, length, codes, Some, inl, inr, refl, sym, ap, ◌∙◌, subst}
+use Rattle.std.proofs.Common.{◌≡◌, ℕ, Bool, true, false, not, List, [], ◌∷◌, ◌++◌, length, codes, Some, None, inl, inr, refl, sym, ap, ◌∙◌, subst}
 use Rattle.std.specs.Prelude.{if◌then◌else◌, ◌==◌, nat_lt}
 use Rattle.std.specs.List.{onto_first}
 use Rattle.std.specs.Str.{bytes_eq, is_utf8}
+use Rattle.rel_files.specs.Name.{is_text}
 use Rattle.rel_list.specs.Releases.{Releases}
-use Rattle.rel_list.specs.Event.{list_after, booted}
+use Rattle.rel_list.specs.Event.{list_after}
+use Rattle.rel_records.specs.Lists.{HaveVersions}
 use Rattle.rel_handler.specs.Image.{store_end}
 use Rattle.rel_handler.specs.Events.{Events, MayHave, IsStoredAs, certain}
-use Rattle.rel_session.specs.Commands.{Command, ParsedLine, parse_line, parse_words, parse_command, with_word, without_words, path_in, is_blank, words_of, is_end, file_of, most_line, put_parsed, commands_of, commands_behind}
-use Rattle.rel_session.specs.Commands.Command.{file, create, set_unpacked, boot, releases, quit, bad}
+use Rattle.rel_handler.proofs.Commits.{have_versions}
+use Rattle.rel_session.specs.Commands.{Command, ParsedLine, parse_line, parse_words, parse_command, parse_change, with_word, without_words, path_in, version_in, is_blank, words_of, is_end, file_of, most_line, put_parsed, commands_of, commands_behind}
+use Rattle.rel_session.specs.Commands.Command.{file, create, set_unpacked, install, permanent, remove, boot, releases, quit, bad}
 use Rattle.rel_session.specs.Commands.ParsedLine.{blank, file_begins, whole_command}
 use Rattle.rel_session.specs.Device.{Device}
 use Rattle.rel_session.specs.Feed.{Feed, bytes_within}
@@ -16,10 +19,9 @@ use Rattle.rel_session.specs.Feed.Feed.{over, cut, next}
 use Rattle.rel_session.specs.Input.{most_bytes}
 use Rattle.rel_session.specs.Lines.{onto, lines_of}
 use Rattle.rel_session.specs.Node.Place.{raw, closed, running, dead}
-use Rattle.rel_session.specs.AnswerLaws.{is_one_line, HasLinePath, HaveLinePaths, ReadsLinePaths, HaveVersions, HasVersionsAt, KeepsVersions}
+use Rattle.rel_session.specs.AnswerLaws.{is_one_line, HasLinePath, HaveLinePaths, ReadsLinePaths, HasVersionsAt, KeepsVersions}
 use Rattle.rel_session.specs.RunLaws.{MayBe}
 use Rattle.rel_session.proofs.DeviceLemmas.{IsDevice}
-use Rattle.rel_session.proofs.Versions.{record_versions, unbooted}
 use Rattle.rel_session.proofs.AnswerLines.{ArePlain, parts, joined}
 
 abbrev AreLines : Feed (List ℕ) → Type 0
@@ -73,6 +75,21 @@ path_plain ([] ∷ words) said plain each = tt
 path_plain ((b ∷ path) ∷ []) said plain each = each (b ∷ path) plain.0
 path_plain ((b ∷ path) ∷ word ∷ words) said plain each = tt
 
+version_plain : (words : List (List ℕ)) (said : List ℕ → ParsedLine) → ((vsn : List ℕ) → IsPlainLine (said vsn)) → IsPlainLine (with_word (version_in words) said)
+version_plain [] said each = tt
+version_plain (vsn ∷ []) said each = go (is_text 0x21 vsn)
+  where
+    go : (b : Bool) → IsPlainLine (with_word (if b then Some vsn else None) said)
+    go true = each vsn
+    go false = tt
+version_plain (vsn ∷ word ∷ words) said each = tt
+
+change_plain : (word : List ℕ) (words : List (List ℕ)) → IsPlainLine (parse_change word words)
+change_plain word words =
+    either (bytes_eq word (codes "install")) (with_word (version_in words) (λ vsn. whole_command (install vsn))) _ (version_plain words (λ vsn. whole_command (install vsn)) (λ vsn. tt))
+    (either (bytes_eq word (codes "permanent")) (with_word (version_in words) (λ vsn. whole_command (permanent vsn))) _ (version_plain words (λ vsn. whole_command (permanent vsn)) (λ vsn. tt))
+    (either (bytes_eq word (codes "remove")) (with_word (version_in words) (λ vsn. whole_command (remove vsn))) (whole_command bad) (version_plain words (λ vsn. whole_command (remove vsn)) (λ vsn. tt)) tt))
+
 word_plain : (word : List ℕ) (words : List (List ℕ)) → ArePlain words → IsPlainLine (parse_command word words)
 word_plain word words plain =
     either (bytes_eq word (codes "boot")) (without_words words (whole_command boot)) _ (alone_plain words boot tt)
@@ -80,7 +97,7 @@ word_plain word words plain =
     (either (bytes_eq word (codes "quit")) (without_words words (whole_command quit)) _ (alone_plain words quit tt)
     (either (bytes_eq word (codes "file")) (with_word (path_in words) file_begins) _ (path_plain words file_begins plain (λ path line. tt))
     (either (bytes_eq word (codes "create")) (with_word (path_in words) (λ path. whole_command (create path))) _ (path_plain words (λ path. whole_command (create path)) plain (λ path line. line))
-    (either (bytes_eq word (codes "set_unpacked")) (with_word (path_in words) (λ path. whole_command (set_unpacked path))) (whole_command bad) (path_plain words (λ path. whole_command (set_unpacked path)) plain (λ path line. line)) tt)))))
+    (either (bytes_eq word (codes "set_unpacked")) (with_word (path_in words) (λ path. whole_command (set_unpacked path))) _ (path_plain words (λ path. whole_command (set_unpacked path)) plain (λ path line. line)) (change_plain word words))))))
 
 words_plain : (words : List (List ℕ)) → ArePlain words → IsPlainLine (parse_words words)
 words_plain [] plain = tt
@@ -114,7 +131,7 @@ reads_line_paths input = (commands_plain (lines_of (bytes_within most_bytes inpu
 -- the list of events that an image stands for
 image_versions : (events : Events) (end : ℕ) (c : List ℕ) → IsStoredAs (certain events end) c → (list : Releases) → list_after events ≡ Some list → HaveVersions list
 image_versions events end c of list after =
-    let versions = unbooted of.list (record_versions [] of.image_of.bodies (booted of.list) tt of.image_of.list.0) in
+    let versions = have_versions of.image_of.bodies of.list of.image_of.list in
     let same : Some of.list ≡ Some list = sym of.after ∙ ap list_after (only of.has) ∙ after in
     let one : of.list ≡ list = cc in
     subst HaveVersions one versions

@@ -1,15 +1,9 @@
 -- Lists of releases behind one event more.
-use Rattle.std.proofs.Common.{◌≡◌, Bool, true, false, [], ◌∷◌, ◌++◌, length, Option, Some, None, Ok, Err, refl, sym, ap, ◌∙◌}
+use Rattle.std.proofs.Common.{◌≡◌, [], ◌∷◌, ◌++◌, Option, Some, None, refl, sym, ap, ◌∙◌}
 use Rattle.std.specs.Option.{option_and_then}
-use Rattle.std.specs.Prelude.{if◌then◌else◌, nat_le}
 use Rattle.rel_list.specs.Releases.{Releases}
 use Rattle.rel_list.specs.Event.{Event, step, list_from, list_after}
-use Rattle.rel_list.specs.Event.Event.{made, unpacked, installed, made_permanent, removed, reboot_old, boot as booting}
-use Rattle.rel_handler.specs.declared.error.HandlerError.{HandlerError}
-use Rattle.rel_handler.specs.declared.error.HandlerError.TheVariants.{TooMany, Exists, ExistingRelease, NoMemory}
 use Rattle.rel_handler.specs.Events.{Events}
-use Rattle.rel_handler.specs.Limits.{is_small, most_releases}
-use Rattle.rel_handler.specs.Taking.{allowed, commanded}
 
 -- from whatever list
 list_from-more : (es : Releases) (events : Events) (e : Event) → list_from es (events ++ e ∷ []) ≡ option_and_then (step e) (list_from es events)
@@ -34,21 +28,12 @@ list_after-push events e mid end after next = list_after-more events e ∙ ap (o
 pub same_list : (events others : Events) (e : Event) → list_after events ≡ list_after others → list_after (events ++ e ∷ []) ≡ list_after (others ++ e ∷ [])
 same_list events others e is = list_after-more events e ∙ ap (option_and_then (step e)) is ∙ sym (list_after-more others e)
 
--- What a command's event makes of a list is what the event makes of it.
-of_small : (refusal : HandlerError) (small : Bool) (o : Option Releases) (end : Releases) → (if small then allowed refusal o else Err TooMany) ≡ Ok end → o ≡ Some end
-of_small refusal false o end e = absurd cc
-of_small refusal true None end e = absurd cc
-of_small refusal true (Some es) end e = by_length (nat_le (length es) most_releases) e
+-- further events behind events
+pub list_from-append : (es : Releases) (events more : Events) (mid end : Releases) → list_from es events ≡ Some mid → list_from mid more ≡ Some end → list_from es (events ++ more) ≡ Some end
+list_from-append es [] more mid end so_far leads = let same : es ≡ mid = cc so_far in ap (λ l. list_from l more) same ∙ leads
+list_from-append es (e ∷ events) more mid end so_far leads = go (step e es) (λ l there. list_from-append l events more mid end there leads) so_far
   where
-    by_length : (b : Bool) → (if b then Ok es else Err TooMany) ≡ Ok end → Some es ≡ Some end
-    by_length true e = let same : es ≡ end = cc in ap (λ (l : Releases). Some l) same
-    by_length false e = absurd cc
-
-pub commanded_step : (e : Event) (es end : Releases) → commanded e es ≡ Ok end → step e es ≡ Some end
-commanded_step (made r) es end is = of_small Exists (is_small r) (step (made r) es) end is
-commanded_step (unpacked r) es end is = of_small ExistingRelease (is_small r) (step (unpacked r) es) end is
-commanded_step booting es end is = let same : step booting es ≡ Some end = cc in same
-commanded_step (installed v) es end is = of_small NoMemory true (step (installed v) es) end is
-commanded_step (made_permanent v) es end is = of_small NoMemory true (step (made_permanent v) es) end is
-commanded_step (removed v) es end is = of_small NoMemory true (step (removed v) es) end is
-commanded_step (reboot_old v) es end is = of_small NoMemory true (step (reboot_old v) es) end is
+    go : (o : Option Releases) → ((l : Releases) → list_from l events ≡ Some mid → list_from l (events ++ more) ≡ Some end)
+        → option_and_then (λ l. list_from l events) o ≡ Some mid → option_and_then (λ l. list_from l (events ++ more)) o ≡ Some end
+    go None behind so_far = absurd cc
+    go (Some l) behind so_far = behind l so_far

@@ -9,7 +9,7 @@ use Rattle.rel_handler.specs.declared.error.BootError.TheVariants as boot_error
 use Rattle.rel_handler.specs.declared.error.HandlerError.{HandlerError}
 use Rattle.rel_handler.specs.Events.{Events, MayHave, certain}
 use Rattle.rel_handler.specs.Image.{holds_a_store, first_end, end_behind}
-use Rattle.rel_handler.specs.Records.{body_of}
+use Rattle.rel_records.specs.Record.{makes as makes_record, body_of}
 use Rattle.rel_handler.specs.Refusals.{IsBootRefusal}
 use Rattle.rel_handler.specs.Taking.{commanded}
 use Rattle.rel_session.specs.Commands.{Command}
@@ -76,16 +76,16 @@ failure : {T : Type 0} (a x : Reply) → a ≡ x → x.outcome.failed ≡ true �
 failure a x is failed works = let lost : true ≡ false = sym failed ∙ ap (λ (r : Reply). r.outcome.failed) (sym is) ∙ works in absurd cc
 
 module _ (a b : Reply) (both : Both a b) where
-  changes : (events others : Events) (end : ℕ) (c : Transition.Change) (o : Result Releases HandlerError) → list_after events ≡ list_after others
-      → Transition.Changes events end c o a → Transition.Changes others end c o b → Same a b
-  changes events others end c (Err why) same is also = as_these a b _ _ is also (refl, refl, same_lists events others end same)
-  changes events others end c (Ok list) same (inl (fits, inl is)) (inl (fits_too, inl also)) =
-      as_these a b _ _ is also (refl, refl, same_lists (events ++ c.event ∷ []) (others ++ c.event ∷ []) (end_behind end c.size) (same_list events others c.event same))
-  changes events others end c (Ok list) same (inl (fits, inl is)) (inl (fits_too, inr also)) = failure b _ also refl both.1
-  changes events others end c (Ok list) same (inl (fits, inl is)) (inr (over_it, also)) = absurd (over_it fits)
-  changes events others end c (Ok list) same (inl (fits, inr is)) other = failure a _ is refl both.0
-  changes events others end c (Ok list) same (inr (over_it, is)) (inl (fits, also)) = absurd (over_it fits)
-  changes events others end c (Ok list) same (inr (over_it, is)) (inr (over_too, also)) = as_these a b _ _ is also (refl, refl, same_lists events others end same)
+  changes : (events others : Events) (end : ℕ) (c : Transition.Change) (l : Releases) (o : Result Releases HandlerError) → list_after events ≡ list_after others
+      → Transition.Changes events end c l o a → Transition.Changes others end c l o b → Same a b
+  changes events others end c l (Err why) same is also = as_these a b _ _ is also (refl, refl, same_lists events others end same)
+  changes events others end c l (Ok list) same (inl (fits, inl is)) (inl (fits_too, inl also)) =
+      as_these a b _ _ is also (refl, refl, same_lists (events ++ c.event ∷ []) (others ++ c.event ∷ []) (end_behind end (c.size l)) (same_list events others c.event same))
+  changes events others end c l (Ok list) same (inl (fits, inl is)) (inl (fits_too, inr also)) = failure b _ also refl both.1
+  changes events others end c l (Ok list) same (inl (fits, inl is)) (inr (over_it, also)) = absurd (over_it fits)
+  changes events others end c l (Ok list) same (inl (fits, inr is)) other = failure a _ is refl both.0
+  changes events others end c l (Ok list) same (inr (over_it, is)) (inl (fits, also)) = absurd (over_it fits)
+  changes events others end c l (Ok list) same (inr (over_it, is)) (inr (over_too, also)) = as_these a b _ _ is also (refl, refl, same_lists events others end same)
 
   makes_on : (x : List ℕ) (found : Found) (size : ℕ) (m : Bool) → Transition.MakesOn x found.release size m a → Transition.MakesOn x found.release size m b → Same a b
   makes_on x found size true is also = as_these a b _ _ is also (refl, refl, same_bytes x)
@@ -96,7 +96,7 @@ module _ (a b : Reply) (both : Both a b) where
   makes_on x found size false (inr (over_it, is)) (inr (over_too, also)) = as_these a b _ _ is also (refl, refl, same_bytes x)
 
   makes : (p q : Place) (found : Found) → Alike p q → Transition.MakesNode p found a → Transition.MakesNode q found b → Same a b
-  makes p q found (same_bytes x) (inl is) (inl also) = makes_on x found (length (body_of (codes "made") found.term)) (holds_a_store x) is also
+  makes p q found (same_bytes x) (inl is) (inl also) = makes_on x found (length (body_of found.term (makes_record found.release))) (holds_a_store x) is also
   makes p q found (same_bytes x) (inl is) (inr (torn, also)) = failure b _ also refl both.1
   makes p q found (same_bytes x) (inr (torn, is)) other = failure a _ is refl both.0
   makes p q found (same_store events end) (inl is) (inl also) = as_these a b _ _ is also (refl, refl, same_store events end)
@@ -160,8 +160,8 @@ module _ (a b : Reply) (both : Both a b) where
   changed p q c (same_bytes x) is also = as_these a b _ _ is also (refl, refl, same_bytes x)
   changed p q c (same_store events end) is also = as_these a b _ _ is also (refl, refl, same_store events end)
   changed p q c (same_lists events others end same) is also =
-      let then : commanded c.event (releases_after others) ≡ commanded c.event (releases_after events) = ap (λ o. commanded c.event (list_or_none o)) (sym same) in
-      changes events others end c (commanded c.event (releases_after events)) same is (subst (λ o. Transition.Changes others end c o b) then also)
+      let then : releases_after others ≡ releases_after events = ap list_or_none (sym same) in
+      changes events others end c (releases_after events) (commanded c.event (releases_after events)) same is (subst (λ l. Transition.Changes others end c l (commanded c.event l) b) then also)
 
   acts : BootLaws → (p q : Place) (does : Transition.Action) → Alike p q → Transition.Acts p does a → Transition.Acts q does b → Same a b
   acts laws p q (answers text) alike is also = as_these a b _ _ is also (refl, refl, alike)

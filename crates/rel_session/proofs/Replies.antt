@@ -15,9 +15,9 @@ use Rattle.rel_handler.specs.declared.error.BootError.TheVariants as boot_error
 use Rattle.rel_handler.specs.declared.handler.Handler.{Handler}
 use Rattle.rel_handler.specs.Events.{Events, Stored, MayHave, certain, uncertain, IsStoredAs, settled, doubted}
 use Rattle.rel_handler.specs.Image.{IsImageOf, IsImageAt, holds_a_store, first_end, end_behind, HasSpace}
-use Rattle.rel_handler.specs.Limits.{is_small}
+use Rattle.rel_records.specs.Limits.{is_small}
 use Rattle.rel_handler.specs.Moments.{Begins, BeginsAt, WritesNothing}
-use Rattle.rel_handler.specs.Records.{body_of}
+use Rattle.rel_records.specs.Record.{makes as makes_record, body_of}
 use Rattle.rel_handler.specs.Refusals.{CommandRefused, CreateRefused, BootRefused, IsBootRefusal}
 use Rattle.rel_handler.specs.State.{disk_in, list_in, is_dead, end_in, IsSame}
 use Rattle.rel_handler.specs.Taking.{commanded}
@@ -36,9 +36,11 @@ use Rattle.rel_session.specs.Refusals.Refusal.{full, exists, device, dead as dea
 use Rattle.rel_session.specs.Run.{IsReached, Holds, Moments}
 use Rattle.rel_session.specs.Transition
 use Rattle.rel_session.specs.Transition.Action.{changes_node}
+use Rattle.rel_handler.specs.Commits.{Commits, IsDone}
+use Rattle.rel_handler.proofs.CommandLemmas.{commanded_step}
 use Rattle.rel_session.proofs.DeviceLemmas.{IsDevice, weakened, still}
 use Rattle.rel_session.proofs.Histories.{events_of_image}
-use Rattle.rel_session.proofs.ListLemmas.{list_after-push, commanded_step}
+use Rattle.rel_session.proofs.ListLemmas.{list_after-push}
 use Rattle.rel_session.proofs.Prefixes.{reached, reached_with, stored}
 
 -- what an error became is the refusal
@@ -263,7 +265,7 @@ module _ {D : Type 0} (v : Device D) (laws : IsDevice v) where
   -- A node is made on a disk.
   module _ (disk : D) (found : Found) (stores : (es : Releases) → IsImageOf (v.seen disk) es → holds_a_store (v.seen disk) ≡ true) where
     abbrev size : ℕ
-    size = length (body_of (codes "made") found.term)
+    size = length (body_of found.term (makes_record found.release))
 
     on_raw : (bytes : List ℕ) (b : Bool) (a : Reply) → holds_a_store bytes ≡ b → Transition.MakesOn bytes found.release size b a → Transition.MakesNode (raw bytes) found a
     on_raw bytes b a stored_there makes = inl (subst (λ m. Transition.MakesOn bytes found.release size m a) (sym stored_there) makes)
@@ -273,18 +275,18 @@ module _ {D : Type 0} (v : Device D) (laws : IsDevice v) where
 
     pub makes : (h : Handler D) → ((at : D) × BeginsAt v.seen v.may_leave v.moment v.left_since (doubted [] (made found.release)) disk (disk_in h) at)
         → ((c : List ℕ) → v.may_leave (disk_in h) c → IsImageAt c (list_in h) (end_in h)) → list_in h ≡ entry found.release Permanent ∷ [] → is_dead h ≡ false → (holds_a_store (v.seen disk) ≡ true → ⊥)
-        → HasSpace first_end size → end_in h ≡ end_behind first_end size → v.failures disk ≤ v.failures (disk_in h) → (vsn : List ℕ) → vsn ≡ found.release.vsn
-        → (p : Place) → IsAt v (memory.Idle disk) p → Replied v p (λ a. Transition.MakesNode p found a × (a.answer ≡ Transition.ok_line vsn)) (memory.Idle disk) (memory.Made h)
-    makes h begun images list alive free fits ends counted vsn is (closed s) at = absurd (free (store_there s at))
-    makes h begun images list alive free fits ends counted vsn is (running events end) at = absurd at
-    makes h begun images list alive free fits ends counted vsn is (dead s) at = absurd at
-    makes h begun images list alive free fits ends counted vsn is (raw bytes) at =
+        → HasSpace first_end size → end_in h ≡ end_behind first_end size → v.failures disk ≤ v.failures (disk_in h) → (answer : List ℕ) → answer ≡ Transition.ok_line found.release.vsn
+        → (p : Place) → IsAt v (memory.Idle disk) p → Replied v p (λ a. Transition.MakesNode p found a × (a.answer ≡ answer)) (memory.Idle disk) (memory.Made h)
+    makes h begun images list alive free fits ends counted answer is (closed s) at = absurd (free (store_there s at))
+    makes h begun images list alive free fits ends counted answer is (running events end) at = absurd at
+    makes h begun images list alive free fits ends counted answer is (dead s) at = absurd at
+    makes h begun images list alive free fits ends counted answer is (raw bytes) at =
         let events = made found.release ∷ booting ∷ [] in
         let place = runs_at h events (end_behind first_end size) alive (ap (λ l. Some l) (sym list)) ends images in
         let a = reply (Transition.ok_line found.release.vsn) (done events) (running events (end_behind first_end size)) in
         record {
           given = a;
-          right = (on_raw bytes false a (no_store (holds_a_store bytes) refl) (inl (fits, refl)), ap Transition.ok_line (sym is));
+          right = (on_raw bytes false a (no_store (holds_a_store bytes) refl) (inl (fits, refl)), sym is);
           at = place;
           happens = record { moments = begun; holds = place.0; cause = λ e. never e; counted = counted };
         }
@@ -358,8 +360,13 @@ module _ {D : Type 0} (v : Device D) (laws : IsDevice v) where
           by_error handler_error.TooMany (big, u) = never (sym big ∙ small)
           by_error handler_error.Exists (small_too, stored_there, u) = λ p at. refuses p exists at u (exists_there stored_there p at)
           by_error handler_error.Full (small_too, stored_there, over, u) = λ p at. refuses p full at u (full_there stored_there over p at)
-          by_error handler_error.NoMemory (small_too, u) = λ p at. record { nothing_new = u.any_moment; holds = held (memory.Idle new) p (unwritten_at p at u); counted = counted }
+          by_error handler_error.NoMemory (small_too, u) = λ p at. inr (record { nothing_new = u.any_moment; holds = held (memory.Idle new) p (unwritten_at p at u); counted = counted })
+          by_error handler_error.NoSuchRelease gone = absurd gone
           by_error handler_error.ExistingRelease gone = absurd gone
+          by_error handler_error.AlreadyInstalled gone = absurd gone
+          by_error (handler_error.BadStatus s) gone = absurd gone
+          by_error handler_error.Permanent gone = absurd gone
+          by_error handler_error.Running gone = absurd gone
           by_error handler_error.Dead gone = absurd gone
 
   -- from the place as the call took it
@@ -377,14 +384,19 @@ module _ {D : Type 0} (v : Device D) (laws : IsDevice v) where
   tells_refusal : (P : Place → Reply → Type 0) (why : RefusalInMemory) (old new : PlaceInMemory D)
       → (why ≢ refusal.NoMemory → (p : Place) → IsAt v old p → Replied v p (λ a. P p a × (a.answer ≡ refusal_line (refusal_of why))) old new)
       → ((p : Place) → IsAt v old p → NothingDone v p old new) → Answers v P (Err why) old new
+  tells_refusal P refusal.NoSuchRelease old new told lapsed = told (λ e. cc e)
   tells_refusal P refusal.ExistingRelease old new told lapsed = told (λ e. cc e)
+  tells_refusal P refusal.AlreadyInstalled old new told lapsed = told (λ e. cc e)
+  tells_refusal P (refusal.BadStatus s) old new told lapsed = told (λ e. cc e)
+  tells_refusal P refusal.Permanent old new told lapsed = told (λ e. cc e)
+  tells_refusal P refusal.Running old new told lapsed = told (λ e. cc e)
   tells_refusal P (refusal.BadFile q f) old new told lapsed = told (λ e. cc e)
   tells_refusal P (refusal.MissingFile q) old new told lapsed = told (λ e. cc e)
   tells_refusal P refusal.TooMany old new told lapsed = told (λ e. cc e)
   tells_refusal P refusal.Device old new told lapsed = told (λ e. cc e)
   tells_refusal P refusal.Full old new told lapsed = told (λ e. cc e)
   tells_refusal P refusal.Dead old new told lapsed = told (λ e. cc e)
-  tells_refusal P refusal.NoMemory old new told lapsed = lapsed
+  tells_refusal P refusal.NoMemory old new told lapsed = λ p at. inr (lapsed p at)
   tells_refusal P refusal.Exists old new told lapsed = told (λ e. cc e)
 
   -- A command changes the node that runs: P has what it replies there.
@@ -401,56 +413,70 @@ module _ {D : Type 0} (v : Device D) (laws : IsDevice v) where
         stands known (dead s) at = never (sym alive ∙ at.1)
 
     module _ (change : Transition.Change) (right : (events : Events) (end : ℕ) (a : Reply) → Transition.Acts (running events end) (changes_node change) a → P (running events end) a)
-        (new : Handler D) (counted : v.failures (disk_in h) ≤ v.failures (disk_in new))
-        (moments : is_dead h ≡ false → (events : Events) → list_after events ≡ Some (list_in h) → LeavesOnly v (disk_in h) (disk_in new) (IsStoredAs (uncertain events (end_in h) change.event change.size))) where
+        (new : Handler D) (commits : Commits v change.event (change.size (list_in h)) h new) where
+      abbrev body_size : ℕ
+      body_size = change.size (list_in h)
+
       -- what the list allows, said of the events
       right_for : (events : Events) (end : ℕ) (o : Result Releases HandlerError) (a : Reply) → list_after events ≡ Some (list_in h) → commanded change.event (list_in h) ≡ o
-          → Transition.Changes events end change o a → P (running events end) a
+          → Transition.Changes events end change (list_in h) o a → P (running events end) a
       right_for events end o a after is done_so =
-          let of_list : commanded change.event (releases_after events) ≡ o = ap (λ l. commanded change.event (list_or_none l)) after ∙ is in
-          right events end a (subst (λ r. Transition.Changes events end change r a) (sym of_list) done_so)
+          let of_list : releases_after events ≡ list_in h = ap list_or_none after in
+          right events end a (subst (λ l. Transition.Changes events end change l (commanded change.event l) a) (sym of_list) (subst (λ r. Transition.Changes events end change (list_in h) r a) (sym is) done_so))
 
       moments_at : (events : Events) → list_after events ≡ Some (list_in h) → LeavesOnly v (disk_in h) (disk_in new) (IsReached (settled events) (change.event ∷ []))
-      moments_at events after = weakened v (disk_in h) (disk_in new) _ _ (reached_with events (end_in h) change.event change.size) (moments alive events after)
+      moments_at events after = weakened v (disk_in h) (disk_in new) _ _ (reached_with events (end_in h) change.event body_size) (commits.any_moment alive events after)
 
-      pub changes : is_dead new ≡ false → commanded change.event (list_in h) ≡ Ok (list_in new) → ((c : List ℕ) → v.may_leave (disk_in new) c → IsImageAt c (list_in new) (end_in new))
-          → HasSpace (end_in h) change.size → end_in new ≡ end_behind (end_in h) change.size → (vsn : String Global) → string_bytes vsn ≡ change.vsn → Answers v P (Ok vsn) (memory.Made h) (memory.Made new)
-      changes works accepted images fits ends vsn is (raw bytes) at = absurd at
-      changes works accepted images fits ends vsn is (closed s) at = absurd at
-      changes works accepted images fits ends vsn is (dead s) at = never (sym alive ∙ at.1)
-      changes works accepted images fits ends vsn is (running events end) (here, living, after, stop) =
+      replies_done : IsDone v change.event body_size h new → (p : Place) → IsAt v (memory.Made h) p
+          → Replied v p (λ a. P p a × (a.answer ≡ Transition.done_line (change.details (list_in h)))) (memory.Made h) (memory.Made new)
+      replies_done is_done (raw bytes) at = absurd at
+      replies_done is_done (closed s) at = absurd at
+      replies_done is_done (dead s) at = never (sym alive ∙ at.1)
+      replies_done is_done (running events end) (here, living, after, stop) =
           let then = events ++ change.event ∷ [] in
-          let end_then = end_behind end change.size in
-          let place = runs_at new then end_then works (list_after-push events change.event (list_in h) (list_in new) after (commanded_step change.event (list_in h) (list_in new) accepted))
-          (ends ∙ ap (λ n. end_behind n change.size) stop) images in
-          let a = reply (Transition.ok_line change.vsn) (done (change.event ∷ [])) (running then end_then) in
+          let end_then = end_behind end body_size in
+          let place = runs_at new then end_then is_done.works (list_after-push events change.event (list_in h) (list_in new) after (commanded_step change.event (list_in h) (list_in new) is_done.accepted))
+          (is_done.end ∙ ap (λ n. end_behind n body_size) stop) is_done.acknowledged in
+          let a = reply (Transition.done_line (change.details (list_in h))) (done (change.event ∷ [])) (running then end_then) in
           record {
             given = a;
-            right = (right_for events end (Ok (list_in new)) a after accepted (inl (subst (λ n. HasSpace n change.size) stop fits, inl refl)), ap Transition.ok_line (sym is));
+            right = (right_for events end (Ok (list_in new)) a after is_done.accepted (inl (subst (λ n. HasSpace n body_size) stop is_done.fits, inl refl)), refl);
             at = place;
-            happens = record { moments = moments_at events after; holds = place.0; cause = λ e. never e; counted = counted };
+            happens = record { moments = moments_at events after; holds = place.0; cause = λ e. never e; counted = commits.counted };
           }
 
+      -- it is done, and so answered
+      pub changes : IsDone v change.event body_size h new → (text : String Global) → string_bytes text ≡ Transition.done_line (change.details (list_in h)) → Answers v P (Ok text) (memory.Made h) (memory.Made new)
+      changes is_done text is p at =
+          let r = replies_done is_done p at in
+          record { given = r.given; right = (r.right.0, r.right.1 ∙ sym is); at = r.at; happens = r.happens }
+
+      -- it is done, and memory is refused for its answer
+      pub changes_untold : IsDone v change.event body_size h new → Answers v P (Err refusal.NoMemory) (memory.Made h) (memory.Made new)
+      changes_untold is_done p at =
+          let r = replies_done is_done p at in
+          inl (record { given = r.given; right = r.right.0; at = r.at; happens = r.happens })
+
       -- It doesn't.
-      device_failed : (list : Releases) → commanded change.event (list_in h) ≡ Ok list → HasSpace (end_in h) change.size → HasFailed v (disk_in h) (disk_in new) → is_dead new ≡ true
+      device_failed : (list : Releases) → commanded change.event (list_in h) ≡ Ok list → HasSpace (end_in h) body_size → HasFailed v (disk_in h) (disk_in new) → is_dead new ≡ true
           → (p : Place) → IsAt v (memory.Made h) p → Replied v p (λ a. P p a × (a.answer ≡ refusal_line device)) (memory.Made h) (memory.Made new)
       device_failed list allowed fits cause gone (raw bytes) at = absurd at
       device_failed list allowed fits cause gone (closed s) at = absurd at
       device_failed list allowed fits cause gone (dead s) at = never (sym alive ∙ at.1)
       device_failed list allowed fits cause gone (running events end) (here, living, after, stop) =
-          let s = uncertain events end change.event change.size in
-          let leaves = subst (λ n. LeavesOnly v (disk_in h) (disk_in new) (IsStoredAs (uncertain events n change.event change.size))) stop (moments alive events after) in
+          let s = uncertain events end change.event body_size in
+          let leaves = subst (λ n. LeavesOnly v (disk_in h) (disk_in new) (IsStoredAs (uncertain events n change.event body_size))) stop (commits.any_moment alive events after) in
           let holds : Holds v (dead s) (disk_in new) = λ c now. leaves.each c (laws.counts_now (disk_in new) (v.moment (disk_in h)) c leaves.later now) in
           let a = failed (Some change.event) (dead s) in
           record {
             given = a;
-            right = (right_for events end (Ok list) a after allowed (inl (subst (λ n. HasSpace n change.size) stop fits, inr refl)), refl);
+            right = (right_for events end (Ok list) a after allowed (inl (subst (λ n. HasSpace n body_size) stop fits, inr refl)), refl);
             at = (holds, gone);
-            happens = record { moments = moments_at events after; holds = holds; cause = λ e. cause; counted = counted };
+            happens = record { moments = moments_at events after; holds = holds; cause = λ e. cause; counted = commits.counted };
           }
 
       same_reply : (why : Refusal) (o : Result Releases HandlerError) → commanded change.event (list_in h) ≡ o → IsSame h new
-          → ((events : Events) (end : ℕ) → end_in h ≡ end → Transition.Changes events end change o (refused why (running events end)))
+          → ((events : Events) (end : ℕ) → end_in h ≡ end → Transition.Changes events end change (list_in h) o (refused why (running events end)))
           → (p : Place) → IsAt v (memory.Made h) p → Replied v p (λ a. P p a × (a.answer ≡ refusal_line why)) (memory.Made h) (memory.Made new)
       same_reply why o is same barred (raw bytes) at = absurd at
       same_reply why o is same barred (closed s) at = absurd at
@@ -459,17 +485,26 @@ module _ {D : Type 0} (v : Device D) (laws : IsDevice v) where
           stays (running events end) (refusal_line why) _ (memory.Made h) (memory.Made new) at same.disk (same_at h new (running events end) same at)
           (right_for events end o _ at.2 is (barred events end at.3), refl)
 
-      pub changes_none : (e : HandlerError) (told : RefusalInMemory) → CommandRefused v.failures change.event change.size h new e → told ≡ handler_refusal e
+      by_list : (e : HandlerError) → (is_dead h ≡ false) × (commanded change.event (list_in h) ≡ Err e) → IsSame h new
+          → (p : Place) → IsAt v (memory.Made h) p → Replied v p (λ a. P p a × (a.answer ≡ refusal_line (refusal_of (handler_refusal e)))) (memory.Made h) (memory.Made new)
+      by_list e (living, barred) same = same_reply (refusal_of (handler_refusal e)) (Err e) barred same (λ events end at. refl)
+
+      pub changes_none : (e : HandlerError) (told : RefusalInMemory) → CommandRefused v.failures change.event body_size h new e → told ≡ handler_refusal e
           → Answers v P (Err told) (memory.Made h) (memory.Made new)
       changes_none e told why is = subst (λ t. Answers v P (Err t) (memory.Made h) (memory.Made new)) (sym is) (by_error e why)
         where
-          by_error : (e : HandlerError) → CommandRefused v.failures change.event change.size h new e → Answers v P (Err (handler_refusal e)) (memory.Made h) (memory.Made new)
+          by_error : (e : HandlerError) → CommandRefused v.failures change.event body_size h new e → Answers v P (Err (handler_refusal e)) (memory.Made h) (memory.Made new)
           by_error handler_error.Dead (gone, same) = never (sym alive ∙ gone)
-          by_error handler_error.ExistingRelease ((living, barred), same) = same_reply (refusal_of refusal.ExistingRelease) (Err handler_error.ExistingRelease) barred same (λ events end at. refl)
-          by_error handler_error.TooMany ((living, barred), same) = same_reply (refusal_of refusal.TooMany) (Err handler_error.TooMany) barred same (λ events end at. refl)
+          by_error handler_error.NoSuchRelease (barred, same) = by_list handler_error.NoSuchRelease barred same
+          by_error handler_error.ExistingRelease (barred, same) = by_list handler_error.ExistingRelease barred same
+          by_error handler_error.AlreadyInstalled (barred, same) = by_list handler_error.AlreadyInstalled barred same
+          by_error (handler_error.BadStatus s) (barred, same) = by_list (handler_error.BadStatus s) barred same
+          by_error handler_error.Permanent (barred, same) = by_list handler_error.Permanent barred same
+          by_error handler_error.Running (barred, same) = by_list handler_error.Running barred same
+          by_error handler_error.TooMany (barred, same) = by_list handler_error.TooMany barred same
           by_error handler_error.Full ((living, (list, allowed)), over, same) =
-              same_reply full (Ok list) allowed same (λ events end at. inr (subst (λ n. HasSpace n change.size → ⊥) at over, refl))
-          by_error handler_error.NoMemory (living, same) = λ p at. leaves_all p (memory.Made h) (memory.Made new) same.disk (same_at h new p same at)
+              same_reply full (Ok list) allowed same (λ events end at. inr (subst (λ n. HasSpace n body_size → ⊥) at over, refl))
+          by_error handler_error.NoMemory (living, same) = λ p at. inr (leaves_all p (memory.Made h) (memory.Made new) same.disk (same_at h new p same at))
           by_error handler_error.Device ((living, (list, allowed), fits), cause, gone) = device_failed list allowed fits cause gone
           by_error handler_error.Exists gone = absurd gone
 
@@ -489,7 +524,7 @@ module _ {D : Type 0} (v : Device D) (laws : IsDevice v) where
 
   -- where memory is refused
   pub changes_no_memory : (P : Place → Reply → Type 0) (place : PlaceInMemory D) → Answers v P (Err refusal.NoMemory) place place
-  changes_no_memory P place p at = leaves_all p place place refl at
+  changes_no_memory P place p at = inr (leaves_all p place place refl at)
 
   -- A command is refused wherever the disk stands, before the node was asked.
   pub refuses_anywhere : (P : Place → Reply → Type 0) (place : PlaceInMemory D) (why : RefusalInMemory)
@@ -503,3 +538,10 @@ module _ {D : Type 0} (v : Device D) (laws : IsDevice v) where
   idle_sets files path (closed s) idle = (Transition.refuses dead_node, refl, refl)
   idle_sets files path (running events end) idle = absurd (idle events end refl)
   idle_sets files path (dead s) idle = (Transition.refuses dead_node, refl, refl)
+
+  -- and so is a change
+  pub idle_changes : (c : Transition.Change) (p : Place) → ((events : Events) (end : ℕ) → p ≡ running events end → ⊥) → Transition.Acts p (changes_node c) (refused dead_node p)
+  idle_changes c (raw bytes) idle = refl
+  idle_changes c (closed s) idle = refl
+  idle_changes c (running events end) idle = absurd (idle events end refl)
+  idle_changes c (dead s) idle = refl

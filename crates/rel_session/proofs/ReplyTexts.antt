@@ -1,5 +1,5 @@
 -- A command that was followed: its reply, told by its text.
-use Rattle.std.proofs.Common.{◌≡◌, ◌⊎◌, inl, inr, ℕ, List, Option, Some, None, Result, Ok, Err, refl, sym, ap, ◌∙◌, subst}
+use Rattle.std.proofs.Common.{◌≡◌, ◌⊎◌, inl, inr, ℕ, List, Option, Some, None, Result, Ok, Err, refl, sym, ap, ◌∙◌, subst, ◌++◌, append_assoc}
 use Rattle.std.specs.Prelude.{IfOk, OnOk, MatchResult, String, string_bytes, codes}
 use Rattle.std.specs.declared.alloc.Global.{Global}
 use Rattle.std.specs.declared.alloc.AllocError.{AllocError}
@@ -11,12 +11,14 @@ use Rattle.rel_session.specs.declared.refusal.Refusal.{Refusal as RefusalInMemor
 use Rattle.rel_session.specs.declared.refusal.Refusal.TheVariants as refusal
 use Rattle.rel_session.specs.Commands.{Command, File}
 use Rattle.rel_session.specs.Commands.Command.{file}
+use Rattle.erl_term.specs.Printing.{text_of}
 use Rattle.rel_session.specs.Device.{Device}
+use Rattle.rel_session.specs.Listing.{text_value}
 use Rattle.rel_session.specs.Files.{files_of, files_behind, give}
 use Rattle.rel_session.specs.InMemory.{disk_at, IsAt, Replied, NothingDone, Answers, TellsReply, FollowsCommand, IsLine, IsText}
 use Rattle.rel_session.specs.Node.{Place, Reply, reply, nothing}
 use Rattle.rel_session.specs.Refusals.{refusal_of, refusal_line}
-use Rattle.rel_session.specs.Transition.{Transition, ok_line}
+use Rattle.rel_session.specs.Transition.{Transition, installed_line}
 use Rattle.rel_session.specs.Transition.Action.{answers}
 use Rattle.rel_session.proofs.DeviceLemmas.{IsDevice}
 use Rattle.rel_session.proofs.Replies.{stays, leaves_all}
@@ -42,10 +44,25 @@ module _ {D : Type 0} (v : Device D) (old new : Node D) (command : Command) (sam
     -- a command that was done, or refused
     pub follows : (r : Result (String Global) RefusalInMemory) (line : Result (Option (String Global)) SessionError) → IfOk line (λ text. IsLine r text) → Answers v P r old.place new.place → FollowsCommand v command line old new
     follows r (Ok None) is given = absurd is
-    follows (Ok vsn) (Ok (Some text)) is given = with_text (ok_line (string_bytes vsn)) text is given
-    follows (Ok vsn) (Err e) is given = without (ok_line (string_bytes vsn)) given
+    follows (Ok answer) (Ok (Some text)) is given = with_text (string_bytes answer) text is given
+    follows (Ok answer) (Err e) is given = without (string_bytes answer) given
     follows (Err refusal.NoMemory) (Ok (Some text)) is given = absurd is
-    follows (Err refusal.NoMemory) (Err e) is given = λ p at. inr (given p at)
+    follows (Err refusal.NoMemory) (Err e) is given = λ p at. by_reply p (given p at)
+      where
+        by_reply : (p : Place) → Replied v p (P p) old.place new.place ⊎ NothingDone v p old.place new.place
+            → Replied v p (λ a. Transition (files_of old.files) p command a) old.place new.place ⊎ NothingDone v p old.place new.place
+        by_reply p (inl r) = inl (replied_so p _ _ (λ a r. right p a r) r)
+        by_reply p (inr lapsed) = inr lapsed
+    follows (Err refusal.NoSuchRelease) (Ok (Some text)) is given = with_text (refusal_line (refusal_of refusal.NoSuchRelease)) text is given
+    follows (Err refusal.NoSuchRelease) (Err e) is given = without (refusal_line (refusal_of refusal.NoSuchRelease)) given
+    follows (Err refusal.AlreadyInstalled) (Ok (Some text)) is given = with_text (refusal_line (refusal_of refusal.AlreadyInstalled)) text is given
+    follows (Err refusal.AlreadyInstalled) (Err e) is given = without (refusal_line (refusal_of refusal.AlreadyInstalled)) given
+    follows (Err (refusal.BadStatus s)) (Ok (Some text)) is given = with_text (refusal_line (refusal_of (refusal.BadStatus s))) text is given
+    follows (Err (refusal.BadStatus s)) (Err e) is given = without (refusal_line (refusal_of (refusal.BadStatus s))) given
+    follows (Err refusal.Permanent) (Ok (Some text)) is given = with_text (refusal_line (refusal_of refusal.Permanent)) text is given
+    follows (Err refusal.Permanent) (Err e) is given = without (refusal_line (refusal_of refusal.Permanent)) given
+    follows (Err refusal.Running) (Ok (Some text)) is given = with_text (refusal_line (refusal_of refusal.Running)) text is given
+    follows (Err refusal.Running) (Err e) is given = without (refusal_line (refusal_of refusal.Running)) given
     follows (Err refusal.ExistingRelease) (Ok (Some text)) is given = with_text (refusal_line (refusal_of refusal.ExistingRelease)) text is given
     follows (Err (refusal.BadFile q f)) (Ok (Some text)) is given = with_text (refusal_line (refusal_of (refusal.BadFile q f))) text is given
     follows (Err (refusal.MissingFile q)) (Ok (Some text)) is given = with_text (refusal_line (refusal_of (refusal.MissingFile q))) text is given
@@ -107,3 +124,10 @@ gives {D} v laws old files path f (Ok text) kept told =
     let done : (p : Place) → Transition (files_of old.files) p (file path f) (reply (codes "ok\n") nothing p) = λ p. (answers (codes "ok\n"), refl, refl) in
     follows_still v old new (file path f) kept laws refl (λ p. codes "ok\n") done (Ok text) (says_text v old new (file path f) kept laws refl (λ p. codes "ok\n") done (Ok text) (codes "ok\n") told (λ p. refl))
 gives v laws old files path f (Err e) kept told = λ p at. inr (leaves_all v laws p old.place old.place refl at)
+
+-- the line of an installation
+pub tells_installed : (line : Result (String Global) AllocError) (printed other : List ℕ) → IfOk line (λ s. string_bytes s ≡ codes "ok " ++ (printed ++ codes " [] []\n")) → printed ≡ text_of (text_value other)
+    → IfOk line (λ s. string_bytes s ≡ installed_line other)
+tells_installed (Err e) printed other told is = tt
+tells_installed (Ok s) printed other told is =
+    told ∙ ap (λ t. codes "ok " ++ t) (sym (append_assoc printed (codes " [] []") (codes "\n"))) ∙ ap (λ t. codes "ok " ++ ((t ++ codes " [] []") ++ codes "\n")) is

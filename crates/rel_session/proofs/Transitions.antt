@@ -5,7 +5,7 @@ use Rattle.rel_list.specs.Event.{Event}
 use Rattle.rel_handler.specs.declared.error.HandlerError.{HandlerError}
 use Rattle.rel_handler.specs.Events.{Events, Stored, MayHave, certain}
 use Rattle.rel_handler.specs.Image.{holds_a_store}
-use Rattle.rel_handler.specs.Records.{body_of}
+use Rattle.rel_records.specs.Record.{makes as makes_record, body_of}
 use Rattle.rel_handler.specs.Taking.{commanded}
 use Rattle.rel_session.specs.Commands.{Command}
 use Rattle.rel_session.specs.Files.{Files, Found}
@@ -45,11 +45,11 @@ still_as p answer a is = keeps_as p a (reply answer nothing p) is (keeps_still p
 keeps_known : (p : Place) (a : Reply) (found : Events) → Finds p found → acknowledged_at a.after ≡ found ++ a.outcome.acknowledged → IsKnown a.after → Keeps p a
 keeps_known p a found finds are known = record { found = found; finds = finds; are = are; known = λ k. known }
 
-changes : (events : Events) (end : ℕ) (c : Transition.Change) (o : Result Releases HandlerError) (a : Reply) → Transition.Changes events end c o a → Keeps (running events end) a
-changes events end c (Err why) a is = still_as (running events end) _ a is
-changes events end c (Ok list) a (inl (fits, inl is)) = keeps_as (running events end) a _ is (keeps_known (running events end) _ events refl refl tt)
-changes events end c (Ok list) a (inl (fits, inr is)) = keeps_as (running events end) a _ is (keeps_known (running events end) _ events refl (sym (append-nil events)) tt)
-changes events end c (Ok list) a (inr (over, is)) = still_as (running events end) _ a is
+changes : (events : Events) (end : ℕ) (c : Transition.Change) (l : Releases) (o : Result Releases HandlerError) (a : Reply) → Transition.Changes events end c l o a → Keeps (running events end) a
+changes events end c l (Err why) a is = still_as (running events end) _ a is
+changes events end c l (Ok list) a (inl (fits, inl is)) = keeps_as (running events end) a _ is (keeps_known (running events end) _ events refl refl tt)
+changes events end c l (Ok list) a (inl (fits, inr is)) = keeps_as (running events end) a _ is (keeps_known (running events end) _ events refl (sym (append-nil events)) tt)
+changes events end c l (Ok list) a (inr (over, is)) = still_as (running events end) _ a is
 
 makes_on : (bytes : List ℕ) (found : Found) (size : ℕ) (b : Bool) (a : Reply) → Transition.MakesOn bytes found.release size b a → Keeps (raw bytes) a
 makes_on bytes found size true a is = still_as (raw bytes) _ a is
@@ -64,7 +64,7 @@ failed_as : (s : Stored) (answer : List ℕ) (doubt : Option Event) (p : Place) 
 failed_as s answer doubt p a finds is = keeps_as p a _ is (keeps_known p _ s.known.acknowledged finds (sym (append-nil s.known.acknowledged)) tt)
 
 makes : (p : Place) (found : Found) (a : Reply) → Transition.MakesNode p found a → Keeps p a
-makes (raw bytes) found a (inl is) = makes_on bytes found (length (body_of (codes "made") found.term)) (holds_a_store bytes) a is
+makes (raw bytes) found a (inl is) = makes_on bytes found (length (body_of found.term (makes_record found.release))) (holds_a_store bytes) a is
 makes (raw bytes) found a (inr (torn, is)) = torn_as bytes torn _ _ a is
 makes (closed s) found a (inl is) = still_as (closed s) _ a is
 makes (closed s) found a (inr is) = failed_as s _ _ (closed s) a (inl refl) is
@@ -96,7 +96,7 @@ acts p (answers text) a is = still_as p _ a is
 acts p (makes_node found) a is = makes p found a is
 acts (raw bytes) (changes_node c) a is = still_as (raw bytes) _ a is
 acts (closed s) (changes_node c) a is = still_as (closed s) _ a is
-acts (running events end) (changes_node c) a is = changes events end c (commanded c.event (releases_after events)) a is
+acts (running events end) (changes_node c) a is = changes events end c (releases_after events) (commanded c.event (releases_after events)) a is
 acts (dead s) (changes_node c) a is = still_as (dead s) _ a is
 acts p boots_node a is = boots p a is
 

@@ -10,27 +10,28 @@ use Rattle.rel_list.specs.Event.{Event, may_be_installed, may_be_made_permanent,
 use Rattle.rel_list.specs.declared.status.Status.{Status}
 use Rattle.rel_list.specs.declared.status.Status.TheVariants.{Unpacked, Permanent}
 use Rattle.rel_list.specs.Event.Event.{made, unpacked, installed, made_permanent, removed, reboot_old, boot as booting}
+use Rattle.rel_records.specs.Lists.{HaveVersions}
+use Rattle.rel_records.specs.Record.{makes as makes_record, body_of}
+use Rattle.rel_handler.proofs.Commits.{have_versions}
 use Rattle.rel_handler.specs.declared.error.HandlerError.{HandlerError}
 use Rattle.rel_handler.specs.declared.error.HandlerError.TheVariants as handler_error
 use Rattle.rel_handler.specs.Events.{Events, Stored, MayHave, certain, uncertain}
 use Rattle.rel_handler.specs.Image.{holds_a_store}
-use Rattle.rel_handler.specs.Records.{Record, makes as makes_record, adds, release_in, MakesFrom, body_of}
 use Rattle.rel_handler.specs.Taking.{commanded}
 use Rattle.rel_session.specs.Commands.{Command}
 use Rattle.rel_session.specs.Files.{Files, Found}
 use Rattle.rel_session.specs.Node.{Place, Reply, releases_after}
 use Rattle.rel_session.specs.Node.Place.{raw, closed, running, dead}
 use Rattle.rel_session.specs.Refusals.{refusal_of, refusal_line, handler_refusal}
-use Rattle.rel_session.specs.Refusals.Refusal.{device}
-use Rattle.rel_session.specs.AnswerLaws.{is_one_line, HasLinePath, HaveVersions, HasVersionsAt}
+use Rattle.rel_session.specs.Refusals.Refusal.{device, bad_status}
+use Rattle.rel_session.specs.AnswerLaws.{is_one_line, HasLinePath, HasVersionsAt}
 use Rattle.rel_session.specs.RunLaws.{MayBe}
 use Rattle.rel_session.specs.Transition
 use Rattle.rel_session.specs.Transition.Action.{answers, makes_node, changes_node, boots_node}
-use Rattle.rel_session.proofs.Histories.{event_in, stepped}
 use Rattle.rel_session.proofs.ActionLemmas.{OfEvent, one_line, IsGoodAction, good_action}
 use Rattle.rel_session.proofs.ListLemmas.{list_after-more}
 use Rattle.rel_session.proofs.Transitions.{may_have}
-use Rattle.rel_session.proofs.AnswerLines.{IsWhole, ok_whole, boot_line_whole}
+use Rattle.rel_session.proofs.AnswerLines.{IsWhole, ok_whole, done_whole, refusal_whole, boot_line_whole}
 
 more_versions : (es : Releases) (e : Entry) → HaveVersions es → HasVersions e.release → HaveVersions (es ++ e ∷ [])
 more_versions [] e all one = (one, tt)
@@ -84,20 +85,6 @@ list_versions events e of all list is = go (list_after events) refl (sym (list_a
     go None after is = absurd cc
     go (Some es) after is = step_versions e es list of (all es after) is
 
--- the list of records has those that its records say
-pub record_versions : (es : Releases) (bodies : List (List ℕ)) (end : Releases) → HaveVersions es → MakesFrom es bodies end → HaveVersions end
-record_versions es [] end all is = subst HaveVersions (sym is) all
-record_versions es (body ∷ bodies) end all (r, between, spelled, taken, rest) =
-    record_versions between bodies end (step_versions (event_in r) es between (of r spelled.says.versions) all (stepped r es between taken)) rest
-  where
-    of : (r : Record) → HasVersions (release_in r) → OfEvent (event_in r)
-    of (makes_record x) has = has
-    of (adds x) has = has
-
-pub unbooted : (es : Releases) → HaveVersions (booted es) → HaveVersions es
-unbooted [] all = tt
-unbooted (e ∷ es) all = (all.0, unbooted es all.1)
-
 -- and a store one of those of its list
 stored_versions : (s : Stored) → HasVersionsAt (closed s) → (events : Events) (end : ℕ) → MayHave s events end → OfList events
 stored_versions s all events end has list is = all events list (may_have s events end has) is
@@ -127,7 +114,12 @@ good_as : (a b : Reply) → a ≡ b → IsGood b → IsGood a
 good_as a b is good = subst IsGood (sym is) good
 
 handler_line : (e : HandlerError) → IsWhole (refusal_line (refusal_of (handler_refusal e)))
+handler_line handler_error.NoSuchRelease behind = refl
 handler_line handler_error.ExistingRelease behind = refl
+handler_line handler_error.AlreadyInstalled behind = refl
+handler_line (handler_error.BadStatus s) behind = refusal_whole (bad_status s) tt behind
+handler_line handler_error.Permanent behind = refl
+handler_line handler_error.Running behind = refl
 handler_line handler_error.TooMany behind = refl
 handler_line handler_error.Device behind = refl
 handler_line handler_error.Full behind = refl
@@ -138,15 +130,16 @@ handler_line handler_error.Exists behind = refl
 device_line : IsWhole (refusal_line device)
 device_line behind = refl
 
-changes : (events : Events) (end : ℕ) (c : Transition.Change) (o : Result Releases HandlerError) → OfEvent c.event → is_one_line c.vsn ≡ true → OfList events → (a : Reply) → Transition.Changes events end c o a → IsGood a
-changes events end c (Err why) of line all a is = good_as a _ is (handler_line why, all)
-changes events end c (Ok list) of line all a (inl (fits, inl is)) = good_as a _ is (ok_whole c.vsn line, list_versions events c.event of all)
-changes events end c (Ok list) of line all a (inl (fits, inr is)) = good_as a _ is (device_line, either_way)
+changes : (events : Events) (end : ℕ) (c : Transition.Change) (list : Releases) (o : Result Releases HandlerError) → OfEvent c.event → is_one_line (c.details list) ≡ true → OfList events → (a : Reply)
+    → Transition.Changes events end c list o a → IsGood a
+changes events end c list (Err why) of line all a is = good_as a _ is (handler_line why, all)
+changes events end c list (Ok next) of line all a (inl (fits, inl is)) = good_as a _ is (done_whole (c.details list) line, list_versions events c.event of all)
+changes events end c list (Ok next) of line all a (inl (fits, inr is)) = good_as a _ is (device_line, either_way)
   where
-    either_way : (es : Events) (l : Releases) → MayBe (uncertain events end c.event c.size) es → list_after es ≡ Some l → HaveVersions l
+    either_way : (es : Events) (l : Releases) → MayBe (uncertain events end c.event (c.size list)) es → list_after es ≡ Some l → HaveVersions l
     either_way es l (inl same) after = all l (ap list_after (sym same) ∙ after)
     either_way es l (inr same) after = list_versions events c.event of all l (ap list_after (sym same) ∙ after)
-changes events end c (Ok list) of line all a (inr (over_it, is)) = good_as a _ is ((λ behind. refl), all)
+changes events end c list (Ok next) of line all a (inr (over_it, is)) = good_as a _ is ((λ behind. refl), all)
 
 makes_on : (x : List ℕ) (r : Release) (size : ℕ) (b : Bool) → HasVersions r → (a : Reply) → Transition.MakesOn x r size b a → IsGood a
 makes_on x r size true of a is = good_as a _ is ((λ behind. refl), tt)
@@ -154,7 +147,7 @@ makes_on x r size false of a (inl (fits, is)) = good_as a _ is (ok_whole r.vsn (
 makes_on x r size false of a (inr (over_it, is)) = good_as a _ is ((λ behind. refl), tt)
 
 makes : (p : Place) (found : Found) → HasVersions found.release → HasVersionsAt p → (a : Reply) → Transition.MakesNode p found a → IsGood a
-makes (raw x) found good all a (inl is) = makes_on x found.release (length (body_of (codes "made") found.term)) (holds_a_store x) good a is
+makes (raw x) found good all a (inl is) = makes_on x found.release (length (body_of found.term (makes_record found.release))) (holds_a_store x) good a is
 makes (raw x) found good all a (inr (torn, is)) = good_as a _ is ((λ behind. refl), tt)
 makes (closed s) found good all a (inl is) = good_as a _ is ((λ behind. refl), all)
 makes (closed s) found good all a (inr is) = good_as a _ is ((λ behind. refl), all)
@@ -172,7 +165,7 @@ boots_store s all a (inr is) = good_as a _ is ((λ behind. refl), all)
 
 boots : (p : Place) → HasVersionsAt p → (a : Reply) → Transition.Boots p a → IsGood a
 boots (raw x) all a (inl (events, list, end, after, image, is)) =
-    let versions = unbooted list (record_versions [] image.image_of.bodies (booted list) tt image.image_of.list.0) in
+    let versions = have_versions image.image_of.bodies list image.image_of.list in
     boots_to events end (λ l e. let same : list ≡ l = cc in subst HaveVersions same versions) a is
 boots (raw x) all a (inr (inl (why, refusal, is))) = good_as a _ is (boot_line_whole why, tt)
 boots (raw x) all a (inr (inr (torn, is))) = good_as a _ is ((λ behind. refl), tt)
@@ -187,7 +180,7 @@ boots (dead s) all a is = boots_store s all a is
 acts : (p : Place) (does : Transition.Action) → IsGoodAction does → HasVersionsAt p → (a : Reply) → Transition.Acts p does a → IsGood a
 acts p (answers text) good all a is = good_as a _ is (good, all)
 acts p (makes_node found) good all a is = makes p found good all a is
-acts (running events end) (changes_node c) good all a is = changes events end c (commanded c.event (releases_after events)) good.0 good.1 all a is
+acts (running events end) (changes_node c) good all a is = changes events end c (releases_after events) (commanded c.event (releases_after events)) good.0 (good.1 (releases_after events)) all a is
 acts (raw x) (changes_node c) good all a is = good_as a _ is ((λ behind. refl), all)
 acts (closed s) (changes_node c) good all a is = good_as a _ is ((λ behind. refl), all)
 acts (dead s) (changes_node c) good all a is = good_as a _ is ((λ behind. refl), all)

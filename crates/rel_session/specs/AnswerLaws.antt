@@ -1,9 +1,9 @@
 -- What is so of the answers of whole sessions.
 use Rattle.std.specs.Prelude.{◌≡◌, ◌≢◌, ◌==◌, not, Bool, true, ℕ, List, [], ◌∷◌, None, Some}
-use Rattle.std.specs.List.{list_all, AllByRecursion}
-use Rattle.rel_files.specs.File.{HasVersions}
-use Rattle.rel_list.specs.Releases.{Releases, Entry}
+use Rattle.std.specs.List.{list_all}
+use Rattle.rel_list.specs.Releases.{Releases}
 use Rattle.rel_list.specs.Event.{Event, list_after}
+use Rattle.rel_records.specs.Lists.{HaveVersions}
 use Rattle.rel_handler.specs.Events.{Events, certain}
 use Rattle.rel_session.specs.Commands.{Command}
 use Rattle.rel_session.specs.Commands.Command.{create, set_unpacked}
@@ -103,11 +103,7 @@ abbrev pub HaveLinePaths : Feed Command → Type 0
 HaveLinePaths (next c rest) = HasLinePath c × HaveLinePaths rest
 HaveLinePaths commands = Unit {0}
 
--- each release of the list has the versions of a file
-abbrev pub HaveVersions : Releases → Type 0
-HaveVersions list = AllByRecursion (λ (e : Entry). HasVersions e.release) list
-
--- so has each of the lists that the store there may have
+-- each release of each list that the store there may have has the versions of a file
 abbrev pub HasVersionsAt : Place → Type 0
 HasVersionsAt (raw bytes) = Unit {0}
 HasVersionsAt (closed s) =

@@ -2,6 +2,7 @@
 use Rattle.std.specs.Prelude.{◌≡◌, ℕ, ◌<◌, ◌≤◌, Bool, List, [], ◌∷◌, ◌++◌, Option, None, Some, length, nat_lt, nat_le, ◌==◌, if◌then◌else◌, codes, string_bytes}
 use Rattle.std.specs.List.{list_all, slice_split}
 use Rattle.std.specs.Str.{bytes_eq, is_utf8}
+use Rattle.rel_files.specs.Name.{is_text}
 use Rattle.rel_session.specs.declared.given.GivenFile.{GivenFile}
 use Rattle.rel_session.specs.declared.given.GivenFile.TheVariants as kept
 use Rattle.rel_session.specs.declared.command.Command.{Command as CommandInMemory}
@@ -24,11 +25,14 @@ pub data File : Type 0 where
 abbrev pub file_of : List ℕ → File
 file_of bs = if nat_lt most_file (length bs) then too_large else bytes bs
 
--- A command. Paths are texts.
+-- A command. Paths and versions are texts.
 pub data Command : Type 0 where
   file : List ℕ → File → Command
   create : List ℕ → Command
   set_unpacked : List ℕ → Command
+  install : List ℕ → Command
+  permanent : List ℕ → Command
+  remove : List ℕ → Command
   boot : Command
   releases : Command
   quit : Command
@@ -40,7 +44,7 @@ pub data ParsedLine : Type 0 where
   file_begins : List ℕ → ParsedLine
   whole_command : Command → ParsedLine
 
--- The words behind a command's own, by their kind: none, or one path. A path is not empty.
+-- The words behind a command's own, by their kind: none, one path, or one version. A path is not empty.
 abbrev pub without_words : List (List ℕ) → ParsedLine → ParsedLine
 without_words [] parsed = parsed
 without_words words parsed = whole_command bad
@@ -49,10 +53,30 @@ abbrev pub path_in : List (List ℕ) → Option (List ℕ)
 path_in ((b ∷ path) ∷ []) = Some (b ∷ path)
 path_in words = None
 
+abbrev pub version_in : List (List ℕ) → Option (List ℕ)
+version_in (vsn ∷ []) = if is_text 0x21 vsn then Some vsn else None
+version_in words = None
+
 -- a line with a word of some kind, where there is one
 abbrev pub with_word : Option (List ℕ) → (List ℕ → ParsedLine) → ParsedLine
 with_word None parsed = whole_command bad
 with_word (Some word) parsed = parsed word
+
+-- what the word of a command on a listed release says with the words behind it
+abbrev pub parse_change : List ℕ → List (List ℕ) → ParsedLine
+parse_change word words =
+    if bytes_eq word (codes "install") then with_word (version_in words) (λ vsn. whole_command (install vsn))
+    else if bytes_eq word (codes "permanent") then with_word (version_in words) (λ vsn. whole_command (permanent vsn))
+    else if bytes_eq word (codes "remove") then with_word (version_in words) (λ vsn. whole_command (remove vsn))
+    else whole_command bad
+
+-- what the word of a command on a file says with the words behind it
+abbrev pub parse_path_command : List ℕ → List (List ℕ) → ParsedLine
+parse_path_command word words =
+    if bytes_eq word (codes "file") then with_word (path_in words) file_begins
+    else if bytes_eq word (codes "create") then with_word (path_in words) (λ path. whole_command (create path))
+    else if bytes_eq word (codes "set_unpacked") then with_word (path_in words) (λ path. whole_command (set_unpacked path))
+    else parse_change word words
 
 -- what a command's word says with the words behind it
 abbrev pub parse_command : List ℕ → List (List ℕ) → ParsedLine
@@ -60,10 +84,7 @@ parse_command word words =
     if bytes_eq word (codes "boot") then without_words words (whole_command boot)
     else if bytes_eq word (codes "releases") then without_words words (whole_command releases)
     else if bytes_eq word (codes "quit") then without_words words (whole_command quit)
-    else if bytes_eq word (codes "file") then with_word (path_in words) file_begins
-    else if bytes_eq word (codes "create") then with_word (path_in words) (λ path. whole_command (create path))
-    else if bytes_eq word (codes "set_unpacked") then with_word (path_in words) (λ path. whole_command (set_unpacked path))
-    else whole_command bad
+    else parse_path_command word words
 
 -- what words say
 abbrev pub parse_words : List (List ℕ) → ParsedLine
@@ -118,6 +139,9 @@ abbrev pub command_of : CommandInMemory → Command
 command_of (memory.File p g) = file (string_bytes p) (given_of g)
 command_of (memory.Create p) = create (string_bytes p)
 command_of (memory.SetUnpacked p) = set_unpacked (string_bytes p)
+command_of (memory.Install v) = install (string_bytes v)
+command_of (memory.Permanent v) = permanent (string_bytes v)
+command_of (memory.Remove v) = remove (string_bytes v)
 command_of memory.Boot = boot
 command_of memory.Releases = releases
 command_of memory.Quit = quit

@@ -7,7 +7,7 @@ use Rattle.erl_term.specs.Value.{Value}
 use Rattle.rel_files.specs.Fault.{Fault}
 use Rattle.rel_files.specs.File.{HasFileTerm, IsReleaseTerm, HasFault}
 use Rattle.rel_files.specs.Release.{Release}
-use Rattle.rel_handler.specs.Limits.{is_small}
+use Rattle.rel_records.specs.Limits.{is_small}
 use Rattle.rel_session.specs.declared.files.Files.{Files as FilesInMemory}
 use Rattle.rel_session.specs.Commands.{Command, File, given_of}
 use Rattle.rel_session.specs.Commands.Command.{file}

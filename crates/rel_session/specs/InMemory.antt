@@ -21,7 +21,7 @@ use Rattle.rel_session.specs.Node.{Place, Reply}
 use Rattle.rel_session.specs.Node.Place.{raw, closed, running, dead}
 use Rattle.rel_session.specs.Refusals.{refusal_of, refusal_line}
 use Rattle.rel_session.specs.Run.{Holds, Happens}
-use Rattle.rel_session.specs.Transition.{Transition, ok_line}
+use Rattle.rel_session.specs.Transition.{Transition}
 
 abbrev pub disk_at : {D : Type 0} → PlaceInMemory D → D
 disk_at (memory.Idle disk) = disk
@@ -60,12 +60,14 @@ pub record NothingDone {D : Type 0} (v : Device D) (p : Place) (old new : PlaceI
   pub holds : Holds v p (disk_at new)
   pub counted : v.failures (disk_at old) ≤ v.failures (disk_at new)
 
--- A command gave this result, wherever it began: a version, or why it was refused. P says which replies are right.
+-- A command gave this result, wherever it began: its answer, or why it was refused. P says which replies are right. Where
+-- memory is refused, it may have been done.
 abbrev pub Answers : {D : Type 0} → Device D → (Place → Reply → Type 0) → Result (String Global) RefusalInMemory
     → PlaceInMemory D → PlaceInMemory D → Type 0
-Answers v P (Ok vsn) old new =
-    (p : Place) → IsAt v old p → Replied v p (λ a. P p a × (a.answer ≡ ok_line (string_bytes vsn))) old new
-Answers v P (Err refusal.NoMemory) old new = (p : Place) → IsAt v old p → NothingDone v p old new
+Answers v P (Ok text) old new =
+    (p : Place) → IsAt v old p → Replied v p (λ a. P p a × (a.answer ≡ string_bytes text)) old new
+Answers v P (Err refusal.NoMemory) old new =
+    (p : Place) → IsAt v old p → Replied v p (P p) old new ⊎ NothingDone v p old new
 Answers v P (Err why) old new =
     (p : Place) → IsAt v old p → Replied v p (λ a. P p a × (a.answer ≡ refusal_line (refusal_of why))) old new
 
@@ -94,7 +96,7 @@ disk_of n = disk_at n.place
 -- the line that tells what a command has done, or why it was refused
 abbrev pub IsLine : Result (String Global) RefusalInMemory → Option (String Global) → Type 0
 IsLine done None = ⊥
-IsLine (Ok vsn) (Some text) = string_bytes text ≡ ok_line (string_bytes vsn)
+IsLine (Ok answer) (Some text) = string_bytes text ≡ string_bytes answer
 IsLine (Err refusal.NoMemory) (Some text) = ⊥
 IsLine (Err why) (Some text) = string_bytes text ≡ refusal_line (refusal_of why)
 

@@ -1,6 +1,8 @@
 -- Why a command is refused, and how that is told.
 use Rattle.std.specs.Prelude.{ℕ, List, ◌++◌, codes, string_bytes}
 use Rattle.rel_files.specs.Fault.{Fault, fault_of, file_fault_text}
+use Rattle.rel_list.specs.declared.status.Status.{Status}
+use Rattle.rel_list.specs.Status.{status_word}
 use Rattle.rel_handler.specs.declared.error.HandlerError.{HandlerError}
 use Rattle.rel_handler.specs.declared.error.HandlerError.TheVariants as handler
 use Rattle.rel_handler.specs.declared.error.BootError.{BootError}
@@ -10,7 +12,12 @@ use Rattle.rel_session.specs.declared.refusal.Refusal.TheVariants as memory
 
 -- why a command is refused
 pub data Refusal : Type 0 where
+  no_such_release : Refusal
   existing_release : Refusal
+  already_installed : Refusal
+  bad_status : Status → Refusal
+  permanent : Refusal
+  is_running : Refusal
   bad_file : List ℕ → Fault → Refusal
   missing_file : List ℕ → Refusal
   too_many : Refusal
@@ -22,7 +29,12 @@ pub data Refusal : Type 0 where
 
 -- the line that tells a refusal: its number, its name and its detail
 abbrev pub refusal_line : Refusal → List ℕ
+refusal_line no_such_release = codes "error handler 1 NoSuchRelease\n"
 refusal_line existing_release = codes "error handler 2 ExistingRelease\n"
+refusal_line already_installed = codes "error handler 3 AlreadyInstalled\n"
+refusal_line (bad_status s) = codes "error handler 4 BadStatus " ++ (status_word s ++ codes "\n")
+refusal_line permanent = codes "error handler 5 Permanent\n"
+refusal_line is_running = codes "error handler 6 Running\n"
 refusal_line (bad_file path fault) =
     codes "error handler 8 BadFile " ++ (path ++ (codes " " ++ (file_fault_text fault ++ codes "\n")))
 refusal_line (missing_file path) = codes "error handler 9 MissingFile " ++ (path ++ codes "\n")
@@ -35,7 +47,12 @@ refusal_line exists = codes "error handler 20 Exists\n"
 
 -- a refusal without where it lies in memory
 abbrev pub refusal_of : RefusalInMemory → Refusal
+refusal_of memory.NoSuchRelease = no_such_release
 refusal_of memory.ExistingRelease = existing_release
+refusal_of memory.AlreadyInstalled = already_installed
+refusal_of (memory.BadStatus s) = bad_status s
+refusal_of memory.Permanent = permanent
+refusal_of memory.Running = is_running
 refusal_of (memory.BadFile path fault) = bad_file (string_bytes path) (fault_of fault)
 refusal_of (memory.MissingFile path) = missing_file (string_bytes path)
 refusal_of memory.TooMany = too_many
@@ -47,7 +64,12 @@ refusal_of memory.Exists = exists
 
 -- what a session tells of a refusal of the handler
 abbrev pub handler_refusal : HandlerError → RefusalInMemory
+handler_refusal handler.NoSuchRelease = memory.NoSuchRelease
 handler_refusal handler.ExistingRelease = memory.ExistingRelease
+handler_refusal handler.AlreadyInstalled = memory.AlreadyInstalled
+handler_refusal (handler.BadStatus s) = memory.BadStatus s
+handler_refusal handler.Permanent = memory.Permanent
+handler_refusal handler.Running = memory.Running
 handler_refusal handler.TooMany = memory.TooMany
 handler_refusal handler.Device = memory.Device
 handler_refusal handler.Full = memory.Full

@@ -1,21 +1,23 @@
 -- What a node replies to a command: what the command comes to, and what the node does then.
-use Rattle.std.specs.Prelude.{◌≡◌, ◌⊎◌, ℕ, Bool, true, false, List, [], ◌∷◌, ◌++◌, length, codes, Option, None, Some, Result, Ok, Err}
+use Rattle.std.specs.Prelude.{◌≡◌, ◌⊎◌, ℕ, Bool, true, false, List, [], ◌∷◌, ◌++◌, length, codes, None, Some, Result, Ok, Err}
+use Rattle.erl_term.specs.Printing.{text_of}
 use Rattle.rel_files.specs.Release.{Release}
 use Rattle.rel_list.specs.Releases.{Releases, running as running_release}
 use Rattle.rel_list.specs.Event.{Event, list_after}
-use Rattle.rel_list.specs.Event.Event.{made, unpacked, boot as booting}
+use Rattle.rel_list.specs.Event.Event.{made, unpacked, installed, made_permanent, removed, boot as booting}
+use Rattle.rel_records.specs.Record.{makes, adds, body_of}
 use Rattle.rel_handler.specs.declared.error.BootError.{BootError}
 use Rattle.rel_handler.specs.declared.error.BootError.TheVariants as boot_error
 use Rattle.rel_handler.specs.declared.error.HandlerError.{HandlerError}
 use Rattle.rel_handler.specs.Events.{Events, Stored, MayHave, certain, uncertain}
 use Rattle.rel_handler.specs.Image.{IsImageAt, holds_a_store, first_end, end_behind, HasSpace}
-use Rattle.rel_handler.specs.Records.{body_of}
 use Rattle.rel_handler.specs.Refusals.{IsBootRefusal}
-use Rattle.rel_handler.specs.Taking.{commanded}
+use Rattle.rel_handler.specs.Taking.{commanded, change_size}
+pub use Rattle.rel_handler.specs.State.{version_of}
 use Rattle.rel_session.specs.Commands.{Command}
-use Rattle.rel_session.specs.Commands.Command.{file, create, set_unpacked, boot, releases, quit, bad}
+use Rattle.rel_session.specs.Commands.Command.{file, create, set_unpacked, install, permanent, remove, boot, releases, quit, bad}
 use Rattle.rel_session.specs.Files.{Files, Found, IsFound}
-use Rattle.rel_session.specs.Listing.{listing}
+use Rattle.rel_session.specs.Listing.{listing, text_value}
 use Rattle.rel_session.specs.Node.{Place, releases_after, Reply, reply, refused, failed, nothing, done, failed_with}
 use Rattle.rel_session.specs.Node.Place.{raw, closed, running, dead}
 use Rattle.rel_session.specs.Refusals.{Refusal, refusal_of, refusal_line, handler_refusal, boot_line}
@@ -24,22 +26,21 @@ use Rattle.rel_session.specs.Refusals.Refusal.{full, exists, dead as dead_node}
 abbrev pub ok_line : List ℕ → List ℕ
 ok_line vsn = codes "ok " ++ (vsn ++ codes "\n")
 
--- the version of the release that runs; a node has one
-abbrev pub version_of : Option Release → List ℕ
-version_of None = []
-version_of (Some r) = r.vsn
+-- that a command was done, with these details
+abbrev pub done_line : List ℕ → List ℕ
+done_line details = codes "ok" ++ (details ++ codes "\n")
 
 -- the answer to `releases`
 abbrev pub listed : Place → List ℕ
 listed (running events end) = listing (releases_after events)
 listed p = refusal_line dead_node
 
--- An event that a command brings to a node, how many bytes the body of its record has, and the version that the answer
--- names.
+-- An event that a command brings to a node; and, of the list that it changes, how many bytes the body of its record has,
+-- and the details of the answer where it is done.
 pub record Change : Type 0 where
   pub event : Event
-  pub size : ℕ
-  pub vsn : List ℕ
+  pub size : Releases → ℕ
+  pub details : Releases → List ℕ
 
 -- What a command comes to, once its words and its file are known: an answer alone, or one of three things that a node does.
 pub data Action : Type 0 where
@@ -60,9 +61,31 @@ creation (Ok found) = makes_node found
 abbrev pub unpacked_change : Found → Change
 unpacked_change found = record {
   event = unpacked found.release;
-  size = length (body_of (codes "unpacked") found.term);
-  vsn = found.release.vsn;
+  size = λ list. length (body_of found.term (adds found.release));
+  details = λ list. codes " " ++ found.release.vsn;
 }
+
+-- the version that ran, and two lists that are empty: without a relup an installation has no description and leaves no
+-- stale module
+abbrev pub installed_details : List ℕ → List ℕ
+installed_details other = codes " " ++ (text_of (text_value other) ++ codes " [] []")
+
+abbrev pub installed_line : List ℕ → List ℕ
+installed_line other = done_line (installed_details other)
+
+-- a release is installed, becomes the permanent one, or leaves
+abbrev pub installation : List ℕ → Change
+installation vsn = record {
+  event = installed vsn;
+  size = change_size (installed vsn);
+  details = λ list. installed_details (version_of (running_release list));
+}
+
+abbrev pub permanence : List ℕ → Change
+permanence vsn = record { event = made_permanent vsn; size = change_size (made_permanent vsn); details = λ list. [] }
+
+abbrev pub removal : List ℕ → Change
+removal vsn = record { event = removed vsn; size = change_size (removed vsn); details = λ list. [] }
 
 -- `set_unpacked`, by what is found in the file
 abbrev pub unpacking : Result Found Refusal → Action
@@ -81,19 +104,23 @@ ComesTo files p (create path) does =
     (found : Result Found Refusal) × IsFound path (files path) found × (does ≡ creation found)
 ComesTo files p (set_unpacked path) does =
     OnNode p (λ does. (found : Result Found Refusal) × IsFound path (files path) found × (does ≡ unpacking found)) does
+ComesTo files p (install vsn) does = does ≡ changes_node (installation vsn)
+ComesTo files p (permanent vsn) does = does ≡ changes_node (permanence vsn)
+ComesTo files p (remove vsn) does = does ≡ changes_node (removal vsn)
 ComesTo files p boot does = does ≡ boots_node
 ComesTo files p releases does = does ≡ answers (listed p)
 ComesTo files p bad does = does ≡ answers (codes "error session 1 BadCommand\n")
 ComesTo files p quit does = ⊥
 
--- The list takes a change, or refuses it. It is done where its record fits and the device does not fail.
-abbrev pub Changes : Events → ℕ → Change → Result Releases HandlerError → Reply → Type 0
-Changes events end c (Err why) a = a ≡ refused (refusal_of (handler_refusal why)) (running events end)
-Changes events end c (Ok list) a =
-    (HasSpace end c.size
-    × ((a ≡ reply (ok_line c.vsn) (done (c.event ∷ [])) (running (events ++ c.event ∷ []) (end_behind end c.size)))
-    ⊎ (a ≡ failed (Some c.event) (dead (uncertain events end c.event c.size)))))
-    ⊎ ((HasSpace end c.size → ⊥) × (a ≡ refused full (running events end)))
+-- This list takes a change, or refuses it. It is done where its record fits and the device does not fail.
+abbrev pub Changes : Events → ℕ → Change → Releases → Result Releases HandlerError → Reply → Type 0
+Changes events end c list (Err why) a = a ≡ refused (refusal_of (handler_refusal why)) (running events end)
+Changes events end c list (Ok next) a =
+    (HasSpace end (c.size list)
+    × ((a ≡ reply (done_line (c.details list)) (done (c.event ∷ []))
+    (running (events ++ c.event ∷ []) (end_behind end (c.size list))))
+    ⊎ (a ≡ failed (Some c.event) (dead (uncertain events end c.event (c.size list))))))
+    ⊎ ((HasSpace end (c.size list) → ⊥) × (a ≡ refused full (running events end)))
 
 -- A node is made on a disk with these bytes, and booted, unless they hold a store or the record does not fit.
 abbrev pub MakesOn : List ℕ → Release → ℕ → Bool → Reply → Type 0
@@ -106,7 +133,7 @@ MakesOn bytes r size false a =
 -- Where the device fails in it, the event is in doubt.
 abbrev pub MakesNode : Place → Found → Reply → Type 0
 MakesNode (raw bytes) found a =
-    MakesOn bytes found.release (length (body_of (codes "made") found.term)) (holds_a_store bytes) a
+    MakesOn bytes found.release (length (body_of found.term (makes found.release))) (holds_a_store bytes) a
     ⊎ ((torn : List ℕ) × (a ≡ failed (Some (made found.release)) (raw torn)))
 MakesNode (closed s) found a = (a ≡ refused exists (closed s)) ⊎ (a ≡ failed (Some (made found.release)) (closed s))
 MakesNode p found a = a ≡ refused exists p
@@ -145,7 +172,8 @@ Boots (dead s) a = BootsStore s a
 abbrev pub Acts : Place → Action → Reply → Type 0
 Acts p (answers text) a = a ≡ reply text nothing p
 Acts p (makes_node found) a = MakesNode p found a
-Acts (running events end) (changes_node c) a = Changes events end c (commanded c.event (releases_after events)) a
+Acts (running events end) (changes_node c) a =
+    Changes events end c (releases_after events) (commanded c.event (releases_after events)) a
 Acts p (changes_node c) a = a ≡ refused dead_node p
 Acts p boots_node a = Boots p a
 

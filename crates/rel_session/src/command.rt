@@ -1,7 +1,7 @@
 //! A command of a session.
 use crate::given::GivenFile;
 
-/// A command of a session. Paths are texts, which are compared byte by byte.
+/// A command of a session. Paths and versions are texts, which are compared byte by byte.
 #[derive(Debug, Drop)]
 pub enum Command {
     /// Gives the file of a path, in place of one that was given before.
@@ -10,6 +10,12 @@ pub enum Command {
     Create(String),
     /// Has the node take in the release of the file, to be installed later.
     SetUnpacked(String),
+    /// Installs the release of this version.
+    Install(String),
+    /// Makes the release of this version, the current one, permanent.
+    Permanent(String),
+    /// Takes the release of this version out of the list.
+    Remove(String),
     /// Boots the node on the disk.
     Boot,
     /// Lists the node's releases.

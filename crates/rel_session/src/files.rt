@@ -9,13 +9,13 @@ ghost use Rattle.rel_session.specs.Refusals.Refusal.{bad_file};
 ghost use Rattle.rel_files.specs.Fault.{fault_of};
 ghost use Rattle.rel_files.specs.Release.{release_of};
 ghost use Rattle.rel_handler.specs.Files.{IsRelFile};
-ghost use Rattle.rel_handler.specs.Limits.{is_small};
+ghost use Rattle.rel_records.specs.Limits.{is_small};
 
 use crate::given::GivenFile;
 use crate::refusal::Refusal;
 use indexmap::IndexMap;
 use rel_files::{FileFault, RelFile, read_rel_file};
-use rel_handler::MOST_APPLICATIONS;
+use rel_records::is_small;
 use std::alloc::{AllocFailed, Global};
 
 /// The files that were given, by their paths.
@@ -76,7 +76,7 @@ fn release_in(alloc: Global, path: &str, bytes: &[u8]) -> Result<RelFile, Refusa
         → IsFound path.now (Some (kept bytes.now)) (Err (refusal_of r))) }
 {
     match read_rel_file(alloc, bytes) {
-        Ok(file) if file.release.apps.as_slice().len() <= MOST_APPLICATIONS => Ok(file),
+        Ok(file) if is_small(&file.release) => Ok(file),
         Ok(_) => Err(Refusal::TooMany),
         Err(fault) => Err(refusal_for(alloc, path, fault)),
     }

@@ -19,6 +19,7 @@
 #![tactic(auto)]
 
 mod ahead;
+mod change;
 mod command;
 mod command_loop;
 mod error;

@@ -72,7 +72,7 @@ fn application_term(alloc: Global, application: &RelApp) -> Result<Term, AllocEr
 }
 
 /// A text of ASCII as a term: the list of its characters.
-fn text_term(alloc: Global, text: &str) -> Result<Term, AllocError>
+pub(crate) fn text_term(alloc: Global, text: &str) -> Result<Term, AllocError>
     ensures { IfOk result (λ t. value_of t ≡ text_value text.now) }
 {
     let bytes = text.as_bytes();

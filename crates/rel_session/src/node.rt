@@ -1,7 +1,7 @@
 //! The node of a session.
 ghost use Rattle.std.specs.Prelude.{◌≡◌, codes, None, Some, Ok, Err, string_bytes, IfOk, IfErr, OnOk, MatchResult};
 ghost use Rattle.rel_session.specs.Commands.{command_of, given_of};
-ghost use Rattle.rel_session.specs.Commands.Command.{file as file_given, create, set_unpacked, boot};
+ghost use Rattle.rel_session.specs.Commands.Command.{file as file_given, create, set_unpacked, install, permanent, remove, boot};
 ghost use Rattle.rel_session.specs.Files.{files_of, no_files, give};
 ghost use Rattle.rel_session.specs.InMemory.{Answers, IsLine, IsText};
 ghost use Rattle.rel_session.specs.Transition.{Transition};
@@ -12,7 +12,7 @@ use crate::command::Command;
 use crate::error::SessionError;
 use crate::files::Files;
 use crate::given::GivenFile;
-use crate::place::Place;
+use crate::place::{Place, ok_line};
 use crate::refusal::Refusal;
 use rel_disk::Disk;
 use rel_handler::Handler;
@@ -61,6 +61,9 @@ impl<D: Disk> Node<D> {
             Command::File(path, file) => self.give(alloc, path, file),
             Command::Create(path) => self.create(alloc, path.as_str()),
             Command::SetUnpacked(path) => self.set_unpacked(alloc, path.as_str()),
+            Command::Install(vsn) => self.install(alloc, vsn.as_str()),
+            Command::Permanent(vsn) => self.make_permanent(alloc, vsn.as_str()),
+            Command::Remove(vsn) => self.remove(alloc, vsn.as_str()),
             Command::Boot => self.boot(alloc),
             Command::Releases => {
                 let lines = self.place.releases(alloc);
@@ -141,6 +144,46 @@ impl<D: Disk> Node<D> {
         }
     }
 
+    /// Installs the release of this version.
+    fn install(self, alloc: Global, vsn: &str) -> (Node<D>, Result<Option<String>, SessionError>)
+        requires { IsSoundPlace D.seen D.may_leave self.place }
+        ensures sound { IsSoundPlace D.seen D.may_leave result.0.place }
+        ensures followed { FollowsCommand D.Disk (install vsn.now) result.1 self result.0 }
+        ensures memory { IfErr result.1 (λ e. e ≡ SessionError.NoMemory) }
+    {
+        let Node { place, files } = self;
+        let (place, installed) = place.install(alloc, vsn);
+        (Node { place, files }, line_of(alloc, installed))
+    }
+
+    /// Makes the release of this version, the current one, permanent.
+    fn make_permanent(
+        self,
+        alloc: Global,
+        vsn: &str,
+    ) -> (Node<D>, Result<Option<String>, SessionError>)
+        requires { IsSoundPlace D.seen D.may_leave self.place }
+        ensures sound { IsSoundPlace D.seen D.may_leave result.0.place }
+        ensures followed { FollowsCommand D.Disk (permanent vsn.now) result.1 self result.0 }
+        ensures memory { IfErr result.1 (λ e. e ≡ SessionError.NoMemory) }
+    {
+        let Node { place, files } = self;
+        let (place, committed) = place.make_permanent(alloc, vsn);
+        (Node { place, files }, line_of(alloc, committed))
+    }
+
+    /// Takes the release of this version out of the list.
+    fn remove(self, alloc: Global, vsn: &str) -> (Node<D>, Result<Option<String>, SessionError>)
+        requires { IsSoundPlace D.seen D.may_leave self.place }
+        ensures sound { IsSoundPlace D.seen D.may_leave result.0.place }
+        ensures followed { FollowsCommand D.Disk (remove vsn.now) result.1 self result.0 }
+        ensures memory { IfErr result.1 (λ e. e ≡ SessionError.NoMemory) }
+    {
+        let Node { place, files } = self;
+        let (place, removed) = place.remove(alloc, vsn);
+        (Node { place, files }, line_of(alloc, removed))
+    }
+
     /// Boots the node.
     fn boot(self, alloc: Global) -> (Node<D>, Result<Option<String>, SessionError>)
         requires { IsSoundPlace D.seen D.may_leave self.place }
@@ -170,7 +213,7 @@ fn keep(
     Ok(Some(String::from_str(alloc, "ok\n")?))
 }
 
-/// Has a node take in the release in the file of this path as unpacked. The answer is its version.
+/// Has a node take in the release in the file of this path as unpacked. The answer tells its version.
 fn unpack<D: Disk>(
     alloc: Global,
     handler: &mut Handler<D>,
@@ -187,9 +230,9 @@ fn unpack<D: Disk>(
         return Err(Refusal::Dead);
     }
     let file = files.release(alloc, path)?;
-    let vsn = String::from_str(alloc, file.release.vsn.as_str())?;
+    let line = ok_line(alloc, file.release.vsn.as_str())?;
     handler.set_unpacked(alloc, file)?;
-    Ok(vsn)
+    Ok(line)
 }
 
 /// The line that tells what a command has done, or why it was refused.
@@ -198,7 +241,7 @@ fn line_of(alloc: Global, done: Result<String, Refusal>) -> Result<Option<String
     ensures memory { IfErr result (λ e. e ≡ SessionError.NoMemory) }
 {
     match done {
-        Ok(vsn) => Ok(Some(format!(in alloc; "ok {vsn}\n")?)),
+        Ok(line) => Ok(Some(line)),
         Err(Refusal::NoMemory) => Err(SessionError::NoMemory),
         Err(refusal) => Ok(Some(refusal.line(alloc)?)),
     }

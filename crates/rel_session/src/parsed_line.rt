@@ -1,7 +1,10 @@
 //! What a line says where a command may stand.
 ghost use Rattle.std.specs.Prelude.{◌≡◌, ℕ, List, map, string_bytes, IfOk, MatchOption};
+ghost use Rattle.std.specs.List.{list_all};
 ghost use Rattle.std.specs.Option.{option_map};
-ghost use Rattle.rel_session.specs.Commands.{is_blank as blank, path_in as path_of};
+ghost use Rattle.erl_term.specs.Lexing.{is_in};
+ghost use Rattle.rel_files.specs.Name.{is_text};
+ghost use Rattle.rel_session.specs.Commands.{is_blank as blank, path_in as path_of, version_in as version_of};
 
 use crate::command::Command;
 use crate::line::Line;
@@ -24,7 +27,7 @@ pub enum ParsedLine {
 
 impl ParsedLine {
     ghost use Rattle.rel_session.specs.ParsedLine.{parsed_line_of};
-    ghost use Rattle.rel_session.specs.Commands.{parse_line, parse_words, parse_command, without_words, command_of, words_of, most_line};
+    ghost use Rattle.rel_session.specs.Commands.{parse_line, parse_words, parse_command, parse_path_command, parse_change, without_words, command_of, words_of, most_line};
     ghost use Rattle.rel_session.specs.Commands.Command.{bad};
     ghost use Rattle.rel_session.specs.Commands.ParsedLine.{whole_command};
     ghost use Rattle.rel_session.specs.Lines.{IsKept};
@@ -68,18 +71,41 @@ impl ParsedLine {
         ensures { IfOk result (λ parsed.
             parsed_line_of parsed ≡ parse_command word.now (map (λ word. word.now) words.now)) }
     {
-        Ok(match word {
-            "boot" => ParsedLine::without_words(words, Command::Boot),
-            "releases" => ParsedLine::without_words(words, Command::Releases),
-            "quit" => ParsedLine::without_words(words, Command::Quit),
+        match word {
+            "boot" => Ok(ParsedLine::without_words(words, Command::Boot)),
+            "releases" => Ok(ParsedLine::without_words(words, Command::Releases)),
+            "quit" => Ok(ParsedLine::without_words(words, Command::Quit)),
+            _ => ParsedLine::of_path_command(alloc, word, words),
+        }
+    }
+
+    // What the word of a command on a file says with the words behind it.
+    fn of_path_command(alloc: Global, word: &str, words: &[&str]) -> Result<ParsedLine, AllocError>
+        ensures { IfOk result (λ parsed. parsed_line_of parsed
+            ≡ parse_path_command word.now (map (λ word. word.now) words.now)) }
+    {
+        match word {
             "file" => match path_in(alloc, words)? {
-                Some(path) => ParsedLine::FileBegins(path),
-                None => ParsedLine::Command(Command::Bad),
+                Some(path) => Ok(ParsedLine::FileBegins(path)),
+                None => Ok(ParsedLine::Command(Command::Bad)),
             },
-            "create" => ParsedLine::of_option(path_in(alloc, words)?.map(Command::Create)),
-            "set_unpacked" => ParsedLine::of_option(path_in(alloc, words)?.map(
+            "create" => Ok(ParsedLine::of_option(path_in(alloc, words)?.map(Command::Create))),
+            "set_unpacked" => Ok(ParsedLine::of_option(path_in(alloc, words)?.map(
                 Command::SetUnpacked,
-            )),
+            ))),
+            _ => ParsedLine::of_change(alloc, word, words),
+        }
+    }
+
+    // What the word of a command on a listed release says with the words behind it.
+    fn of_change(alloc: Global, word: &str, words: &[&str]) -> Result<ParsedLine, AllocError>
+        ensures { IfOk result (λ parsed.
+            parsed_line_of parsed ≡ parse_change word.now (map (λ word. word.now) words.now)) }
+    {
+        Ok(match word {
+            "install" => ParsedLine::of_option(version_in(alloc, words)?.map(Command::Install)),
+            "permanent" => ParsedLine::of_option(version_in(alloc, words)?.map(Command::Permanent)),
+            "remove" => ParsedLine::of_option(version_in(alloc, words)?.map(Command::Remove)),
             _ => ParsedLine::Command(Command::Bad),
         })
     }
@@ -118,6 +144,32 @@ fn path_in(alloc: Global, words: &[&str]) -> Result<Option<String>, AllocError>
         [path] => Ok(Some(String::from_str(alloc, path)?)),
         _ => Ok(None),
     }
+}
+
+// The version that these words are: one word that is the text of a version.
+fn version_in(alloc: Global, words: &[&str]) -> Result<Option<String>, AllocError>
+    ensures { IfOk result (λ vsn.
+        option_map string_bytes vsn ≡ version_of (map (λ word. word.now) words.now)) }
+{
+    match words {
+        [vsn] if is_version(vsn) => Ok(Some(String::from_str(alloc, vsn)?)),
+        _ => Ok(None),
+    }
+}
+
+// Whether it is the text of a version: 1 to 62 characters from ! to ~.
+fn is_version(word: &str) -> bool
+    ensures { result ≡ is_text 0x21 word.now }
+{
+    let bytes = word.as_bytes();
+    bytes.len() >= 1 && bytes.len() <= 62 && is_visible(bytes)
+}
+
+// Whether each byte is from ! to ~.
+fn is_visible(bytes: &[u8]) -> bool
+    ensures { result ≡ list_all (is_in 0x21 0x7E) bytes.now }
+{
+    bytes.iter().all(|byte| *byte >= b'!' && *byte <= b'~')
 }
 
 // Whether there is nothing to see in it.

@@ -2,7 +2,7 @@
 ghost use Rattle.std.specs.Prelude.{◌≡◌, true, false, string_bytes, IfOk, IsErr};
 ghost use Rattle.rel_files.specs.Release.{release_of};
 ghost use Rattle.rel_handler.specs.Files.{IsRelFile};
-ghost use Rattle.rel_handler.specs.Limits.{is_small};
+ghost use Rattle.rel_records.specs.Limits.{is_small};
 ghost use Rattle.rel_handler.specs.State.{is_dead, list_in};
 ghost use Rattle.rel_list.specs.Releases.{running};
 ghost use Rattle.rel_session.specs.InMemory.{found_of};
@@ -39,7 +39,7 @@ impl<D: Disk> Place<D> {
         }
     }
 
-    /// Makes a node with the release of this file as its permanent one. The answer is its version.
+    /// Makes a node with the release of this file as its permanent one. The answer tells its version.
     pub fn make(self, alloc: Global, file: RelFile) -> (Place<D>, Result<String, Refusal>)
         requires sound { IsSoundPlace D.seen D.may_leave self }
         requires file { IsRelFile file }
@@ -52,11 +52,11 @@ impl<D: Disk> Place<D> {
             Place::Idle(disk) => disk,
             Place::Made(handler) => return (Place::Made(handler), Err(Refusal::Exists)),
         };
-        let Ok(vsn) = String::from_str(alloc, file.release.vsn.as_str()) else {
+        let Ok(line) = ok_line(alloc, file.release.vsn.as_str()) else {
             return (Place::Idle(disk), Err(Refusal::NoMemory));
         };
         match Handler::create(alloc, disk, file) {
-            Ok(handler) => (Place::Made(handler), Ok(vsn)),
+            Ok(handler) => (Place::Made(handler), Ok(line)),
             Err((error, disk)) => (Place::Idle(disk), Err(Refusal::from(error))),
         }
     }
@@ -111,6 +111,13 @@ fn running_line(alloc: Global, list: &ReleaseList) -> Result<String, AllocError>
         Some(release) => release.vsn.as_str(),
         None => "",
     };
+    ok_line(alloc, vsn)
+}
+
+/// The line that tells a version.
+pub(crate) fn ok_line(alloc: Global, vsn: &str) -> Result<String, AllocError>
+    ensures { IfOk result (λ text. string_bytes text ≡ ok_line vsn.now) }
+{
     format!(in alloc; "ok {vsn}\n")
 }
 

@@ -5,15 +5,31 @@ ghost use Rattle.rel_session.specs.Refusals.{refusal_line};
 
 use rel_files::FileFault;
 use rel_handler::HandlerError;
+use rel_list::Status;
 use std::alloc::{AllocError, AllocFailed, Global};
 use thiserror::Error;
 
 /// Why the node refuses a command. Nothing has changed then, but after `Device`.
 #[derive(Debug, Drop, Error)]
 pub enum Refusal {
+    /// No release of this version is there.
+    #[error("no release of this version is there")]
+    NoSuchRelease,
     /// A release of this version is there.
     #[error("a release of this version is there")]
     ExistingRelease,
+    /// The release runs.
+    #[error("the release is installed")]
+    AlreadyInstalled,
+    /// The release has this status, and would need another one.
+    #[error("the release is {}", .0.as_str())]
+    BadStatus(Status),
+    /// The release is the one that is booted.
+    #[error("the release is permanent")]
+    Permanent,
+    /// The release runs, and is to be removed.
+    #[error("the release runs")]
+    Running,
     /// The file of this path has a fault.
     #[error("the file {0} has a fault: {1}")]
     BadFile(String, FileFault),
@@ -63,7 +79,12 @@ impl From<HandlerError> for Refusal {
 
     fn from(error: HandlerError) -> Refusal {
         match error {
+            HandlerError::NoSuchRelease => Refusal::NoSuchRelease,
             HandlerError::ExistingRelease => Refusal::ExistingRelease,
+            HandlerError::AlreadyInstalled => Refusal::AlreadyInstalled,
+            HandlerError::BadStatus(status) => Refusal::BadStatus(status),
+            HandlerError::Permanent => Refusal::Permanent,
+            HandlerError::Running => Refusal::Running,
             HandlerError::TooMany => Refusal::TooMany,
             HandlerError::Device => Refusal::Device,
             HandlerError::Full => Refusal::Full,
@@ -82,14 +103,25 @@ impl Refusal {
         ensures { IfOk result (λ s. string_bytes s ≡ refusal_line (refusal_of self.now)) }
     {
         match self {
-            Refusal::ExistingRelease => String::from_str(
-                alloc,
-                "error handler 2 ExistingRelease\n",
-            ),
+            Refusal::BadStatus(status) => {
+                let word = status.as_str();
+                format!(in alloc; "error handler 4 BadStatus {word}\n")
+            }
             Refusal::BadFile(path, fault) => format!(in alloc;
                 "error handler 8 BadFile {path} {fault}\n"
             ),
             Refusal::MissingFile(path) => format!(in alloc; "error handler 9 MissingFile {path}\n"),
+            Refusal::NoSuchRelease => String::from_str(alloc, "error handler 1 NoSuchRelease\n"),
+            Refusal::ExistingRelease => String::from_str(
+                alloc,
+                "error handler 2 ExistingRelease\n",
+            ),
+            Refusal::AlreadyInstalled => String::from_str(
+                alloc,
+                "error handler 3 AlreadyInstalled\n",
+            ),
+            Refusal::Permanent => String::from_str(alloc, "error handler 5 Permanent\n"),
+            Refusal::Running => String::from_str(alloc, "error handler 6 Running\n"),
             Refusal::TooMany => String::from_str(alloc, "error handler 12 TooMany\n"),
             Refusal::Device => String::from_str(alloc, "error handler 16 Device\n"),
             Refusal::Full => String::from_str(alloc, "error handler 17 Full\n"),

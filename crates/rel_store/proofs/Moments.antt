@@ -1,13 +1,14 @@
 -- What a settled store leaves at each moment of a call.
-use Rattle.std.proofs.Common.{◌≡◌, inl, inr, ℕ, ◌+◌, ◌<◌, ◌≤◌, take, get_or, Bool, true, false, not, ◌-◌, List, [], ◌∷◌, ◌++◌, length, length-append, replicate, refl, sym, ◌∙◌, ap, subst, arith}
-use Rattle.std.proofs.lemmas.List.{length-replicate, length-take-le, get_or-take}
+use Rattle.std.proofs.Common.{◌≡◌, ◌⊎◌, inl, inr, ℕ, ◌+◌, ◌<◌, ◌≤◌, take, drop, get_or, Bool, true, false, not, ◌-◌, List, [], ◌∷◌, ◌++◌, length, length-append, replicate, refl, sym, ◌∙◌, ap, subst, arith}
+use Rattle.std.specs.Int.{w64, from_be_bytes}
+use Rattle.std.proofs.lemmas.List.{length-replicate, length-take-le, length-drop, get_or-take, get_or-drop}
 use Rattle.rel_disk.specs.Damage.{overwritten, Only, Within}
 use Rattle.rel_disk.specs.Moments.{Elapses, LeavesOnly}
 use Rattle.rel_disk.proofs.Moments.{started, goes_on, joined, weakened}
 use Rattle.std.proofs.lemmas.Grind.{same_number_lists}
-use Rattle.rel_store.specs.Changed.{LeavesOthers, IsInRecord}
-use Rattle.rel_store.specs.Layout.{slot_with, base_of}
-use Rattle.rel_store.proofs.Whole.{base-same}
+use Rattle.rel_store.specs.Changed.{LeavesOthers, IsInRecord, IsInOtherSlot}
+use Rattle.rel_store.specs.Layout.{part, selected, slot_with, base_slot, base_of}
+use Rattle.rel_store.proofs.Whole.{base-same, selected-le, selected-ge}
 use Rattle.rel_store.specs.Moments.{IsTornFrom}
 use Rattle.rel_store.specs.Records.{record_bytes, Stands, StandsEither, StandsWithEither}
 use Rattle.rel_store.specs.State.{records_in, text_in, IsSettled}
@@ -40,6 +41,50 @@ module _ {D : Type 0} (moment : D → ℕ) (left_since : D → ℕ → List ℕ 
       each k lt =
           let few : k < 288 = omega (arith, lt, long_new) in
           get_or-take 288 c k 0 few ∙ leaves.kept k (omega (arith, few, low, within)) (λ own. absurd (omega (arith, own.0, few, low))) ∙ sym (get_or-take 288 (seen store.disk) k 0 few)
+
+  -- and so have bytes in which a new start text may have changed its own
+  pub base_kept_by_start : (c : List ℕ) → LeavesOthers (IsInOtherSlot (seen store.disk)) (seen store.disk) c → base_of c ≡ base_of (seen store.disk)
+  base_kept_by_start c leaves =
+      ap (λ s. from_be_bytes w64 (part (selected s 272 280) 8 c)) (kept_at 10 (omega arith) (λ own. own_below 10 own (inl refl)))
+      ∙ ap (from_be_bytes w64) (same_number_lists (part base 8 c) (part base 8 old) (long_part c (omega (arith, leaves.long, long_old)) ∙ sym (long_part old long_old)) each)
+    where
+      old : List ℕ
+      old = seen store.disk
+
+      base : ℕ
+      base = base_slot old
+
+      long_old : 288 < length old
+      long_old =
+          let low = gate_low (records_in store) (text_in seen store) old store.gate stands_now s.end in
+          let within = gate_within (records_in store) (text_in seen store) old store.gate stands_now s.end in
+          omega (arith, low, within)
+
+      kept_at : (i : ℕ) → i < 288 → (IsInOtherSlot old i → ⊥) → slice_index c i ≡ slice_index old i
+      kept_at i low free = leaves.kept i (omega (arith, low, long_old)) free
+
+      high : 272 ≤ base
+      high = selected-ge (slice_index old 10) 272 280 272 (omega arith) (omega arith)
+
+      low : base ≤ 280
+      low = selected-le (slice_index old 10) 272 280 280 (omega arith) (omega arith)
+
+      -- what a start text changes lies below the base slots, and isn't their selector
+      own_below : (i : ℕ) → IsInOtherSlot old i → (i ≡ 10) ⊎ (272 ≤ i) → ⊥
+      own_below i (inl nine) (inl ten) = omega arith
+      own_below i (inl nine) (inr high) = omega arith
+      own_below i (inr (from, to)) (inl ten) = omega (arith, from, to, selected-ge (slice_index old 9) 144 16 16 (omega arith) (omega arith))
+      own_below i (inr (from, to)) (inr high) = omega (arith, from, to, selected-le (slice_index old 9) 144 16 144 (omega arith) (omega arith))
+
+      long_part : (bytes : List ℕ) → 288 < length bytes → length (part base 8 bytes) ≡ 8
+      long_part bytes long = length-take-le 8 (drop base bytes) (omega (arith, length-drop base bytes, long, low))
+
+      each : (k : ℕ) → k < length (part base 8 c) → get_or (part base 8 c) k 0 ≡ get_or (part base 8 old) k 0
+      each k lt =
+          let few : k < 8 = omega (arith, lt, long_part c (omega (arith, leaves.long, long_old))) in
+          get_or-take 8 (drop base c) k 0 few ∙ get_or-drop base c k 0
+          ∙ kept_at (base + k) (omega (arith, low, few)) (λ own. own_below (base + k) own (inr (omega (arith, high))))
+          ∙ sym (get_or-take 8 (drop base old) k 0 few ∙ get_or-drop base old k 0)
 
   -- each image of its disk now is a store that stands
   pub each_now : (c : List ℕ) → may_leave store.disk c → Stands (records_in store) (text_in seen store) c

@@ -11,7 +11,7 @@ use Rattle.rel_store.specs.Moments.{IsTornFrom}
 use Rattle.rel_store.specs.Records.{records_from, records_of, Stands, StandsWithEither}
 use Rattle.rel_store.proofs.Append.{one}
 use Rattle.rel_store.proofs.ReadLemmas.{onto_all-none, onto_all, closed, held}
-use Rattle.rel_store.proofs.Whole.{readable, sound, part-same, index-same, selected-le}
+use Rattle.rel_store.proofs.Whole.{readable, sound, part-same, index-same, selected-le, selected-ge}
 
 -- These bytes are others with n of them written over at this place, and a tail.
 pub record Patched (at n : ℕ) (middle old new : List ℕ) : Type 0 where
@@ -81,9 +81,6 @@ module _ (at n : ℕ) (middle old new : List ℕ) (p : Patched at n middle old n
       let slot : base_slot old + 8 ≤ 288 = omega (arith, selected-le (slice_index old 10) 272 280 280 (omega arith) (omega arith)) in
       ap (λ b. from_be_bytes w64 (part (selected b 272 280) 8 new)) selector
       ∙ ap (from_be_bytes w64) (behind (base_slot old) 8 (omega (arith, high, selected-ge (slice_index old 10) 272 280 272 (omega arith) (omega arith))) (omega (arith, slot, s.long)))
-    where
-      selected-ge : (s first second m : ℕ) → m ≤ first → m ≤ second → m ≤ selected s first second
-      selected-ge s first second m a b = elim (cases_eq s 1) [ inl is ↦ grind (arith, nat_tests) | inr is_not ↦ grind (arith, nat_tests) ]
 
   -- and the records
   pub records-kept : (bodies : List (List ℕ)) → 9 ≤ at → at + n ≤ 272 → slice_index new 10 ≡ slice_index old 10 → records_of old ≡ Ok bodies → records_of new ≡ Ok bodies

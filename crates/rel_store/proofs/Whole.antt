@@ -56,6 +56,9 @@ index-same i m a b lt same = sym (get_or-take m a i 0 lt) ∙ ap (λ l. get_or l
 pub selected-le : (s first second m : ℕ) → first ≤ m → second ≤ m → selected s first second ≤ m
 selected-le s first second m p q = elim (cases_eq s 1) [ inl is ↦ grind (arith, nat_tests) | inr is_not ↦ grind (arith, nat_tests) ]
 
+pub selected-ge : (s first second m : ℕ) → m ≤ first → m ≤ second → m ≤ selected s first second
+selected-ge s first second m p q = elim (cases_eq s 1) [ inl is ↦ grind (arith, nat_tests) | inr is_not ↦ grind (arith, nat_tests) ]
+
 pub magic-same : (a b : List ℕ) → take 288 a ≡ take 288 b → has_magic a ≡ has_magic b
 magic-same a b same = ap (λ l. bytes_eq l (1 ∷ magic)) (part-same 0 9 288 a b (omega arith) same)
 

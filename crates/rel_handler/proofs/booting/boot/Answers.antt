@@ -1,9 +1,9 @@
 use Rattle.std.proofs.Common.{inl, inr, ⊎_elim, sym, subst, ap, ◌∙◌}
 use Rattle.rel_store.specs.Contents.{IsSyncedAt}
 use Rattle.rel_handler.specs.Refusals.{told_boot}
-use Rattle.rel_handler.proofs.Boots.{made_again, sound_so, image_so, read_so, only_memory}
+use Rattle.rel_handler.proofs.Boots.{IsLack, made_again, sound_so, image_so, read_so, only_memory}
 use Rattle.rel_handler.proofs.Images.{each_image, booted_image, boots_to}
-use Rattle.rel_handler.proofs.Progress.{bodies_in}
+use Rattle.rel_records.proofs.Progress.{bodies_in}
 use Rattle.rel_store.specs.State.{records_in}
 use Rattle.rel_handler.proofs.booting.boot.Goals as goal
 
@@ -26,12 +26,13 @@ returns-in-Ok-read_list-clause-recovers g c = λ k all.
     boots_to k (g.D.Disk.seen c.args.disk) (bodies_in c.records.result.now) c.in-Ok-read_list.list (read_so (g.D.Disk.seen c.args.disk) (bodies_in c.records.result.now) (records_in c.in-Ok.store) c.records.ensures c.in-Ok.ensures.records) c.in-Ok-read_list.ensures.made (all (g.D.Disk.seen c.args.disk) (g.met.D.Disk.reads_an_image c.args.disk))
 
 pub returns-in-Err-read_list-clause-only : goal.returns-in-Err-read_list-clause-only
-returns-in-Err-read_list-clause-only g c = λ es image. only_memory (g.D.Disk.seen c.args.disk) (bodies_in c.records.result.now) (records_in c.in-Ok.store) es c.in-Err-read_list.error c.records.ensures c.in-Ok.ensures.records image c.in-Err-read_list.ensures.bad
+returns-in-Err-read_list-clause-only g c = λ es image.
+    subst IsLack (sym c.from.ensures) (only_memory (g.D.Disk.seen c.args.disk) (bodies_in c.records.result.now) (records_in c.in-Ok.store) es c.in-Err-read_list.error c.records.ensures c.in-Ok.ensures.records image c.in-Err-read_list.ensures.bad)
 
 pub returns-in-Err-read_list-clause-recovers : goal.returns-in-Err-read_list-clause-recovers
 returns-in-Err-read_list-clause-recovers g c = λ k all.
     let of = all (g.D.Disk.seen c.args.disk) (g.met.D.Disk.reads_an_image c.args.disk) in
-    only_memory (g.D.Disk.seen c.args.disk) (bodies_in c.records.result.now) (records_in c.in-Ok.store) of.list c.in-Err-read_list.error c.records.ensures c.in-Ok.ensures.records of.image_of c.in-Err-read_list.ensures.bad
+    subst IsLack (sym c.from.ensures) (only_memory (g.D.Disk.seen c.args.disk) (bodies_in c.records.result.now) (records_in c.in-Ok.store) of.list c.in-Err-read_list.error c.records.ensures c.in-Ok.ensures.records of.image_of c.in-Err-read_list.ensures.bad)
 
 -- the store was synced when it was opened
 pub returns-in-Ok-read_list-clause-synced : goal.returns-in-Ok-read_list-clause-synced

@@ -26,12 +26,12 @@ returns-in_err-file-clause-unpacked g c =
     subst (λ r. Answers g.D.Disk Sets r (memory.Made h) (memory.Made h)) (sym (told_so c.from_residual.result why c.from_residual.ensures.1))
     (refuses_running g.D.Disk laws Sets h (search rules) why (λ known events end. (refuses (refusal_of why), (Err (refusal_of why), c.in_err-file.ensures.refused known, refl), refl)))
 
-pub returns-in_err-vsn-clause-unpacked : goal.returns-in_err-vsn-clause-unpacked
-returns-in_err-vsn-clause-unpacked g c =
+pub returns-in_err-line-clause-unpacked : goal.returns-in_err-line-clause-unpacked
+returns-in_err-line-clause-unpacked g c =
     let laws : IsDevice g.D.Disk = record { reads_an_image = g.met.D.Disk.reads_an_image; counts_now = g.met.D.Disk.counts_now; only_now = g.met.D.Disk.only_now } in
     let h = c.args.handler.now in
     let Sets : Place → Reply → Type 0 = λ p a. Transition (files_of c.args.files.now) p (set_unpacked c.args.path.now) a in
-    subst (λ r. Answers g.D.Disk Sets r (memory.Made h) (memory.Made h)) (sym (told_so c.from_residual-in_err-vsn.result refusal.NoMemory c.from_residual-in_err-vsn.ensures.1))
+    subst (λ r. Answers g.D.Disk Sets r (memory.Made h) (memory.Made h)) (sym (told_so c.from_residual-in_err-line.result refusal.NoMemory c.from_residual-in_err-line.ensures.1))
     (changes_no_memory g.D.Disk laws Sets (memory.Made h))
 
 -- the release came in, or not
@@ -45,7 +45,7 @@ returns-in_err-set_unpacked-clause-unpacked g c =
     let Sets : Place → Reply → Type 0 = λ p a. Transition (files_of c.args.files.now) p (set_unpacked c.args.path.now) a in
     subst (λ r. Answers g.D.Disk Sets r (memory.Made h) (memory.Made new)) (sym (told_so c.from_residual-in_err-set_unpacked.result (handler_refusal e) c.from_residual-in_err-set_unpacked.ensures.1))
     (changes_none g.D.Disk laws Sets h (search rules) (unpacked_change found) (λ events end a is. (changes_node (unpacked_change found), (Ok found, c.in_ok-file.ensures.found, refl), is)) new
-    c.in_err-set_unpacked.ensures.counted c.in_err-set_unpacked.ensures.any_moment e (handler_refusal e) c.in_err-set_unpacked.ensures.refused refl)
+    c.in_err-set_unpacked.ensures.commits e (handler_refusal e) c.in_err-set_unpacked.ensures.refused refl)
 
 pub returns-clause-unpacked : goal.returns-clause-unpacked
 returns-clause-unpacked g c =
@@ -54,5 +54,4 @@ returns-clause-unpacked g c =
     let new = c.set_unpacked.new.self in
     let found = found_of c.in_ok-file.file in
     changes g.D.Disk laws _ h (search rules) (unpacked_change found) (λ events end a is. (changes_node (unpacked_change found), (Ok found, c.in_ok-file.ensures.found, refl), is)) new
-    c.in_ok-set_unpacked.ensures.counted c.in_ok-set_unpacked.ensures.any_moment c.in_ok-set_unpacked.ensures.works c.in_ok-set_unpacked.ensures.accepted c.in_ok-set_unpacked.ensures.acknowledged
-    c.in_ok-set_unpacked.ensures.fits c.in_ok-set_unpacked.ensures.end c.in_ok-vsn.vsn (search rules)
+    c.in_ok-set_unpacked.ensures.commits c.in_ok-set_unpacked.ensures.done c.in_ok-line.line (search rules)

@@ -1,7 +1,6 @@
-use Rattle.erl_term.specs.Value.{value_of}
-use Rattle.rel_handler.proofs.Within.{within-made}
+use Rattle.std.proofs.Common.{ap, length}
+use Rattle.rel_files.specs.Release.{release_of}
 use Rattle.rel_handler.proofs.creation.NewNode.of.Goals as goal
 
--- the record is read back
-pub spell-requires : goal.spell-requires
-spell-requires c = within-made (value_of c.args.file.term) c.requires.within
+pub returns-clause-body : goal.returns-clause-body
+returns-clause-body c = ap length (c.in_ok-body.ensures.body (release_of c.args.file.release))

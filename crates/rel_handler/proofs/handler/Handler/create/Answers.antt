@@ -1,40 +1,39 @@
-use Rattle.std.proofs.Common.{◌≡◌, true, false, rules, refl, string_bytes}
-use Rattle.erl_term.specs.Value.{value_of}
+use Rattle.std.proofs.Common.{◌≡◌, true, false, rules, refl, sym}
 use Rattle.rel_files.specs.Release.{release_of}
-use Rattle.rel_handler.specs.Limits.{is_small}
-use Rattle.rel_handler.proofs.Boots.{unwritten, nothing_begun, sound_so, begins_at, begins, made_new, spelled_made}
+use Rattle.rel_records.specs.Limits.{is_small}
+use Rattle.rel_handler.proofs.Boots.{unwritten, nothing_begun, sound_so, begins_at, begins, made_new}
 use Rattle.rel_handler.proofs.Images.{each_image, has_a_store}
 use Rattle.rel_handler.proofs.handler.Handler.create.Goals as goal
 
 pub returns-in-Ok-create-clause-sound : goal.returns-in-Ok-create-clause-sound
 returns-in-Ok-create-clause-sound g c =
     let small : is_small (release_of c.args.file.release) ≡ true = search rules in
-    let spelled = spelled_made c.as_bytes.result.now (string_bytes c.in-Ok.new.body) (value_of c.args.file.term) (release_of c.args.file.release) c.as_bytes.ensures.value c.in-Ok.ensures.read_back c.requires.says in
+    let spelled = rw (sym c.as_bytes.ensures.value) at c.in-Ok.ensures.spells in
     sound_so g.D.Disk.seen g.D.Disk.may_leave c.in-Ok-create.store c.in-Ok.new.list c.in-Ok-create.ensures.sound c.in-Ok-create.ensures.settled (made_new (release_of c.args.file.release) c.as_bytes.result.now _ c.in-Ok.new.list small spelled c.in-Ok-create.ensures.records c.in-Ok.ensures.list)
 
 pub returns-in-Ok-create-clause-acknowledged : goal.returns-in-Ok-create-clause-acknowledged
 returns-in-Ok-create-clause-acknowledged g c = λ d now.
     let small : is_small (release_of c.args.file.release) ≡ true = search rules in
-    let spelled = spelled_made c.as_bytes.result.now (string_bytes c.in-Ok.new.body) (value_of c.args.file.term) (release_of c.args.file.release) c.as_bytes.ensures.value c.in-Ok.ensures.read_back c.requires.says in
+    let spelled = rw (sym c.as_bytes.ensures.value) at c.in-Ok.ensures.spells in
     each_image g.D.Disk.seen g.D.Disk.may_leave c.in-Ok-create.store c.in-Ok.new.list c.in-Ok-create.ensures.settled (made_new (release_of c.args.file.release) c.as_bytes.result.now _ c.in-Ok.new.list small spelled c.in-Ok-create.ensures.records c.in-Ok.ensures.list) d now
 
 pub returns-in-Ok-create-clause-any_moment : goal.returns-in-Ok-create-clause-any_moment
 returns-in-Ok-create-clause-any_moment g c =
     let small : is_small (release_of c.args.file.release) ≡ true = search rules in
-    let spelled = spelled_made c.as_bytes.result.now (string_bytes c.in-Ok.new.body) (value_of c.args.file.term) (release_of c.args.file.release) c.as_bytes.ensures.value c.in-Ok.ensures.read_back c.requires.says in
+    let spelled = rw (sym c.as_bytes.ensures.value) at c.in-Ok.ensures.spells in
     begins g.D.Disk.seen g.D.Disk.may_leave g.D.Disk.moment g.D.Disk.left_since (release_of c.args.file.release) c.as_bytes.result.now c.as_bytes-2.result.now small spelled c.args.disk _ c.in-Ok-create.ensures.any_moment
 
 pub returns-in-Ok-create-clause-begun : goal.returns-in-Ok-create-clause-begun
 returns-in-Ok-create-clause-begun g c =
     let small : is_small (release_of c.args.file.release) ≡ true = search rules in
-    let spelled = spelled_made c.as_bytes.result.now (string_bytes c.in-Ok.new.body) (value_of c.args.file.term) (release_of c.args.file.release) c.as_bytes.ensures.value c.in-Ok.ensures.read_back c.requires.says in
+    let spelled = rw (sym c.as_bytes.ensures.value) at c.in-Ok.ensures.spells in
     let (at, begun) = c.in-Ok-create.ensures.begun in
     (at, begins_at g.D.Disk.seen g.D.Disk.may_leave g.D.Disk.moment g.D.Disk.left_since (release_of c.args.file.release) c.as_bytes.result.now c.as_bytes-2.result.now small spelled c.args.disk _ at begun)
 
 pub returns-clause-any_moment : goal.returns-clause-any_moment
 returns-clause-any_moment g c =
     let small : is_small (release_of c.args.file.release) ≡ true = search rules in
-    let spelled = spelled_made c.as_bytes.result.now (string_bytes c.in-Ok.new.body) (value_of c.args.file.term) (release_of c.args.file.release) c.as_bytes.ensures.value c.in-Ok.ensures.read_back c.requires.says in
+    let spelled = rw (sym c.as_bytes.ensures.value) at c.in-Ok.ensures.spells in
     begins g.D.Disk.seen g.D.Disk.may_leave g.D.Disk.moment g.D.Disk.left_since (release_of c.args.file.release) c.as_bytes.result.now c.as_bytes-2.result.now small spelled c.args.disk _ c.in-Err.ensures.any_moment
 
 -- no node is made over one

@@ -4,7 +4,7 @@ use Rattle.rel_session.specs.Transition.{MakesNode}
 use Rattle.rel_session.specs.declared.place.Place.TheVariants as memory
 use Rattle.rel_session.specs.declared.refusal.Refusal.TheVariants as refusal
 use Rattle.rel_session.proofs.DeviceLemmas.{IsDevice}
-use Rattle.rel_session.proofs.Replies.{from_there, makes, makes_none, makes_again, leaves_all}
+use Rattle.rel_session.proofs.Replies.{from_there, makes, makes_none, makes_again, changes_no_memory}
 use Rattle.rel_session.proofs.place.Place.make.Goals as goal
 
 -- there is a node
@@ -21,14 +21,14 @@ returns-in_default-clause-made g c =
     let laws : IsDevice g.D.Disk = record { reads_an_image = g.met.D.Disk.reads_an_image; counts_now = g.met.D.Disk.counts_now; only_now = g.met.D.Disk.only_now } in
     let found = found_of c.args.file in
     from_there g.D.Disk laws (λ p a. MakesNode p found a) (Err refusal.NoMemory) c.args.self (memory.Idle c.in-Idle.disk) (memory.Idle c.in-Idle.disk) c.in-Idle.is
-    (λ p at. leaves_all g.D.Disk laws p (memory.Idle c.in-Idle.disk) (memory.Idle c.in-Idle.disk) refl at)
+    (changes_no_memory g.D.Disk laws (λ p a. MakesNode p found a) (memory.Idle c.in-Idle.disk))
 
 -- a node was made, or not
 pub returns-in-Ok-create-clause-made : goal.returns-in-Ok-create-clause-made
 returns-in-Ok-create-clause-made g c =
     let laws : IsDevice g.D.Disk = record { reads_an_image = g.met.D.Disk.reads_an_image; counts_now = g.met.D.Disk.counts_now; only_now = g.met.D.Disk.only_now } in
     let found = found_of c.args.file in
-    from_there g.D.Disk laws (λ p a. MakesNode p found a) (Ok c.in-Ok.vsn) c.args.self (memory.Idle c.in-Idle.disk) (memory.Made c.in-Ok-create.handler) c.in-Idle.is
+    from_there g.D.Disk laws (λ p a. MakesNode p found a) (Ok c.in-Ok.line) c.args.self (memory.Idle c.in-Idle.disk) (memory.Made c.in-Ok-create.handler) c.in-Idle.is
     (makes g.D.Disk laws c.in-Idle.disk found c.create.ensures.node c.in-Ok-create.handler c.in-Ok-create.ensures.begun c.in-Ok-create.ensures.acknowledged c.in-Ok-create.ensures.list c.in-Ok-create.ensures.works
     (λ magic. let none = (c.in-Ok-create.ensures.taken magic).1 in cc) c.in-Ok-create.ensures.fits c.in-Ok-create.ensures.end c.in-Ok-create.ensures.counted _ (search rules))
 

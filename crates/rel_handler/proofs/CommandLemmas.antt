@@ -1,0 +1,280 @@
+-- What the list takes of a command, and why it refuses one.
+use Rattle.std.proofs.Common.{◌≡◌, ℕ, ◌<◌, ◌≤◌, ◌+◌, Bool, true, false, cond, find, List, [], ◌∷◌, ◌++◌, length, length-append, Option, Some, None, Result, Ok, Err, is_some, refl, sym, ap, ◌∙◌, subst, arith}
+use Rattle.std.specs.Prelude.{if◌then◌else◌, nat_le}
+use Rattle.std.proofs.lemmas.Bool.Decides.{nat_tests}
+use Rattle.std.specs.Option.{option_map}
+use Rattle.std.specs.Str.{bytes_eq}
+use Rattle.rel_files.specs.File.{HasVersions}
+use Rattle.rel_files.specs.Release.{Release}
+use Rattle.rel_list.specs.declared.fault.ListError.{ListError}
+use Rattle.rel_list.specs.declared.fault.ListError.TheVariants as list
+use Rattle.rel_list.specs.declared.status.Status.{Status}
+use Rattle.rel_list.specs.declared.status.Status.TheVariants.{Unpacked, Current, Old, Permanent}
+use Rattle.rel_list.specs.Releases.{Releases, Entry, entry, status_of, release_at, permanent}
+use Rattle.rel_list.specs.Event.{Event, may_be_made_permanent, permanent_status, list_made_permanent, step}
+use Rattle.rel_list.specs.Status.{is_current, is_permanent}
+use Rattle.rel_list.specs.Event.Event.{made, unpacked, installed, made_permanent, removed, reboot_old, boot}
+use Rattle.rel_list.specs.Refusal.{refusal, listed_refusal}
+use Rattle.rel_list.proofs.RefusalLaws.{refused_where_not_allowed}
+use Rattle.rel_records.specs.Limits.{most_releases, is_small}
+use Rattle.rel_records.specs.Lists.{HaveVersions}
+use Rattle.rel_records.specs.Writing.{IsOfListed}
+use Rattle.rel_records.proofs.RecordPlaces.{chosen}
+use Rattle.rel_handler.specs.Refusals.{CommandRefused}
+use Rattle.rel_handler.specs.State.{list_in, is_dead, IsSame}
+use Rattle.rel_handler.specs.Taking.{list_refusal, refused_or, kept_short, commanded}
+use Rattle.rel_handler.specs.declared.error.HandlerError.{HandlerError}
+use Rattle.rel_handler.specs.declared.error.HandlerError.TheVariants.{ExistingRelease, TooMany}
+use Rattle.rel_handler.specs.declared.error.HandlerError.TheVariants as told
+use Rattle.rel_handler.specs.declared.handler.Handler.{Handler}
+
+-- no refusal, and this list
+abbrev IsTaken : Option ListError → Option Releases → Releases → Type 0
+IsTaken o s next = (o ≡ None) × (s ≡ Some next)
+
+taken_so : (o : Option ListError) (s : Option Releases) (next : Releases) → refused_or o s ≡ Ok next → IsTaken o s next
+taken_so (Some why) s next e = absurd cc
+taken_so None (Some es) next e = (refl, cc)
+taken_so None None next e = absurd cc
+
+small_so : (b : Bool) (x : Result Releases HandlerError) (next : Releases) → (if b then x else Err TooMany) ≡ Ok next → x ≡ Ok next
+small_so true x next e = e
+small_so false x next e = absurd cc
+
+-- an answer that is this list
+abbrev Gives : Result Releases HandlerError → Releases → Type 0
+Gives x next = x ≡ Ok next
+
+short_so : (x : Result Releases HandlerError) (next : Releases) → kept_short x ≡ Ok next → x ≡ Ok next
+short_so (Err why) next e = absurd cc
+short_so (Ok es) next e = go (nat_le (length es) most_releases) e
+  where
+    go : (b : Bool) → Gives (if b then Ok es else Err TooMany) next → Gives (Ok es) next
+    go true e = e
+    go false e = absurd cc
+
+commanded_so : (e : Event) (es next : Releases) → commanded e es ≡ Ok next → IsTaken (refusal e es) (step e es) next
+commanded_so (made r) es next e = taken_so (refusal (made r) es) (step (made r) es) next (small_so (is_small r) _ next e)
+commanded_so (unpacked r) es next e = taken_so (refusal (unpacked r) es) (step (unpacked r) es) next (short_so _ next (small_so (is_small r) _ next e))
+commanded_so (installed v) es next e = taken_so (refusal (installed v) es) (step (installed v) es) next e
+commanded_so (made_permanent v) es next e = taken_so (refusal (made_permanent v) es) (step (made_permanent v) es) next e
+commanded_so (removed v) es next e = taken_so (refusal (removed v) es) (step (removed v) es) next e
+commanded_so (reboot_old v) es next e = taken_so (refusal (reboot_old v) es) (step (reboot_old v) es) next e
+commanded_so boot es next e = taken_so (refusal boot es) (step boot es) next e
+
+-- an event that a command may bring has no refusal by the list
+pub not_refused : (e : Event) (es next : Releases) → commanded e es ≡ Ok next → refusal e es ≡ None
+not_refused e es next is = (commanded_so e es next is).0
+
+-- and is a step of it
+pub commanded_step : (e : Event) (es next : Releases) → commanded e es ≡ Ok next → step e es ≡ Some next
+commanded_step e es next is = (commanded_so e es next is).1
+
+-- a release that may come in is small, and the list has room for it
+pub small_and_few : (r : Release) (es next : Releases) → commanded (unpacked r) es ≡ Ok next → (is_small r ≡ true) × (length es < most_releases)
+small_and_few r es next is = let (small, short) = by_size (is_small r) is in (small, few short)
+  where
+    taken : Result Releases HandlerError
+    taken = refused_or (refusal (unpacked r) es) (step (unpacked r) es)
+
+    by_size : (b : Bool) → Gives (if b then kept_short taken else Err TooMany) next → (b ≡ true) × Gives (kept_short taken) next
+    by_size true e = (refl, e)
+    by_size false e = absurd cc
+
+    pushed : step (unpacked r) es ≡ Some next → length next ≡ length es + 1
+    pushed e = go (is_some (status_of r.vsn es)) e
+      where
+        go : (b : Bool) → (if b then None else Some (es ++ entry r Unpacked ∷ [])) ≡ Some next → length next ≡ length es + 1
+        go true e = absurd cc
+        go false e = let same : es ++ entry r Unpacked ∷ [] ≡ next = cc e in sym (ap length same) ∙ length-append es (entry r Unpacked ∷ [])
+
+    is_short : (l : Releases) (b : Bool) → nat_le (length l) most_releases ≡ b → Gives (if b then Ok l else Err TooMany) next → nat_le (length next) most_releases ≡ true
+    is_short l true short e = let same : l ≡ next = cc e in ap (λ m. nat_le (length m) most_releases) (sym same) ∙ short
+    is_short l false short e = absurd cc
+
+    by_taken : (x : Result Releases HandlerError) → Gives (kept_short x) next → nat_le (length next) most_releases ≡ true
+    by_taken (Err why) e = absurd cc
+    by_taken (Ok l) e = is_short l (nat_le (length l) most_releases) refl e
+
+    few : Gives (kept_short taken) next → length es < most_releases
+    few short = let at_most = by_taken taken short in let more = pushed (commanded_step (unpacked r) es next is) in grind (arith, nat_tests)
+
+-- so the list's own step gives what is commanded
+pub commanded_then : (e : Event) (es next : Releases) → (taken : Releases) × (commanded e es ≡ Ok taken) → step e es ≡ Some next → commanded e es ≡ Ok next
+commanded_then e es next (taken, is) stepped = let same : taken ≡ next = cc (stepped, commanded_step e es taken is) in is ∙ ap (λ l. Ok l) same
+
+-- what comes of a list
+abbrev Steps : Option Releases → Type 0
+Steps o = (next : Releases) × (o ≡ Some next)
+
+-- where the list doesn't refuse an event, it takes it
+steps_so : (e : Event) (es : Releases) → refusal e es ≡ None → Steps (step e es)
+steps_so e es none = go (step e es) ((refused_where_not_allowed e es).0 none)
+  where
+    go : (o : Option Releases) → (o ≡ None → ⊥) → Steps o
+    go None never = absurd (never refl)
+    go (Some next) never = (next, refl)
+
+-- an event of listed releases is commanded by the list alone
+by_the_list : (e : Event) (es : Releases) → IsOfListed e → commanded e es ≡ refused_or (refusal e es) (step e es)
+by_the_list (made r) es listed = absurd listed
+by_the_list (unpacked r) es listed = absurd listed
+by_the_list (installed v) es listed = refl
+by_the_list (made_permanent v) es listed = refl
+by_the_list (removed v) es listed = refl
+by_the_list (reboot_old v) es listed = refl
+by_the_list boot es listed = refl
+
+-- what the list refuses of such events, the node refuses
+pub list_refuses : (e : Event) (es : Releases) (why : ListError) → IsOfListed e → refusal e es ≡ Some why → commanded e es ≡ Err (list_refusal why)
+list_refuses e es why listed is = by_the_list e es listed ∙ ap (λ o. refused_or o (step e es)) is
+
+-- and what it does not refuse is taken
+pub list_allows : (e : Event) (es : Releases) → IsOfListed e → refusal e es ≡ None → (next : Releases) × (commanded e es ≡ Ok next)
+list_allows e es listed none = let (next, is) = steps_so e es none in (next, by_the_list e es listed ∙ ap (λ o. refused_or o (step e es)) none ∙ ap (refused_or None) is)
+
+module _ (r : Release) (es : Releases) where
+  -- the list with the release last
+  abbrev pub with_it : Releases
+  with_it = es ++ entry r Unpacked ∷ []
+
+  by_sizes : (small listed : Bool) → is_small r ≡ small → is_some (status_of r.vsn es) ≡ listed
+      → commanded (unpacked r) es
+      ≡ (if small then kept_short (refused_or (if listed then Some list.ExistingRelease else None) (if listed then None else Some with_it)) else Err TooMany)
+  by_sizes small listed is there = ap (λ b. if b then kept_short (refused_or (refusal (unpacked r) es) (step (unpacked r) es)) else Err TooMany) is
+      ∙ ap (λ b. if small then kept_short (refused_or (if b then Some list.ExistingRelease else None) (if b then None else Some with_it)) else Err TooMany) there
+
+  -- a release with too many applications
+  pub too_large : is_small r ≡ false → commanded (unpacked r) es ≡ Err TooMany
+  too_large large = ap (λ b. if b then kept_short (refused_or (refusal (unpacked r) es) (step (unpacked r) es)) else Err TooMany) large
+
+  module _ (small : is_small r ≡ true) where
+    -- one that is there
+    pub there_already : is_some (status_of r.vsn es) ≡ true → commanded (unpacked r) es ≡ Err ExistingRelease
+    there_already listed = by_sizes true true small listed
+
+    module _ (fresh : is_some (status_of r.vsn es) ≡ false) where
+      pushed : commanded (unpacked r) es ≡ kept_short (Ok with_it)
+      pushed = by_sizes true false small fresh
+
+      -- one too many
+      pub one_too_many : 32 ≤ length es → commanded (unpacked r) es ≡ Err TooMany
+      one_too_many many = pushed ∙ ap (λ b. if b then Ok with_it else Err TooMany) long
+        where
+          long : nat_le (length with_it) most_releases ≡ false
+          long = grind (arith, nat_tests, length-append es (entry r Unpacked ∷ []))
+
+      -- one that comes in
+      pub comes_in : length es < 32 → commanded (unpacked r) es ≡ Ok with_it
+      comes_in few = pushed ∙ ap (λ b. if b then Ok with_it else Err TooMany) short
+        where
+          short : nat_le (length with_it) most_releases ≡ true
+          short = grind (arith, nat_tests, length-append es (entry r Unpacked ∷ []))
+
+-- a refusal by the list and its limits
+abbrev OfList : HandlerError → Type 0
+OfList told.Dead = ⊥
+OfList told.Full = ⊥
+OfList told.Device = ⊥
+OfList told.Exists = ⊥
+OfList e = Unit {0}
+
+of_list_error : (why : ListError) → OfList (list_refusal why)
+of_list_error list.NoSuchRelease = tt
+of_list_error list.ExistingRelease = tt
+of_list_error list.AlreadyInstalled = tt
+of_list_error (list.BadStatus s) = tt
+of_list_error list.Permanent = tt
+of_list_error list.Running = tt
+of_list_error list.NoMemory = tt
+
+-- an answer that is a list, or a refusal of that kind
+abbrev IsOfList : Result Releases HandlerError → Type 0
+IsOfList (Ok es) = Unit {0}
+IsOfList (Err why) = OfList why
+
+of_refused_or : (o : Option ListError) (s : Option Releases) → IsOfList (refused_or o s)
+of_refused_or (Some why) s = of_list_error why
+of_refused_or None (Some es) = tt
+of_refused_or None None = tt
+
+of_short : (x : Result Releases HandlerError) → IsOfList x → IsOfList (kept_short x)
+of_short (Err why) is = is
+of_short (Ok es) is = go (nat_le (length es) most_releases)
+  where
+    go : (b : Bool) → IsOfList (if b then Ok es else Err TooMany)
+    go true = tt
+    go false = tt
+
+of_unpacking : (r : Release) (es : Releases) → IsOfList (commanded (unpacked r) es)
+of_unpacking r es = go (is_small r)
+  where
+    inner : Result Releases HandlerError
+    inner = kept_short (refused_or (refusal (unpacked r) es) (step (unpacked r) es))
+
+    go : (b : Bool) → IsOfList (if b then inner else Err TooMany)
+    go true = of_short _ (of_refused_or (refusal (unpacked r) es) (step (unpacked r) es))
+    go false = tt
+
+-- A further release is refused by the list or its limits, and nothing changed.
+pub refused_by_list : {D : Type 0} (failures : D → ℕ) (h : Handler D) (r : Release) (size : ℕ) (why : HandlerError) → is_dead h ≡ false → commanded (unpacked r) (list_in h) ≡ Err why
+    → CommandRefused failures (unpacked r) size h h why
+refused_by_list failures h r size why alive barred = by_why why (subst IsOfList barred (of_unpacking r (list_in h))) barred
+  where
+    same : IsSame h h
+    same = record { disk = refl; list = refl; dead = refl; end = refl }
+
+    by_why : (why : HandlerError) → OfList why → commanded (unpacked r) (list_in h) ≡ Err why → CommandRefused failures (unpacked r) size h h why
+    by_why told.Dead of barred = absurd of
+    by_why told.Full of barred = absurd of
+    by_why told.Device of barred = absurd of
+    by_why told.Exists of barred = absurd of
+    by_why told.NoMemory of barred = (alive, same)
+    by_why told.NoSuchRelease of barred = ((alive, barred), same)
+    by_why told.ExistingRelease of barred = ((alive, barred), same)
+    by_why told.AlreadyInstalled of barred = ((alive, barred), same)
+    by_why (told.BadStatus s) of barred = ((alive, barred), same)
+    by_why told.Permanent of barred = ((alive, barred), same)
+    by_why told.Running of barred = ((alive, barred), same)
+    by_why told.TooMany of barred = ((alive, barred), same)
+
+-- A release that isn't listed isn't made permanent.
+pub unlisted : (v : List ℕ) (es : Releases) → release_at v es ≡ None → commanded (made_permanent v) es ≡ Err told.NoSuchRelease
+unlisted v es none = ap (λ o. refused_or o (step (made_permanent v) es)) (no_status (find (λ (e : Entry). bytes_eq v e.release.vsn) es) none)
+  where
+    no_status : (o : Option Entry) → option_map (λ (e : Entry). e.release) o ≡ None
+        → listed_refusal (λ s. if is_current s then None else Some (list.BadStatus s)) (option_map (λ (e : Entry). e.status) o) ≡ Some list.NoSuchRelease
+    no_status None none = refl
+    no_status (Some e) none = absurd cc
+
+-- The release that was made permanent is the permanent one.
+permanent_now : (v : List ℕ) (es : Releases) → permanent (list_made_permanent v es) ≡ release_at v es
+permanent_now v [] = refl
+permanent_now v (e ∷ es) = go (bytes_eq v e.release.vsn) e.status (permanent_now v es)
+  where
+    first : Bool → Option Entry → Entry → Option Release
+    first b rest x = option_map (λ (y : Entry). y.release) (cond b (Some x) rest)
+
+    go : (b : Bool) (s : Status) → permanent (list_made_permanent v es) ≡ release_at v es
+        → first (is_permanent (permanent_status b s)) (find (λ (y : Entry). is_permanent y.status) (list_made_permanent v es)) (record e { status = permanent_status b s })
+        ≡ first b (find (λ (y : Entry). bytes_eq v y.release.vsn) es) e
+    go true s rest = refl
+    go false Unpacked rest = rest
+    go false Current rest = rest
+    go false Old rest = rest
+    go false Permanent rest = rest
+
+pub made_permanent_so : (v : List ℕ) (es next : Releases) → step (made_permanent v) es ≡ Some next → permanent next ≡ release_at v es
+made_permanent_so v es next is =
+    let (may, made_so) = chosen (may_be_made_permanent (status_of v es)) (Some (list_made_permanent v es)) next is in
+    let same : list_made_permanent v es ≡ next = cc in
+    ap permanent (sym same) ∙ permanent_now v es
+
+-- a listed release has the versions of the list
+pub listed_versions : (v : List ℕ) (es : Releases) (r : Release) → HaveVersions es → release_at v es ≡ Some r → HasVersions r
+listed_versions v [] r all is = absurd cc
+listed_versions v (e ∷ es) r all is = go (bytes_eq v e.release.vsn) (listed_versions v es r all.1) is
+  where
+    go : (b : Bool) → (release_at v es ≡ Some r → HasVersions r) → option_map (λ (x : Entry). x.release) (cond b (Some e) (find (λ (x : Entry). bytes_eq v x.release.vsn) es)) ≡ Some r → HasVersions r
+    go true rest is = let same : e.release ≡ r = cc is in subst HasVersions same all.0
+    go false rest is = rest is

@@ -1,0 +1,23 @@
+use Rattle.std.proofs.Common.{◌≡◌, None, rules}
+use Rattle.rel_list.specs.Event.{event_of}
+use Rattle.rel_list.specs.Refusal.{refusal}
+use Rattle.rel_store.specs.State.{records_in}
+use Rattle.rel_handler.specs.State.{list_in}
+use Rattle.rel_handler.specs.Taking.{change_size}
+use Rattle.rel_handler.proofs.Commits.{unchanged, have_versions}
+use Rattle.rel_handler.proofs.CommandLemmas.{list_allows}
+use Rattle.rel_handler.proofs.handler.Handler.change.Goals as goal
+
+pub change_body-requires-clause-versions : goal.change_body-requires-clause-versions
+change_body-requires-clause-versions g c =
+    have_versions (records_in c.args.self.now.store) (list_in c.args.self.now) (c.requires.sound.list c.requires.works)
+
+-- nothing was written yet
+pub returns-in_err-body-clause-commits : goal.returns-in_err-body-clause-commits
+returns-in_err-body-clause-commits g c =
+    unchanged g.D.Disk c.args.self.now c.requires.sound (g.met.D.Disk.only_now _) (event_of c.args.event) (change_size (event_of c.args.event) (list_in c.args.self.now))
+
+pub commit-requires-clause-allowed : goal.commit-requires-clause-allowed
+commit-requires-clause-allowed g c =
+    let allowed : refusal (event_of c.args.event) (list_in c.args.self.now) ≡ None = search rules in
+    (c.requires.works, list_allows (event_of c.args.event) (list_in c.args.self.now) c.requires.listed allowed)

@@ -1,7 +1,0 @@
-use Rattle.std.proofs.Common.{string_bytes}
-use Rattle.rel_handler.proofs.Bodies.{read_back}
-use Rattle.rel_handler.proofs.records.spell.Goals as goal
-
-pub returns-clause-read_back : goal.returns-clause-read_back
-returns-clause-read_back c =
-    read_back 72 (string_bytes c.push_str.new.self) (string_bytes c.in_ok-body.body) _ _ c.in_ok-term.ensures c.requires (c.in_ok-body.ensures.reads_back 72) c.in_ok-push_str.ensures.bytes

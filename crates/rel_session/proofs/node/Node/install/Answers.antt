@@ -1,0 +1,12 @@
+use Rattle.std.proofs.Common.{refl}
+use Rattle.rel_session.specs.Commands.Command.{install}
+use Rattle.rel_session.specs.Transition.{Acts, installation}
+use Rattle.rel_session.specs.Transition.Action.{changes_node}
+use Rattle.rel_session.proofs.ReplyTexts.{follows}
+use Rattle.rel_session.proofs.node.Node.install.Goals as goal
+
+pub returns-clause-followed : goal.returns-clause-followed
+returns-clause-followed g c =
+    let does = changes_node (installation c.args.vsn.now) in
+    follows g.D.Disk c.args.self (record { place = c.install-place.result.0; files = c.args.self.files }) (install c.args.vsn.now) refl (λ p a. Acts p does a)
+    (λ p a is. (does, refl, is)) c.install-place.result.1 c.line_of.result c.line_of.ensures.line c.install-place.ensures.installed
