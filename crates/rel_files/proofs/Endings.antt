@@ -13,7 +13,7 @@ use Rattle.rel_files.specs.Sketch.{start_of, End, included_in, end_in, names_of}
 use Rattle.rel_files.proofs.Options.{mapped, chained}
 use Rattle.rel_files.proofs.Texts.{names_of-atoms, from_names}
 
-start_of-start_word : (s : StartType) → start_of (start_word s) ≡ Some s
+pub start_of-start_word : (s : StartType) → start_of (start_word s) ≡ Some s
 start_of-start_word Permanent = refl
 start_of-start_word Transient = refl
 start_of-start_word Temporary = refl
@@ -29,7 +29,7 @@ chosen w a s o others e = go (bytes_eq w (start_word a)) refl e
     go true is f = let same : a ≡ s = cc in (bytes_eq-Decides w (start_word a)).0 is ∙ ap start_word same
     go false is f = others f
 
-from_start : (w : List ℕ) (s : StartType) → start_of w ≡ Some s → w ≡ start_word s
+pub from_start : (w : List ℕ) (s : StartType) → start_of w ≡ Some s → w ≡ start_word s
 from_start w s e =
     chosen w Permanent s _ (chosen w Transient s _ (chosen w Temporary s _ (chosen w Load s _ (chosen w Unloaded s None (λ f. absurd cc))))) e
 

@@ -4,7 +4,7 @@ pub mod Distinct
 pub mod Options
 pub mod Texts
 mod Terms
-mod Endings
+pub mod Endings
 pub mod Shape
 pub mod Versions
 pub mod Outcomes

@@ -65,8 +65,8 @@ impl Ending {
     }
 }
 
-// The start type of a word.
-fn start_of(word: &str) -> Option<StartType>
+/// The start type of a word, as a release or an appup has it.
+pub fn start_of(word: &str) -> Option<StartType>
     ensures { result ≡ start_of word.now }
 {
     if word == "permanent" {

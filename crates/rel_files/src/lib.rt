@@ -4,8 +4,8 @@
 //! one; a refusal is the file's fault, the first in the order of [`FileFault`]'s cases. Out of memory may
 //! come in place of any answer and says nothing of the file.
 //!
-//! [`read_one_term`], `parts`, `text` and `duplicates` are what readers of other files of a release share, with the kinds of
-//! such files (specs/Kind).
+//! [`read_one_term`], [`start_of`], `parts`, `text` and `duplicates` are what readers of other files of a release share, with
+//! the kinds of such files (specs/Kind).
 //!
 //! The functions of `laws` say of these definitions that each file says one release or has one fault, and not both.
 //!
@@ -23,6 +23,7 @@ mod reader;
 mod release;
 pub mod text;
 
+pub use ending::start_of;
 pub use fault::FileFault;
 pub use one_term::{FileTerm, read_one_term};
 pub use reader::{RelFile, read_rel, read_rel_file, rel_of_term};

@@ -6,4 +6,3 @@ pub mod EntryLemmas
 pub mod RelupLemmas
 pub mod Printed
 pub mod FileLemmas
-pub mod ScriptLemmas

@@ -18,22 +18,22 @@ use Rattle.relup_file.proofs.Pieces.{from_list, from_triple, version_in-text, fr
 use Rattle.relup_file.proofs.InstructionLemmas.{list_of_values}
 use Rattle.relup_file.proofs.EntryLemmas.{entries_in-terms, from_entries, IsFirstBad, from_bad, entries_in-bad}
 
-abbrev lined : List ℕ → Values → Values → Outer
+abbrev pub lined : List ℕ → Values → Values → Outer
 lined vsn ups downs = record { vsn = vsn; ups = ups; downs = downs }
 
-outer_in-term : (v : Value) (vsn : List ℕ) (ups downs : List Value) → IsOuter v vsn ups downs → outer_in v ≡ Some (lined vsn (values_of ups) (values_of downs))
+pub outer_in-term : (v : Value) (vsn : List ℕ) (ups downs : List Value) → IsOuter v vsn ups downs → outer_in v ≡ Some (lined vsn (values_of ups) (values_of downs))
 outer_in-term v vsn ups downs h =
     ap outer_in h.is ∙ ap (option_and_then (λ (s : List ℕ). Some (lined s (values_of ups) (values_of downs)))) (version_in-text vsn h.version)
 
 -- the lists of an outer shape
-record HasLists (v : Value) (o : Outer) : Type 0 where
-  ups : List Value
-  downs : List Value
-  ups_are : o.ups ≡ values_of ups
-  downs_are : o.downs ≡ values_of downs
-  outer : IsOuter v o.vsn ups downs
+pub record HasLists (v : Value) (o : Outer) : Type 0 where
+  pub ups : List Value
+  pub downs : List Value
+  pub ups_are : o.ups ≡ values_of ups
+  pub downs_are : o.downs ≡ values_of downs
+  pub outer : IsOuter v o.vsn ups downs
 
-from_outer_in : (v : Value) (o : Outer) → outer_in v ≡ Some o → HasLists v o
+pub from_outer_in : (v : Value) (o : Outer) → outer_in v ≡ Some o → HasLists v o
 from_outer_in v o e =
     let t = chained (λ (t : Value × Value × Value). option_and_then (λ (vsn : List ℕ). option_and_then (λ (ups : Values). option_map (lined vsn ups) (list_in t.2)) (list_in t.1)) (version_in t.0)) (triple_in v) o e in
     let vsn = chained (λ (vsn : List ℕ). option_and_then (λ (ups : Values). option_map (lined vsn ups) (list_in t.0.2)) (list_in t.0.1)) (version_in t.0.0) o t.2 in

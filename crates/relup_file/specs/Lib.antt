@@ -5,5 +5,3 @@ pub mod Parts
 pub mod Outline
 pub mod File
 pub mod Laws
-pub mod Script
-pub mod Search

@@ -3,10 +3,10 @@ ghost use Rattle.std.specs.Prelude.{◌≡◌, ◌+◌, ◌<◌, ◌^◌, length
 ghost use Rattle.std.specs.Option.{option_map};
 ghost use Rattle.erl_term.specs.Value.{members_of, value_of};
 ghost use Rattle.relup_file.specs.Instruction.{entry_of, relup_of};
-ghost use Rattle.relup_file.specs.Parts.{entry_in, entries_in, outer_in, relup_in, TellsBad};
-ghost use Rattle.relup_file.specs.Outline.{outer_of};
+ghost use Rattle.relup_file.specs.Parts.{entry_in, entries_in, relup_in, TellsBad};
 
 use crate::members::{triple_in, version_in};
+use crate::outline::outer_in;
 use crate::steps::script_in;
 use crate::{Relup, RelupEntry, RelupFault};
 use erl_term::Term;
@@ -51,32 +51,6 @@ fn entries_in(alloc: Global, before: usize, terms: &[Term]) -> Result<Vec<RelupE
         entries.push(entry)?;
     }
     Ok(entries)
-}
-
-// `{Vsn, [Entry], [Entry]}`, whatever the entries are.
-#[derive(Drop)]
-pub(crate) struct Outline<'a> {
-    pub(crate) vsn: String,
-    pub(crate) ups: &'a [Term],
-    pub(crate) downs: &'a [Term],
-}
-
-fn outer_in(alloc: Global, term: &Term) -> Result<Option<Outline<'_>>, AllocError>
-    ensures { IfOk result (λ o. option_map outer_of o ≡ outer_in (value_of term.now)) }
-{
-    let Some((vsn, ups, downs)) = triple_in(term) else {
-        return Ok(None);
-    };
-    let Some(vsn) = version_in(alloc, vsn)? else {
-        return Ok(None);
-    };
-    let Some(ups) = list_in(ups) else {
-        return Ok(None);
-    };
-    let Some(downs) = list_in(downs) else {
-        return Ok(None);
-    };
-    Ok(Some(Outline { vsn, ups, downs }))
 }
 
 // The relup that a term says.

@@ -4,38 +4,33 @@
 //! `only`, `fault`). [`relup_of_term`] does so for a term. What is read keeps all that the term has, save that a script of
 //! no instructions is the point of no return alone. [`print_relup`] gives the text of a relup; within a reader's limits
 //! that text is a file that says this relup (`printed`, `reads_back`).
-//! [`check`] takes a script exactly where it has one point of no return and each instruction stands on a side of it where
-//! it is run, and else tells its fault (`runnable`, `fault`). [`find_script`] gives the script between two releases by its
-//! rule. Neither takes memory.
+//! [`instruction_in`], `members` and `outline` are what readers of other files with instructions share.
 //!
 //! The functions of `laws` say of these definitions that each file says one relup or has one fault, and not both.
 //!
 //! Only tested: that a relup is read and printed where memory is there. Trusted: the toolchain alone.
 #![tactic(auto)]
 
-mod calls;
 mod copies;
 mod entries;
 mod fault;
 mod instruction;
 pub mod laws;
-mod members;
+pub mod members;
+pub mod outline;
 mod payloads;
 mod printer;
 mod reader;
 mod relup;
-mod script;
-mod search;
 mod spelling;
 mod steps;
 mod terms;
 
-pub use fault::{RelupFault, ScriptFault};
+pub use fault::RelupFault;
 pub use instruction::{
     Call, Change, Conversion, Direction, Fetch, Instr, PurgeMode, Purging, Suspension, Timeout,
 };
 pub use printer::{print_relup, relup_term};
 pub use reader::{RelupFile, read_relup, read_relup_file, relup_of_term};
 pub use relup::{Relup, RelupEntry};
-pub use script::check;
-pub use search::{Found, NoMatchingRelup, find_script};
+pub use steps::instruction_in;

@@ -1,4 +1,4 @@
-//! The members of the terms of a relup.
+//! The members of the terms of a relup, as what reads appups needs them too.
 ghost use Rattle.std.specs.Prelude.{◌≡◌, IfOk, map, string_bytes};
 ghost use Rattle.std.specs.Option.{option_map};
 ghost use Rattle.erl_term.specs.Value.{members_of, value_of};
@@ -24,8 +24,8 @@ pub(crate) fn one_in(members: &[Term]) -> Option<&Term>
     }
 }
 
-// The three members of a tuple.
-pub(crate) fn triple_in(term: &Term) -> Option<(&Term, &Term, &Term)>
+/// The three members of a tuple.
+pub fn triple_in(term: &Term) -> Option<(&Term, &Term, &Term)>
     ensures { option_map (λ p. (value_of p.0.now, value_of p.1.now, value_of p.2.now)) result
         ≡ triple_in (value_of term.now) }
 {
@@ -45,8 +45,8 @@ fn three(members: &[Term]) -> Option<(&Term, &Term, &Term)>
     Some((first, second, third))
 }
 
-// The text of an atom.
-pub(crate) fn word_in(term: &Term) -> Option<&str>
+/// The text of an atom.
+pub fn word_in(term: &Term) -> Option<&str>
     ensures { option_map (λ s. s.now) result ≡ word_in (value_of term.now) }
 {
     match term {
@@ -55,8 +55,8 @@ pub(crate) fn word_in(term: &Term) -> Option<&str>
     }
 }
 
-// The version that a list of numbers is.
-pub(crate) fn version_in(alloc: Global, term: &Term) -> Result<Option<String>, AllocError>
+/// The version that a list of numbers is.
+pub fn version_in(alloc: Global, term: &Term) -> Result<Option<String>, AllocError>
     ensures { IfOk result (λ s. option_map string_bytes s ≡ version_in (value_of term.now)) }
 {
     match list_in(term) {
@@ -65,8 +65,8 @@ pub(crate) fn version_in(alloc: Global, term: &Term) -> Result<Option<String>, A
     }
 }
 
-// The modules that a list names.
-pub(crate) fn modules_in(alloc: Global, term: &Term) -> Result<Option<Vec<String>>, AllocError>
+/// The modules that a list names.
+pub fn modules_in(alloc: Global, term: &Term) -> Result<Option<Vec<String>>, AllocError>
     ensures { IfOk result (λ o.
         option_map (λ v. map string_bytes v.items) o ≡ modules_in (value_of term.now)) }
 {
@@ -88,8 +88,8 @@ fn purge_mode_of(word: &str) -> Option<PurgeMode>
     }
 }
 
-// How to purge, in a word.
-pub(crate) fn purge_mode_in(term: &Term) -> Option<PurgeMode>
+/// How to purge, in a word.
+pub fn purge_mode_in(term: &Term) -> Option<PurgeMode>
     ensures { result ≡ purge_mode_in (value_of term.now) }
 {
     purge_mode_of(word_in(term)?)
@@ -126,8 +126,8 @@ fn timeout_of(word: &str) -> Option<Timeout>
     }
 }
 
-// A timeout: a word, or a number from 0.
-pub(crate) fn timeout_in(term: &Term) -> Option<Timeout>
+/// A timeout: a word, or a number from 0.
+pub fn timeout_in(term: &Term) -> Option<Timeout>
     ensures { result ≡ timeout_in (value_of term.now) }
 {
     match term {

@@ -90,7 +90,8 @@ fn tagged_in(alloc: Global, word: &str, members: &[Term]) -> Result<Option<Instr
     }
 }
 
-fn instruction_in(alloc: Global, term: &Term) -> Result<Option<Instr>, AllocError>
+/// The low-level instruction that a term is, if it is one (OTP: appup(4)).
+pub fn instruction_in(alloc: Global, term: &Term) -> Result<Option<Instr>, AllocError>
     ensures { IfOk result (λ o. option_map instruction_of o ≡ instruction_in (value_of term.now)) }
 {
     match term {

@@ -1,8 +1,7 @@
 //! The answer to a case.
 use erl_term::print;
-use relup_file::{
-    Direction, Found, Relup, RelupFault, ScriptFault, check, find_script, print_relup, read_relup,
-};
+use relup_file::{Direction, Relup, RelupFault, print_relup, read_relup};
+use relup_script::{Found, ScriptFault, check, find_script};
 use std::alloc::{AllocError, Global};
 
 /// The answer in one of four modes. In `relup` the text is a file; the answer is the text that the relup is printed as.

@@ -1,5 +1,5 @@
-//! The program `relup_file_cases`: what `relup_file` makes of the relups on its input, a case a line. [`answer`] has the
-//! modes.
+//! The program `relup_file_cases`: what `relup_file` and `relup_script` make of the relups on its input, a case a line.
+//! [`answer`] has the modes.
 #![tactic(auto)]
 
 mod answers;

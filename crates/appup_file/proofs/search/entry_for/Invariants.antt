@@ -1,0 +1,7 @@
+use Rattle.std.proofs.Common.{◌≡◌, map, drop}
+use Rattle.appup_file.specs.Instruction.{entry_of}
+use Rattle.appup_file.specs.Search.{entry_for}
+use Rattle.appup_file.proofs.search.entry_for.Given as goal
+
+abbrev pub invariant-loop-entry : goal.invariant-loop-entry
+invariant-loop-entry l = entry_for l.vsn (map entry_of (drop l.entry-index l.entries)) ≡ entry_for l.vsn (map entry_of l.entries)

@@ -1,0 +1,29 @@
+//! An appup, as its file has it.
+use crate::AppupInstr;
+
+/// The version of an application at the other end of an entry.
+#[derive(Debug, PartialEq, Drop)]
+pub enum OtherVersion {
+    /// This version.
+    Text(String),
+    /// The versions that a regular expression matches, which a binary is.
+    Pattern(Vec<u8>),
+}
+
+/// The instructions between a version of an application and another one.
+#[derive(Debug, PartialEq, Drop)]
+pub struct AppupEntry {
+    pub vsn: OtherVersion,
+    pub instrs: Vec<AppupInstr>,
+}
+
+/// What an appup file says.
+#[derive(Debug, PartialEq, Drop)]
+pub struct Appup {
+    /// The version of the application that the file belongs to.
+    pub vsn: String,
+    /// The upgrades to this version, each with the version that it starts from.
+    pub ups: Vec<AppupEntry>,
+    /// The downgrades from this version, each with the version that it leads to.
+    pub downs: Vec<AppupEntry>,
+}

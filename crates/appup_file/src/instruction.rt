@@ -1,0 +1,81 @@
+//! The instructions of an appup (OTP: appup(4)). What is not written of one has its default.
+
+use erl_term::Term;
+use rel_files::StartType;
+use relup_file::{Instr, PurgeMode, Timeout};
+
+/// Whether the processes of a module go over to new code of it by themselves.
+#[derive(Clone, Copy, Debug, PartialEq, Eq)]
+pub enum ModType {
+    /// They don't. Code is loaded before states are changed, in both directions.
+    Static,
+    /// They do. Going down, states are changed before code is loaded. The default.
+    Dynamic,
+}
+
+/// What an update asks of the processes of a module.
+#[derive(Debug, PartialEq, Drop)]
+pub enum StateChange {
+    /// Their states stay. The default.
+    Soft,
+    /// `{advanced, Extra}`: their states are changed, with this term.
+    Advanced(Term),
+}
+
+/// `{update, Mod, ModType, Timeout, Change, PrePurge, PostPurge, DepMods}`.
+#[derive(Debug, PartialEq, Drop)]
+pub struct Update {
+    pub name: String,
+    pub mod_type: ModType,
+    /// `default` by default.
+    pub timeout: Timeout,
+    pub change: StateChange,
+    /// `brutal_purge` by default, as is the other.
+    pub pre: PurgeMode,
+    pub post: PurgeMode,
+    /// The modules on which it depends, none by default.
+    pub dep_mods: Vec<String>,
+}
+
+/// `{load_module, Mod, PrePurge, PostPurge, DepMods}`.
+#[derive(Debug, PartialEq, Drop)]
+pub struct ModuleLoad {
+    pub name: String,
+    /// `brutal_purge` by default, as is the other.
+    pub pre: PurgeMode,
+    pub post: PurgeMode,
+    /// The modules on which it depends, none by default.
+    pub dep_mods: Vec<String>,
+}
+
+/// `{add_module, Mod, DepMods}` or `{delete_module, Mod, DepMods}`, without the word.
+#[derive(Debug, PartialEq, Drop)]
+pub struct Dependent {
+    pub name: String,
+    /// The modules on which it depends, none by default.
+    pub dep_mods: Vec<String>,
+}
+
+/// `{add_application, Application, Type}`.
+#[derive(Debug, PartialEq, Drop)]
+pub struct AddedApp {
+    pub name: String,
+    /// `permanent` by default.
+    pub start: StartType,
+}
+
+/// An instruction of an appup.
+#[derive(Debug, PartialEq, Drop)]
+pub enum AppupInstr {
+    Update(Update),
+    /// `{update, Mod, supervisor}`.
+    UpdateSupervisor(String),
+    LoadModule(ModuleLoad),
+    AddModule(Dependent),
+    DeleteModule(Dependent),
+    AddApplication(AddedApp),
+    RemoveApplication(String),
+    RestartApplication(String),
+    /// An instruction that a relup may have too.
+    LowLevel(Instr),
+}

@@ -1,0 +1,146 @@
+-- What may stand where in a script, and why a script isn't run (OTP: appup(4); what stands before the point is this project's own).
+use Rattle.std.specs.Prelude.{◌≡◌, ◌⊎◌, ℕ, ◌+◌, ◌<◌, Bool, true, false, ◌&&◌, ◌||◌, IsTrue, List, [], ◌∷◌, ◌++◌, length, Option, None, Some, is_some, codes, if◌then◌else◌}
+use Rattle.std.specs.List.{AllByRecursion}
+use Rattle.std.specs.Option.{option_map}
+use Rattle.std.specs.Str.{bytes_eq}
+use Rattle.erl_term.specs.Value.{Values}
+use Rattle.erl_term.specs.Value.Value.{atom}
+use Rattle.erl_term.specs.Value.Values.{no_values, value}
+use Rattle.relup_script.specs.declared.fault.ScriptFault.{ScriptFault}
+use Rattle.relup_script.specs.declared.fault.ScriptFault.TheVariants.{NoPoint, TwoPoints, Misplaced, Unsupported}
+use Rattle.relup_script.specs.declared.script.Side.{Side}
+use Rattle.relup_script.specs.declared.script.Side.TheVariants.{Early, Late}
+use Rattle.relup_file.specs.Instruction.{CallForm, Instruction}
+use Rattle.relup_file.specs.Instruction.Instruction.{load_object_code, point_of_no_return, suspend, load, code_change, apply, sync_nodes, restart_new_emulator, restart_emulator}
+
+-- [Application]
+abbrev pub is_app : Values → Bool
+is_app (value (atom app) no_values) = true
+is_app vs = false
+
+-- a type with which an application is started
+abbrev pub is_start_word : List ℕ → Bool
+is_start_word s = bytes_eq s (codes "permanent") || bytes_eq s (codes "transient") || bytes_eq s (codes "temporary")
+
+-- [Application, Type]
+abbrev pub is_typed_app : Values → Bool
+is_typed_app (value (atom app) (value (atom start) no_values)) = is_start_word start
+is_typed_app vs = false
+
+-- erlang:error/1
+abbrev pub has_one : Values → Bool
+has_one (value v no_values) = true
+has_one vs = false
+
+abbrev pub is_error : CallForm → Bool
+is_error c = bytes_eq c.name (codes "erlang") && (bytes_eq c.function (codes "error") && has_one c.args)
+
+-- application:start/1, start/2, stop/1, load/1 and unload/1
+abbrev pub is_one_app_word : List ℕ → Bool
+is_one_app_word s = bytes_eq s (codes "start") || bytes_eq s (codes "stop") || bytes_eq s (codes "load") || bytes_eq s (codes "unload")
+
+abbrev pub is_application : CallForm → Bool
+is_application c =
+    bytes_eq c.name (codes "application")
+    && ((is_one_app_word c.function && is_app c.args) || (bytes_eq c.function (codes "start") && is_typed_app c.args))
+
+abbrev pub is_point : Instruction → Bool
+is_point point_of_no_return = true
+is_point i = false
+
+-- what is run at all
+abbrev pub is_supported : Instruction → Bool
+is_supported (apply c) = is_error c || is_application c
+is_supported (sync_nodes vs) = false
+is_supported restart_new_emulator = false
+is_supported restart_emulator = false
+is_supported i = true
+
+-- what may stand before the point of no return
+abbrev pub may_precede : Instruction → Bool
+may_precede (load_object_code f) = true
+may_precede (suspend ss) = true
+may_precede (load p) = true
+may_precede (code_change c) = true
+may_precede (apply c) = is_error c
+may_precede i = false
+
+-- what may stand behind it
+abbrev pub may_follow : Instruction → Bool
+may_follow (load_object_code f) = false
+may_follow point_of_no_return = false
+may_follow i = true
+
+abbrev pub may_stand : Side → Instruction → Bool
+may_stand Early i = may_precede i
+may_stand Late i = may_follow i
+
+-- The instruction is run on this side of the point.
+abbrev pub IsRight : Side → Instruction → Type 0
+IsRight side i = IsTrue (is_supported i && may_stand side i)
+
+-- how many points of no return there are
+abbrev pub points : List Instruction → ℕ
+points [] = 0
+points (i ∷ is) = (if is_point i then 1 else 0) + points is
+
+-- The script has one point of no return, and each of its instructions stands on its side of it.
+pub record IsRunnable (script : List Instruction) : Type 0 where
+  pub before : List Instruction
+  pub after : List Instruction
+  pub is : script ≡ before ++ (point_of_no_return ∷ after)
+  pub early : AllByRecursion (IsRight Early) before
+  pub late : AllByRecursion (IsRight Late) after
+
+-- what is wrong with an instruction that has this number
+abbrev pub fault_at : Side → ℕ → Instruction → Option ScriptFault
+fault_at side n i =
+    if is_supported i then (if may_stand side i then None else Some (Misplaced n))
+    else Some (Unsupported n)
+
+-- The first instruction at fault on this side, which begins behind so many instructions, has this fault.
+pub record IsFirstFault (side : Side) (n : ℕ) (part : List Instruction) (f : ScriptFault) : Type 0 where
+  pub front : List Instruction
+  pub wrong : Instruction
+  pub rest : List Instruction
+  pub is : part ≡ front ++ (wrong ∷ rest)
+  pub right : AllByRecursion (IsRight side) front
+  pub fault : fault_at side (n + (length front + 1)) wrong ≡ Some f
+
+-- The script has one point of no return, and an instruction before it has this fault, or none and one behind it.
+pub record HasWrong (script : List Instruction) (f : ScriptFault) : Type 0 where
+  pub before : List Instruction
+  pub after : List Instruction
+  pub is : script ≡ before ++ (point_of_no_return ∷ after)
+  pub one : points script ≡ 1
+  pub first : IsFirstFault Early 0 before f ⊎ (AllByRecursion (IsRight Early) before × IsFirstFault Late (length before + 1) after f)
+
+-- The fault of a script: of several the first in the order of their kinds; of instructions the first one's.
+abbrev pub IsScriptFault : List Instruction → ScriptFault → Type 0
+IsScriptFault script NoPoint = points script ≡ 0
+IsScriptFault script TwoPoints = 1 < points script
+IsScriptFault script f = HasWrong script f
+
+-- how it is found: what stands before and behind the first point
+abbrev pub split_point : List Instruction → Option (List Instruction × List Instruction)
+split_point [] = None
+split_point (i ∷ is) = if is_point i then Some ([], is) else option_map (λ p. (i ∷ p.0, p.1)) (split_point is)
+
+-- the first of two faults
+abbrev pub first_fault : Option ScriptFault → Option ScriptFault → Option ScriptFault
+first_fault (Some f) o = Some f
+first_fault None o = o
+
+-- the first fault on a side, behind so many instructions
+abbrev pub part_fault : Side → ℕ → List Instruction → Option ScriptFault
+part_fault side n [] = None
+part_fault side n (i ∷ is) = first_fault (fault_at side (n + 1) i) (part_fault side (n + 1) is)
+
+abbrev pub split_fault : Option (List Instruction × List Instruction) → Option ScriptFault
+split_fault None = Some NoPoint
+split_fault (Some p) =
+    if is_some (split_point p.1) then Some TwoPoints
+    else first_fault (part_fault Early 0 p.0) (part_fault Late (length p.0 + 1) p.1)
+
+abbrev pub script_fault : List Instruction → Option ScriptFault
+script_fault script = split_fault (split_point script)

@@ -1,0 +1,69 @@
+//! The calls that a script can make.
+ghost use Rattle.std.specs.Prelude.{◌≡◌};
+ghost use Rattle.erl_term.specs.Value.{members_of};
+ghost use Rattle.relup_file.specs.Instruction.{call_of};
+ghost use Rattle.relup_script.specs.Script.{is_app, is_start_word, is_typed_app, has_one, is_error, is_one_app_word, is_application};
+
+use erl_term::Term;
+use relup_file::Call;
+
+fn is_app(args: &[Term]) -> bool
+    ensures { result ≡ is_app (members_of args.now) }
+{
+    match args.split_first() {
+        Some((Term::Atom(_), rest)) => rest.split_first().is_none(),
+        _ => false,
+    }
+}
+
+fn is_start_word(word: &str) -> bool
+    ensures { result ≡ is_start_word word.now }
+{
+    word == "permanent" || word == "transient" || word == "temporary"
+}
+
+fn is_typed_app(args: &[Term]) -> bool
+    ensures { result ≡ is_typed_app (members_of args.now) }
+{
+    match args.split_first() {
+        Some((Term::Atom(_), rest)) => match rest.split_first() {
+            Some((Term::Atom(word), rest)) => {
+                rest.split_first().is_none() && is_start_word(word.as_str())
+            }
+            _ => false,
+        },
+        _ => false,
+    }
+}
+
+fn has_one(args: &[Term]) -> bool
+    ensures { result ≡ has_one (members_of args.now) }
+{
+    match args.split_first() {
+        Some((_, rest)) => rest.split_first().is_none(),
+        None => false,
+    }
+}
+
+// `erlang:error/1`.
+pub(crate) fn is_error(call: &Call) -> bool
+    ensures { result ≡ is_error (call_of call.now) }
+{
+    call.name.as_str() == "erlang" && call.function.as_str() == "error" && has_one(&call.args)
+}
+
+fn is_one_app_word(word: &str) -> bool
+    ensures { result ≡ is_one_app_word word.now }
+{
+    word == "start" || word == "stop" || word == "load" || word == "unload"
+}
+
+// `application:start/1`, `start/2`, `stop/1`, `load/1` and `unload/1`.
+pub(crate) fn is_application(call: &Call) -> bool
+    ensures { result ≡ is_application (call_of call.now) }
+{
+    let function = call.function.as_str();
+    call.name.as_str() == "application"
+        && ((is_one_app_word(function) && is_app(&call.args))
+            || (function == "start" && is_typed_app(&call.args)))
+}

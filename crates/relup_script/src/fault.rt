@@ -1,0 +1,33 @@
+//! Why a script isn't run.
+use std::fmt::{self, Display, Formatter};
+
+/// Why a script isn't run. An instruction is told by its place, counted from 1. It is shown by its name alone.
+#[derive(Clone, Copy, Debug, PartialEq, Eq)]
+pub enum ScriptFault {
+    /// It has no point of no return.
+    NoPoint,
+    /// It has more than one.
+    TwoPoints,
+    /// The first instruction at fault stands on the wrong side of the point.
+    Misplaced(usize),
+    /// The first instruction at fault can't be run anywhere.
+    Unsupported(usize),
+}
+
+impl Display for ScriptFault {
+    ghost use Rattle.std.specs.Prelude.{Some};
+    ghost use Rattle.relup_script.specs.Fault.{script_fault_text};
+
+    ghost output = { λ f. Some (script_fault_text f) };
+
+    fn fmt<W: fmt::Write>(&self, f: &mut Formatter<W>) -> fmt::Result {
+        match self {
+            ScriptFault::NoPoint => f.write_str("NoPoint"),
+            ScriptFault::TwoPoints => f.write_str("TwoPoints"),
+            ScriptFault::Misplaced(_) => f.write_str("Misplaced"),
+            ScriptFault::Unsupported(_) => f.write_str("Unsupported"),
+        }
+    }
+}
+
+impl std::error::Error for ScriptFault {}

@@ -1,0 +1,18 @@
+//! The scripts of relups: whether one can be run, and which one leads from a release to another (OTP: appup(4),
+//! release_handler(3)).
+//!
+//! [`check`] takes a script exactly where it has one point of no return and each instruction stands on a side of it where
+//! it is run, and else tells its fault (`runnable`, `fault`). [`find_script`] gives the script between two releases by its
+//! rule. Neither takes memory.
+//!
+//! Trusted: the toolchain alone.
+#![tactic(auto)]
+
+mod calls;
+mod fault;
+mod script;
+mod search;
+
+pub use fault::ScriptFault;
+pub use script::check;
+pub use search::{Found, NoMatchingRelup, find_script};
