@@ -45,50 +45,104 @@ fn unpack<D: Disk>(
     Ok(())
 }
 
-// What it answers to each of at most three further releases.
-fn unpack_all<D: Disk>(
+// What a node answers to the installation of the release of this version.
+fn install<D: Disk>(
     alloc: Global,
     node: &mut Handler<D>,
-    names: &str,
+    vsn: &str,
+    text: &mut String,
+) -> Result<(), Fail>
+    requires { IsSound D.seen D.may_leave node.old }
+    ensures { IsSound D.seen D.may_leave node.new }
+{
+    match node.install_release(alloc, vsn) {
+        Ok(installed) => write!(text, " other {}", installed.other)?,
+        Err(error) => write!(text, " {error}")?,
+    }
+    Ok(())
+}
+
+// What a node answers to the removal of the release of this version.
+fn remove<D: Disk>(
+    alloc: Global,
+    node: &mut Handler<D>,
+    vsn: &str,
+    text: &mut String,
+) -> Result<(), Fail>
+    requires { IsSound D.seen D.may_leave node.old }
+    ensures { IsSound D.seen D.may_leave node.new }
+{
+    match node.remove_release(alloc, vsn) {
+        Ok(()) => text.push_str(" ok")?,
+        Err(error) => write!(text, " {error}")?,
+    }
+    Ok(())
+}
+
+// What a node answers to a command, where one is given: `+B` installs B, `-B` removes it, and `B` takes it in.
+fn command<D: Disk>(
+    alloc: Global,
+    node: &mut Handler<D>,
+    word: &str,
+    text: &mut String,
+) -> Result<(), Fail>
+    requires { IsSound D.seen D.may_leave node.old }
+    ensures { IsSound D.seen D.may_leave node.new }
+{
+    if let Some(vsn) = word.strip_prefix('+') {
+        return install(alloc, node, vsn, text);
+    }
+    if let Some(vsn) = word.strip_prefix('-') {
+        return remove(alloc, node, vsn, text);
+    }
+    unpack(alloc, node, word, text)
+}
+
+// What it answers to each of at most three commands.
+fn command_all<D: Disk>(
+    alloc: Global,
+    node: &mut Handler<D>,
+    commands: &str,
     text: &mut String,
 ) -> Result<(), Fail>
     requires { IsSound D.seen D.may_leave node.old }
 {
-    let (first, more) = names.split_once(' ').unwrap_or((names, ""));
+    let (first, more) = commands.split_once(' ').unwrap_or((commands, ""));
     let (second, third) = more.split_once(' ').unwrap_or((more, ""));
-    unpack(alloc, node, first, text)?;
-    unpack(alloc, node, second, text)?;
-    unpack(alloc, node, third, text)
+    command(alloc, node, first, text)?;
+    command(alloc, node, second, text)?;
+    command(alloc, node, third, text)
 }
 
-// Its releases, and where further ones are named, what it answers to them, whether it is dead then, and its releases.
-// Hands the disk back.
+// Its releases, and where commands are given, what it answers to them, whether it is dead then, and its releases. Hands
+// the disk back.
 fn follow_node<D: Disk + Drop>(
     alloc: Global,
     node: Handler<D>,
-    names: &str,
+    commands: &str,
     text: &mut String,
 ) -> Result<D, Fail>
     requires { IsSound D.seen D.may_leave node }
 {
     let mut node = node;
     releases(&node, text)?;
-    if !names.is_empty() {
-        unpack_all(alloc, &mut node, names, text)?;
+    if !commands.is_empty() {
+        command_all(alloc, &mut node, commands, text)?;
         text.push_str(if node.is_dead() { " dead" } else { " open" })?;
         releases(&node, text)?;
     }
     Ok(node.into_disk())
 }
 
-// What a node answers that is made of the first of these releases on this disk and given the others, or why none is made.
+// What a node answers that is made of the first of these words, a release, on this disk and given the others as commands,
+// or why none is made.
 pub(crate) fn create<D: Disk + Drop>(
     alloc: Global,
     disk: D,
-    names: &str,
+    words: &str,
     text: &mut String,
 ) -> Result<D, Fail> {
-    let (first, more) = names.split_once(' ').unwrap_or((names, ""));
+    let (first, more) = words.split_once(' ').unwrap_or((words, ""));
     match Handler::create(alloc, disk, rel_file(alloc, first)?) {
         Ok(node) => follow_node(alloc, node, more, text),
         Err((error, disk)) => {
@@ -103,15 +157,15 @@ fn push_refusal(error: BootError, text: &mut String) -> Result<(), AllocError> {
     write!(text, " {error:?}")
 }
 
-// What the node on this disk answers that is given these releases, or why it isn't booted.
+// What the node on this disk answers that is given these commands, or why it isn't booted.
 pub(crate) fn boots<D: Disk + Drop>(
     alloc: Global,
     disk: D,
-    names: &str,
+    commands: &str,
     text: &mut String,
 ) -> Result<D, Fail> {
     match boot(alloc, disk) {
-        Ok(node) => follow_node(alloc, node, names, text),
+        Ok(node) => follow_node(alloc, node, commands, text),
         Err((error, disk)) => {
             push_refusal(error, text)?;
             Ok(disk)

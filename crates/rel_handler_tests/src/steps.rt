@@ -28,8 +28,8 @@ fn prepare(
     Ok(sound(disk))
 }
 
-// Follows a step. `create A B` makes a node of A and gives it B, `boot B C` boots the disk and gives the node B and C.
-// `fail 3` lets the third call from now on fail. Hands the disk back.
+// Follows a step. `create A B` makes a node of A and gives it B, `boot +B -C` boots the disk and has the node install B and
+// remove C. `fail 3` lets the third call from now on fail. Hands the disk back.
 pub(crate) fn follow(
     alloc: Global,
     disk: FailDisk<MemDisk>,

@@ -5,7 +5,7 @@ use crate::fixtures::{
 };
 use crate::steps::{follow, same, shows};
 use rel_disk::{Disk, FailDisk, MemDisk};
-use rel_handler::MOST_RELEASES;
+use rel_records::MOST_RELEASES;
 use std::alloc::{AllocError, Global};
 use std::test::Fail;
 
@@ -36,6 +36,53 @@ fn bytes_of_a_node(rt: HostRuntime) -> Result<(), Fail> {
     let disk = create(alloc, new_disk(alloc)?, "A B", &mut String::new(alloc))?;
     let found = start_and_bodies(alloc, disk)?;
     assert_eq!(rt; found.as_slice(), START_AND_BODIES);
+    Ok(())
+}
+
+// Each installation tells the version that ran before. What was installed is unpacked behind a boot, and a release that was
+// removed is gone.
+const INSTALLED: &str = "\
+create A B +B +A => A permanent; ok other A other B open A permanent;B old;
+boot C +C -B => A permanent;B old; ok other A ok open A permanent;C current;
+boot B +B +C => A permanent;C unpacked; ok other A other B open A permanent;C current;B old;
+boot +B +C +A => A permanent;C unpacked;B old; other A other B other C open A permanent;C old;B old;
+boot -C -B => A permanent;C old;B old; ok ok open A permanent;
+boot => A permanent;
+";
+
+#[test]
+fn boot_behind_installations_and_removals(rt: HostRuntime) -> Result<(), Fail> {
+    shows(&rt, rt.alloc(), INSTALLED)
+}
+
+const REFUSED_CHANGES: &str = "\
+create A +A -A +B => A permanent; AlreadyInstalled Permanent NoSuchRelease open A permanent;
+boot B +B +B => A permanent; ok other A AlreadyInstalled open A permanent;B current;
+boot +B -B -A => A permanent;B unpacked; other A Running Permanent open A permanent;B current;
+boot -B -B => A permanent;B unpacked; ok NoSuchRelease open A permanent;
+";
+
+#[test]
+fn refused_installations_and_removals(rt: HostRuntime) -> Result<(), Fail> {
+    shows(&rt, rt.alloc(), REFUSED_CHANGES)
+}
+
+// The records of a further release that comes in, is installed, is old once the first one is installed, and leaves.
+const BODIES_OF_CHANGES: &[u8] = b"\x0714.2 A\n\0\
+{made,{release,{\"ch_rel\",\"A\"},{erts,\"14.2\"},[{app0,\"1\"}]},[],none}.\n\
+{unpacked,{release,{\"ch_rel\",\"B\"},{erts,\"14.2\"},[{app0,\"1\"}]},[],none}.\n\
+{status,[{\"B\",unpacked}]}.\n\
+{status,[{\"B\",old}]}.\n\
+{removed,\"B\"}.\n";
+
+#[test]
+fn bytes_of_changes(rt: HostRuntime) -> Result<(), Fail> {
+    let alloc = rt.alloc();
+    let mut text = String::new(alloc);
+    let disk = create(alloc, new_disk(alloc)?, "A B +B +A", &mut text)?;
+    let disk = boots(alloc, disk, "-B", &mut text)?;
+    let found = start_and_bodies(alloc, disk)?;
+    assert_eq!(rt; found.as_slice(), BODIES_OF_CHANGES);
     Ok(())
 }
 
@@ -304,6 +351,45 @@ fn each_call_of_a_command_fails(rt: HostRuntime) -> Result<(), Fail> {
         unpack_on_failing(alloc, call, &mut text)?;
     }
     same(&rt, text.as_str(), COMMANDS);
+    Ok(())
+}
+
+// What a node of A and B answers that installs B and then A and removes B where this call of the device fails, how often
+// it failed, and what a boot of the disk answers then.
+fn change_on_failing(alloc: Global, call: u64, text: &mut String) -> Result<(), Fail> {
+    let disk = create(alloc, new_disk(alloc)?, "A B", &mut String::new(alloc))?;
+    let disk = boots(alloc, FailDisk::new(disk, call), "+B +A -B", text)?;
+    let disk = follow(alloc, disk, "fail 0", text)?;
+    boots(alloc, disk, "", text)?;
+    text.push('\n')?;
+    Ok(())
+}
+
+// A boot of a node with two records has eight calls, so the first commit begins with the ninth.
+const CHANGES: &str = " \
+A permanent;B unpacked; Device Dead Dead dead Dead failures 1 A permanent;B unpacked;
+ A permanent;B unpacked; Device Dead Dead dead Dead failures 1 A permanent;B unpacked;
+ A permanent;B unpacked; Device Dead Dead dead Dead failures 1 A permanent;B unpacked;
+ A permanent;B unpacked; Device Dead Dead dead Dead failures 1 A permanent;B unpacked;
+ A permanent;B unpacked; other A Device Dead dead Dead failures 1 A permanent;B unpacked;
+ A permanent;B unpacked; other A Device Dead dead Dead failures 1 A permanent;B unpacked;
+ A permanent;B unpacked; other A Device Dead dead Dead failures 1 A permanent;B unpacked;
+ A permanent;B unpacked; other A Device Dead dead Dead failures 1 A permanent;B old;
+ A permanent;B unpacked; other A other B Device dead Dead failures 1 A permanent;B old;
+ A permanent;B unpacked; other A other B Device dead Dead failures 1 A permanent;B old;
+ A permanent;B unpacked; other A other B Device dead Dead failures 1 A permanent;B old;
+ A permanent;B unpacked; other A other B Device dead Dead failures 1 A permanent;
+ A permanent;B unpacked; other A other B ok open A permanent; failures 0 A permanent;
+";
+
+#[test]
+fn each_call_of_a_change_fails(rt: HostRuntime) -> Result<(), Fail> {
+    let alloc = rt.alloc();
+    let mut text = String::new(alloc);
+    for call in 9..22 {
+        change_on_failing(alloc, call, &mut text)?;
+    }
+    same(&rt, text.as_str(), CHANGES);
     Ok(())
 }
 

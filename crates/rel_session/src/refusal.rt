@@ -9,7 +9,8 @@ use rel_list::Status;
 use std::alloc::{AllocError, AllocFailed, Global};
 use thiserror::Error;
 
-/// Why the node refuses a command. Nothing has changed then, but after `Device`.
+/// Why the node refuses a command. Nothing has changed then, but after `Device`, and after a `NoMemory` that was met once
+/// the command was done.
 #[derive(Debug, Drop, Error)]
 pub enum Refusal {
     /// No release of this version is there.

@@ -4,7 +4,8 @@ use crate::sessions::{
 };
 use rel_disk::{FailDisk, MemDisk};
 use rel_session::SessionError;
-use std::alloc::Global;
+use std::alloc::{AllocError, Global};
+use std::cmp::Ordering;
 use std::process::Abort;
 use std::test::Fail;
 
@@ -136,6 +137,104 @@ fn sessions_go_on_behind_a_part_of_a_write(rt: HostRuntime) -> Result<(), Fail> 
     for call in 1..29 {
         let disk = FailDisk::failing_in_part(empty_disk(alloc)?, call);
         goes_on(&rt, alloc, disk, alike(call))?;
+    }
+    Ok(())
+}
+
+/// A release that comes in is installed, is old once the first one is installed again, and leaves.
+const CHANGES: &str = "install B\ninstall A\nremove B\n";
+
+/// What each command of that session answers where it is done, from the creation on.
+const DONE: [&str; 5] = [
+    "ok A\n",
+    "ok B\n",
+    "ok \"A\" [] []\n",
+    "ok \"B\" [] []\n",
+    "ok\n",
+];
+
+/// The command in which this call falls, from 0: a creation has seven calls, and each further command four.
+fn command_of(call: u64) -> usize {
+    match call {
+        1..=7 => 0,
+        8..=11 => 1,
+        12..=15 => 2,
+        16..=19 => 3,
+        20..=23 => 4,
+        _ => 5,
+    }
+}
+
+/// What is answered where the command of this number fails: those behind it find no node.
+fn answers_of(alloc: Global, failed: usize) -> Result<Vec<u8>, AllocError> {
+    let mut text = joined(alloc, ["ok\nok\n", "", ""])?;
+    for command in 0..5 {
+        let answer = match command.cmp(&failed) {
+            Ordering::Less => DONE[command],
+            Ordering::Equal => "error handler 16 Device\n",
+            Ordering::Greater => "error handler 18 Dead\n",
+        };
+        text.extend_from_slice(answer.as_bytes())?;
+    }
+    Ok(text)
+}
+
+const WITH_OLD: &str =
+    "ok A\n{\"ch_rel\",\"A\",[\"ch_app-1\"],permanent}\n{\"ch_rel\",\"B\",[\"ch_app-2\"],old}\nok 2\n";
+
+/// What the next session finds behind the commands whose records are there. What was installed is unpacked then.
+fn found_after(call: u64) -> &'static str {
+    match call {
+        1..=6 => NO_NODE,
+        7..=10 => FIRST,
+        11..=18 => BOTH,
+        19..=22 => WITH_OLD,
+        _ => FIRST,
+    }
+}
+
+/// The session of installations and removals on this disk, of which this call fails, and the next one, write so. The next
+/// one finds what it finds where that other call fails.
+fn changes_on(
+    rt: &impl Abort,
+    alloc: Global,
+    disk: FailDisk<MemDisk>,
+    call: u64,
+    found: u64,
+) -> Result<(), Fail> {
+    let input = joined(alloc, [TWO_RELEASES, CHANGES, ""])?;
+    let ran = session_on(alloc, disk, input.as_slice())?;
+    let written = with_next(alloc, ran.written, ran.disk.disk)?;
+    let mut wanted = answers_of(alloc, command_of(call))?;
+    wanted.extend_from_slice(found_after(found).as_bytes())?;
+    same(rt, written.as_slice(), wanted.as_slice());
+    Ok(())
+}
+
+#[test]
+fn each_device_call_of_changes_fails(rt: HostRuntime) -> Result<(), Fail> {
+    let alloc = rt.alloc();
+    for call in 1..25 {
+        let disk = FailDisk::new(empty_disk(alloc)?, call);
+        changes_on(&rt, alloc, disk, call, call)?;
+    }
+    Ok(())
+}
+
+/// The call without effect behind which the same is found as behind this one's part: the write of a gate is done.
+fn found_alike(call: u64) -> u64 {
+    match call {
+        6 | 10 | 14 | 18 | 22 => call + 1,
+        _ => call,
+    }
+}
+
+#[test]
+fn each_device_call_of_changes_fails_in_part(rt: HostRuntime) -> Result<(), Fail> {
+    let alloc = rt.alloc();
+    for call in 1..25 {
+        let disk = FailDisk::failing_in_part(empty_disk(alloc)?, call);
+        changes_on(&rt, alloc, disk, call, found_alike(call))?;
     }
     Ok(())
 }

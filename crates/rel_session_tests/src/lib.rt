@@ -8,6 +8,8 @@ mod devices;
 #[cfg(test)]
 mod failures;
 #[cfg(test)]
+mod installations;
+#[cfg(test)]
 mod limits;
 #[cfg(test)]
 mod sessions;
