@@ -166,11 +166,11 @@ fn command_of(call: u64) -> usize {
 }
 
 /// What is answered where the command of this number fails: those behind it find no node.
-fn answers_of(alloc: Global, failed: usize) -> Result<Vec<u8>, AllocError> {
+fn answers_of(alloc: Global, all_done: &[&str], failed: usize) -> Result<Vec<u8>, AllocError> {
     let mut text = joined(alloc, ["ok\nok\n", "", ""])?;
-    for command in 0..5 {
+    for (command, done) in all_done.iter().enumerate() {
         let answer = match command.cmp(&failed) {
-            Ordering::Less => DONE[command],
+            Ordering::Less => *done,
             Ordering::Equal => "error handler 16 Device\n",
             Ordering::Greater => "error handler 18 Dead\n",
         };
@@ -205,7 +205,7 @@ fn changes_on(
     let input = joined(alloc, [TWO_RELEASES, CHANGES, ""])?;
     let ran = session_on(alloc, disk, input.as_slice())?;
     let written = with_next(alloc, ran.written, ran.disk.disk)?;
-    let mut wanted = answers_of(alloc, command_of(call))?;
+    let mut wanted = answers_of(alloc, &DONE, command_of(call))?;
     wanted.extend_from_slice(found_after(found).as_bytes())?;
     same(rt, written.as_slice(), wanted.as_slice());
     Ok(())
@@ -235,6 +235,41 @@ fn each_device_call_of_changes_fails_in_part(rt: HostRuntime) -> Result<(), Fail
     for call in 1..25 {
         let disk = FailDisk::failing_in_part(empty_disk(alloc)?, call);
         changes_on(&rt, alloc, disk, call, found_alike(call))?;
+    }
+    Ok(())
+}
+
+/// A release that comes in is installed and made permanent.
+const TO_PERMANENT: &str = "install B\npermanent B\n";
+
+const ALL_PERMANENT: [&str; 4] = ["ok A\n", "ok B\n", "ok \"A\" [] []\n", "ok\n"];
+
+const WITH_NEW: &str =
+    "ok B\n{\"ch_rel\",\"A\",[\"ch_app-1\"],old}\n{\"ch_rel\",\"B\",[\"ch_app-2\"],permanent}\nok 2\n";
+
+/// The last command has eight calls: four for the list, and four for the start record.
+fn permanent_after(call: u64) -> &'static str {
+    match call {
+        1..=6 => NO_NODE,
+        7..=10 => FIRST,
+        11..=18 => BOTH,
+        _ => WITH_NEW,
+    }
+}
+
+/// Stopped before the start record, the list has the event.
+#[test]
+fn each_device_call_of_a_permanence_fails(rt: HostRuntime) -> Result<(), Fail> {
+    let alloc = rt.alloc();
+    for call in 1..25 {
+        let input = joined(alloc, [TWO_RELEASES, TO_PERMANENT, ""])?;
+        let disk = FailDisk::new(empty_disk(alloc)?, call);
+        let ran = session_on(alloc, disk, input.as_slice())?;
+        let written = with_next(alloc, ran.written, ran.disk.disk)?;
+        let failed = command_of(call).min(if call > 23 { 4 } else { 3 });
+        let mut wanted = answers_of(alloc, &ALL_PERMANENT, failed)?;
+        wanted.extend_from_slice(permanent_after(call).as_bytes())?;
+        same(&rt, written.as_slice(), wanted.as_slice());
     }
     Ok(())
 }

@@ -90,6 +90,57 @@ fn permanent_release_is_installed_again(rt: HostRuntime) -> Result<(), Fail> {
     all_answer(&rt, rt.alloc(), BACK)
 }
 
+// A release is made permanent once it runs, and not again.
+const PERMANENT: &str = r#"file a.rel
+{release,{"ch_rel","A"},{erts,"14.2"},[{ch_app,"1"}]}.
+.end
+file b.rel
+{release,{"ch_rel","B"},{erts,"14.2"},[{ch_app,"2"}]}.
+.end
+create a.rel
+permanent A
+set_unpacked b.rel
+permanent B
+permanent D
+install B
+permanent B
+permanent B
+releases
+install A
+boot
+permanent A
+remove A
+releases
+permanent
+permanent A B
+=>ok
+ok
+ok A
+error handler 4 BadStatus permanent
+ok B
+error handler 4 BadStatus unpacked
+error handler 1 NoSuchRelease
+ok "A" [] []
+ok
+error handler 4 BadStatus permanent
+{"ch_rel","A",["ch_app-1"],old}
+{"ch_rel","B",["ch_app-2"],permanent}
+ok 2
+ok "B" [] []
+ok B
+error handler 4 BadStatus unpacked
+ok
+{"ch_rel","B",["ch_app-2"],permanent}
+ok 1
+error session 1 BadCommand
+error session 1 BadCommand
+"#;
+
+#[test]
+fn permanent_twice(rt: HostRuntime) -> Result<(), Fail> {
+    all_answer(&rt, rt.alloc(), PERMANENT)
+}
+
 const BOOT_BETWEEN: &str = r#"file a.rel
 {release,{"ch_rel","A"},{erts,"14.2"},[{ch_app,"1"}]}.
 .end
