@@ -181,7 +181,8 @@ impl Update {
         row: (&Term, &Term, &Term, &Term),
     ) -> Result<Option<Update>, AllocError>
         ensures { IfOk result (λ o. option_map update_of o
-            ≡ with_timed (value_of timeout.now) (value_of row.entry.0.now) (value_of row.entry.1.now)
+            ≡ with_timed (value_of timeout.now) (value_of row.entry.0.now)
+            (value_of row.entry.1.now)
             (value_of row.entry.2.now) (value_of row.entry.3.now) (update_of self)) }
     {
         match self.with_timeout(timeout) {
