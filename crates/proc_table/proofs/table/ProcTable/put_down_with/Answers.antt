@@ -1,0 +1,7 @@
+use Rattle.std.proofs.Common.{subst, sym}
+use Rattle.proc_table.specs.Moves.{ByHandler}
+use Rattle.proc_table.proofs.Releasing.{entries_by_handler}
+use Rattle.proc_table.proofs.table.ProcTable.put_down_with.Goals as goal
+
+pub put_down-requires-clause-by : goal.put_down-requires-clause-by
+put_down-requires-clause-by g c = subst ByHandler (sym c.requires.added) (entries_by_handler c.args.value c.args.entries.now)

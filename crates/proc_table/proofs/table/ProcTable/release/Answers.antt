@@ -1,0 +1,20 @@
+use Rattle.proc_table.specs.Releases.{entries_of}
+use Rattle.proc_table.proofs.Holding.{release_made}
+use Rattle.proc_table.proofs.Releasing.{entries_by_handler}
+use Rattle.proc_table.proofs.table.ProcTable.release.Goals as goal
+
+pub invariant_of-seat : goal.invariant_of-seat
+invariant_of-seat c =
+    let x = c.held.inside.value in
+    let legal = rw (← c.seat.view_is, ← c.held.view_is) at c.requires.legal in
+    let made = release_made c.held.inside.slot c.seat.inside.seat.me.0 _ (entries_of x c.args.entries.now) c.held.invariant c.seat.invariant.1
+    (entries_by_handler x c.args.entries.now) legal c.put_down_with.ensures.gave in
+    (made.empty, made.handler)
+
+pub returns-clause-released : goal.returns-clause-released
+returns-clause-released c =
+    let x = c.held.inside.value in
+    let legal = rw (← c.seat.view_is, ← c.held.view_is) at c.requires.legal in
+    let made = release_made c.held.inside.slot c.seat.inside.seat.me.0 _ (entries_of x c.args.entries.now) c.held.invariant c.seat.invariant.1
+    (entries_by_handler x c.args.entries.now) legal c.put_down_with.ensures.gave in
+    rw (← c.seat.view_is, ← c.held.view_is) made.released

@@ -1,0 +1,17 @@
+pub mod Events
+pub mod Parts
+pub mod Codes
+pub mod Values
+pub mod Outcomes
+pub mod Histories
+pub mod Views
+pub mod Agrees
+pub mod Moves
+pub mod Steps
+pub mod Seats
+pub mod Calls
+pub mod Holds
+pub mod Releases
+pub mod Waits
+pub mod Begins
+pub mod Together

@@ -1,0 +1,24 @@
+//! Laws of the definitions themselves. Each function does nothing: its contract is the law.
+ghost use Rattle.proc_table.specs.Moves.{RunsAgree, ReachedAgrees, HeldAlone};
+ghost use Rattle.proc_table.specs.Together.{TwoClients};
+
+/// Every run of the kinds of step, by any number of passes, keeps agreement.
+pub fn every_run_keeps_agreement()
+    ensures { RunsAgree }
+{}
+
+/// What a run from the start leads to agrees.
+pub fn what_is_reached_agrees()
+    ensures { ReachedAgrees }
+{}
+
+/// While the handler or a client has a process, no other has it, and so no call of it is answered.
+pub fn who_has_a_process_has_it_alone()
+    ensures { HeldAlone }
+{}
+
+/// Two clients that called one process, and then met, see one legal history, in which the calls of each stand, in order and
+/// each once.
+pub fn two_clients_see_one_history()
+    ensures { TwoClients }
+{}

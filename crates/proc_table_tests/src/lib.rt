@@ -1,0 +1,10 @@
+//! Tests of `proc_table`: what clients see of a process that others call and hold; a slot that is used again, and one whose
+//! rounds are used up.
+#![tactic(auto)]
+
+#[cfg(test)]
+mod fixtures;
+#[cfg(test)]
+mod rounds;
+#[cfg(test)]
+mod tests;
