@@ -37,7 +37,12 @@ pub(crate) fn ch3<R: Abort + Wait>(
     requires { seat.old.table ≡ table.now }
     ensures { seat.new.table ≡ seat.old.table }
 {
-    match table.begin(rt, seat, slot(rt, at), begins(rt, alloc, Restart::Permanent)) {
+    match table.begin(
+        rt,
+        seat,
+        slot(rt, at),
+        begins(rt, alloc, Restart::Permanent),
+    ) {
         Ok(pid) => pid,
         Err(_) => panic!(rt; "nothing stands in the slot"),
     }

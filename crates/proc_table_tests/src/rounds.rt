@@ -9,7 +9,12 @@ fn a_slot_is_used_again_with_the_next_round(rt: HostRuntime) -> Result<(), Fail>
     let (table, mut seat) = ProcTable::new(rt.alloc())?;
     let first = ch3(&rt, rt.alloc(), &table, &mut seat, 7);
     let refused = table
-        .begin(&rt, &mut seat, first, begins(&rt, rt.alloc(), Restart::Permanent))
+        .begin(
+            &rt,
+            &mut seat,
+            first,
+            begins(&rt, rt.alloc(), Restart::Permanent),
+        )
         .is_err();
     table.give_up(&rt, &mut seat, first);
     let second = ch3(&rt, rt.alloc(), &table, &mut seat, 7);

@@ -42,16 +42,29 @@ fn calls_and_restarts(rt: HostRuntime) -> Result<(), Fail> {
     let again = table.try_call(&mut pass, pid, 1);
     let crashed = table.try_call(&mut pass, pid, 9);
     let state = table.try_peek(&mut pass, pid);
-    assert!(rt; [one, two, ended, again, crashed]
-        == [Tried::Done(1), Tried::Done(2), Tried::Ended(9), Tried::Done(1), Tried::Crashed]
-        && state == Peeked::Seen(0));
+    assert!(rt;
+        [one, two, ended, again, crashed]
+            == [
+                Tried::Done(1),
+                Tried::Done(2),
+                Tried::Ended(9),
+                Tried::Done(1),
+                Tried::Crashed
+            ]
+            && state == Peeked::Seen(0)
+    );
     Ok(())
 }
 
 #[test]
 fn a_temporary_process_stays_down(rt: HostRuntime) -> Result<(), Fail> {
     let (table, mut seat) = ProcTable::new(rt.alloc())?;
-    let Ok(pid) = table.begin(&rt, &mut seat, slot(&rt, 5), begins(&rt, rt.alloc(), Restart::Temporary)) else {
+    let Ok(pid) = table.begin(
+        &rt,
+        &mut seat,
+        slot(&rt, 5),
+        begins(&rt, rt.alloc(), Restart::Temporary),
+    ) else {
         panic!(rt; "nothing stands in the slot")
     };
     let mut pass = table.new_pass(&mut seat);
