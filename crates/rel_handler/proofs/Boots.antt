@@ -1,6 +1,8 @@
 -- A node that is booted, and one that is made.
-use Rattle.std.proofs.Common.{◌≡◌, inl, inr, ◌⊎◌, ℕ, true, false, List, [], ◌∷◌, Ok, refl, sym, ap, ◌∙◌, subst}
+use Rattle.std.proofs.Common.{◌≡◌, inl, inr, ◌⊎◌, ℕ, ◌≤◌, true, false, List, [], ◌∷◌, Ok, refl, sym, ap, ◌∙◌, subst}
+use Rattle.rel_disk.specs.Moments.{LeavesOnly}
 use Rattle.rel_disk.proofs.Moments.{started, weakened}
+use Rattle.rel_files.specs.File.{HasVersions}
 use Rattle.rel_files.specs.Release.{Release}
 use Rattle.rel_list.specs.declared.status.Status.TheVariants.{Permanent}
 use Rattle.rel_list.specs.Releases.{Releases}
@@ -14,14 +16,16 @@ use Rattle.rel_records.specs.declared.fault.RecordsError.{RecordsError}
 use Rattle.rel_records.specs.declared.fault.RecordsError.TheVariants as fault
 use Rattle.rel_records.proofs.ListLemmas.{makes_not_bad}
 use Rattle.rel_records.proofs.RecordLaws.{as_booted}
+use Rattle.rel_store.specs.Contents.{HasOnlyRead, IsSyncedAt}
 use Rattle.rel_store.specs.Creation.{IsNoneOrNew, IsBegunAt, IsUnwritten, Creates}
 use Rattle.rel_store.specs.Moments.{IsTornFrom}
 use Rattle.rel_store.specs.Records.{records_of}
 use Rattle.rel_store.specs.State as store
 use Rattle.rel_store.specs.declared.store.Store.{Store}
 use Rattle.rel_handler.specs.Events.{Known, doubted, IsNoneOrOfPrefix}
+use Rattle.rel_handler.specs.Files.{start_text}
 use Rattle.rel_handler.specs.Image.{IsImageOf}
-use Rattle.rel_handler.specs.Moments.{Begins, BeginsAt}
+use Rattle.rel_handler.specs.Moments.{Begins, BeginsAt, SettlesAt}
 use Rattle.rel_handler.specs.Refusals.{told_records}
 use Rattle.rel_handler.specs.State.{IsSound}
 use Rattle.rel_handler.specs.declared.error.BootError.{BootError}
@@ -45,6 +49,16 @@ image_so c bodies records es same makes_it read = (record { bodies = records; st
 pub read_so : (c : List ℕ) (bodies records : List (List ℕ)) → bodies ≡ records → records_of c ≡ Ok records → records_of c ≡ Ok bodies
 read_so c bodies records same read = read ∙ ap (λ bs. Ok bs) (sym same)
 
+-- A run of calls that leaves what a read gives, and nothing new, only reads.
+module _ {D : Type 0} (seen : D → List ℕ) (may_leave : D → List ℕ → Type 0) (moment : D → ℕ) (left_since : D → ℕ → List ℕ → Type 0) (counts_now : (disk : D) (t : ℕ) (c : List ℕ) → t ≤ moment disk → may_leave disk c → left_since disk t c) where
+  pub only_reads : (old new : D) → seen new ≡ seen old → LeavesOnly moment left_since old new (may_leave old) → HasOnlyRead seen may_leave moment left_since old new
+  only_reads old new same leaves = record { same = same; crash = λ c now. leaves.each c (counts_now new (moment old) c leaves.later now); any_moment = leaves }
+
+-- the disk was synced, and then read alone
+pub settles_so : {D : Type 0} (seen : D → List ℕ) (may_leave : D → List ℕ → Type 0) (moment : D → ℕ) (left_since : D → ℕ → List ℕ → Type 0) (old new at : D) → IsSyncedAt seen may_leave moment left_since old new at
+    → SettlesAt seen may_leave moment left_since old new at
+settles_so seen may_leave moment left_since old new at s = record { until = s.until; from = weakened moment left_since at new (λ c. c ≡ seen old) _ (λ c is. inl is) s.from }
+
 -- the device failed, or memory was refused
 abbrev pub IsLack : BootError → Type 0
 IsLack e = (e ≡ boot.Device) ⊎ (e ≡ boot.NoMemory)
@@ -66,12 +80,12 @@ module _ {D : Type 0} (seen : D → List ℕ) (may_leave : D → List ℕ → Ty
   nothing_begun k = inl (started moment left_since disk (IsTornFrom (may_leave disk) 0 1) (λ c left. inl (only_now c left)))
 
 -- at each moment of a creation
-module _ {D : Type 0} (seen : D → List ℕ) (may_leave : D → List ℕ → Type 0) (moment : D → ℕ) (left_since : D → ℕ → List ℕ → Type 0) (r : Release) (body start : List ℕ) (small : is_small r ≡ true) (spelled : Spells body (makes r)) (old new : D) where
+module _ {D : Type 0} (seen : D → List ℕ) (may_leave : D → List ℕ → Type 0) (moment : D → ℕ) (left_since : D → ℕ → List ℕ → Type 0) (r : Release) (body start : List ℕ) (small : is_small r ≡ true) (versions : HasVersions r) (is : start ≡ start_text r) (spelled : Spells body (makes r)) (old new : D) where
   pub begins_at : (at : D) → IsBegunAt seen may_leave moment left_since body start old new at → BeginsAt seen may_leave moment left_since (doubted [] (made r)) old new at
   begins_at at begun = record {
     until = begun.until;
     synced = begun.synced;
-    from = weakened moment left_since at new (IsNoneOrNew body start) (IsNoneOrOfPrefix (doubted [] (made r))) (while_creating r body start small spelled) begun.from;
+    from = weakened moment left_since at new (IsNoneOrNew body start) (IsNoneOrOfPrefix (doubted [] (made r))) (while_creating r body start small versions is spelled) begun.from;
   }
 
   pub begins : Creates seen may_leave moment left_since body start old new → Begins seen may_leave moment left_since (doubted [] (made r)) old new

@@ -1,7 +1,7 @@
 -- A handler at rest, and one that commits an event.
-use Rattle.std.proofs.Common.{◌≡◌, inl, inr, ⊎_elim, ℕ, ◌+◌, ◌≤◌, true, false, List, [], ◌∷◌, ◌++◌, length, Some, Result, Ok, Err, refl, sym, ap, ◌∙◌, subst, arith}
+use Rattle.std.proofs.Common.{◌≡◌, ◌⊎◌, inl, inr, ⊎_elim, ℕ, ◌+◌, ◌≤◌, true, false, List, [], ◌∷◌, ◌++◌, length, Some, Result, Ok, Err, refl, sym, ap, ◌∙◌, subst, arith}
 use Rattle.std.proofs.lemmas.Bool.{cases_lt}
-use Rattle.std.specs.Prelude.{is_err, IfErr, IsErr, OnOk}
+use Rattle.std.specs.Prelude.{is_err, IfErr, IsErr, IsErrAnd, OnOk}
 use Rattle.rel_disk.specs.declared.disk.Disk.{Ghosts}
 use Rattle.rel_disk.specs.Moments.{LeavesOnly, HasFailed}
 use Rattle.rel_disk.proofs.Moments.{started, joined, weakened, both}
@@ -14,6 +14,7 @@ use Rattle.rel_records.specs.Reading.{Spells}
 use Rattle.rel_records.specs.Record.{adds}
 use Rattle.rel_records.proofs.EventRecords.{unpacked_tells}
 use Rattle.rel_records.proofs.RecordLaws.{make_versions}
+use Rattle.rel_store.specs.Contents.{HasOnlyRead}
 use Rattle.rel_store.specs.Changed.{LeavesOthers, IsInRecord, IsInOtherSlot}
 use Rattle.rel_store.specs.Layout.{slot_with, base_of}
 use Rattle.rel_store.proofs.Moments as stores
@@ -22,19 +23,21 @@ use Rattle.rel_store.specs.State as store
 use Rattle.rel_store.specs.declared.error.StoreError.{StoreError}
 use Rattle.rel_store.specs.declared.error.StoreError.TheVariants as fault
 use Rattle.rel_store.specs.declared.store.Store.{Store}
-use Rattle.rel_handler.specs.Commits.{Commits, IsDone, IsRecordFor, Keeps, IsStarted}
+use Rattle.rel_handler.specs.Commits.{Commits, IsDone, IsRecordFor, Keeps, HasStarted}
 use Rattle.rel_handler.specs.Events.{Events, uncertain, IsStoredAs}
-use Rattle.rel_handler.specs.Image.{IsImageAt, HasSpace}
+use Rattle.rel_handler.specs.Image.{IsImageAt, IsStarted, start_slot, HasSpace}
 use Rattle.rel_handler.specs.Refusals.{CommandRefused}
 use Rattle.rel_handler.specs.State.{disk_in, list_in, is_dead, end_in, start_in, IsSound, IsSame}
 use Rattle.rel_handler.specs.Taking.{commanded}
-use Rattle.start_record.specs.Text.{Versions, start_text as text_of_start}
+use Rattle.start_record.specs.Text.{Versions, AreVersions, SpellsStart, start_text as text_of_start}
+use Rattle.start_record.proofs.StartMoments.{reads_back}
+use Rattle.rel_list.proofs.PermanentLaws.{permanent_stays}
 use Rattle.rel_handler.specs.Files.{started as start_versions}
 use Rattle.rel_handler.specs.declared.error.HandlerError.{HandlerError}
 use Rattle.rel_handler.specs.declared.error.HandlerError.TheVariants.{Device}
 use Rattle.rel_handler.specs.declared.handler.Handler.{Handler}
 use Rattle.rel_handler.proofs.CommandLemmas.{commanded_step, small_and_few}
-use Rattle.rel_handler.proofs.Images.{ends_so, each_image, stored_before, stored_after, while_committing, with_record}
+use Rattle.rel_handler.proofs.Images.{ends_so, each_image, stored_before, stored_after, started_by, while_committing, with_record}
 
 -- what holds of a call that didn't fail
 pub opened : {T E : Type 0} (r : Result T E) (P : Type 0) → false ≡ is_err r → OnOk r P → P
@@ -49,6 +52,11 @@ no_success P (Err e) err = tt
 -- nothing changed
 pub all_same : {D : Type 0} (h : Handler D) → IsSame h h
 all_same h = record { disk = refl; list = refl; dead = refl; end = refl }
+
+-- the disk was not touched
+pub read_nothing : {D : Type 0} (v : Ghosts D) (h : Handler D) → ((c : List ℕ) → v.left_since (disk_in h) (v.moment (disk_in h)) c → v.may_leave (disk_in h) c)
+    → HasOnlyRead v.seen v.may_leave v.moment v.left_since (disk_in h) (disk_in h)
+read_nothing v h only_now = record { same = refl; crash = λ c now. now; any_moment = started v.moment v.left_since (disk_in h) (v.may_leave (disk_in h)) only_now }
 
 -- the releases of a list have versions as they have them behind a boot
 versions-booted : (es : Releases) → HaveVersions (booted es) → HaveVersions es
@@ -87,26 +95,30 @@ module _ {D : Type 0} (v : Ghosts D) (h : Handler D) (s : IsSound v.seen v.may_l
     image_now c now = each_image v.seen v.may_leave h.store (list_in h) settled_store (s.list alive) c now
 
     -- The start record is being written, and the records stay.
-    module _ (new : Store D) (sound : store.IsSoundStore v.seen v.may_leave new) (text other : List ℕ) (leaves : LeavesOnly v.moment v.left_since (disk_in h) (store.disk_in new) (StandsWithEither (store.records_in h.store) text other))
+    module _ (new : Store D) (sound : store.IsSoundStore v.seen v.may_leave new) (words : List ℕ) (leaves : LeavesOnly v.moment v.left_since (disk_in h) (store.disk_in new) (StandsWithEither (store.records_in h.store) (start_in v.seen h) (slot_with words)))
         (kept : LeavesOnly v.moment v.left_since (disk_in h) (store.disk_in new) (LeavesOthers (IsInOtherSlot (v.seen (disk_in h))) (v.seen (disk_in h))))
         (end : store.end_in new ≡ end_in h) (counted : v.failures (disk_in h) ≤ v.failures (store.disk_in new)) where
-      records_stay : (c : List ℕ) → StandsWithEither (store.records_in h.store) text other c → records_of c ≡ Ok (store.records_in h.store)
+      records_stay : (c : List ℕ) → StandsWithEither (store.records_in h.store) (start_in v.seen h) (slot_with words) c → records_of c ≡ Ok (store.records_in h.store)
       records_stay c (inl stands) = stands.records
       records_stay c (inr stands) = stands.records
 
-      starting : LeavesOnly v.moment v.left_since (disk_in h) (store.disk_in new) (λ c. IsImageAt c (list_in h) (end_in h))
+      either_slot : (c : List ℕ) → StandsWithEither (store.records_in h.store) (start_in v.seen h) (slot_with words) c → (start_slot c ≡ start_in v.seen h) ⊎ (start_slot c ≡ slot_with words)
+      either_slot c (inl stands) = inl stands.start
+      either_slot c (inr stands) = inr stands.start
+
+      starting : LeavesOnly v.moment v.left_since (disk_in h) (store.disk_in new) (λ c. IsImageAt c (list_in h) (end_in h) × ((start_slot c ≡ start_in v.seen h) ⊎ (start_slot c ≡ slot_with words)))
       starting =
-          weakened v.moment v.left_since (disk_in h) (store.disk_in new) _ (λ c. IsImageAt c (list_in h) (end_in h))
-          (λ c either. record {
+          weakened v.moment v.left_since (disk_in h) (store.disk_in new) _ (λ c. IsImageAt c (list_in h) (end_in h) × ((start_slot c ≡ start_in v.seen h) ⊎ (start_slot c ≡ slot_with words)))
+          (λ c either. (record {
             image_of = record { bodies = store.records_in h.store; store = records_stay c either.0; list = s.list alive };
             ends =
                 ends_so c (store.records_in h.store) (base_of (v.seen (disk_in h))) (records_stay c either.0) (stores.base_kept_by_start v.moment v.left_since v.seen v.may_leave h.store settled_store c either.1)
                 ∙ ap (λ g. g + 1) (sym settled_store.end);
-          })
+          }, either_slot c either.0))
           (both v.moment v.left_since (disk_in h) (store.disk_in new) _ _ leaves kept)
 
       -- the device failed in it
-      pub keeps_dead : Keeps v h (record { store = new; list = h.list; dead = true })
+      pub keeps_dead : Keeps v words h (record { store = new; list = h.list; dead = true })
       keeps_dead = record {
         sound = record { store = sound; works = λ living. cc living; list = λ living. cc living };
         list = refl;
@@ -120,7 +132,7 @@ module _ {D : Type 0} (v : Ghosts D) (h : Handler D) (s : IsSound v.seen v.may_l
         makes_still : Makes (store.records_in new) (booted h.list)
         makes_still = subst (λ bodies. Makes bodies (booted h.list)) (sym records) (s.list alive)
 
-        pub keeps : Keeps v h (record { store = new; list = h.list; dead = false })
+        pub keeps : Keeps v words h (record { store = new; list = h.list; dead = false })
         keeps = record {
           sound = record { store = sound; works = λ living. settled.works; list = λ living. makes_still };
           list = refl;
@@ -129,16 +141,16 @@ module _ {D : Type 0} (v : Ghosts D) (h : Handler D) (s : IsSound v.seen v.may_l
           counted = counted;
         }
 
-        pub images_still : (c : List ℕ) → v.may_leave (store.disk_in new) c → IsImageAt c h.list (store.end_in new)
-        images_still c now = each_image v.seen v.may_leave new h.list settled makes_still c now
+        pub images_still : store.text_in v.seen new ≡ slot_with words → (c : List ℕ) → v.may_leave (store.disk_in new) c → IsImageAt c h.list (store.end_in new) × (start_slot c ≡ slot_with words)
+        images_still written c now = (each_image v.seen v.may_leave new h.list settled makes_still c now, ap (λ l. start_slot l) (settled.durable c now) ∙ written)
 
   module _ (only_now : (c : List ℕ) → v.left_since (disk_in h) (v.moment (disk_in h)) c → v.may_leave (disk_in h) c) (e : Event) (size : ℕ) where
     -- a command that hasn't touched the disk
-    resting : (new : D) → new ≡ disk_in h → is_dead h ≡ false → (events : Events) → list_after events ≡ Some (list_in h)
+    resting : (new : D) → new ≡ disk_in h → is_dead h ≡ false → HasStarted v h → (events : Events) → list_after events ≡ Some (list_in h)
         → LeavesOnly v.moment v.left_since (disk_in h) new (IsStoredAs (uncertain events (end_in h) e size))
-    resting new same alive events after =
+    resting new same alive started_now events after =
         subst (λ d. LeavesOnly v.moment v.left_since (disk_in h) d (IsStoredAs (uncertain events (end_in h) e size))) (sym same)
-        (started v.moment v.left_since (disk_in h) (IsStoredAs (uncertain events (end_in h) e size)) (λ c left. stored_before events (end_in h) e size (list_in h) c after (image_now alive c (only_now c left))))
+        (started v.moment v.left_since (disk_in h) (IsStoredAs (uncertain events (end_in h) e size)) (λ c left. stored_before events (end_in h) e size (list_in h) c after (image_now alive c (only_now c left)) (started_now c (only_now c left))))
 
     -- a command that has changed nothing
     pub unchanged : Commits v e size h h
@@ -161,7 +173,7 @@ module _ {D : Type 0} (v : Ghosts D) (h : Handler D) (s : IsSound v.seen v.may_l
       same_but_memory = record { disk = same.disk; list = refl; dead = refl; end = same.end }
 
   -- A record is appended behind a reservation. Then the list is the new one, and the node works again or doesn't.
-  module _ (alive : is_dead h ≡ false) (reserved : Store D) (same : store.IsSame h.store reserved) (e : Event) (next : Releases) (body : List ℕ) (told : IsRecordFor body e (list_in h)) (is : step e (list_in h) ≡ Some next) where
+  module _ (alive : is_dead h ≡ false) (reserved : Store D) (same : store.IsSame h.store reserved) (e : Event) (next : Releases) (body : List ℕ) (told : IsRecordFor body e (list_in h)) (is : step e (list_in h) ≡ Some next) (reads : (d : D) → v.may_leave d (v.seen d)) where
     pub reserved_works : store.has_failed reserved ≡ false
     reserved_works = same.failed ∙ s.works alive
 
@@ -173,17 +185,18 @@ module _ {D : Type 0} (v : Ghosts D) (h : Handler D) (s : IsSound v.seen v.may_l
 
     committing : (new : D) (text : List ℕ) → LeavesOnly v.moment v.left_since (store.disk_in reserved) new (StandsEither (store.records_in reserved) body text)
         → LeavesOnly v.moment v.left_since (store.disk_in reserved) new (LeavesOthers (IsInRecord (store.gate_in reserved) (length body)) (v.seen (store.disk_in reserved)))
-        → (events : Events) → list_after events ≡ Some (list_in h) → LeavesOnly v.moment v.left_since (disk_in h) new (IsStoredAs (uncertain events (end_in h) e (length body)))
-    committing new text leaves kept events after =
+        → text ≡ start_in v.seen h → HasStarted v h → (events : Events) → list_after events ≡ Some (list_in h) → LeavesOnly v.moment v.left_since (disk_in h) new (IsStoredAs (uncertain events (end_in h) e (length body)))
+    committing new text leaves kept slot started_now events after =
         subst (λ d. LeavesOnly v.moment v.left_since d new (IsStoredAs (uncertain events (end_in h) e (length body)))) same.disk
         (weakened v.moment v.left_since (store.disk_in reserved) new _ (IsStoredAs (uncertain events (end_in h) e (length body)))
-        (λ c either. while_committing e (list_in h) next (store.records_in h.store) body text events (s.list alive) told is after (base_of (v.seen (disk_in h))) (end_in h) (ap (λ g. g + 1) (settled_store alive).end) c
+        (λ c either. while_committing e (list_in h) next (store.records_in h.store) body text events (s.list alive) told is after (base_of (v.seen (disk_in h))) (end_in h) (ap (λ g. g + 1) (settled_store alive).end)
+        (v.seen (disk_in h)) (sym slot) (started_now (v.seen (disk_in h)) (reads (disk_in h))) c
         (subst (λ bodies. StandsEither bodies body text c) same.records either.0, base_there c (subst (λ d. LeavesOthers (IsInRecord (store.gate_in reserved) (length body)) (v.seen d) c) same.disk either.1)))
         (both v.moment v.left_since (store.disk_in reserved) new _ _ leaves kept))
 
     module _ (new : Store D) (sound : store.IsSoundStore v.seen v.may_leave new) (text : List ℕ) (leaves : LeavesOnly v.moment v.left_since (store.disk_in reserved) (store.disk_in new) (StandsEither (store.records_in reserved) body text))
         (kept : LeavesOnly v.moment v.left_since (store.disk_in reserved) (store.disk_in new) (LeavesOthers (IsInRecord (store.gate_in reserved) (length body)) (v.seen (store.disk_in reserved))))
-        (counted : v.failures (store.disk_in reserved) ≤ v.failures (store.disk_in new)) where
+        (slot : text ≡ start_in v.seen h) (counted : v.failures (store.disk_in reserved) ≤ v.failures (store.disk_in new)) where
       counted_so : v.failures (disk_in h) ≤ v.failures (store.disk_in new)
       counted_so = subst (λ d. v.failures d ≤ v.failures (store.disk_in new)) same.disk counted
 
@@ -191,7 +204,7 @@ module _ {D : Type 0} (v : Ghosts D) (h : Handler D) (s : IsSound v.seen v.may_l
       pub commits_dead : Commits v e (length body) h (record { store = new; list = next; dead = true })
       commits_dead = record {
         sound = record { store = sound; works = λ living. cc living; list = λ living. cc living };
-        any_moment = λ living events after. committing (store.disk_in new) text leaves kept events after;
+        any_moment = λ living started_now events after. committing (store.disk_in new) text leaves kept slot started_now events after;
         counted = counted_so;
       }
 
@@ -204,36 +217,53 @@ module _ {D : Type 0} (v : Ghosts D) (h : Handler D) (s : IsSound v.seen v.may_l
         pub commits : Commits v e (length body) h (record { store = new; list = next; dead = false })
         commits = record {
           sound = record { store = sound; works = λ living. settled.works; list = λ living. makes_next };
-          any_moment = λ living events after. committing (store.disk_in new) text leaves kept events after;
+          any_moment = λ living started_now events after. committing (store.disk_in new) text leaves kept slot started_now events after;
           counted = counted_so;
         }
 
-        pub is_done : commanded e (list_in h) ≡ Ok next → HasSpace (end_in h) (length body) → store.end_in new ≡ store.end_in reserved + (5 + length body) → IsDone v e (length body) h (record { store = new; list = next; dead = false })
-        is_done accepted fits end = record {
+        pub is_done : commanded e (list_in h) ≡ Ok next → HasSpace (end_in h) (length body) → store.end_in new ≡ store.end_in reserved + (5 + length body) → store.text_in v.seen new ≡ text → IsDone v e (length body) h (record { store = new; list = next; dead = false })
+        is_done accepted fits end stays = record {
           works = refl;
           accepted = accepted;
           acknowledged = λ c now. each_image v.seen v.may_leave new next settled makes_next c now;
+          started = λ leaves started_now c now.
+              started_by (list_in h) next (v.seen (disk_in h)) c (permanent_stays e (list_in h) next leaves is) (ap (λ l. start_slot l) (settled.durable c now) ∙ stays ∙ slot) (started_now (v.seen (disk_in h)) (reads (disk_in h)));
           fits = fits;
           end = end ∙ ap (λ n. n + (5 + length body)) same.end;
         }
 
   -- A committed event with the start record written behind it.
-  module _ (e : Event) (size : ℕ) (mid : Handler D) (commits : Commits v e size h mid) (is_done : IsDone v e size h mid) (new : Handler D) (keeps : Keeps v mid new) where
+  module _ (e : Event) (size : ℕ) (mid : Handler D) (commits : Commits v e size h mid) (is_done : IsDone v e size h mid) (stays : start_in v.seen mid ≡ start_in v.seen h)
+      (reads : (d : D) → v.may_leave d (v.seen d)) (versions : Versions) (release : Release) (are : AreVersions versions) (of : versions ≡ start_versions release) (listed : permanent (list_in mid) ≡ Some release)
+      (new : Handler D) (keeps : Keeps v (text_of_start versions) mid new) where
+    -- the new start record
+    started_new_one : (es : Releases) → permanent es ≡ Some release → (c : List ℕ) → start_slot c ≡ slot_with (text_of_start versions) → IsStarted es c
+    started_new_one es is c slot = record { release = release; listed = is; spells = subst (λ w. SpellsStart (start_slot c) w) of (subst (λ l. SpellsStart l versions) (sym slot) (reads_back versions are)) }
+
+    either_started : HasStarted v h → (c : List ℕ) → (start_slot c ≡ start_in v.seen mid) ⊎ (start_slot c ≡ slot_with (text_of_start versions)) → IsStarted (list_in h) c ⊎ IsStarted (list_in mid) c
+    either_started started_now c (inl old) = inl (started_by (list_in h) (list_in h) (v.seen (disk_in h)) c refl (old ∙ stays) (started_now (v.seen (disk_in h)) (reads (disk_in h))))
+    either_started started_now c (inr slot) = inr (started_new_one (list_in mid) listed c slot)
+
     pub commits_then : Commits v e size h new
     commits_then = record {
       sound = keeps.sound;
-      any_moment = λ alive events after.
-          joined v.moment v.left_since (disk_in h) (disk_in mid) (disk_in new) (IsStoredAs (uncertain events (end_in h) e size)) (commits.any_moment alive events after)
+      any_moment = λ alive started_now events after.
+          joined v.moment v.left_since (disk_in h) (disk_in mid) (disk_in new) (IsStoredAs (uncertain events (end_in h) e size)) (commits.any_moment alive started_now events after)
           (weakened v.moment v.left_since (disk_in mid) (disk_in new) _ (IsStoredAs (uncertain events (end_in h) e size))
-          (λ c image. stored_after events (end_in h) e size (list_in h) (list_in mid) c after (commanded_step e (list_in h) (list_in mid) is_done.accepted) (subst (IsImageAt c (list_in mid)) is_done.end image)) keeps.any_moment);
+          (λ c image. stored_after events (end_in h) e size (list_in h) (list_in mid) c after (commanded_step e (list_in h) (list_in mid) is_done.accepted) (subst (IsImageAt c (list_in mid)) is_done.end image.0) (either_started started_now c image.1))
+          keeps.any_moment);
       counted = omega (arith, commits.counted, keeps.counted);
     }
 
-    pub is_done_then : is_dead new ≡ false → ((c : List ℕ) → v.may_leave (disk_in new) c → IsImageAt c (list_in new) (end_in new)) → IsDone v e size h new
+    pub is_started_then : ((c : List ℕ) → v.may_leave (disk_in new) c → IsImageAt c (list_in new) (end_in new) × (start_slot c ≡ slot_with (text_of_start versions))) → HasStarted v new
+    is_started_then images c now = started_new_one (list_in new) (ap permanent keeps.list ∙ listed) c (images c now).1
+
+    pub is_done_then : is_dead new ≡ false → ((c : List ℕ) → v.may_leave (disk_in new) c → IsImageAt c (list_in new) (end_in new) × (start_slot c ≡ slot_with (text_of_start versions))) → IsDone v e size h new
     is_done_then works images = record {
       works = works;
       accepted = is_done.accepted ∙ ap (λ l. Ok l) (sym keeps.list);
-      acknowledged = images;
+      acknowledged = λ c now. (images c now).0;
+      started = λ leaves started_now. is_started_then images;
       fits = is_done.fits;
       end = keeps.end ∙ is_done.end;
     }
@@ -246,13 +276,7 @@ module _ {D : Type 0} (v : Ghosts D) (h : Handler D) (s : IsSound v.seen v.may_l
         failed_behind (inl rose) = inl (omega (arith, commits.counted))
         failed_behind (inr stood) = ⊎_elim (λ less. inl (omega (arith, keeps.counted, stood))) (λ same. inr (omega arith)) (cases_lt (v.failures (disk_in h)) (v.failures (disk_in mid)))
 
-    pub refused_then : (r : Result (Unit {0}) HandlerError) → is_dead h ≡ false → IfErr r (λ why. (why ≡ Device) × HasFailed (v.failures (disk_in mid)) (v.failures (disk_in new)) × (is_dead new ≡ true))
-        → IfErr r (CommandRefused v.failures e size h new)
-    refused_then (Ok x) alive failed = tt
-    refused_then (Err why) alive (is, failed, gone) = subst (CommandRefused v.failures e size h new) (sym is) (fails_then alive failed gone)
-
--- the start record is that of the permanent release then
-pub started_then : {D : Type 0} (seen : D → List ℕ) (new : Handler D) (r : Result (Unit {0}) HandlerError) (versions : Versions) (release : Release) → versions ≡ start_versions release → permanent (list_in new) ≡ Some release
-    → OnOk r (start_in seen new ≡ slot_with (text_of_start versions)) → OnOk r (IsStarted seen new)
-started_then seen new (Err why) versions release is listed written = tt
-started_then seen new (Ok x) versions release is listed written = record { release = release; listed = listed; start = written ∙ ap (λ vs. slot_with (text_of_start vs)) is }
+-- an error that became this refusal
+pub refuses_with : {T : Type 0} (P : HandlerError → Type 0) (r : Result T HandlerError) (why : HandlerError) → IsErr r × IsErrAnd r (λ e. e ≡ why) → P why → IfErr r P
+refuses_with P (Ok x) why is p = tt
+refuses_with P (Err e) why (err, is) p = subst P (sym is) p

@@ -1,10 +1,11 @@
 -- Which lists the images of a disk stand for.
-use Rattle.std.proofs.Common.{◌≡◌, inl, inr, ℕ, ◌+◌, length, arith, Bool, true, false, List, [], ◌∷◌, ◌++◌, Some, None, Ok, refl, sym, ap, ◌∙◌, subst}
+use Rattle.std.proofs.Common.{◌≡◌, ◌⊎◌, inl, inr, ⊎_elim, ℕ, ◌+◌, length, arith, Bool, true, false, List, [], ◌∷◌, ◌++◌, Some, None, Ok, refl, sym, ap, ◌∙◌, subst}
 use Rattle.std.specs.Prelude.{is_some, if◌then◌else◌}
 use Rattle.std.proofs.lemmas.List.{append-nil}
+use Rattle.rel_files.specs.File.{HasVersions}
 use Rattle.rel_files.specs.Release.{Release}
 use Rattle.rel_list.specs.declared.status.Status.TheVariants.{Permanent}
-use Rattle.rel_list.specs.Releases.{Releases}
+use Rattle.rel_list.specs.Releases.{Releases, permanent}
 use Rattle.rel_list.specs.Event.{Event, entry, booted, step, list_after}
 use Rattle.rel_list.specs.Event.Event.{made, boot}
 use Rattle.rel_records.specs.Limits.{is_small}
@@ -17,14 +18,17 @@ use Rattle.rel_records.proofs.ListLemmas.{makes-push, makes_once}
 use Rattle.rel_records.proofs.RecordPlaces.{one_behind}
 use Rattle.rel_store.specs.Creation.{IsNoneOrNew}
 use Rattle.rel_store.specs.Records.{records_of, StandsEither, space, records_or_none, end_of}
-use Rattle.rel_store.specs.Layout.{base_of}
+use Rattle.rel_store.specs.Layout.{base_of, slot_with}
 use Rattle.rel_store.proofs.Scan.{space-push}
 use Rattle.rel_store.proofs.Whole.{sound}
 use Rattle.rel_store.specs.State.{records_in, end_in, IsSettled}
 use Rattle.rel_store.specs.declared.store.Store.{Store}
 use Rattle.rel_handler.specs.Commits.{IsRecordFor}
 use Rattle.rel_handler.specs.Events.{Known, doubted, IsPrefix, IsOfPrefix, IsNoneOrOfPrefix, uncertain, IsStoredAs}
-use Rattle.rel_handler.specs.Image.{IsImageOf, IsImageAt, holds_a_store}
+use Rattle.rel_handler.specs.Files.{started, start_text}
+use Rattle.rel_handler.specs.Image.{IsImageOf, IsImageAt, IsStarted, start_slot, holds_a_store}
+use Rattle.start_record.specs.Text.{SpellsStart}
+use Rattle.start_record.proofs.StartMoments.{reads_back}
 use Rattle.rel_handler.specs.Moments.{BootsTo}
 use Rattle.rel_handler.proofs.Lists.{list_after-push}
 
@@ -63,18 +67,24 @@ prefix_with events e es after = record { lacks = []; of_accepted = ap (λ o. if 
     none = sym (append-nil _)
 
 -- A store of the list before a command is one that has the events without the one in doubt.
-pub stored_before : (events : List Event) (end : ℕ) (e : Event) (size : ℕ) (es : Releases) (c : List ℕ) → list_after events ≡ Some es → IsImageAt c es end → IsStoredAs (uncertain events end e size) c
-stored_before events end e size es c after image = record { events = events; has = inl (refl, image.ends); list = es; after = after; image_of = image.image_of }
+pub stored_before : (events : List Event) (end : ℕ) (e : Event) (size : ℕ) (es : Releases) (c : List ℕ) → list_after events ≡ Some es → IsImageAt c es end → IsStarted es c → IsStoredAs (uncertain events end e size) c
+stored_before events end e size es c after image started =
+    record { events = events; has = inl (refl, image.ends); list = es; after = after; image_of = image.image_of; start = inl (es, after, started) }
 
--- And one of the list after it has them all.
-pub stored_after : (events : List Event) (end : ℕ) (e : Event) (size : ℕ) (es next : Releases) (c : List ℕ) → list_after events ≡ Some es → step e es ≡ Some next → IsImageAt c next (end + (5 + size)) → IsStoredAs (uncertain events end e size) c
-stored_after events end e size es next c after is image = record {
+-- And one of the list after it has them all, with the start record from before it or that from behind it.
+pub stored_after : (events : List Event) (end : ℕ) (e : Event) (size : ℕ) (es next : Releases) (c : List ℕ) → list_after events ≡ Some es → step e es ≡ Some next → IsImageAt c next (end + (5 + size)) → IsStarted es c ⊎ IsStarted next c → IsStoredAs (uncertain events end e size) c
+stored_after events end e size es next c after is image started = record {
   events = events ++ e ∷ [];
   has = inr (refl, image.ends);
   list = next;
   after = list_after-push events e es next after is;
   image_of = image.image_of;
+  start = ⊎_elim (λ old. inr (events, e, refl, (es, after, old))) (λ new. inl (next, list_after-push events e es next after is, new)) started;
 }
+
+-- a start record is told by the start slot and the permanent release
+pub started_by : (es fs : Releases) (c d : List ℕ) → permanent fs ≡ permanent es → start_slot d ≡ start_slot c → IsStarted es c → IsStarted fs d
+started_by es fs c d same slot s = record { release = s.release; listed = same ∙ s.listed; spells = subst (λ l. SpellsStart l (started s.release)) (sym slot) s.spells }
 
 -- and one of the list after it too
 pub as_after : (events : List Event) (e : Event) (es end : Releases) (c : List ℕ) → list_after events ≡ Some es → step e es ≡ Some end → IsImageOf c end → IsOfPrefix (doubted events e) c
@@ -91,18 +101,18 @@ with_record e es next bodies body (so_far, one) told is =
 -- The record of an event is being appended: the store makes the list from before it or the one behind it.
 pub while_committing : (e : Event) (es next : Releases) (bodies : List (List ℕ)) (body text : List ℕ) (events : List Event)
     → Makes bodies (booted es) → IsRecordFor body e es → step e es ≡ Some next → list_after events ≡ Some es
-    → (base ends : ℕ) → ends ≡ (base + space bodies) + 1
+    → (base ends : ℕ) → ends ≡ (base + space bodies) + 1 → (old : List ℕ) → start_slot old ≡ text → IsStarted es old
     → (c : List ℕ) → StandsEither bodies body text c × (base_of c ≡ base) → IsStoredAs (uncertain events ends e (length body)) c
-while_committing e es next bodies body text events makes_it told is after base ends at c (inl stands, kept) =
+while_committing e es next bodies body text events makes_it told is after base ends at old slot started c (inl stands, kept) =
     stored_before events ends e (length body) es c after (record {
       image_of = record { bodies = bodies; store = stands.records; list = makes_it };
       ends = ends_so c bodies base stands.records kept ∙ sym at;
-    })
-while_committing e es next bodies body text events makes_it told is after base ends at c (inr stands, kept) =
+    }) (started_by es es old c refl (stands.start ∙ sym slot) started)
+while_committing e es next bodies body text events makes_it told is after base ends at old slot started c (inr stands, kept) =
     stored_after events ends e (length body) es next c after is (record {
       image_of = record { bodies = bodies ++ body ∷ []; store = stands.records; list = with_record e es next bodies body makes_it told is };
       ends = ends_so c (bodies ++ body ∷ []) base stands.records kept ∙ omega (arith, at, space-push bodies body);
-    })
+    }) (inl (started_by es es old c refl (stands.start ∙ sym slot) started))
 
 -- the first record makes the list of its release
 pub first_record : (r : Release) (body : List ℕ) → is_small r ≡ true → Spells body (makes r) → Makes (body ∷ []) (booted (entry r Permanent ∷ []))
@@ -111,11 +121,23 @@ first_record r body small spelled = ((makes r, entry r Permanent ∷ [], spelled
     there : assigned (makes r) [] ≡ Some (entry r Permanent ∷ [])
     there = ap (λ b. with_one_permanent (if b then step (made r) [] else None)) small
 
+-- The start record of a new node.
+pub started_new : (r : Release) (start c : List ℕ) → HasVersions r → start ≡ start_text r → start_slot c ≡ slot_with start → IsStarted (entry r Permanent ∷ []) c
+started_new r start c versions is slot = record {
+  release = r;
+  listed = refl;
+  spells = subst (λ l. SpellsStart l (started r)) (sym (slot ∙ ap slot_with is)) (reads_back (started r) (versions.erts, versions.own));
+}
+
 -- A creation leaves no store or one of a prefix.
-pub while_creating : (r : Release) (body start : List ℕ) → is_small r ≡ true → Spells body (makes r) → (c : List ℕ) → IsNoneOrNew body start c → IsNoneOrOfPrefix (doubted [] (made r)) c
-while_creating r body start small spelled c (inl none) = inl none
-while_creating r body start small spelled c (inr stands) =
-    inr (as_after [] (made r) [] (entry r Permanent ∷ []) c refl refl (record { bodies = body ∷ []; store = stands.records; list = first_record r body small spelled }))
+pub while_creating : (r : Release) (body start : List ℕ) → is_small r ≡ true → HasVersions r → start ≡ start_text r → Spells body (makes r) → (c : List ℕ) → IsNoneOrNew body start c → IsNoneOrOfPrefix (doubted [] (made r)) c
+unfolding as_after
+while_creating r body start small versions is spelled c (inl none) = inl none
+while_creating r body start small versions is spelled c (inr stands) =
+    inr (
+      as_after [] (made r) [] (entry r Permanent ∷ []) c refl refl (record { bodies = body ∷ []; store = stands.records; list = first_record r body small spelled }),
+      inl (entry r Permanent ∷ [], refl, started_new r start c versions is stands.start),
+    )
 
 -- bytes that stand for a list hold a store
 pub has_a_store : (bytes : List ℕ) (es : Releases) → IsImageOf bytes es → holds_a_store bytes ≡ true
@@ -127,9 +149,9 @@ booted_image c bodies found es read makes_it image =
     let same : bodies ≡ image.bodies = cc (read, image.store) in
     makes_once [] bodies found (booted es) makes_it.0 (subst (λ l. MakesFrom [] l (booted es)) (sym same) image.list.0)
 
-pub boots_to : (k : Known) (c : List ℕ) (bodies : List (List ℕ)) (found : Releases) → records_of c ≡ Ok bodies → Makes bodies found → IsOfPrefix k c → BootsTo k found
-boots_to k c bodies found read makes_it of = record {
+pub boots_to : (k : Known) (c : List ℕ) (found : Releases) (of : IsOfPrefix k c) → found ≡ booted of.list → BootsTo k found
+boots_to k c found of is = record {
   events = of.events;
   prefix = of.prefix;
-  after = list_after-push of.events boot of.list (booted of.list) of.after refl ∙ ap (λ l. Some l) (sym (booted_image c bodies found of.list read makes_it of.image_of));
+  after = list_after-push of.events boot of.list (booted of.list) of.after refl ∙ ap (λ l. Some l) (sym is);
 }

@@ -2,5 +2,6 @@ mod Lists
 pub mod CommandLemmas
 pub mod Images
 pub mod Boots
+pub mod RepairLemmas
 mod BadRecords
 pub mod Commits

@@ -4,7 +4,7 @@ use Rattle.rel_list.specs.Releases.{Releases}
 use Rattle.rel_list.specs.Event.{Event, list_after}
 use Rattle.rel_store.specs.Records.{records_of, end_of}
 use Rattle.rel_store.specs.declared.error.StoreError.TheVariants.{NotAStore}
-use Rattle.rel_handler.specs.Image.{IsImageOf, end_behind}
+use Rattle.rel_handler.specs.Image.{IsImageOf, IsStarted, end_behind}
 
 abbrev pub Events : Type 0
 Events = List Event
@@ -47,9 +47,20 @@ pub record IsOfPrefix (k : Known) (image : List ℕ) : Type 0 where
   pub after : list_after events ≡ Some list
   pub image_of : IsImageOf image list
 
--- They are no store, or stand for such a list.
+-- The start record in these bytes is that of the release that is permanent behind these events.
+abbrev pub StartsBehind : Events → List ℕ → Type 0
+StartsBehind events image = (es : Releases) × (list_after events ≡ Some es) × IsStarted es image
+
+-- It is, or that of the release that was permanent before the last of them.
+abbrev pub HasStart : Events → List ℕ → Type 0
+HasStart events image =
+    StartsBehind events image
+    ⊎ ((earlier : Events) × (last : Event) × (events ≡ earlier ++ last ∷ []) × StartsBehind earlier image)
+
+-- They are no store, or stand for such a list, and have a start record of its events.
 abbrev pub IsNoneOrOfPrefix : Known → List ℕ → Type 0
-IsNoneOrOfPrefix k image = (records_of image ≡ Err NotAStore) ⊎ IsOfPrefix k image
+IsNoneOrOfPrefix k image =
+    (records_of image ≡ Err NotAStore) ⊎ ((of : IsOfPrefix k image) × HasStart of.events image)
 
 -- What is known of a node's store: its events, and where it ends behind the acknowledged ones, and with the one in doubt.
 pub record Stored : Type 0 where
@@ -71,10 +82,11 @@ MayHave s events end =
     ((events ≡ s.known.acknowledged) × (end ≡ s.end))
     ⊎ ((events ≡ with_doubt s.known.acknowledged s.known.in_doubt) × (end ≡ s.end_with_doubt))
 
--- These bytes are a store that has such events, and stand for their list.
+-- These bytes are a store that has such events, stand for their list, and have a start record of theirs.
 pub record IsStoredAs (s : Stored) (image : List ℕ) : Type 0 where
   pub events : Events
   pub has : MayHave s events (end_of image)
   pub list : Releases
   pub after : list_after events ≡ Some list
   pub image_of : IsImageOf image list
+  pub start : HasStart events image

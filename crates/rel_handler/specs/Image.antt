@@ -1,10 +1,13 @@
 -- What a disk stands for, where its store ends, and what fits behind it.
-use Rattle.std.specs.Prelude.{◌≡◌, ℕ, ◌+◌, ◌≤◌, Bool, List, Ok}
-use Rattle.rel_list.specs.Releases.{Releases}
+use Rattle.std.specs.Prelude.{◌≡◌, ◌⊎◌, ℕ, ◌+◌, ◌≤◌, Bool, List, Some, Ok}
+use Rattle.rel_files.specs.Release.{Release}
+use Rattle.rel_list.specs.Releases.{Releases, permanent}
 use Rattle.rel_list.specs.Event.{booted}
-use Rattle.rel_store.specs.Layout.{has_magic}
+use Rattle.rel_store.specs.Layout.{has_magic, text_of}
 use Rattle.rel_store.specs.Records.{records_of, end_of}
 use Rattle.rel_records.specs.Lists.{Makes}
+use Rattle.rel_handler.specs.Files.{started}
+use Rattle.start_record.specs.Text.{SpellsStart}
 
 -- These bytes stand for the list: they are a whole store, whose records make the list as it is behind a boot.
 pub record IsImageOf (image : List ℕ) (es : Releases) : Type 0 where
@@ -20,6 +23,24 @@ pub record IsImageAt (image : List ℕ) (es : Releases) (end : ℕ) : Type 0 whe
 -- where the store of these bytes ends
 abbrev pub store_end : List ℕ → ℕ
 store_end image = end_of image
+
+-- the start slot that counts in these bytes
+abbrev pub start_slot : List ℕ → List ℕ
+start_slot image = text_of image
+
+-- The start record in these bytes is that of the list's permanent release.
+pub record IsStarted (es : Releases) (image : List ℕ) : Type 0 where
+  pub release : Release
+  pub listed : permanent es ≡ Some release
+  pub spells : SpellsStart (start_slot image) (started release)
+
+-- Nothing but the start record of these bytes was written: the image stands for their list, in a store that ends where
+-- theirs does, with the start slot that they had, or with the start record of the list's permanent release.
+pub record IsRepairOf (bytes image : List ℕ) : Type 0 where
+  pub list : Releases
+  pub was : IsImageOf bytes list
+  pub image_at : IsImageAt image list (store_end bytes)
+  pub start : (start_slot image ≡ start_slot bytes) ⊎ IsStarted list image
 
 -- The bytes begin as those of a store do, whole or damaged. No node is made on such a disk.
 abbrev pub holds_a_store : List ℕ → Bool

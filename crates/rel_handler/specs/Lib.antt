@@ -4,6 +4,7 @@ pub mod Image
 pub mod Events
 pub mod State
 pub mod Commits
+pub mod Booting
 pub mod Refusals
 pub mod Moments
 pub mod Laws

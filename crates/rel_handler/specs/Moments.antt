@@ -8,7 +8,7 @@ use Rattle.rel_list.specs.Event.Event.{boot}
 use Rattle.rel_store.specs.Creation.{IsUnwritten}
 use Rattle.rel_store.specs.Moments.{IsTornFrom}
 use Rattle.rel_handler.specs.Events.{Known, IsPrefix, IsNoneOrOfPrefix}
-use Rattle.rel_store.specs.Contents.{IsSyncedAt}
+use Rattle.rel_handler.specs.Image.{IsRepairOf}
 use Rattle.rel_handler.specs.State.{disk_in}
 use Rattle.rel_handler.specs.declared.error.BootError.{BootError}
 use Rattle.rel_handler.specs.declared.error.BootError.TheVariants.{Device}
@@ -36,10 +36,16 @@ pub record BootsTo (k : Known) (es : Releases) : Type 0 where
   pub prefix : IsPrefix k events
   pub after : list_after (events ++ boot ∷ []) ≡ Some es
 
--- The disk was synced in a boot: from then on a crash leaves what a read gives, whatever the boot answers. So an event in
--- doubt is settled there. Where the device failed, it may have failed in the sync.
+-- The disk was synced at this moment of a boot. Up to it a crash leaves nothing that none before would have left; from then
+-- on it leaves what a read gave, but for the start record.
+pub record SettlesAt {D : Type 0} (seen : D → List ℕ) (may_leave : D → List ℕ → Type 0) (moment : D → ℕ) (left_since : D → ℕ → List ℕ → Type 0) (old new at : D) : Type 0 where
+  pub until : LeavesOnly moment left_since old at (may_leave old)
+  pub from : LeavesOnly moment left_since at new (λ c. (c ≡ seen old) ⊎ IsRepairOf (seen old) c)
+
+-- A boot syncs the disk, whatever it answers. So an event in doubt is settled there. Where the device failed, it may have
+-- failed in the sync.
 abbrev pub IsSynced : {D : Type 0} → (D → List ℕ) → (D → List ℕ → Type 0) → (D → ℕ) → (D → ℕ → List ℕ → Type 0) → D → Result (Handler D) (BootError × D) → Type 0
 IsSynced {D} seen may_leave moment left_since old (Ok handler) =
-    (at : D) × IsSyncedAt seen may_leave moment left_since old (disk_in handler) at
+    (at : D) × SettlesAt seen may_leave moment left_since old (disk_in handler) at
 IsSynced {D} seen may_leave moment left_since old (Err refusal) =
-    (refusal.0 ≡ Device) ⊎ ((at : D) × IsSyncedAt seen may_leave moment left_since old refusal.1 at)
+    (refusal.0 ≡ Device) ⊎ ((at : D) × SettlesAt seen may_leave moment left_since old refusal.1 at)

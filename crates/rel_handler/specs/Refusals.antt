@@ -42,6 +42,12 @@ CommandRefused failures e size old new Device = IsPossible e size old × HasFail
 CommandRefused failures e size old new Exists = ⊥
 CommandRefused failures e size old new why = IsRefused e old why × IsSame old new
 
+-- Why the start record isn't read: memory was refused, and the handler works on, or the device failed.
+abbrev pub ReadRefused : {D : Type 0} → (D → ℕ) → Handler D → Handler D → HandlerError → Type 0
+ReadRefused failures old new NoMemory = is_dead new ≡ false
+ReadRefused failures old new Device = HasFailed (failures (disk_in old)) (failures (disk_in new)) × (is_dead new ≡ true)
+ReadRefused failures old new _ = ⊥
+
 -- Why a node isn't made with this release, on a disk with these bytes, by a record with a body of so many. Nothing has been
 -- written then, unless the device failed.
 abbrev pub CreateRefused : List ℕ → Release → ℕ → ℕ → ℕ → Type 0 → HandlerError → Type 0

@@ -1,24 +1,28 @@
 // A node is read from its disk again.
-ghost use Rattle.std.specs.Prelude.{◌≡◌, ◌⊎◌, ℕ, ◌≤◌, List, false, IfOk, IfErr, MatchResult};
+ghost use Rattle.std.specs.Prelude.{◌≡◌, ◌⊎◌, ◌↔◌, ℕ, ◌≤◌, List, false, IsTrue, IfOk, IfErr, OnOk, MatchResult};
 ghost use Rattle.rel_disk.specs.Moments.{LeavesOnly};
 ghost use Rattle.rel_list.specs.Releases.{Releases};
 ghost use Rattle.rel_list.specs.Event.{booted};
-ghost use Rattle.rel_store.specs.Contents.{OpenRefused};
-ghost use Rattle.rel_store.specs.Records.{end_of};
-ghost use Rattle.rel_handler.specs.Events.{Known, IsOfPrefix};
-ghost use Rattle.rel_handler.specs.Image.{IsImageOf, IsImageAt};
+ghost use Rattle.rel_store.specs.Contents.{OpenRefused, HasOnlyRead};
+ghost use Rattle.rel_handler.specs.Booting.{IsOpened, Repairs, RepairRefused};
+ghost use Rattle.rel_handler.specs.Commits.{HasStarted, HasRead};
+ghost use Rattle.rel_handler.specs.Events.{Known, IsOfPrefix, Stored, IsStoredAs};
+ghost use Rattle.rel_handler.specs.Image.{IsImageOf, IsImageAt, IsStarted, IsRepairOf, store_end};
 ghost use Rattle.rel_handler.specs.Moments.{BootsTo, IsSynced};
 ghost use Rattle.rel_handler.specs.Refusals.{BootRefused, told_boot, IsOpenError};
-ghost use Rattle.rel_handler.specs.State.{disk_in, disk_of, list_in, is_dead, end_in, IsSound};
+ghost use Rattle.rel_handler.specs.State.{disk_in, disk_of, list_in, is_dead, end_in, start_in, IsSound};
+ghost use Rattle.start_record.specs.Text.{versions_of, SpellsStart};
 
-use crate::{BootError, Handler};
+use crate::handler::start_of;
+use crate::{BootError, Handler, HandlerError};
 use rel_disk::Disk;
 use rel_records::read_list;
 use rel_store::{Store, StoreError};
+use start_record::Start;
 use std::alloc::Global;
 
-/// Boots the node on a disk: its list is that of the store's records. Syncs the disk, reads each record once, and writes
-/// nothing.
+/// Boots the node on a disk: its list is that of the store's records. Syncs the disk, reads each record once, and then the
+/// start record, which it writes where it isn't that of the permanent release; nothing else is written.
 ///
 /// Refusals: `Device`, `NoMemory`, `NotAStore`, `Damaged`, and `BadRecord` with the number of the first record that no
 /// command could have written where it stands. A disk that stands for a list is refused for want of memory or the device
@@ -26,13 +30,16 @@ use std::alloc::Global;
 pub fn boot<D: Disk>(alloc: Global, disk: D) -> Result<Handler<D>, (BootError, D)>
     ensures sound { IfOk result (IsSound D.seen D.may_leave) }
     ensures works { IfOk result (λ handler. is_dead handler ≡ false) }
-    ensures same { MatchResult result (λ handler. D.seen (disk_in handler) ≡ D.seen disk)
-        (λ e. (e.0 ≡ BootError.Device) ⊎ (D.seen e.1 ≡ D.seen disk)) }
     ensures image { IfOk result (λ handler. IsImageOf (D.seen disk) (list_in handler)
         × (booted (list_in handler) ≡ list_in handler)) }
     ensures acknowledged { IfOk result (λ handler. (c : List ℕ) → D.may_leave (disk_in handler) c
         → IsImageAt c (list_in handler) (end_in handler)) }
-    ensures end { IfOk result (λ handler. end_in handler ≡ end_of (D.seen disk)) }
+    ensures end { IfOk result (λ handler. end_in handler ≡ store_end (D.seen disk)) }
+
+    // The start record is that of the permanent release, and one that was so before is not written.
+    ensures started { IfOk result (HasStarted D.Disk) }
+    ensures right { IfOk result (λ handler. IsStarted (list_in handler) (D.seen disk)
+        → HasOnlyRead D.seen D.may_leave D.moment D.left_since disk (disk_in handler)) }
 
     // A disk that stands for a list is booted to that list.
     ensures only { (es : Releases) → IsImageOf (D.seen disk) es
@@ -45,11 +52,45 @@ pub fn boot<D: Disk>(alloc: Global, disk: D) -> Result<Handler<D>, (BootError, D
         → MatchResult result (λ handler. BootsTo k (list_in handler))
         (λ e. (e.0 ≡ BootError.Device) ⊎ (e.0 ≡ BootError.NoMemory)) }
 
-    // No crash in the call leaves anything that none before it would have left. From its sync on a crash leaves what a
-    // read gives. A boot that answers `Device` may have failed in the sync, and `synced` says nothing then.
-    ensures any_moment { LeavesOnly D.moment D.left_since disk (disk_of result) (D.may_leave disk) }
+    // A crash in the call leaves what one before it would have left, or what a read gave, but for its start record. From
+    // the sync on it leaves nothing but the latter. A boot that answers `Device` may have failed in the sync, and `synced`
+    // says nothing then.
+    ensures any_moment { LeavesOnly D.moment D.left_since disk (disk_of result)
+        (λ c. D.may_leave disk c ⊎ IsRepairOf (D.seen disk) c) }
     ensures synced { IsSynced D.seen D.may_leave D.moment D.left_since disk result }
 
+    // So a store whose events are known is one with these events all the time.
+    ensures stored { (s : Stored) → ((c : List ℕ) → D.may_leave disk c → IsStoredAs s c)
+        → LeavesOnly D.moment D.left_since disk (disk_of result) (IsStoredAs s) }
+
+    // Where it is refused, and not by the device, nothing was written.
+    ensures quiet { IfErr result (λ e. (e.0 ≡ BootError.Device)
+        ⊎ HasOnlyRead D.seen D.may_leave D.moment D.left_since disk e.1) }
+
+    ensures counted { D.failures disk ≤ D.failures (disk_of result) }
+    ensures refused { IfErr result (λ e. BootRefused (D.seen disk) (D.failures disk)
+        (D.failures e.1) e.0) }
+{
+    let mut handler = match open(alloc, disk) {
+        Ok(handler) => handler,
+        Err(refusal) => return Err(refusal),
+    };
+    match repair(alloc, &mut handler) {
+        Ok(()) => Ok(handler),
+        Err(error) => Err((error, handler.into_disk())),
+    }
+}
+
+// Reads the node from a disk.
+fn open<D: Disk>(alloc: Global, disk: D) -> Result<Handler<D>, (BootError, D)>
+    ensures opened { IfOk result (IsOpened D.Disk disk) }
+    ensures only { (es : Releases) → IsImageOf (D.seen disk) es
+        → MatchResult result (λ handler. list_in handler ≡ booted es)
+        (λ e. (e.0 ≡ BootError.Device) ⊎ (e.0 ≡ BootError.NoMemory)) }
+    ensures any_moment { LeavesOnly D.moment D.left_since disk (disk_of result) (D.may_leave disk) }
+    ensures synced { IsSynced D.seen D.may_leave D.moment D.left_since disk result }
+    ensures quiet { IfErr result (λ e. (e.0 ≡ BootError.Device)
+        ⊎ HasOnlyRead D.seen D.may_leave D.moment D.left_since disk e.1) }
     ensures counted { D.failures disk ≤ D.failures (disk_of result) }
     ensures refused { IfErr result (λ e. BootRefused (D.seen disk) (D.failures disk)
         (D.failures e.1) e.0) }
@@ -65,6 +106,60 @@ pub fn boot<D: Disk>(alloc: Global, disk: D) -> Result<Handler<D>, (BootError, D
         },
         Err((error, disk)) => Err((boot_error(error), disk)),
     }
+}
+
+// Writes the start record where it isn't that of the permanent release.
+fn repair<D: Disk>(alloc: Global, handler: &mut Handler<D>) -> Result<(), BootError>
+    requires sound { IsSound D.seen D.may_leave handler.old }
+    requires works { is_dead handler.old ≡ false }
+    ensures repairs { Repairs D.Disk handler.old handler.new }
+    ensures works { OnOk result (is_dead handler.new ≡ false) }
+    ensures acknowledged { OnOk result ((c : List ℕ) → D.may_leave (disk_in handler.new) c
+        → IsImageAt c (list_in handler.new) (end_in handler.new)) }
+    ensures started { OnOk result (HasStarted D.Disk handler.new) }
+    ensures right { OnOk result (IsStarted (list_in handler.old) (D.seen (disk_in handler.old))
+        → HasOnlyRead D.seen D.may_leave D.moment D.left_since
+        (disk_in handler.old) (disk_in handler.new)) }
+    ensures refused { IfErr result (RepairRefused D.Disk handler.old handler.new) }
+{
+    let Some(release) = handler.list.permanent() else {
+        unreachable!();
+    };
+    let start = start_of(alloc, release)?;
+    if starts(alloc, handler, &start)? {
+        return Ok(());
+    }
+    handler.commit_start(&start)?;
+    Ok(())
+}
+
+// Whether this start is that of the start record.
+fn starts<D: Disk>(
+    alloc: Global,
+    handler: &mut Handler<D>,
+    start: &Start,
+) -> Result<bool, BootError>
+    requires sound { IsSound D.seen D.may_leave handler.old }
+    requires works { is_dead handler.old ≡ false }
+    ensures read { HasRead D.Disk handler.old handler.new }
+    ensures works { OnOk result (is_dead handler.new ≡ false) }
+    ensures value { IfOk result (λ is. IsTrue is
+        ↔ SpellsStart (start_in D.seen handler.old) (versions_of start.now)) }
+    ensures refused { IfErr result (RepairRefused D.Disk handler.old handler.new) }
+{
+    match handler.find_start(alloc) {
+        Ok(Some(found)) => Ok(is_same(&found, start)),
+        Ok(None) => Ok(false),
+        Err(HandlerError::NoMemory) => Err(BootError::NoMemory),
+        Err(_) => Err(BootError::Device),
+    }
+}
+
+// Whether two starts are of the same versions.
+fn is_same(start: &Start, other: &Start) -> bool
+    ensures { IsTrue result ↔ (versions_of start.now ≡ versions_of other.now) }
+{
+    start.erts.as_str() == other.erts.as_str() && start.vsn.as_str() == other.vsn.as_str()
 }
 
 // What a boot tells of a store that isn't opened.

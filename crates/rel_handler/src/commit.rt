@@ -1,21 +1,16 @@
 // An event and its record are committed.
-ghost use Rattle.std.specs.Prelude.{◌≡◌, ℕ, List, true, false, length, IfErr, OnOk};
-ghost use Rattle.rel_disk.specs.Moments.{HasFailed};
+ghost use Rattle.std.specs.Prelude.{◌≡◌, false, length, IfErr, OnOk};
 ghost use Rattle.rel_list.specs.Event.{event_of};
 ghost use Rattle.rel_records.specs.Writing.{IsOfListed};
-ghost use Rattle.rel_handler.specs.Commits.{Commits, IsDone, IsRecordFor, Keeps};
-ghost use Rattle.rel_handler.specs.Image.{IsImageAt};
+ghost use Rattle.rel_handler.specs.Commits.{Commits, IsDone, IsRecordFor};
 ghost use Rattle.rel_handler.specs.Refusals.{CommandRefused, IsAllowed};
-ghost use Rattle.rel_handler.specs.State.{disk_in, list_in, is_dead, end_in, start_in, IsSound};
-ghost use Rattle.rel_store.specs.Layout.{slot_with};
-ghost use Rattle.start_record.specs.Text.{AreVersions, versions_of, start_text};
+ghost use Rattle.rel_handler.specs.State.{list_in, is_dead, start_in, IsSound};
 ghost use Rattle.rel_handler.specs.Taking.{change_size};
 
 use crate::{Handler, HandlerError};
 use rel_disk::Disk;
 use rel_list::Event;
 use rel_records::change_body;
-use start_record::{Start, write_start};
 use std::alloc::Global;
 
 impl<D: Disk> Handler<D> {
@@ -72,28 +67,5 @@ impl<D: Disk> Handler<D> {
         }
         let body = change_body(alloc, &self.list, &event)?;
         self.commit(alloc, event, body.as_str())
-    }
-
-    // Writes the start record behind a committed event. The handler is dead in between, and stays so where the device fails.
-    pub(crate) fn commit_start(&mut self, start: &Start) -> Result<(), HandlerError>
-        requires sound { IsSound D.seen D.may_leave self.old }
-        requires works { is_dead self.old ≡ false }
-        requires versions { AreVersions (versions_of start.now) }
-        ensures keeps { Keeps D.Disk self.old self.new }
-        ensures works { OnOk result (is_dead self.new ≡ false) }
-        ensures start { OnOk result (start_in D.seen self.new
-            ≡ slot_with (start_text (versions_of start.now))) }
-        ensures acknowledged { OnOk result ((c : List ℕ) → D.may_leave (disk_in self.new) c
-            → IsImageAt c (list_in self.new) (end_in self.new)) }
-        ensures failed { IfErr result (λ e. (e ≡ HandlerError.Device)
-            × HasFailed (D.failures (disk_in self.old)) (D.failures (disk_in self.new))
-            × (is_dead self.new ≡ true)) }
-    {
-        self.dead = true;
-        if write_start(&mut self.store, start).is_err() {
-            return Err(HandlerError::Device);
-        }
-        self.dead = false;
-        Ok(())
     }
 }

@@ -5,6 +5,7 @@ ghost use Rattle.rel_handler.specs.declared.error.BootError.TheVariants as boot;
 ghost use Rattle.rel_handler.specs.Refusals.{told_records};
 ghost use Rattle.rel_handler.specs.Taking.{list_refusal};
 
+use rel_disk::DeviceFault;
 use rel_list::{ListError, Status};
 use rel_records::RecordsError;
 use std::alloc::{AllocError, AllocFailed};
@@ -67,6 +68,14 @@ impl From<ListError> for HandlerError {
     }
 }
 
+impl From<DeviceFault> for HandlerError {
+    ghost from_gives = { λ _ e. e ≡ command.Device };
+
+    fn from(_: DeviceFault) -> HandlerError {
+        HandlerError::Device
+    }
+}
+
 impl From<AllocError> for HandlerError {
     ghost from_gives = { λ _ e. e ≡ command.NoMemory };
 
@@ -101,6 +110,22 @@ pub enum BootError {
     /// The number of the first record, from 1, that no command could have written where it stands; 1 where there is none.
     #[error("BadRecord")]
     BadRecord(u64),
+}
+
+impl From<DeviceFault> for BootError {
+    ghost from_gives = { λ _ e. e ≡ boot.Device };
+
+    fn from(_: DeviceFault) -> BootError {
+        BootError::Device
+    }
+}
+
+impl From<AllocError> for BootError {
+    ghost from_gives = { λ _ e. e ≡ boot.NoMemory };
+
+    fn from(_: AllocError) -> BootError {
+        BootError::NoMemory
+    }
 }
 
 impl From<RecordsError> for BootError {

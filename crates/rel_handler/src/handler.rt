@@ -3,7 +3,7 @@ ghost use Rattle.std.specs.Prelude.{◌≡◌, true, false, string_bytes, Ok, Er
 ghost use Rattle.rel_files.specs.Release.{release_of};
 ghost use Rattle.rel_list.specs.Event.Event.{unpacked, installed, made_permanent, removed};
 ghost use Rattle.rel_list.specs.Releases.{Releases, running};
-ghost use Rattle.rel_handler.specs.Commits.{Commits, IsDone, IsStarted};
+ghost use Rattle.rel_handler.specs.Commits.{Commits, IsDone, HasStarted};
 ghost use Rattle.rel_handler.specs.Files.{IsRelFile, unpacked_size, started};
 ghost use Rattle.rel_handler.specs.Refusals.{CommandRefused};
 ghost use Rattle.rel_handler.specs.State.{disk_in, list_in, is_dead, start_in, version_of, IsSound};
@@ -120,7 +120,7 @@ impl<D: Disk> Handler<D> {
     }
 
     /// Makes the current release, of this version, the permanent one: the list is committed, then the start record. At `Ok`
-    /// both are acknowledged (`done`, `start`).
+    /// both are acknowledged (`done`, `started`).
     ///
     /// Refusals, in this order: `Dead`, `NoSuchRelease`, `BadStatus`, `Full`; else as `set_unpacked`. After a `Device` the
     /// list has the event or not, and the start record is the old one or the new.
@@ -130,7 +130,7 @@ impl<D: Disk> Handler<D> {
             (change_size (made_permanent vsn.now) (list_in self.old)) self.old self.new }
         ensures done { OnOk result (IsDone D.Disk (made_permanent vsn.now)
             (change_size (made_permanent vsn.now) (list_in self.old)) self.old self.new) }
-        ensures start { OnOk result (IsStarted D.seen self.new) }
+        ensures started { OnOk result (HasStarted D.Disk self.new) }
         ensures refused { IfErr result (CommandRefused D.failures (made_permanent vsn.now)
             (change_size (made_permanent vsn.now) (list_in self.old)) self.old self.new) }
     {
@@ -143,7 +143,8 @@ impl<D: Disk> Handler<D> {
         let start = start_of(alloc, release)?;
         let vsn = String::from_str(alloc, vsn)?;
         self.change(alloc, Event::MadePermanent(vsn))?;
-        self.commit_start(&start)
+        self.commit_start(&start)?;
+        Ok(())
     }
 
     /// Takes a release out of the list. At `Ok` that is acknowledged (`done`).
@@ -196,7 +197,7 @@ fn running_version(alloc: Global, list: &ReleaseList) -> Result<String, AllocErr
 }
 
 // What a node with this release as the permanent one starts.
-fn start_of(alloc: Global, release: &Rel) -> Result<Start, AllocError>
+pub(crate) fn start_of(alloc: Global, release: &Rel) -> Result<Start, AllocError>
     ensures { IfOk result (λ start. versions_of start ≡ started (release_of release.now)) }
 {
     Ok(Start {

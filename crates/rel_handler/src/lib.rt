@@ -26,6 +26,7 @@ mod error;
 mod files;
 mod handler;
 pub mod laws;
+mod start;
 
 pub use booting::boot;
 pub use error::{BootError, HandlerError};

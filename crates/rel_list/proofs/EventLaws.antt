@@ -27,7 +27,7 @@ current-installed false Current is = absurd (true≢false (sym is))
 current-installed false Old is = absurd (true≢false (sym is))
 current-installed false Permanent is = absurd (true≢false (sym is))
 
-permanent-installed : (b : Bool) (s : Status) → is_permanent (installed_status b s) ≡ is_permanent s
+pub permanent-installed : (b : Bool) (s : Status) → is_permanent (installed_status b s) ≡ is_permanent s
 permanent-installed true Unpacked = refl
 permanent-installed true Current = refl
 permanent-installed true Old = refl
@@ -61,7 +61,7 @@ current-booted Current is = refl
 current-booted Old is = is
 current-booted Permanent is = is
 
-permanent-booted : (s : Status) → is_permanent (booted_status s) ≡ is_permanent s
+pub permanent-booted : (s : Status) → is_permanent (booted_status s) ≡ is_permanent s
 permanent-booted Unpacked = refl
 permanent-booted Current = refl
 permanent-booted Old = refl
@@ -136,7 +136,7 @@ pub orderly-without : (v : List ℕ) (es : Releases) → IsOrderly es → IsOrde
 orderly-without v es o =
     record { distinct = distinct-without v es o.distinct; one_current = omega (arith, fewer (λ (e : Entry). is_current e.status) v es, o.one_current) }
 
-kept_permanent : (s : Status) → may_be_removed (Some s) ≡ true → is_permanent s ≡ false
+pub kept_permanent : (s : Status) → may_be_removed (Some s) ≡ true → is_permanent s ≡ false
 kept_permanent Unpacked is = refl
 kept_permanent Current is = refl
 kept_permanent Old is = refl
@@ -178,11 +178,11 @@ orderly-push es n not_current none o = record {
 
 -- Any event
 
-allowed : (b : Bool) (es next : Releases) → (if b then Some es else None) ≡ Some next → (b ≡ true) × (es ≡ next)
+pub allowed : (b : Bool) (es next : Releases) → (if b then Some es else None) ≡ Some next → (b ≡ true) × (es ≡ next)
 allowed true es next is = (refl, cc is)
 allowed false es next is = cc
 
-allowed_else : (b : Bool) (es next : Releases) → (if b then None else Some es) ≡ Some next → (b ≡ false) × (es ≡ next)
+pub allowed_else : (b : Bool) (es next : Releases) → (if b then None else Some es) ≡ Some next → (b ≡ false) × (es ≡ next)
 allowed_else false es next is = (refl, cc is)
 allowed_else true es next is = cc
 

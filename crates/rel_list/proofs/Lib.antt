@@ -1,6 +1,7 @@
 mod Lookups
 pub mod Orderly
 pub mod EventLaws
+pub mod PermanentLaws
 mod BootLaws
 pub mod RefusalLaws
 pub mod RestLaws

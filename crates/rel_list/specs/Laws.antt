@@ -1,12 +1,12 @@
 -- Laws of the list and its events, whatever keeps them.
-use Rattle.std.specs.Prelude.{◌≡◌, ◌≢◌, ◌↔◌, ◌≤◌, ℕ, List, [], ◌∷◌, ◌++◌, length, map, true, None, Some}
+use Rattle.std.specs.Prelude.{◌≡◌, ◌≢◌, ◌↔◌, ◌≤◌, ℕ, Bool, List, [], ◌∷◌, ◌++◌, length, map, true, false, None, Some}
 use Rattle.rel_files.specs.Release.{Release}
 use Rattle.rel_list.specs.declared.status.Status.{Status}
 use Rattle.rel_list.specs.declared.status.Status.TheVariants.{Permanent}
 use Rattle.rel_list.specs.Status.{is_current, is_permanent}
-use Rattle.rel_list.specs.Releases.{Releases, Entry, status_of, of_status, HasDistinctVersions}
+use Rattle.rel_list.specs.Releases.{Releases, Entry, status_of, of_status, permanent, HasDistinctVersions}
 use Rattle.rel_list.specs.Event.{Event, step, booted_status, booted, list_from, list_after}
-use Rattle.rel_list.specs.Event.Event.{made, installed, boot}
+use Rattle.rel_list.specs.Event.Event.{made, installed, made_permanent, reboot_old, boot}
 use Rattle.rel_list.specs.Refusal.{refusal}
 
 -- No version stands twice in a list, whatever events made it.
@@ -21,6 +21,17 @@ AtMostOneIsCurrent = (events : List Event) (es : Releases) → list_after events
 abbrev pub OneIsPermanent : Type 0
 OneIsPermanent =
     (before after : List Event) (r : Release) (es : Releases) → list_after (before ++ made r ∷ after) ≡ Some es → length (of_status is_permanent es) ≡ 1
+
+-- neither does the event bring the first release nor does it have another one become permanent
+abbrev pub leaves_permanent : Event → Bool
+leaves_permanent (made r) = false
+leaves_permanent (made_permanent v) = false
+leaves_permanent (reboot_old v) = false
+leaves_permanent e = true
+
+-- No other event changes which release is permanent.
+abbrev pub PermanentStays : Type 0
+PermanentStays = (e : Event) (es next : Releases) → leaves_permanent e ≡ true → step e es ≡ Some next → permanent next ≡ permanent es
 
 -- A boot behind a boot changes nothing.
 abbrev pub SecondBootChangesNothing : Type 0

@@ -1,5 +1,5 @@
 //! Laws of the list and its events, whatever keeps them. Each function does nothing: its contract is the law.
-ghost use Rattle.rel_list.specs.Laws.{VersionsAreDistinct, AtMostOneIsCurrent, OneIsPermanent, SecondBootChangesNothing, BootChangesCurrentOnes, InstallsAlikeBehindABoot, RefusedWhereNotAllowed, ListsAtRestAreReached};
+ghost use Rattle.rel_list.specs.Laws.{VersionsAreDistinct, AtMostOneIsCurrent, OneIsPermanent, PermanentStays, SecondBootChangesNothing, BootChangesCurrentOnes, InstallsAlikeBehindABoot, RefusedWhereNotAllowed, ListsAtRestAreReached};
 
 /// No version stands twice in a list, whatever events made it.
 pub fn versions_are_distinct()
@@ -14,6 +14,11 @@ pub fn at_most_one_release_is_current()
 /// Once a first release was made, exactly one release is permanent, whatever events follow.
 pub fn exactly_one_release_is_permanent()
     ensures { OneIsPermanent }
+{}
+
+/// Only a first release, one that is made permanent and a reboot to an old one change which release is permanent.
+pub fn other_events_leave_the_permanent_release()
+    ensures { PermanentStays }
 {}
 
 /// A boot behind a boot changes nothing.

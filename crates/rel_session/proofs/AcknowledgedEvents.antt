@@ -2,7 +2,7 @@
 use Rattle.std.proofs.Common.{◌≡◌, ◌≢◌, ◌⊎◌, inl, inr, ℕ, zero, suc, List, [], ◌∷◌, ◌++◌, Option, Some, None, refl, sym, ap, ◌∙◌, subst, append-nil, append_assoc, arith}
 use Rattle.rel_list.specs.Event.{Event, list_after}
 use Rattle.rel_handler.specs.Image.{store_end}
-use Rattle.rel_handler.specs.Events.{Known, Events, Stored, settled, certain, with_doubt, IsStoredAs}
+use Rattle.rel_handler.specs.Events.{Known, Events, Stored, settled, certain, with_doubt, HasStart, IsStoredAs}
 use Rattle.rel_session.specs.Commands.{Command}
 use Rattle.rel_session.specs.Device.{Device, LeavesOnly}
 use Rattle.rel_session.specs.Feed.{Feed}
@@ -71,6 +71,7 @@ stands_for_more events more all image is of = record {
   list = of.list;
   after = ap list_after (sym (append_assoc events more of.more) ∙ ap (λ (l : Events). l ++ of.more) (sym is)) ∙ of.after;
   image_of = of.image_of;
+  start = subst (λ l. HasStart l image) (ap (λ (l : Events). l ++ of.more) is ∙ append_assoc events more of.more) of.start;
 }
 
 -- the events of all the replies
@@ -129,7 +130,7 @@ of_accepted s image of = record { events = of.events; prefix = prefix_of s of.ev
 stands_for : (s : Stored) (image : List ℕ) → IsStoredAs s image → StandsForAll s.known.acknowledged image
 stands_for s image of =
     let prefix = prefix_of s of.events (store_end image) of.list of.has of.after in
-    record { more = prefix.more; list = of.list; after = ap list_after (sym prefix.holds) ∙ of.after; image_of = of.image_of }
+    record { more = prefix.more; list = of.list; after = ap list_after (sym prefix.holds) ∙ of.after; image_of = of.image_of; start = subst (λ l. HasStart l image) prefix.holds of.start }
 
 stands_for_reached : (k : Known) (command : Events) (image : List ℕ) → IsReached k command image → StandsForAll k.acknowledged image
 stands_for_reached k command image of = record {
@@ -137,6 +138,7 @@ stands_for_reached k command image of = record {
   list = of.list;
   after = ap list_after (sym (append_assoc k.acknowledged of.prefix.more of.more) ∙ ap (λ (l : Events). l ++ of.more) (sym of.prefix.holds)) ∙ of.after;
   image_of = of.image_of;
+  start = subst (λ l. HasStart l image) (ap (λ (l : Events). l ++ of.more) of.prefix.holds ∙ append_assoc k.acknowledged of.prefix.more of.more) of.start;
 }
 
 module _ {D : Type 0} (v : Device D) (laws : IsDevice v) where
@@ -144,7 +146,7 @@ module _ {D : Type 0} (v : Device D) (laws : IsDevice v) where
   held_images : (p : Place) (disk : D) → IsKnown p → Holds v p disk → (c : List ℕ) → v.may_leave disk c → StandsForAll (acknowledged_at p) c
   held_images (raw bytes) disk known holds c now = absurd known
   held_images (closed s) disk known holds c now = stands_for s c (holds c now)
-  held_images (running events end) disk known holds c now = stands_for (certain events end) c (holds c now)
+  held_images (running events end) disk known holds c now = stands_for (certain events end) c (holds c now).0
   held_images (dead s) disk known holds c now = stands_for s c (holds c now)
 
   -- and at each moment of a command
@@ -198,7 +200,7 @@ module _ {D : Type 0} (v : Device D) (laws : IsDevice v) where
   starts_at_rest : (p : Place) (disk : D) → Holds v p disk → Starts v (at_rest p) disk
   starts_at_rest (raw bytes) disk holds = holds
   starts_at_rest (closed s) disk holds = holds
-  starts_at_rest (running events end) disk holds = holds
+  starts_at_rest (running events end) disk holds = λ c now. (holds c now).0
   starts_at_rest (dead s) disk holds = holds
 
   pub begins_where_one_ended : BeginsWhereOneEnded v
@@ -208,7 +210,7 @@ module _ {D : Type 0} (v : Device D) (laws : IsDevice v) where
   begins_behind_a_crash events image disk of only = (
     of.more,
     λ c now. subst (IsStoredAs (certain (events ++ of.more) (store_end image))) (sym (only c now))
-        (record { events = events ++ of.more; has = inl (refl, refl); list = of.list; after = of.after; image_of = of.image_of }),
+        (record { events = events ++ of.more; has = inl (refl, refl); list = of.list; after = of.after; image_of = of.image_of; start = of.start }),
   )
 
   known_at_rest : (p : Place) → IsKnown p → (s : Stored) × (at_rest p ≡ closed s) × (s.known.acknowledged ≡ acknowledged_at p)

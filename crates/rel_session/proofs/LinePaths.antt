@@ -142,7 +142,7 @@ image_versions events end c of list after =
 
 pub keeps_versions : {D : Type 0} (v : Device D) → IsDevice v → KeepsVersions v
 keeps_versions v laws (raw x) disk sure holds = tt
-keeps_versions v laws (running events end) disk sure holds = image_versions events end (v.seen disk) (holds (v.seen disk) (laws.reads_an_image disk))
+keeps_versions v laws (running events end) disk sure holds = image_versions events end (v.seen disk) (holds (v.seen disk) (laws.reads_an_image disk)).0
 keeps_versions v laws (dead s) disk sure holds = absurd sure
 keeps_versions v laws (closed s) disk sure holds =
     subst (λ t. HasVersionsAt (closed t)) (sym sure) (λ events list is after.

@@ -4,8 +4,8 @@ use Rattle.std.specs.Prelude.{is_some, if◌then◌else◌}
 use Rattle.std.proofs.lemmas.List.{append-nil}
 use Rattle.rel_list.specs.Releases.{Releases}
 use Rattle.rel_list.specs.Event.{Event, list_after}
-use Rattle.rel_handler.specs.Events.{Events, settled, with_doubt, accepted, IsPrefix, Stored, certain, uncertain, MayHave, IsStoredAs}
-use Rattle.rel_handler.specs.Image.{IsImageAt}
+use Rattle.rel_handler.specs.Events.{Events, settled, with_doubt, accepted, IsPrefix, Stored, certain, uncertain, MayHave, StartsBehind, HasStart, IsStoredAs}
+use Rattle.rel_handler.specs.Image.{IsImageAt, IsStarted}
 use Rattle.rel_session.specs.Run.{IsReached}
 
 abbrev doubt_of : Option Event → Events
@@ -56,6 +56,7 @@ reached s command c of = record {
   list = of.list;
   after = ap list_after (append-nil of.events) ∙ of.after;
   image_of = of.image_of;
+  start = subst (λ l. HasStart l c) (sym (append-nil of.events)) of.start;
 }
 
 -- and with its event
@@ -79,6 +80,7 @@ reached_with events end e size c of = by_events _ of.has
       list = of.list;
       after = ap list_after (append-nil events ∙ sym is) ∙ of.after;
       image_of = of.image_of;
+      start = subst (λ l. HasStart l c) (is ∙ sym (append-nil events)) of.start;
     }
     by_events n (inr (is, at)) = record {
       events = events;
@@ -89,8 +91,17 @@ reached_with events end e size c of = by_events _ of.has
       list = of.list;
       after = ap list_after (sym is) ∙ of.after;
       image_of = of.image_of;
+      start = subst (λ l. HasStart l c) is of.start;
     }
 
 -- an image of a handler's list is a store of its events
-pub stored : (events : Events) (end : ℕ) (list : Releases) (c : List ℕ) → list_after events ≡ Some list → IsImageAt c list end → IsStoredAs (certain events end) c
-stored events end list c after image = record { events = events; has = inl (refl, image.ends); list = list; after = after; image_of = image.image_of }
+pub stored : (events : Events) (end : ℕ) (list : Releases) (c : List ℕ) → list_after events ≡ Some list → IsImageAt c list end → IsStarted list c → IsStoredAs (certain events end) c
+stored events end list c after image started =
+    record { events = events; has = inl (refl, image.ends); list = list; after = after; image_of = image.image_of; start = inl (list, after, started) }
+
+-- the start record of the list that these events make
+pub started_list : (events : Events) (list : Releases) (c : List ℕ) → list_after events ≡ Some list → StartsBehind events c → IsStarted list c
+started_list events list c after (es, made_so, started) =
+    let same : Some es ≡ Some list = sym made_so ∙ after in
+    let one : es ≡ list = cc in
+    subst (λ l. IsStarted l c) one started

@@ -13,8 +13,8 @@ use Rattle.rel_handler.specs.declared.error.HandlerError.TheVariants as handler_
 use Rattle.rel_handler.specs.declared.error.BootError.{BootError}
 use Rattle.rel_handler.specs.declared.error.BootError.TheVariants as boot_error
 use Rattle.rel_handler.specs.declared.handler.Handler.{Handler}
-use Rattle.rel_handler.specs.Events.{Events, Stored, MayHave, certain, uncertain, IsStoredAs, settled, doubted}
-use Rattle.rel_handler.specs.Image.{IsImageOf, IsImageAt, holds_a_store, first_end, end_behind, HasSpace}
+use Rattle.rel_handler.specs.Events.{Events, Stored, MayHave, certain, uncertain, StartsBehind, IsStoredAs, settled, doubted}
+use Rattle.rel_handler.specs.Image.{IsImageOf, IsImageAt, IsRepairOf, holds_a_store, first_end, end_behind, HasSpace}
 use Rattle.rel_records.specs.Limits.{is_small}
 use Rattle.rel_handler.specs.Moments.{Begins, BeginsAt, WritesNothing}
 use Rattle.rel_records.specs.Record.{makes as makes_record, body_of}
@@ -36,12 +36,12 @@ use Rattle.rel_session.specs.Refusals.Refusal.{full, exists, device, dead as dea
 use Rattle.rel_session.specs.Run.{IsReached, Holds, Moments}
 use Rattle.rel_session.specs.Transition
 use Rattle.rel_session.specs.Transition.Action.{changes_node}
-use Rattle.rel_handler.specs.Commits.{Commits, IsDone}
+use Rattle.rel_handler.specs.Commits.{Commits, IsDone, HasStarted}
 use Rattle.rel_handler.proofs.CommandLemmas.{commanded_step}
 use Rattle.rel_session.proofs.DeviceLemmas.{IsDevice, weakened, still}
 use Rattle.rel_session.proofs.Histories.{events_of_image}
 use Rattle.rel_session.proofs.ListLemmas.{list_after-push}
-use Rattle.rel_session.proofs.Prefixes.{reached, reached_with, stored}
+use Rattle.rel_session.proofs.Prefixes.{reached, reached_with, stored, started_list}
 
 -- what an error became is the refusal
 pub told_so : (r : Result (String Global) RefusalInMemory) (why : RefusalInMemory) → IsErrAnd r (λ e. e ≡ why) → r ≡ Err why
@@ -61,9 +61,9 @@ module _ {D : Type 0} (v : Device D) (laws : IsDevice v) where
   held (memory.Made h) (dead s) at = at.0
 
   -- calls that leave nothing new keep what is known of a store
-  pub kept : (s : Stored) (old new : D) → ((c : List ℕ) → v.may_leave old c → IsStoredAs s c) → LeavesOnly v old new (v.may_leave old)
-      → (c : List ℕ) → v.may_leave new c → IsStoredAs s c
-  kept s old new here leaves c now = here c (leaves.each c (laws.counts_now new (v.moment old) c leaves.later now))
+  pub kept : (P : List ℕ → Type 0) (old new : D) → ((c : List ℕ) → v.may_leave old c → P c) → LeavesOnly v old new (v.may_leave old)
+      → (c : List ℕ) → v.may_leave new c → P c
+  kept P old new here leaves c now = here c (leaves.each c (laws.counts_now new (v.moment old) c leaves.later now))
 
   -- and are the moments of any command on it
   pub quiet : (s : Stored) (command : Events) (old new : D) → ((c : List ℕ) → v.may_leave old c → IsStoredAs s c) → LeavesOnly v old new (v.may_leave old)
@@ -71,11 +71,18 @@ module _ {D : Type 0} (v : Device D) (laws : IsDevice v) where
   quiet s command old new here leaves = weakened v old new (v.may_leave old) _ (λ c now. reached s command c (here c now)) leaves
 
   -- a command without an event that leaves nothing new
-  pub moments_of_nothing : (p : Place) (b : Bool) (old new : D) → Holds v p old → LeavesOnly v old new (v.may_leave old) → Moments v p (record { acknowledged = []; in_doubt = None; failed = b }) old new
-  moments_of_nothing (raw bytes) b old new here leaves = leaves
-  moments_of_nothing (closed s) b old new here leaves = quiet s [] old new here leaves
-  moments_of_nothing (running events end) b old new here leaves = quiet (certain events end) [] old new here leaves
-  moments_of_nothing (dead s) b old new here leaves = quiet s [] old new here leaves
+  pub moments_of_nothing : (p : Place) (old new : D) → Holds v p old → LeavesOnly v old new (v.may_leave old) → Moments v p nothing old new
+  moments_of_nothing (raw bytes) old new here leaves = leaves
+  moments_of_nothing (closed s) old new here leaves = quiet s [] old new here leaves
+  moments_of_nothing (running events end) old new here leaves = quiet (certain events end) [] old new (λ c now. (here c now).0) leaves
+  moments_of_nothing (dead s) old new here leaves = quiet s [] old new here leaves
+
+  -- where a disk stands that is read alone
+  pub holds_still : (p : Place) (old new : D) → Holds v p old → v.seen new ≡ v.seen old → LeavesOnly v old new (v.may_leave old) → Holds v p new
+  holds_still (raw bytes) old new here same leaves = same ∙ here
+  holds_still (closed s) old new here same leaves = kept (IsStoredAs s) old new here leaves
+  holds_still (running events end) old new here same leaves = kept (λ c. IsStoredAs (certain events end) c × StartsBehind events c) old new here leaves
+  holds_still (dead s) old new here same leaves = kept (IsStoredAs s) old new here leaves
 
   never : {A : Type 0} → false ≡ true → A
   never e = absurd cc
@@ -87,7 +94,7 @@ module _ {D : Type 0} (v : Device D) (laws : IsDevice v) where
     right = right;
     at = then;
     happens = record {
-      moments = moments_of_nothing p false (disk_at old) (disk_at new) (held old p at) (subst (λ d. LeavesOnly v (disk_at old) d (v.may_leave (disk_at old))) (sym same) (still v laws (disk_at old)));
+      moments = moments_of_nothing p (disk_at old) (disk_at new) (held old p at) (subst (λ d. LeavesOnly v (disk_at old) d (v.may_leave (disk_at old))) (sym same) (still v laws (disk_at old)));
       holds = held new p then;
       cause = λ e. never e;
       counted = subst (λ d. v.failures (disk_at old) ≤ v.failures d) (sym same) (omega arith);
@@ -115,8 +122,13 @@ module _ {D : Type 0} (v : Device D) (laws : IsDevice v) where
 
   -- A handler whose list is that of these events.
   pub runs_at : (h : Handler D) (events : Events) (end : ℕ) → is_dead h ≡ false → list_after events ≡ Some (list_in h) → end_in h ≡ end
-      → ((c : List ℕ) → v.may_leave (disk_in h) c → IsImageAt c (list_in h) (end_in h)) → IsAt v (memory.Made h) (running events end)
-  runs_at h events end alive after ends images = (λ c now. stored events end (list_in h) c after (subst (IsImageAt c (list_in h)) ends (images c now)), alive, after, ends)
+      → ((c : List ℕ) → v.may_leave (disk_in h) c → IsImageAt c (list_in h) (end_in h)) → HasStarted v h → IsAt v (memory.Made h) (running events end)
+  runs_at h events end alive after ends images started = (
+    λ c now. (stored events end (list_in h) c after (subst (IsImageAt c (list_in h)) ends (images c now)) (started c now), (list_in h, after, started c now)),
+    alive,
+    after,
+    ends,
+  )
 
   -- A command's line, which may not fit into memory.
   pub tells : (P : Place → Reply → Type 0) (line : Result (String Global) AllocError) (answer : List ℕ) (old new : PlaceInMemory D) → IfOk line (λ text. string_bytes text ≡ answer)
@@ -131,16 +143,17 @@ module _ {D : Type 0} (v : Device D) (laws : IsDevice v) where
   -- a boot that is done
   module _ (old : PlaceInMemory D) (disk : D) (taken : disk ≡ disk_at old) (h : Handler D) (alive : is_dead h ≡ false)
       (image : IsImageAt (v.seen disk) (list_in h) (end_in h)) (again : booted (list_in h) ≡ list_in h)
-      (images : (c : List ℕ) → v.may_leave (disk_in h) c → IsImageAt c (list_in h) (end_in h))
+      (images : (c : List ℕ) → v.may_leave (disk_in h) c → IsImageAt c (list_in h) (end_in h)) (started : HasStarted v h)
       (only : (es : Releases) → IsImageOf (v.seen disk) es → list_in h ≡ booted es)
-      (leaves : LeavesOnly v disk (disk_in h) (v.may_leave disk)) (counted : v.failures disk ≤ v.failures (disk_in h)) where
+      (leaves : LeavesOnly v disk (disk_in h) (λ c. v.may_leave disk c ⊎ IsRepairOf (v.seen disk) c))
+      (stored_all : (s : Stored) → ((c : List ℕ) → v.may_leave disk c → IsStoredAs s c) → LeavesOnly v disk (disk_in h) (IsStoredAs s)) (counted : v.failures disk ≤ v.failures (disk_in h)) where
     -- with these events
     boots_with : (p : Place) (events : Events) (end : ℕ) → end_in h ≡ end → list_after (events ++ booting ∷ []) ≡ Some (list_in h) → Moments v p (done (booting ∷ [])) disk (disk_in h)
         → (P : Reply → Type 0) → ((a : Reply) → Transition.IsBooted events end a → P a)
         → Replied v p (λ a. P a × (a.answer ≡ Transition.ok_line (Transition.version_of (running_release (list_in h))))) old (memory.Made h)
     boots_with p events end at after moments P right =
         let answer = Transition.ok_line (Transition.version_of (running_release (list_in h))) in
-        let place = runs_at h (events ++ booting ∷ []) end alive after at images in
+        let place = runs_at h (events ++ booting ∷ []) end alive after at images started in
         record {
           given = reply answer (done (booting ∷ [])) (running (events ++ booting ∷ []) end);
           right = (right _ (list_in h, after, refl), refl);
@@ -159,7 +172,7 @@ module _ {D : Type 0} (v : Device D) (laws : IsDevice v) where
         let of = here (v.seen disk) (laws.reads_an_image disk) in
         boots_with p of.events (end_in h) refl
         (list_after-push of.events booting of.list (booted of.list) of.after refl ∙ ap (λ l. Some l) (sym (only of.list of.image_of)))
-        (moments (quiet s (booting ∷ []) disk (disk_in h) here leaves)) (Transition.BootsStore s) (λ a is. inl (of.events, end_in h, subst (MayHave s of.events) image.ends of.has, is))
+        (moments (weakened v disk (disk_in h) (IsStoredAs s) _ (reached s (booting ∷ [])) (stored_all s here))) (Transition.BootsStore s) (λ a is. inl (of.events, end_in h, subst (MayHave s of.events) image.ends of.has, is))
 
     boots_at : (p : Place) → Holds v p disk
         → Replied v p (λ a. Transition.Boots p a × (a.answer ≡ Transition.ok_line (Transition.version_of (running_release (list_in h))))) old (memory.Made h)
@@ -168,41 +181,46 @@ module _ {D : Type 0} (v : Device D) (laws : IsDevice v) where
         boots_with (raw bytes) events (end_in h) refl after leaves (Transition.Boots (raw bytes))
         (λ a is. inl (events, list_in h, end_in h, before, subst (λ b. IsImageAt b (list_in h) (end_in h)) here image, is))
     boots_at (closed s) here = boots_store (closed s) s here (λ m. m)
-    boots_at (running events end) here = boots_store (running events end) (certain events end) here (λ m. m)
+    boots_at (running events end) here = boots_store (running events end) (certain events end) (λ c now. (here c now).0) (λ m. m)
     boots_at (dead s) here = boots_store (dead s) s here (λ m. m)
 
     pub boots : (line : Result (String Global) AllocError) → IfOk line (λ text. string_bytes text ≡ Transition.ok_line (Transition.version_of (running_release (list_in h))))
         → TellsReply v Transition.Boots line old (memory.Made h)
     boots line told = tells Transition.Boots line _ old (memory.Made h) told (λ p at. boots_at p (subst (λ d. Holds v p d) (sym taken) (held old p at)))
 
+  -- the disk was read alone
+  abbrev IsQuiet : D → D → Type 0
+  IsQuiet old new = (v.seen new ≡ v.seen old) × LeavesOnly v old new (v.may_leave old)
+
   -- a boot that is refused
-  module _ (old : PlaceInMemory D) (disk new : D) (taken : disk ≡ disk_at old) (leaves : LeavesOnly v disk new (v.may_leave disk)) (counted : v.failures disk ≤ v.failures new) where
+  module _ (old : PlaceInMemory D) (disk new : D) (taken : disk ≡ disk_at old) (leaves : LeavesOnly v disk new (λ c. v.may_leave disk c ⊎ IsRepairOf (v.seen disk) c))
+      (stored_all : (s : Stored) → ((c : List ℕ) → v.may_leave disk c → IsStoredAs s c) → LeavesOnly v disk new (IsStoredAs s)) (counted : v.failures disk ≤ v.failures new) where
     -- the disk stands where it stood
     rests_on : (s : Stored) → ((c : List ℕ) → v.may_leave disk c → IsStoredAs s c) → IsAt v (memory.Idle new) (closed s)
-    rests_on s here = kept s disk new here leaves
+    rests_on s here c now = let all = stored_all s here in all.each c (laws.counts_now new (v.moment disk) c all.later now)
 
-    refused_at : (p q : Place) (answer : List ℕ) (b : Bool) (P : Reply → Type 0) → Holds v p disk → IsAt v (memory.Idle new) q → (b ≡ true → HasFailed v disk new)
+    refused_at : (p q : Place) (answer : List ℕ) (b : Bool) (P : Reply → Type 0) → Moments v p (record { acknowledged = []; in_doubt = None; failed = b }) disk new → IsAt v (memory.Idle new) q → (b ≡ true → HasFailed v disk new)
         → P (reply answer (record { acknowledged = []; in_doubt = None; failed = b }) q) → Replied v p (λ a. P a × (a.answer ≡ answer)) old (memory.Idle new)
-    refused_at p q answer b P here then cause right = record {
+    refused_at p q answer b P moments then cause right = record {
       given = reply answer (record { acknowledged = []; in_doubt = None; failed = b }) q;
       right = (right, refl);
       at = then;
       happens = record {
-        moments = subst (λ d. Moments v p (record { acknowledged = []; in_doubt = None; failed = b }) d new) taken (moments_of_nothing p b disk new here leaves);
+        moments = subst (λ d. Moments v p (record { acknowledged = []; in_doubt = None; failed = b }) d new) taken moments;
         holds = held (memory.Idle new) q then;
         cause = λ e. subst (λ d. HasFailed v d new) taken (cause e);
         counted = subst (λ d. v.failures d ≤ v.failures new) taken counted;
       };
     }
 
-    module _ (why : BootError) (is : BootRefused (v.seen disk) (v.failures disk) (v.failures new) why) (same : (why ≢ boot_error.Device) → v.seen new ≡ v.seen disk)
+    module _ (why : BootError) (is : BootRefused (v.seen disk) (v.failures disk) (v.failures new) why) (read : (why ≢ boot_error.Device) → IsQuiet disk new)
         (only : (es : Releases) → IsImageOf (v.seen disk) es → (why ≡ boot_error.Device) ⊎ (why ≡ boot_error.NoMemory)) (known : why ≢ boot_error.NoMemory) where
       -- on a store nothing but the device refuses
-      by_store : (p : Place) (s : Stored) → ((c : List ℕ) → v.may_leave disk c → IsStoredAs s c) → Holds v p disk → Replied v p (λ a. Transition.BootsStore s a × (a.answer ≡ boot_line why)) old (memory.Idle new)
-      by_store p s here holds = go (only (here (v.seen disk) (laws.reads_an_image disk)).list (here (v.seen disk) (laws.reads_an_image disk)).image_of)
+      by_store : (p : Place) (s : Stored) → ((c : List ℕ) → v.may_leave disk c → IsStoredAs s c) → (LeavesOnly v disk new (IsReached s.known []) → Moments v p (failed_with None) disk new) → Replied v p (λ a. Transition.BootsStore s a × (a.answer ≡ boot_line why)) old (memory.Idle new)
+      by_store p s here moments = go (only (here (v.seen disk) (laws.reads_an_image disk)).list (here (v.seen disk) (laws.reads_an_image disk)).image_of)
         where
           go : (why ≡ boot_error.Device) ⊎ (why ≡ boot_error.NoMemory) → Replied v p (λ a. Transition.BootsStore s a × (a.answer ≡ boot_line why)) old (memory.Idle new)
-          go (inl failed) = refused_at p (closed s) (boot_line why) true (Transition.BootsStore s) holds (rests_on s here)
+          go (inl failed) = refused_at p (closed s) (boot_line why) true (Transition.BootsStore s) (moments (weakened v disk new (IsStoredAs s) _ (reached s []) (stored_all s here))) (rests_on s here)
               (λ e. subst (BootRefused (v.seen disk) (v.failures disk) (v.failures new)) failed is)
               (inr (ap (λ w. reply (boot_line w) (failed_with None) (closed s)) failed))
           go (inr memory) = absurd (known memory)
@@ -211,35 +229,32 @@ module _ {D : Type 0} (v : Device D) (laws : IsDevice v) where
       by_bytes bytes here = go why refl is
         where
           plainly : (w : BootError) → why ≡ w → w ≢ boot_error.Device → IsBootRefusal (v.seen disk) w → Replied v (raw bytes) (λ a. Transition.BootsBytes bytes a × (a.answer ≡ boot_line why)) old (memory.Idle new)
-          plainly w e other told = refused_at (raw bytes) (raw bytes) (boot_line why) false (Transition.BootsBytes bytes) here (same (λ d. other (sym e ∙ d)) ∙ here) (λ f. never f)
+          plainly w e other told = refused_at (raw bytes) (raw bytes) (boot_line why) false (Transition.BootsBytes bytes) (read (λ d. other (sym e ∙ d))).1 ((read (λ d. other (sym e ∙ d))).0 ∙ here) (λ f. never f)
               (inr (inl (why, subst (λ b. IsBootRefusal b why) here (subst (IsBootRefusal (v.seen disk)) (sym e) told), refl)))
 
           go : (w : BootError) → why ≡ w → BootRefused (v.seen disk) (v.failures disk) (v.failures new) w → Replied v (raw bytes) (λ a. Transition.BootsBytes bytes a × (a.answer ≡ boot_line why)) old (memory.Idle new)
           go boot_error.NotAStore e told = plainly boot_error.NotAStore e (λ f. cc f) told
           go (boot_error.Damaged at) e told = plainly (boot_error.Damaged at) e (λ f. cc f) told
-          go boot_error.Device e told = refused_at (raw bytes) (raw (v.seen new)) (boot_line why) true (Transition.BootsBytes bytes) here refl (λ f. told)
+          go boot_error.Device e told = refused_at (raw bytes) (raw (v.seen new)) (boot_line why) true (Transition.BootsBytes bytes) leaves refl (λ f. told)
               (inr (inr (v.seen new, ap (λ w. reply (boot_line w) (failed_with None) (raw (v.seen new))) e)))
           go boot_error.NoMemory e told = absurd (known e)
           go (boot_error.BadRecord i) e told = plainly (boot_error.BadRecord i) e (λ f. cc f) told
 
       boot_refused_at : (p : Place) → Holds v p disk → Replied v p (λ a. Transition.Boots p a × (a.answer ≡ boot_line why)) old (memory.Idle new)
       boot_refused_at (raw bytes) here = by_bytes bytes here
-      boot_refused_at (closed s) here = by_store (closed s) s here here
-      boot_refused_at (running events end) here = refused_at_running events end here
-        where
-          refused_at_running : (events : Events) (end : ℕ) → Holds v (running events end) disk → Replied v (running events end) (λ a. Transition.Boots (running events end) a × (a.answer ≡ boot_line why)) old (memory.Idle new)
-          refused_at_running events end here = by_store (running events end) (certain events end) here here
-      boot_refused_at (dead s) here = by_store (dead s) s here here
+      boot_refused_at (closed s) here = by_store (closed s) s here (λ m. m)
+      boot_refused_at (running events end) here = by_store (running events end) (certain events end) (λ c now. (here c now).0) (λ m. m)
+      boot_refused_at (dead s) here = by_store (dead s) s here (λ m. m)
 
       pub boot_refused : (line : Result (String Global) AllocError) → IfOk line (λ text. string_bytes text ≡ boot_line why) → TellsReply v Transition.Boots line old (memory.Idle new)
       boot_refused line told = tells Transition.Boots line _ old (memory.Idle new) told (λ p at. boot_refused_at p (subst (λ d. Holds v p d) (sym taken) (held old p at)))
 
     -- memory was refused
-    pub boot_without_memory : (why : BootError) (is : BootRefused (v.seen disk) (v.failures disk) (v.failures new) why) (same : (why ≢ boot_error.Device) → v.seen new ≡ v.seen disk)
+    pub boot_without_memory : (why : BootError) (is : BootRefused (v.seen disk) (v.failures disk) (v.failures new) why) (read : (why ≢ boot_error.Device) → IsQuiet disk new)
         (only : (es : Releases) → IsImageOf (v.seen disk) es → (why ≡ boot_error.Device) ⊎ (why ≡ boot_error.NoMemory))
         (line : Result (String Global) AllocError) → IfOk line (λ text. string_bytes text ≡ boot_line why) → (why ≡ boot_error.NoMemory → IsErr line) → TellsReply v Transition.Boots line old (memory.Idle new)
-    boot_without_memory why is same only (Ok text) told wanting = boot_refused why is same only (λ memory. let lost = wanting memory in cc) (Ok text) told
-    boot_without_memory why is same only (Err e) told wanting = go (no_memory why)
+    boot_without_memory why is read only (Ok text) told wanting = boot_refused why is read only (λ memory. let lost = wanting memory in cc) (Ok text) told
+    boot_without_memory why is read only (Err e) told wanting = go (no_memory why)
       where
         no_memory : (w : BootError) → (w ≡ boot_error.NoMemory) ⊎ (w ≢ boot_error.NoMemory)
         no_memory boot_error.NotAStore = inr (λ f. cc f)
@@ -248,19 +263,16 @@ module _ {D : Type 0} (v : Device D) (laws : IsDevice v) where
         no_memory boot_error.NoMemory = inl refl
         no_memory (boot_error.BadRecord i) = inr (λ f. cc f)
 
-        holds_then : why ≡ boot_error.NoMemory → (p : Place) → Holds v p disk → Holds v p new
-        holds_then memory (raw bytes) here = same (λ d. let lost : boot_error.NoMemory ≡ boot_error.Device = sym memory ∙ d in cc) ∙ here
-        holds_then memory (closed s) here = kept s disk new here leaves
-        holds_then memory (running events end) here = kept (certain events end) disk new here leaves
-        holds_then memory (dead s) here = kept s disk new here leaves
+        read_only : why ≡ boot_error.NoMemory → IsQuiet disk new
+        read_only memory = read (λ d. let lost : boot_error.NoMemory ≡ boot_error.Device = sym memory ∙ d in cc)
 
         go : (why ≡ boot_error.NoMemory) ⊎ (why ≢ boot_error.NoMemory) → TellsReply v Transition.Boots (Err e) old (memory.Idle new)
         go (inl memory) = λ p at. inr (record {
-          nothing_new = subst (λ d. LeavesOnly v d new (v.may_leave d)) taken leaves;
-          holds = holds_then memory p (subst (λ d. Holds v p d) (sym taken) (held old p at));
+          nothing_new = subst (λ d. LeavesOnly v d new (v.may_leave d)) taken (read_only memory).1;
+          holds = holds_still p disk new (subst (λ d. Holds v p d) (sym taken) (held old p at)) (read_only memory).0 (read_only memory).1;
           counted = subst (λ d. v.failures d ≤ v.failures new) taken counted;
         })
-        go (inr known) = boot_refused why is same only known (Err e) told
+        go (inr known) = boot_refused why is read only known (Err e) told
 
   -- A node is made on a disk.
   module _ (disk : D) (found : Found) (stores : (es : Releases) → IsImageOf (v.seen disk) es → holds_a_store (v.seen disk) ≡ true) where
@@ -274,15 +286,15 @@ module _ {D : Type 0} (v : Device D) (laws : IsDevice v) where
     store_there s here = let of = here (v.seen disk) (laws.reads_an_image disk) in stores of.list of.image_of
 
     pub makes : (h : Handler D) → ((at : D) × BeginsAt v.seen v.may_leave v.moment v.left_since (doubted [] (made found.release)) disk (disk_in h) at)
-        → ((c : List ℕ) → v.may_leave (disk_in h) c → IsImageAt c (list_in h) (end_in h)) → list_in h ≡ entry found.release Permanent ∷ [] → is_dead h ≡ false → (holds_a_store (v.seen disk) ≡ true → ⊥)
+        → ((c : List ℕ) → v.may_leave (disk_in h) c → IsImageAt c (list_in h) (end_in h)) → HasStarted v h → list_in h ≡ entry found.release Permanent ∷ [] → is_dead h ≡ false → (holds_a_store (v.seen disk) ≡ true → ⊥)
         → HasSpace first_end size → end_in h ≡ end_behind first_end size → v.failures disk ≤ v.failures (disk_in h) → (answer : List ℕ) → answer ≡ Transition.ok_line found.release.vsn
         → (p : Place) → IsAt v (memory.Idle disk) p → Replied v p (λ a. Transition.MakesNode p found a × (a.answer ≡ answer)) (memory.Idle disk) (memory.Made h)
-    makes h begun images list alive free fits ends counted answer is (closed s) at = absurd (free (store_there s at))
-    makes h begun images list alive free fits ends counted answer is (running events end) at = absurd at
-    makes h begun images list alive free fits ends counted answer is (dead s) at = absurd at
-    makes h begun images list alive free fits ends counted answer is (raw bytes) at =
+    makes h begun images started list alive free fits ends counted answer is (closed s) at = absurd (free (store_there s at))
+    makes h begun images started list alive free fits ends counted answer is (running events end) at = absurd at
+    makes h begun images started list alive free fits ends counted answer is (dead s) at = absurd at
+    makes h begun images started list alive free fits ends counted answer is (raw bytes) at =
         let events = made found.release ∷ booting ∷ [] in
-        let place = runs_at h events (end_behind first_end size) alive (ap (λ l. Some l) (sym list)) ends images in
+        let place = runs_at h events (end_behind first_end size) alive (ap (λ l. Some l) (sym list)) ends images started in
         let a = reply (Transition.ok_line found.release.vsn) (done events) (running events (end_behind first_end size)) in
         record {
           given = a;
@@ -301,7 +313,7 @@ module _ {D : Type 0} (v : Device D) (laws : IsDevice v) where
         (taken : holds_a_store (v.seen disk) ≡ true → WritesNothing v.seen v.may_leave v.moment v.left_since disk new) where
       unwritten_at : (p : Place) → IsAt v (memory.Idle disk) p → WritesNothing v.seen v.may_leave v.moment v.left_since disk new → IsAt v (memory.Idle new) p
       unwritten_at (raw bytes) at u = u.same ∙ at
-      unwritten_at (closed s) at u = kept s disk new at u.any_moment
+      unwritten_at (closed s) at u = kept (IsStoredAs s) disk new at u.any_moment
       unwritten_at (running events end) at u = absurd at
       unwritten_at (dead s) at u = absurd at
 
@@ -312,7 +324,7 @@ module _ {D : Type 0} (v : Device D) (laws : IsDevice v) where
         right = (right, refl);
         at = unwritten_at p at u;
         happens = record {
-          moments = moments_of_nothing p false disk new (held (memory.Idle disk) p at) u.any_moment;
+          moments = moments_of_nothing p disk new (held (memory.Idle disk) p at) u.any_moment;
           holds = held (memory.Idle new) p (unwritten_at p at u);
           cause = λ e. never e;
           counted = counted;
@@ -331,8 +343,8 @@ module _ {D : Type 0} (v : Device D) (laws : IsDevice v) where
           record {
             given = failed (Some (made found.release)) (closed s);
             right = (inr refl, refl);
-            at = kept s disk new at u.any_moment;
-            happens = record { moments = quiet s (made found.release ∷ []) disk new at u.any_moment; holds = kept s disk new at u.any_moment; cause = λ e. cause; counted = counted };
+            at = kept (IsStoredAs s) disk new at u.any_moment;
+            happens = record { moments = quiet s (made found.release ∷ []) disk new at u.any_moment; holds = kept (IsStoredAs s) disk new at u.any_moment; cause = λ e. cause; counted = counted };
           }
       device_fails cause (running events end) at = absurd at
       device_fails cause (dead s) at = absurd at
@@ -424,37 +436,42 @@ module _ {D : Type 0} (v : Device D) (laws : IsDevice v) where
           let of_list : releases_after events ≡ list_in h = ap list_or_none after in
           right events end a (subst (λ l. Transition.Changes events end change l (commanded change.event l) a) (sym of_list) (subst (λ r. Transition.Changes events end change (list_in h) r a) (sym is) done_so))
 
-      moments_at : (events : Events) → list_after events ≡ Some (list_in h) → LeavesOnly v (disk_in h) (disk_in new) (IsReached (settled events) (change.event ∷ []))
-      moments_at events after = weakened v (disk_in h) (disk_in new) _ _ (reached_with events (end_in h) change.event body_size) (commits.any_moment alive events after)
+      -- the start record is that of the list's permanent release
+      started_now : (events : Events) (end : ℕ) → Holds v (running events end) (disk_in h) → list_after events ≡ Some (list_in h) → HasStarted v h
+      started_now events end here after c now = started_list events (list_in h) c after (here c now).1
 
-      replies_done : IsDone v change.event body_size h new → (p : Place) → IsAt v (memory.Made h) p
+      moments_at : (events : Events) → HasStarted v h → list_after events ≡ Some (list_in h) → LeavesOnly v (disk_in h) (disk_in new) (IsReached (settled events) (change.event ∷ []))
+      moments_at events started after = weakened v (disk_in h) (disk_in new) _ _ (reached_with events (end_in h) change.event body_size) (commits.any_moment alive started events after)
+
+      replies_done : (HasStarted v h → HasStarted v new) → IsDone v change.event body_size h new → (p : Place) → IsAt v (memory.Made h) p
           → Replied v p (λ a. P p a × (a.answer ≡ Transition.done_line (change.details (list_in h)))) (memory.Made h) (memory.Made new)
-      replies_done is_done (raw bytes) at = absurd at
-      replies_done is_done (closed s) at = absurd at
-      replies_done is_done (dead s) at = never (sym alive ∙ at.1)
-      replies_done is_done (running events end) (here, living, after, stop) =
+      replies_done starts is_done (raw bytes) at = absurd at
+      replies_done starts is_done (closed s) at = absurd at
+      replies_done starts is_done (dead s) at = never (sym alive ∙ at.1)
+      replies_done starts is_done (running events end) (here, living, after, stop) =
+          let started = started_now events end here after in
           let then = events ++ change.event ∷ [] in
           let end_then = end_behind end body_size in
           let place = runs_at new then end_then is_done.works (list_after-push events change.event (list_in h) (list_in new) after (commanded_step change.event (list_in h) (list_in new) is_done.accepted))
-          (is_done.end ∙ ap (λ n. end_behind n body_size) stop) is_done.acknowledged in
+          (is_done.end ∙ ap (λ n. end_behind n body_size) stop) is_done.acknowledged (starts started) in
           let a = reply (Transition.done_line (change.details (list_in h))) (done (change.event ∷ [])) (running then end_then) in
           record {
             given = a;
             right = (right_for events end (Ok (list_in new)) a after is_done.accepted (inl (subst (λ n. HasSpace n body_size) stop is_done.fits, inl refl)), refl);
             at = place;
-            happens = record { moments = moments_at events after; holds = place.0; cause = λ e. never e; counted = commits.counted };
+            happens = record { moments = moments_at events started after; holds = place.0; cause = λ e. never e; counted = commits.counted };
           }
 
       -- it is done, and so answered
-      pub changes : IsDone v change.event body_size h new → (text : String Global) → string_bytes text ≡ Transition.done_line (change.details (list_in h)) → Answers v P (Ok text) (memory.Made h) (memory.Made new)
-      changes is_done text is p at =
-          let r = replies_done is_done p at in
+      pub changes : (HasStarted v h → HasStarted v new) → IsDone v change.event body_size h new → (text : String Global) → string_bytes text ≡ Transition.done_line (change.details (list_in h)) → Answers v P (Ok text) (memory.Made h) (memory.Made new)
+      changes starts is_done text is p at =
+          let r = replies_done starts is_done p at in
           record { given = r.given; right = (r.right.0, r.right.1 ∙ sym is); at = r.at; happens = r.happens }
 
       -- it is done, and memory is refused for its answer
-      pub changes_untold : IsDone v change.event body_size h new → Answers v P (Err refusal.NoMemory) (memory.Made h) (memory.Made new)
-      changes_untold is_done p at =
-          let r = replies_done is_done p at in
+      pub changes_untold : (HasStarted v h → HasStarted v new) → IsDone v change.event body_size h new → Answers v P (Err refusal.NoMemory) (memory.Made h) (memory.Made new)
+      changes_untold starts is_done p at =
+          let r = replies_done starts is_done p at in
           inl (record { given = r.given; right = r.right.0; at = r.at; happens = r.happens })
 
       -- It doesn't.
@@ -465,14 +482,15 @@ module _ {D : Type 0} (v : Device D) (laws : IsDevice v) where
       device_failed list allowed fits cause gone (dead s) at = never (sym alive ∙ at.1)
       device_failed list allowed fits cause gone (running events end) (here, living, after, stop) =
           let s = uncertain events end change.event body_size in
-          let leaves = subst (λ n. LeavesOnly v (disk_in h) (disk_in new) (IsStoredAs (uncertain events n change.event body_size))) stop (commits.any_moment alive events after) in
+          let started = started_now events end here after in
+          let leaves = subst (λ n. LeavesOnly v (disk_in h) (disk_in new) (IsStoredAs (uncertain events n change.event body_size))) stop (commits.any_moment alive started events after) in
           let holds : Holds v (dead s) (disk_in new) = λ c now. leaves.each c (laws.counts_now (disk_in new) (v.moment (disk_in h)) c leaves.later now) in
           let a = failed (Some change.event) (dead s) in
           record {
             given = a;
             right = (right_for events end (Ok list) a after allowed (inl (subst (λ n. HasSpace n body_size) stop fits, inr refl)), refl);
             at = (holds, gone);
-            happens = record { moments = moments_at events after; holds = holds; cause = λ e. cause; counted = commits.counted };
+            happens = record { moments = moments_at events started after; holds = holds; cause = λ e. cause; counted = commits.counted };
           }
 
       same_reply : (why : Refusal) (o : Result Releases HandlerError) → commanded change.event (list_in h) ≡ o → IsSame h new

@@ -1,10 +1,10 @@
 -- A session as a run: the commands of its input lead its disk, one after another, from one place to the next.
-use Rattle.std.specs.Prelude.{◌≡◌, ◌⊎◌, ℕ, ◌≤◌, true, List, [], ◌∷◌, ◌++◌, Option, Some}
+use Rattle.std.specs.Prelude.{◌≡◌, ◌⊎◌, ℕ, ◌≤◌, Bool, true, false, List, [], ◌∷◌, ◌++◌, Option, None, Some}
 use Rattle.rel_list.specs.Releases.{Releases}
 use Rattle.rel_list.specs.Event.{Event, list_after}
 use Rattle.rel_list.specs.Event.Event.{made}
-use Rattle.rel_handler.specs.Events.{Known, Events, settled, IsPrefix, with_doubt, IsStoredAs, certain}
-use Rattle.rel_handler.specs.Image.{IsImageOf}
+use Rattle.rel_handler.specs.Events.{Known, Events, settled, IsPrefix, with_doubt, StartsBehind, HasStart, IsStoredAs, certain}
+use Rattle.rel_handler.specs.Image.{IsImageOf, IsRepairOf}
 use Rattle.rel_handler.specs.Moments.{Begins, BeginsAt}
 use Rattle.rel_handler.specs.Events.{doubted}
 use Rattle.rel_session.specs.Commands.{Command, commands_of}
@@ -20,10 +20,12 @@ use Rattle.rel_session.specs.Node.Place.{raw, closed, running, dead}
 use Rattle.rel_session.specs.Transition.{Transition}
 
 -- This is so of the disk of a node between two commands: whatever a crash leaves of it is the store that the place tells.
+-- Where a node runs, the start record is that of its permanent release.
 abbrev pub Holds : {D : Type 0} → Device D → Place → D → Type 0
 Holds v (raw bytes) disk = v.seen disk ≡ bytes
 Holds v (closed s) disk = (c : List ℕ) → v.may_leave disk c → IsStoredAs s c
-Holds v (running events end) disk = (c : List ℕ) → v.may_leave disk c → IsStoredAs (certain events end) c
+Holds v (running events end) disk =
+    (c : List ℕ) → v.may_leave disk c → IsStoredAs (certain events end) c × StartsBehind events c
 Holds v (dead s) disk = (c : List ℕ) → v.may_leave disk c → IsStoredAs s c
 
 -- A session begins on a disk on which no node runs.
@@ -37,7 +39,7 @@ abbrev pub events_of : Outcome → Events
 events_of o = with_doubt o.acknowledged o.in_doubt
 
 -- These bytes stand for the list of a prefix of the events so far that holds every acknowledged one: of what was known of
--- the node's events before the command, and, in order, of the command's own.
+-- the node's events before the command, and, in order, of the command's own; and they have a start record of its events.
 pub record IsReached (k : Known) (command : Events) (image : List ℕ) : Type 0 where
   pub events : Events
   pub prefix : IsPrefix k events
@@ -47,18 +49,22 @@ pub record IsReached (k : Known) (command : Events) (image : List ℕ) : Type 0 
   pub list : Releases
   pub after : list_after (events ++ more) ≡ Some list
   pub image_of : IsImageOf image list
+  pub start : HasStart (events ++ more) image
 
 -- At each moment of a command on a disk on which no node is known: a creation has this from its first sync on, and one in
--- doubt if there was such a sync. Any other command leaves nothing new.
-abbrev pub MomentsOf : {D : Type 0} → Device D → Events → Option Event → D → D → Type 0
-MomentsOf {D} v (made r ∷ more) doubt old new =
+-- doubt if there was such a sync. A boot that is done or that the device failed leaves nothing new but the start record;
+-- any other command nothing at all.
+abbrev pub MomentsOf : {D : Type 0} → Device D → Events → Option Event → Bool → D → D → Type 0
+MomentsOf {D} v (made r ∷ more) doubt failed old new =
     (at : D) × BeginsAt v.seen v.may_leave v.moment v.left_since (doubted [] (made r)) old new at
-MomentsOf v [] (Some (made r)) old new = Begins v.seen v.may_leave v.moment v.left_since (doubted [] (made r)) old new
-MomentsOf v acknowledged doubt old new = LeavesOnly v old new (v.may_leave old)
+MomentsOf v [] (Some (made r)) failed old new =
+    Begins v.seen v.may_leave v.moment v.left_since (doubted [] (made r)) old new
+MomentsOf v [] None false old new = LeavesOnly v old new (v.may_leave old)
+MomentsOf v acknowledged doubt failed old new = LeavesOnly v old new (λ c. v.may_leave old c ⊎ IsRepairOf (v.seen old) c)
 
 -- At each moment of a command with this outcome.
 abbrev pub Moments : {D : Type 0} → Device D → Place → Outcome → D → D → Type 0
-Moments v (raw bytes) o old new = MomentsOf v o.acknowledged o.in_doubt old new
+Moments v (raw bytes) o old new = MomentsOf v o.acknowledged o.in_doubt o.failed old new
 Moments v (closed s) o old new = LeavesOnly v old new (IsReached s.known (events_of o))
 Moments v (running events end) o old new = LeavesOnly v old new (IsReached (settled events) (events_of o))
 Moments v (dead s) o old new = LeavesOnly v old new (IsReached s.known (events_of o))

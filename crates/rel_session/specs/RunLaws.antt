@@ -5,7 +5,7 @@ use Rattle.rel_files.specs.Release.{Release}
 use Rattle.rel_list.specs.Releases.{Releases}
 use Rattle.rel_list.specs.Event.{list_after}
 use Rattle.rel_list.specs.Event.Event.{made, boot as booting}
-use Rattle.rel_handler.specs.Events.{Events, Stored, with_doubt, certain, IsStoredAs, IsOfPrefix}
+use Rattle.rel_handler.specs.Events.{Events, Stored, with_doubt, certain, HasStart, IsStoredAs, IsOfPrefix}
 use Rattle.rel_handler.specs.Image.{IsImageOf, store_end}
 use Rattle.rel_session.specs.Commands.{Command}
 use Rattle.rel_session.specs.Device.{Device, LeavesOnly}
@@ -65,12 +65,13 @@ HaveAll before [] events = events ≡ before
 HaveAll before (a ∷ more) events =
     (settled : Events) × HaveAll (before ++ (settled ++ a.outcome.acknowledged)) more events
 
--- the bytes stand for the list of events that begin with these
+-- the bytes stand for the list of events that begin with these, and have a start record of those events
 pub record StandsForAll (events : Events) (image : List ℕ) : Type 0 where
   pub more : Events
   pub list : Releases
   pub after : list_after (events ++ more) ≡ Some list
   pub image_of : IsImageOf image list
+  pub start : HasStart (events ++ more) image
 
 -- the store is known before the replies, or one of them acknowledges an event
 abbrev pub BecomesKnown : Place → List Reply → Type 0

@@ -2,6 +2,7 @@
 ghost use Rattle.std.specs.Prelude.{◌≡◌, ℕ, ◌↔◌, ◌≤◌, ◌+◌, [], ◌∷◌, ◌++◌, map, length, true, false, IsTrue, IsErrOf, IfErr, OnOk};
 ghost use Rattle.rel_disk.specs.Moments.{LeavesOnly};
 ghost use Rattle.rel_store.specs.Changed.{LeavesOthers, IsInRecord, IsInOtherSlot, with_record, with_start};
+ghost use Rattle.rel_store.specs.Contents.{HasOnlyRead};
 ghost use Rattle.rel_store.specs.Layout.{slot_with};
 ghost use Rattle.rel_store.specs.Records.{Stands, StandsEither, StandsWithEither};
 ghost use Rattle.rel_store.specs.State.{disk_in, records_in, text_in, gate_in, end_in, has_failed, Fits, HasRoom, IsSettled, IsSoundStore, IsSame, Refused};
@@ -144,7 +145,8 @@ impl<D: Disk> Store<D> {
         ensures read { OnOk result (slot.new ≡ text_in D.seen self.old) }
         ensures records { records_in self.new ≡ records_in self.old }
         ensures start { text_in D.seen self.new ≡ text_in D.seen self.old }
-        ensures bytes { D.seen (disk_in self.new) ≡ D.seen (disk_in self.old) }
+        ensures only_read { HasOnlyRead D.seen D.may_leave D.moment D.left_since
+            (disk_in self.old) (disk_in self.new) }
         ensures end { end_in self.new ≡ end_in self.old }
         ensures room { (n : ℕ) → HasRoom n self.old → HasRoom n self.new }
         ensures any_moment { has_failed self.old ≡ false

@@ -2,6 +2,7 @@
 ghost use Rattle.std.specs.Prelude.{◌≡◌, ◌↔◌, ◌≤◌, ℕ, true, false, IsErrOf, IfOk, IfErr, OnOk};
 ghost use Rattle.rel_disk.specs.Moments.{LeavesOnly};
 ghost use Rattle.rel_store.specs.Changed.{LeavesOthers, IsInOtherSlot, with_start};
+ghost use Rattle.rel_store.specs.Contents.{HasOnlyRead};
 ghost use Rattle.rel_store.specs.Layout.{slot_with};
 ghost use Rattle.rel_store.specs.Records.{Stands, StandsWithEither};
 ghost use Rattle.rel_store.specs.State.{disk_in, records_in, text_in, end_in, has_failed, HasRoom, IsSettled, IsSoundStore};
@@ -37,7 +38,8 @@ pub fn read_start<D: Disk>(alloc: Global, store: &mut Store<D>) -> Result<Start,
         (λ start. SpellsStart (text_in D.seen store.old) (versions_of start)) }
     ensures records { records_in store.new ≡ records_in store.old }
     ensures start { text_in D.seen store.new ≡ text_in D.seen store.old }
-    ensures bytes { D.seen (disk_in store.new) ≡ D.seen (disk_in store.old) }
+    ensures only_read { HasOnlyRead D.seen D.may_leave D.moment D.left_since
+        (disk_in store.old) (disk_in store.new) }
     ensures end { end_in store.new ≡ end_in store.old }
     ensures room { (n : ℕ) → HasRoom n store.old → HasRoom n store.new }
     ensures any_moment { has_failed store.old ≡ false

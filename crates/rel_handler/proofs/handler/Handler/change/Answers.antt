@@ -1,7 +1,9 @@
-use Rattle.std.proofs.Common.{◌≡◌, None, rules}
+use Rattle.std.proofs.Common.{◌≡◌, None, rules, length, ap, ◌∙◌, subst}
+use Rattle.std.specs.Prelude.{OnOk}
 use Rattle.rel_list.specs.Event.{event_of}
 use Rattle.rel_list.specs.Refusal.{refusal}
 use Rattle.rel_store.specs.State.{records_in}
+use Rattle.rel_handler.specs.Commits.{IsDone}
 use Rattle.rel_handler.specs.State.{list_in}
 use Rattle.rel_handler.specs.Taking.{change_size}
 use Rattle.rel_handler.proofs.Commits.{unchanged, have_versions}
@@ -21,3 +23,10 @@ pub commit-requires-clause-allowed : goal.commit-requires-clause-allowed
 commit-requires-clause-allowed g c =
     let allowed : refusal (event_of c.args.event) (list_in c.args.self.now) ≡ None = search rules in
     (c.requires.works, list_allows (event_of c.args.event) (list_in c.args.self.now) c.requires.listed allowed)
+
+pub returns-clause-done : goal.returns-clause-done
+returns-clause-done g c =
+    let e = event_of c.args.event in
+    let h = c.args.self.now in
+    let long : length c.as_str.result.now ≡ change_size e (list_in h) = ap length (c.as_str.ensures.value ∙ c.in_ok-body.ensures.body _) in
+    subst (λ n. OnOk c.commit.result (IsDone g.D.Disk e n h c.commit.new.self)) long c.commit.ensures.done

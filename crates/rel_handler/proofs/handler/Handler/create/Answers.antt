@@ -1,8 +1,9 @@
-use Rattle.std.proofs.Common.{◌≡◌, true, false, rules, refl, sym}
+use Rattle.std.proofs.Common.{◌≡◌, true, false, rules, refl, sym, ap, ◌∙◌, subst}
 use Rattle.rel_files.specs.Release.{release_of}
 use Rattle.rel_records.specs.Limits.{is_small}
 use Rattle.rel_handler.proofs.Boots.{unwritten, nothing_begun, sound_so, begins_at, begins, made_new}
-use Rattle.rel_handler.proofs.Images.{each_image, has_a_store}
+use Rattle.rel_handler.specs.Image.{IsStarted, start_slot}
+use Rattle.rel_handler.proofs.Images.{each_image, started_new, has_a_store}
 use Rattle.rel_handler.proofs.handler.Handler.create.Goals as goal
 
 pub returns-in-Ok-create-clause-sound : goal.returns-in-Ok-create-clause-sound
@@ -21,20 +22,20 @@ pub returns-in-Ok-create-clause-any_moment : goal.returns-in-Ok-create-clause-an
 returns-in-Ok-create-clause-any_moment g c =
     let small : is_small (release_of c.args.file.release) ≡ true = search rules in
     let spelled = rw (sym c.as_bytes.ensures.value) at c.in-Ok.ensures.spells in
-    begins g.D.Disk.seen g.D.Disk.may_leave g.D.Disk.moment g.D.Disk.left_since (release_of c.args.file.release) c.as_bytes.result.now c.as_bytes-2.result.now small spelled c.args.disk _ c.in-Ok-create.ensures.any_moment
+    begins g.D.Disk.seen g.D.Disk.may_leave g.D.Disk.moment g.D.Disk.left_since (release_of c.args.file.release) c.as_bytes.result.now c.as_bytes-2.result.now small c.requires.says.versions (c.as_bytes-2.ensures.value ∙ c.in-Ok.ensures.start) spelled c.args.disk _ c.in-Ok-create.ensures.any_moment
 
 pub returns-in-Ok-create-clause-begun : goal.returns-in-Ok-create-clause-begun
 returns-in-Ok-create-clause-begun g c =
     let small : is_small (release_of c.args.file.release) ≡ true = search rules in
     let spelled = rw (sym c.as_bytes.ensures.value) at c.in-Ok.ensures.spells in
     let (at, begun) = c.in-Ok-create.ensures.begun in
-    (at, begins_at g.D.Disk.seen g.D.Disk.may_leave g.D.Disk.moment g.D.Disk.left_since (release_of c.args.file.release) c.as_bytes.result.now c.as_bytes-2.result.now small spelled c.args.disk _ at begun)
+    (at, begins_at g.D.Disk.seen g.D.Disk.may_leave g.D.Disk.moment g.D.Disk.left_since (release_of c.args.file.release) c.as_bytes.result.now c.as_bytes-2.result.now small c.requires.says.versions (c.as_bytes-2.ensures.value ∙ c.in-Ok.ensures.start) spelled c.args.disk _ at begun)
 
 pub returns-clause-any_moment : goal.returns-clause-any_moment
 returns-clause-any_moment g c =
     let small : is_small (release_of c.args.file.release) ≡ true = search rules in
     let spelled = rw (sym c.as_bytes.ensures.value) at c.in-Ok.ensures.spells in
-    begins g.D.Disk.seen g.D.Disk.may_leave g.D.Disk.moment g.D.Disk.left_since (release_of c.args.file.release) c.as_bytes.result.now c.as_bytes-2.result.now small spelled c.args.disk _ c.in-Err.ensures.any_moment
+    begins g.D.Disk.seen g.D.Disk.may_leave g.D.Disk.moment g.D.Disk.left_since (release_of c.args.file.release) c.as_bytes.result.now c.as_bytes-2.result.now small c.requires.says.versions (c.as_bytes-2.ensures.value ∙ c.in-Ok.ensures.start) spelled c.args.disk _ c.in-Err.ensures.any_moment
 
 -- no node is made over one
 pub returns-in-Ok-create-clause-node : goal.returns-in-Ok-create-clause-node
@@ -68,3 +69,9 @@ returns-in_default-clause-refused g c =
 
 pub returns-clause-taken : goal.returns-clause-taken
 returns-clause-taken g c = c.in-Err.ensures.taken
+
+pub returns-in-Ok-create-clause-started : goal.returns-in-Ok-create-clause-started
+returns-in-Ok-create-clause-started g c = λ d now.
+    subst (λ l. IsStarted l d) (sym c.in-Ok.ensures.list)
+    (started_new (release_of c.args.file.release) c.as_bytes-2.result.now d c.requires.says.versions (c.as_bytes-2.ensures.value ∙ c.in-Ok.ensures.start)
+    (ap (λ l. start_slot l) (c.in-Ok-create.ensures.settled.durable d now) ∙ c.in-Ok-create.ensures.start))

@@ -5,6 +5,7 @@ use Rattle.rel_store.specs.Records.{records_of, space}
 use Rattle.rel_store.specs.State.{records_in}
 use Rattle.rel_store.proofs.Exits.{no_success}
 use Rattle.rel_store.proofs.Moments.{after_reading}
+use Rattle.rel_store.proofs.OnlyReads.{nothing_read, read_first}
 use Rattle.rel_store.proofs.store.Store.read_slot.Goals as goal
 
 pub returns-in_err-read-clause-any_moment : goal.returns-in_err-read-clause-any_moment
@@ -43,3 +44,15 @@ returns-in_err-read-clause-settled g c = no_success _ _ c.from_residual.ensures.
 
 pub returns-in_err-read-clause-read : goal.returns-in_err-read-clause-read
 returns-in_err-read-clause-read g c = no_success _ _ c.from_residual.ensures.0
+
+-- the disk was read at most
+pub returns-then-self-clause-only_read : goal.returns-then-self-clause-only_read
+returns-then-self-clause-only_read g c = nothing_read g.D.Disk.seen g.D.Disk.may_leave g.D.Disk.moment g.D.Disk.left_since c.args.self.now.disk (g.met.D.Disk.only_now c.args.self.now.disk)
+
+pub returns-in_err-read-clause-only_read : goal.returns-in_err-read-clause-only_read
+returns-in_err-read-clause-only_read g c =
+    read_first g.D.Disk.seen g.D.Disk.may_leave g.D.Disk.moment g.D.Disk.left_since c.args.self.now.disk (g.met.D.Disk.only_now c.args.self.now.disk) c.read.new.self c.read.ensures.same c.read.ensures.crash c.read.ensures.time
+
+pub returns-clause-only_read : goal.returns-clause-only_read
+returns-clause-only_read g c =
+    read_first g.D.Disk.seen g.D.Disk.may_leave g.D.Disk.moment g.D.Disk.left_since c.args.self.now.disk (g.met.D.Disk.only_now c.args.self.now.disk) c.read.new.self c.read.ensures.same c.read.ensures.crash c.read.ensures.time

@@ -1,0 +1,170 @@
+-- The start record of a node that is booted.
+use Rattle.std.proofs.Common.{◌≡◌, ◌⊎◌, inl, inr, ⊎_elim, ℕ, ◌≤◌, Bool, true, false, cond, find, List, [], ◌∷◌, length, Option, Some, None, Result, Ok, Err, true≢false, refl, sym, ap, ◌∙◌, subst, arith}
+use Rattle.std.specs.Option.{option_map}
+use Rattle.std.specs.Prelude.{◌==◌, IfErr, IsErr, IsErrAnd}
+use Rattle.rel_disk.specs.declared.disk.Disk.{Ghosts}
+use Rattle.rel_disk.specs.Moments.{LeavesOnly}
+use Rattle.rel_disk.proofs.Moments.{joined, weakened}
+use Rattle.rel_files.specs.File.{HasVersions}
+use Rattle.rel_files.specs.Release.{Release}
+use Rattle.rel_list.specs.Releases.{Releases, Entry, of_status, permanent}
+use Rattle.rel_list.specs.Event.{booted}
+use Rattle.rel_list.specs.Status.{is_permanent}
+use Rattle.rel_list.proofs.PermanentLaws.{permanent-of_booted}
+use Rattle.rel_records.specs.Limits.{has_one_permanent}
+use Rattle.rel_records.specs.Lists.{Makes, HaveVersions}
+use Rattle.rel_store.specs.Layout.{slot_with}
+use Rattle.rel_store.specs.State as store
+use Rattle.start_record.specs.Text.{Versions, AreVersions, SpellsStart, start_text as text_of_start}
+use Rattle.start_record.proofs.StartMoments.{reads_back}
+use Rattle.rel_handler.specs.Booting.{IsOpened, Repairs}
+use Rattle.rel_handler.specs.Commits.{HasStarted, HasOldStartOr, HasRead, Keeps}
+use Rattle.rel_handler.specs.Files.{started as start_versions}
+use Rattle.rel_handler.specs.Events.{HasStart, Stored, MayHave, IsStoredAs}
+use Rattle.rel_handler.specs.Image.{IsImageOf, IsImageAt, IsStarted, IsRepairOf, start_slot}
+use Rattle.rel_handler.specs.Moments.{SettlesAt}
+use Rattle.rel_handler.specs.State.{disk_in, list_in, is_dead, end_in, start_in, IsSound}
+use Rattle.rel_handler.specs.declared.error.BootError.{BootError}
+use Rattle.rel_handler.specs.declared.handler.Handler.{Handler}
+use Rattle.rel_handler.proofs.BadRecords.{stands_for_one}
+use Rattle.rel_handler.proofs.Images.{started_by}
+
+-- a list without a permanent release has no entry of that status
+none_permanent : (es : Releases) → permanent es ≡ None → length (of_status is_permanent es) ≡ 0
+none_permanent [] none = refl
+none_permanent (e ∷ es) none = go (is_permanent e.status) (none_permanent es) none
+  where
+    go : (b : Bool) → (permanent es ≡ None → length (of_status is_permanent es) ≡ 0)
+        → option_map (λ (f : Entry). f.release) (cond b (Some e) (find (λ (f : Entry). is_permanent f.status) es)) ≡ None
+        → length (cond b (e ∷ of_status is_permanent es) (of_status is_permanent es)) ≡ 0
+    go true rest none = cc
+    go false rest none = rest none
+
+-- so a list with exactly one has a permanent release
+pub one_is_permanent : (es : Releases) → has_one_permanent es ≡ true → permanent es ≡ None → ⊥
+one_is_permanent es one none =
+    let no_entry = none_permanent es none in
+    true≢false (sym one ∙ ap (λ n. n == 1) no_entry)
+
+-- its versions are texts of versions where those of all releases are
+pub permanent_versions : (es : Releases) (r : Release) → HaveVersions es → permanent es ≡ Some r → HasVersions r
+permanent_versions [] r all is = cc
+permanent_versions (e ∷ es) r all is = go (is_permanent e.status) (permanent_versions es r all.1) is
+  where
+    go : (b : Bool) → (permanent es ≡ Some r → HasVersions r)
+        → option_map (λ (f : Entry). f.release) (cond b (Some e) (find (λ (f : Entry). is_permanent f.status) es)) ≡ Some r → HasVersions r
+    go true rest is = let same : e.release ≡ r = cc is in subst HasVersions same all.0
+    go false rest is = rest is
+
+-- an error that became this refusal
+pub boot_refused_with : {T : Type 0} (P : BootError → Type 0) (r : Result T BootError) (why : BootError) → IsErr r × IsErrAnd r (λ e. e ≡ why) → P why → IfErr r P
+boot_refused_with P (Ok x) why is p = tt
+boot_refused_with P (Err e) why (err, is) p = subst P (sym is) p
+
+module _ {D : Type 0} (v : Ghosts D) (h mid : Handler D) (read : HasRead v h mid) where
+  slot_same : start_in v.seen mid ≡ start_in v.seen h
+  slot_same = ap (λ l. start_slot l) read.only_read.same
+
+  -- a start record that is right is left
+  pub reads_alone : Repairs v h mid
+  reads_alone = record {
+    sound = read.sound;
+    list = read.list;
+    end = read.end;
+    any_moment = weakened v.moment v.left_since (disk_in h) (disk_in mid) (v.may_leave (disk_in h)) _ (λ c now. inl now) read.only_read.any_moment;
+    counted = read.counted;
+  }
+
+  module _ (versions : Versions) (r : Release) (are : AreVersions versions) (of : versions ≡ start_versions r) (listed : permanent (list_in h) ≡ Some r) where
+    -- each crash leaves it then
+    pub right_already : is_dead mid ≡ false → SpellsStart (start_in v.seen h) versions → HasStarted v mid
+    right_already works spells c now = record {
+      release = r;
+      listed = ap permanent read.list ∙ listed;
+      spells = subst (λ w. SpellsStart (start_slot c) w) of (subst (λ l. SpellsStart l versions) (sym (ap (λ l. start_slot l) (settled.durable c now) ∙ slot_same)) spells);
+    }
+      where
+        settled : store.IsSettled v.seen v.may_leave mid.store
+        settled = read.sound.store.settled (read.sound.works works)
+
+    -- another one is written over
+    module _ (new : Handler D) (keeps : Keeps v (text_of_start versions) mid new) where
+      new_start : (es : Releases) → permanent es ≡ Some r → (c : List ℕ) → start_slot c ≡ slot_with (text_of_start versions) → IsStarted es c
+      new_start es is c slot = record { release = r; listed = is; spells = subst (λ w. SpellsStart (start_slot c) w) of (subst (λ l. SpellsStart l versions) (sym slot) (reads_back versions are)) }
+
+      writing : (c : List ℕ) → HasOldStartOr v.seen mid (λ d. start_slot d ≡ slot_with (text_of_start versions)) c → HasOldStartOr v.seen h (IsStarted (list_in h)) c
+      writing c (image, slot) = (
+        subst (λ n. IsImageAt c (list_in h) n) read.end (subst (λ l. IsImageAt c l (end_in mid)) read.list image),
+        ⊎_elim (λ old. inl (old ∙ slot_same)) (λ new. inr (new_start (list_in h) listed c new)) slot,
+      )
+
+      pub written_over : Repairs v h new
+      written_over = record {
+        sound = keeps.sound;
+        list = keeps.list ∙ read.list;
+        end = keeps.end ∙ read.end;
+        any_moment =
+            joined v.moment v.left_since (disk_in h) (disk_in mid) (disk_in new) _ reads_alone.any_moment
+            (weakened v.moment v.left_since (disk_in mid) (disk_in new) _ (λ c. v.may_leave (disk_in h) c ⊎ HasOldStartOr v.seen h (IsStarted (list_in h)) c) (λ c old. inr (writing c old)) keeps.any_moment);
+        counted = omega (arith, read.counted, keeps.counted);
+      }
+
+      pub started_now : ((c : List ℕ) → v.may_leave (disk_in new) c → IsImageAt c (list_in new) (end_in new) × (start_slot c ≡ slot_with (text_of_start versions))) → HasStarted v new
+      started_now images c now = new_start (list_in new) (ap permanent (keeps.list ∙ read.list) ∙ listed) c (images c now).1
+
+-- a boot is a reading of the node and a repair
+module _ {D : Type 0} (v : Ghosts D) (counts_now : (disk : D) (t : ℕ) (c : List ℕ) → t ≤ v.moment disk → v.may_leave disk c → v.left_since disk t c) (disk : D) (h : Handler D) (opened : IsOpened v disk h) (new : Handler D) (repairs : Repairs v h new) where
+  repair_image : (c : List ℕ) → HasOldStartOr v.seen h (IsStarted (list_in h)) c → IsRepairOf (v.seen disk) c
+  repair_image c (image, slot) = record {
+    list = list_in h;
+    was = opened.image;
+    image_at = subst (IsImageAt c (list_in h)) opened.end image;
+    start = ⊎_elim (λ old. inl (old ∙ ap (λ l. start_slot l) opened.only_read.same)) (λ new. inr new) slot;
+  }
+
+  pub boot_moments : LeavesOnly v.moment v.left_since disk (disk_in new) (λ c. v.may_leave disk c ⊎ IsRepairOf (v.seen disk) c)
+  boot_moments =
+      joined v.moment v.left_since disk (disk_in h) (disk_in new) _ (weakened v.moment v.left_since disk (disk_in h) (v.may_leave disk) _ (λ c now. inl now) opened.only_read.any_moment)
+      (weakened v.moment v.left_since (disk_in h) (disk_in new) _ (λ c. v.may_leave disk c ⊎ IsRepairOf (v.seen disk) c)
+      (λ c. ⊎_elim (λ now. inl (opened.only_read.crash c now)) (λ old. inr (repair_image c old))) repairs.any_moment)
+
+  pub boot_settles : (at : D) → SettlesAt v.seen v.may_leave v.moment v.left_since disk (disk_in h) at → SettlesAt v.seen v.may_leave v.moment v.left_since disk (disk_in new) at
+  boot_settles at s = record {
+    until = s.until;
+    from =
+        joined v.moment v.left_since at (disk_in h) (disk_in new) _ s.from
+        (weakened v.moment v.left_since (disk_in h) (disk_in new) _ (λ c. (c ≡ v.seen disk) ⊎ IsRepairOf (v.seen disk) c)
+        (λ c. ⊎_elim (λ now. s.from.each c (counts_now (disk_in h) (v.moment at) c s.from.later now)) (λ old. inr (repair_image c old))) repairs.any_moment);
+  }
+
+-- A repair of the start record keeps the events of a store.
+pub stored_still : (s : Stored) (bytes c : List ℕ) → IsStoredAs s bytes → IsRepairOf bytes c → IsStoredAs s c
+stored_still s bytes c of repair = record {
+  events = of.events;
+  has = subst (MayHave s of.events) (sym repair.image_at.ends) of.has;
+  list = of.list;
+  after = of.after;
+  image_of = record { bodies = image.bodies; store = image.store; list = subst (Makes image.bodies) one image.list };
+  start = ⊎_elim (λ old. same_start old of.start) (λ new. inl (of.list, of.after, started_by repair.list of.list c c one_permanent refl new)) repair.start;
+}
+  where
+    image : IsImageOf c repair.list
+    image = repair.image_at.image_of
+
+    one : booted repair.list ≡ booted of.list
+    one = stands_for_one bytes repair.list of.list repair.was of.image_of
+
+    one_permanent : permanent of.list ≡ permanent repair.list
+    one_permanent = sym (permanent-of_booted of.list) ∙ ap permanent (sym one) ∙ permanent-of_booted repair.list
+
+    started_still : start_slot c ≡ start_slot bytes → (es : Releases) → IsStarted es bytes → IsStarted es c
+    started_still old es started = started_by es es bytes c refl old started
+
+    same_start : start_slot c ≡ start_slot bytes → HasStart of.events bytes → HasStart of.events c
+    same_start old (inl (es, after, started)) = inl (es, after, started_still old es started)
+    same_start old (inr (earlier, last, is, (es, after, started))) = inr (earlier, last, is, (es, after, started_still old es started))
+
+pub boot_stored : {D : Type 0} (v : Ghosts D) → ((disk : D) → v.may_leave disk (v.seen disk)) → (disk new : D) → LeavesOnly v.moment v.left_since disk new (λ c. v.may_leave disk c ⊎ IsRepairOf (v.seen disk) c)
+    → (s : Stored) → ((c : List ℕ) → v.may_leave disk c → IsStoredAs s c) → LeavesOnly v.moment v.left_since disk new (IsStoredAs s)
+boot_stored v reads disk new leaves s here =
+    weakened v.moment v.left_since disk new _ (IsStoredAs s) (λ c. ⊎_elim (here c) (λ repair. stored_still s (v.seen disk) c (here (v.seen disk) (reads disk)) repair)) leaves

@@ -1,0 +1,59 @@
+use Rattle.std.proofs.Common.{inl, inr, ⊎_elim, refl, sym, subst, ap, ◌∙◌}
+use Rattle.rel_records.proofs.Progress.{bodies_in}
+use Rattle.rel_store.specs.Contents.{HasOnlyRead, IsSyncedAt}
+use Rattle.rel_store.specs.Records.{end_of}
+use Rattle.rel_store.specs.State.{records_in}
+use Rattle.rel_handler.specs.Refusals.{told_boot}
+use Rattle.rel_handler.proofs.Boots.{IsLack, made_again, sound_so, image_so, read_so, only_memory, only_reads, settles_so}
+use Rattle.rel_handler.proofs.Images.{each_image, settled_end, booted_image}
+use Rattle.rel_handler.proofs.booting.open.Goals as goal
+
+-- the store was synced when it was opened
+pub returns-in-Ok-read_list-clause-opened : goal.returns-in-Ok-read_list-clause-opened
+returns-in-Ok-read_list-clause-opened g c =
+    let store = c.in-Ok.store in
+    let list = c.in-Ok-read_list.list in
+    let (image, again) = image_so (g.D.Disk.seen c.args.disk) (bodies_in c.records.result.now) (records_in store) list c.records.ensures c.in-Ok-read_list.ensures.made c.in-Ok.ensures.records in
+    let makes = made_again (bodies_in c.records.result.now) _ list c.records.ensures c.in-Ok-read_list.ensures.made in
+    let (at, synced) = ⊎_elim (λ never. absurd never) (λ synced. synced) c.in-Ok.ensures.synced in
+    record {
+      sound = sound_so g.D.Disk.seen g.D.Disk.may_leave store list c.in-Ok.ensures.sound c.in-Ok.ensures.settled makes;
+      works = refl;
+      only_read = only_reads g.D.Disk.seen g.D.Disk.may_leave g.D.Disk.moment g.D.Disk.left_since g.met.D.Disk.counts_now c.args.disk store.disk synced.same c.in-Ok.ensures.any_moment;
+      image = image;
+      again = again;
+      acknowledged = λ d now. each_image g.D.Disk.seen g.D.Disk.may_leave store list c.in-Ok.ensures.settled makes d now;
+      end = sym (ap end_of (sym synced.same) ∙ settled_end g.D.Disk.seen g.D.Disk.may_leave store c.in-Ok.ensures.settled);
+    }
+
+pub returns-in-Ok-read_list-clause-only : goal.returns-in-Ok-read_list-clause-only
+returns-in-Ok-read_list-clause-only g c = λ es image. booted_image (g.D.Disk.seen c.args.disk) (bodies_in c.records.result.now) c.in-Ok-read_list.list es (read_so (g.D.Disk.seen c.args.disk) (bodies_in c.records.result.now) (records_in c.in-Ok.store) c.records.ensures c.in-Ok.ensures.records) c.in-Ok-read_list.ensures.made image
+
+pub returns-in-Err-read_list-clause-only : goal.returns-in-Err-read_list-clause-only
+returns-in-Err-read_list-clause-only g c = λ es image.
+    subst IsLack (sym c.from.ensures) (only_memory (g.D.Disk.seen c.args.disk) (bodies_in c.records.result.now) (records_in c.in-Ok.store) es c.in-Err-read_list.error c.records.ensures c.in-Ok.ensures.records image c.in-Err-read_list.ensures.bad)
+
+pub returns-in-Ok-read_list-clause-synced : goal.returns-in-Ok-read_list-clause-synced
+returns-in-Ok-read_list-clause-synced g c =
+    let (at, synced) = ⊎_elim (λ never. absurd never) (λ synced. synced) c.in-Ok.ensures.synced in
+    (at, settles_so g.D.Disk.seen g.D.Disk.may_leave g.D.Disk.moment g.D.Disk.left_since c.args.disk c.in-Ok.store.disk at synced)
+
+pub returns-in-Err-read_list-clause-synced : goal.returns-in-Err-read_list-clause-synced
+returns-in-Err-read_list-clause-synced g c =
+    let (at, synced) = ⊎_elim (λ never. absurd never) (λ synced. synced) c.in-Ok.ensures.synced in
+    inr (at, settles_so g.D.Disk.seen g.D.Disk.may_leave g.D.Disk.moment g.D.Disk.left_since c.args.disk _ at (subst (λ d. IsSyncedAt g.D.Disk.seen g.D.Disk.may_leave g.D.Disk.moment g.D.Disk.left_since c.args.disk d at) (sym c.into_disk.ensures) synced))
+
+pub returns-in-Err-read_list-clause-quiet : goal.returns-in-Err-read_list-clause-quiet
+returns-in-Err-read_list-clause-quiet g c =
+    let (at, synced) = ⊎_elim (λ never. absurd never) (λ synced. synced) c.in-Ok.ensures.synced in
+    inr (subst (λ d. HasOnlyRead g.D.Disk.seen g.D.Disk.may_leave g.D.Disk.moment g.D.Disk.left_since c.args.disk d) (sym c.into_disk.ensures)
+    (only_reads g.D.Disk.seen g.D.Disk.may_leave g.D.Disk.moment g.D.Disk.left_since g.met.D.Disk.counts_now c.args.disk _ synced.same c.in-Ok.ensures.any_moment))
+
+pub returns-in-Err-clause-synced : goal.returns-in-Err-clause-synced
+returns-in-Err-clause-synced g c =
+    ⊎_elim (λ device. inl (c.boot_error.ensures ∙ ap told_boot device)) (λ (at, synced). inr (at, settles_so g.D.Disk.seen g.D.Disk.may_leave g.D.Disk.moment g.D.Disk.left_since c.args.disk _ at synced)) c.in-Err.ensures.synced
+
+pub returns-in-Err-clause-quiet : goal.returns-in-Err-clause-quiet
+returns-in-Err-clause-quiet g c =
+    ⊎_elim (λ device. inl (c.boot_error.ensures ∙ ap told_boot device))
+    (λ (at, synced). inr (only_reads g.D.Disk.seen g.D.Disk.may_leave g.D.Disk.moment g.D.Disk.left_since g.met.D.Disk.counts_now c.args.disk _ synced.same c.in-Err.ensures.any_moment)) c.in-Err.ensures.synced
