@@ -48,6 +48,11 @@ ReadRefused failures old new NoMemory = is_dead new ≡ false
 ReadRefused failures old new Device = HasFailed (failures (disk_in old)) (failures (disk_in new)) × (is_dead new ≡ true)
 ReadRefused failures old new _ = ⊥
 
+-- Why the start isn't told: nothing has changed, or the device failed and the handler is dead.
+abbrev pub StartRefused : {D : Type 0} → (D → ℕ) → Handler D → Handler D → HandlerError → Type 0
+StartRefused failures old new Dead = (is_dead old ≡ true) × IsSame old new
+StartRefused failures old new why = (is_dead old ≡ false) × ReadRefused failures old new why
+
 -- Why a node isn't made with this release, on a disk with these bytes, by a record with a body of so many. Nothing has been
 -- written then, unless the device failed.
 abbrev pub CreateRefused : List ℕ → Release → ℕ → ℕ → ℕ → Type 0 → HandlerError → Type 0

@@ -1,10 +1,13 @@
 // What a node answers. Each function writes the answers behind a text, with a blank before each.
 ghost use Rattle.rel_handler.specs.State.{IsSound};
+ghost use Rattle.rel_store.specs.State.{IsSoundStore};
 
 use crate::fixtures::rel_file;
 use rel_disk::{Disk, FailDisk, MemDisk};
 use rel_handler::{BootError, Handler, boot};
 use rel_list::ReleaseList;
+use rel_store::Store;
+use start_record::read_start;
 use std::alloc::{AllocError, Global};
 use std::test::Fail;
 
@@ -79,7 +82,25 @@ fn remove<D: Disk>(
     Ok(())
 }
 
-// What a node answers to a command, where one is given: `+B` installs B, `-B` removes it, and `B` takes it in.
+// What a node answers where the release of this version is made permanent.
+fn make_permanent<D: Disk>(
+    alloc: Global,
+    node: &mut Handler<D>,
+    vsn: &str,
+    text: &mut String,
+) -> Result<(), Fail>
+    requires { IsSound D.seen D.may_leave node.old }
+    ensures { IsSound D.seen D.may_leave node.new }
+{
+    match node.make_permanent(alloc, vsn) {
+        Ok(()) => text.push_str(" ok")?,
+        Err(error) => write!(text, " {error}")?,
+    }
+    Ok(())
+}
+
+// What a node answers to a command, where one is given: `+B` installs B, `!B` makes it permanent, `-B` removes it, and `B`
+// takes it in.
 fn command<D: Disk>(
     alloc: Global,
     node: &mut Handler<D>,
@@ -91,6 +112,9 @@ fn command<D: Disk>(
 {
     if let Some(vsn) = word.strip_prefix('+') {
         return install(alloc, node, vsn, text);
+    }
+    if let Some(vsn) = word.strip_prefix('!') {
+        return make_permanent(alloc, node, vsn, text);
     }
     if let Some(vsn) = word.strip_prefix('-') {
         return remove(alloc, node, vsn, text);
@@ -149,6 +173,36 @@ pub(crate) fn create<D: Disk + Drop>(
             write!(text, " {error}")?;
             Ok(disk)
         }
+    }
+}
+
+// What the start record of a store says.
+fn push_start<D: Disk>(
+    alloc: Global,
+    store: &mut Store<D>,
+    text: &mut String,
+) -> Result<(), AllocError>
+    requires { IsSoundStore D.seen D.may_leave store.old }
+{
+    match read_start(alloc, store) {
+        Ok(start) => write!(text, " {} {}", start.erts, start.vsn),
+        Err(error) => write!(text, " {error:?}"),
+    }
+}
+
+// What the start record on this disk says.
+pub(crate) fn starts<D: Disk + Drop>(
+    alloc: Global,
+    disk: D,
+    text: &mut String,
+) -> Result<D, Fail> {
+    match Store::open_disk(alloc, disk) {
+        Ok(store) => {
+            let mut store = store;
+            push_start(alloc, &mut store, text)?;
+            Ok(store.into_disk())
+        }
+        Err((error, _disk)) => Err(error.into()),
     }
 }
 

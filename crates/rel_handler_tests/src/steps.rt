@@ -1,5 +1,5 @@
 // Steps on one disk after another, a line each, and their answers.
-use crate::answers::{boots, create, fail_next};
+use crate::answers::{boots, create, fail_next, starts};
 use crate::fixtures::{first_record, new_disk, next_record, number, patch, small_disk, sound};
 use rel_disk::{FailDisk, MemDisk};
 use std::alloc::Global;
@@ -29,7 +29,7 @@ fn prepare(
 }
 
 // Follows a step. `create A B` makes a node of A and gives it B, `boot +B -C` boots the disk and has the node install B and
-// remove C. `fail 3` lets the third call from now on fail. Hands the disk back.
+// remove C. `fail 3` lets the third call from now on fail, `start` tells the start record. Hands the disk back.
 pub(crate) fn follow(
     alloc: Global,
     disk: FailDisk<MemDisk>,
@@ -40,6 +40,7 @@ pub(crate) fn follow(
     match word {
         "create" => create(alloc, disk, rest, text),
         "boot" => boots(alloc, disk, rest, text),
+        "start" => starts(alloc, disk, text),
         "fail" => Ok(fail_next(disk, number(rest) as u64, text)?),
         _ => prepare(alloc, disk, word, rest),
     }

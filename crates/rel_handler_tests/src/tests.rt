@@ -1,5 +1,5 @@
 // Nodes on disks in memory, among them disks that fail, and stores that no command has written.
-use crate::answers::{boots, count, create, is_explained, unpack_once};
+use crate::answers::{boots, count, create, is_explained, starts, unpack_once};
 use crate::fixtures::{
     first_record, made_body, new_disk, next_record, patch, sound, start_and_bodies,
 };
@@ -323,11 +323,12 @@ fn unpack_on_failing(alloc: Global, call: u64, text: &mut String) -> Result<(), 
     Ok(())
 }
 
-// With 0 no call fails. A boot of a node with one record has six calls and a commit four, two of them syncs: the third opens
-// the record's gate. The eleventh call is the first of the next commit.
+// With 0 no call fails. A boot of a node with one record has seven calls, the last of which reads the start record, and a
+// commit four, two of them syncs: the third opens the record's gate. The twelfth call is the first of the next commit.
 const COMMANDS: &str = " \
 A permanent; ok ok open A permanent;B unpacked;C unpacked; failures 0 \
 A permanent;B unpacked;C unpacked; ExistingRelease open A permanent;B unpacked;C unpacked;
+ Device failures 1 A permanent; ok open A permanent;B unpacked;
  Device failures 1 A permanent; ok open A permanent;B unpacked;
  Device failures 1 A permanent; ok open A permanent;B unpacked;
  Device failures 1 A permanent; ok open A permanent;B unpacked;
@@ -347,7 +348,7 @@ A permanent;B unpacked; ExistingRelease open A permanent;B unpacked;
 fn each_call_of_a_command_fails(rt: HostRuntime) -> Result<(), Fail> {
     let alloc = rt.alloc();
     let mut text = String::new(alloc);
-    for call in 0..12 {
+    for call in 0..13 {
         unpack_on_failing(alloc, call, &mut text)?;
     }
     same(&rt, text.as_str(), COMMANDS);
@@ -365,7 +366,7 @@ fn change_on_failing(alloc: Global, call: u64, text: &mut String) -> Result<(), 
     Ok(())
 }
 
-// A boot of a node with two records has eight calls, so the first commit begins with the ninth.
+// A boot of a node with two records has nine calls, so the first commit begins with the tenth.
 const CHANGES: &str = " \
 A permanent;B unpacked; Device Dead Dead dead Dead failures 1 A permanent;B unpacked;
  A permanent;B unpacked; Device Dead Dead dead Dead failures 1 A permanent;B unpacked;
@@ -386,10 +387,62 @@ A permanent;B unpacked; Device Dead Dead dead Dead failures 1 A permanent;B unpa
 fn each_call_of_a_change_fails(rt: HostRuntime) -> Result<(), Fail> {
     let alloc = rt.alloc();
     let mut text = String::new(alloc);
-    for call in 9..22 {
+    for call in 10..23 {
         change_on_failing(alloc, call, &mut text)?;
     }
     same(&rt, text.as_str(), CHANGES);
+    Ok(())
+}
+
+// A store whose start slot spells no start is booted, and has one then.
+const REPAIRED: &str = r#"store {made,{release,{"r","A"},{erts,"1"},[]},[],none}. =>
+start => BadStart
+boot => A permanent;
+start => 1 A
+boot => A permanent;
+start => 1 A
+"#;
+
+#[test]
+fn start_record_repaired(rt: HostRuntime) -> Result<(), Fail> {
+    shows(&rt, rt.alloc(), REPAIRED)
+}
+
+// What a node of A and B answers that installs B and makes it permanent where this call of the device fails, what the start
+// record says then, and behind a boot.
+fn permanent_on_failing(alloc: Global, call: u64, text: &mut String) -> Result<(), Fail> {
+    let disk = create(alloc, new_disk(alloc)?, "A B +B", &mut String::new(alloc))?;
+    let disk = boots(alloc, FailDisk::new(disk, call), "+B !B", text)?;
+    let disk = follow(alloc, disk, "fail 0", text)?;
+    let disk = starts(alloc, disk, text)?;
+    let disk = boots(alloc, disk, "", text)?;
+    starts(alloc, disk, text)?;
+    text.push('\n')?;
+    Ok(())
+}
+
+// A boot of a node with three records has eleven calls, so the list is committed by the calls from the sixteenth on, and
+// the start record by those from the twentieth on.
+const PERMANENCES: &str = " \
+A permanent;B unpacked; other A Device dead Dead failures 1 14.2 A A permanent;B unpacked; 14.2 A
+ A permanent;B unpacked; other A Device dead Dead failures 1 14.2 A A permanent;B unpacked; 14.2 A
+ A permanent;B unpacked; other A Device dead Dead failures 1 14.2 A A permanent;B unpacked; 14.2 A
+ A permanent;B unpacked; other A Device dead Dead failures 1 14.2 A A old;B permanent; 14.2 B
+ A permanent;B unpacked; other A Device dead Dead failures 1 14.2 A A old;B permanent; 14.2 B
+ A permanent;B unpacked; other A Device dead Dead failures 1 14.2 A A old;B permanent; 14.2 B
+ A permanent;B unpacked; other A Device dead Dead failures 1 14.2 A A old;B permanent; 14.2 B
+ A permanent;B unpacked; other A Device dead Dead failures 1 14.2 B A old;B permanent; 14.2 B
+ A permanent;B unpacked; other A ok open A old;B permanent; failures 0 14.2 B A old;B permanent; 14.2 B
+";
+
+#[test]
+fn stopped_before_the_start_record(rt: HostRuntime) -> Result<(), Fail> {
+    let alloc = rt.alloc();
+    let mut text = String::new(alloc);
+    for call in 16..25 {
+        permanent_on_failing(alloc, call, &mut text)?;
+    }
+    same(&rt, text.as_str(), PERMANENCES);
     Ok(())
 }
 
