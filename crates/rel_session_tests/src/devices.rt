@@ -78,11 +78,11 @@ fn before_the_boots(call: u64) -> &'static str {
 
 const FAILED: &str = "error boot 3 Device\nerror handler 18 Dead\n";
 
-/// What the first of two boots writes then, with the list of releases. A boot of a node with two records has eight calls.
+/// What the first of two boots writes then, with the list of releases. A boot of a node with two records has nine calls.
 fn first_boot(call: u64) -> &'static str {
     match call {
         1..=10 => FIRST,
-        12..=19 => FAILED,
+        12..=20 => FAILED,
         _ => BOTH,
     }
 }
@@ -91,7 +91,7 @@ fn first_boot(call: u64) -> &'static str {
 fn second_boot(call: u64) -> &'static str {
     match call {
         1..=10 => FIRST,
-        20..=27 => FAILED,
+        21..=29 => FAILED,
         _ => BOTH,
     }
 }
@@ -115,7 +115,7 @@ fn goes_on(rt: &impl Abort, alloc: Global, disk: FailDisk<MemDisk>, call: u64) -
 #[test]
 fn sessions_go_on_behind_a_failed_device(rt: HostRuntime) -> Result<(), Fail> {
     let alloc = rt.alloc();
-    for call in 1..29 {
+    for call in 1..31 {
         goes_on(&rt, alloc, FailDisk::new(empty_disk(alloc)?, call), call)?;
     }
     Ok(())
@@ -134,7 +134,7 @@ fn alike(call: u64) -> u64 {
 #[test]
 fn sessions_go_on_behind_a_part_of_a_write(rt: HostRuntime) -> Result<(), Fail> {
     let alloc = rt.alloc();
-    for call in 1..29 {
+    for call in 1..31 {
         let disk = FailDisk::failing_in_part(empty_disk(alloc)?, call);
         goes_on(&rt, alloc, disk, alike(call))?;
     }
