@@ -2,13 +2,13 @@
 use crate::{files, lists, readers, records, terms};
 use std::alloc::{AllocError, Global};
 
-/// The answer in one of eleven modes. A text that can't be read is answered by its fault.
+/// The answer in one of fourteen modes. A text that can't be read is answered by its fault.
 ///
 /// `terms`: each term of the text, with the places where it begins and ends. `record`: the one term of a record's body.
 /// `print`: that term as it is printed. `prefixes`: how many terms each prefix of the text has.
 ///
 /// `rel`: the release of a file. `term`: the same, read again from the file's term. `apps`: the release of a file with
-/// these applications.
+/// these applications. `app`, `app_term`, `app_whole`: the application of a file, the same from its term, and this term.
 ///
 /// `events`: what a list that is empty at first answers to these events, and the list then. `readers`: what each reader of
 /// such a list gives before the first event, and behind the answer to each.

@@ -1,15 +1,16 @@
 //! Release files, as `rel_files` reads them.
+use crate::apps;
 use rel_files::{FileFault, Rel, RelApp, read_rel, read_rel_file, rel_of_term};
 use std::alloc::{AllocError, Global};
 
 /// The release or the fault, in one of three modes. In `rel` the text is a file. In `term` it is one too, whose term is
-/// kept and read again. In `apps` the text is the applications of a file.
+/// kept and read again. In `apps` the text is the applications of a file. The other modes are those of [`apps`].
 pub(crate) fn answer(alloc: Global, mode: &str, text: &[u8]) -> Result<String, AllocError> {
     match mode {
         "rel" => shown(alloc, read_rel(alloc, text)),
         "term" => shown(alloc, of_the_term(alloc, text)),
         "apps" => shown(alloc, with_apps(alloc, text)?),
-        _ => String::from_str(alloc, "no such mode"),
+        _ => apps::answer(alloc, mode, text),
     }
 }
 
@@ -45,13 +46,13 @@ fn shown(alloc: Global, read: Result<Rel, FileFault>) -> Result<String, AllocErr
 fn push_app(text: &mut String, app: &RelApp) -> Result<(), AllocError> {
     write!(text, "; {} {} {:?}", app.name, app.vsn, app.start)?;
     match &app.included {
-        Some(names) => push_included(text, names.as_slice()),
+        Some(names) => push_names(text, names.as_slice()),
         None => Ok(()),
     }
 }
 
 // Appends names in brackets.
-fn push_included(text: &mut String, names: &[String]) -> Result<(), AllocError> {
+pub(crate) fn push_names(text: &mut String, names: &[String]) -> Result<(), AllocError> {
     text.push_str(" [")?;
     for (i, name) in names.iter().enumerate() {
         if i > 0 {

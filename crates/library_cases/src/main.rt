@@ -1,8 +1,10 @@
 //! The program `library_cases`: what the libraries make of the texts on its input, a case a line. [`answer`] has the modes:
-//! terms that `erl_term` reads and prints, release files that `rel_files` reads, and lists of releases of `rel_list`.
+//! terms that `erl_term` reads and prints, files of releases and of applications that `rel_files` and `app_file` read, and lists of
+//! releases of `rel_list`.
 #![tactic(auto)]
 
 mod answers;
+mod apps;
 mod files;
 mod lists;
 mod readers;

@@ -1,18 +1,10 @@
--- The members of a tuple of three.
+-- The members of a child specification.
 use Rattle.std.proofs.Common.{◌≡◌, refl}
 use Rattle.std.specs.Option.{option_map}
 use Rattle.erl_term.specs.Value.{Value, Values}
 use Rattle.erl_term.specs.Value.Values.{no_values, value}
-use Rattle.rel_files.specs.Parts.{two}
-use Rattle.mod_table.specs.Parts.{three}
+use Rattle.rel_files.specs.Parts.{three}
 use Rattle.mod_table.specs.Children.{child_members}
-
--- one in front of two are three
-pub one_more : (v : Value) (vs : Values) → three (value v vs) ≡ option_map (λ (p : Value × Value). (v, p.0, p.1)) (two vs)
-one_more v no_values = refl
-one_more v (value w no_values) = refl
-one_more v (value w (value x no_values)) = refl
-one_more v (value w (value x (value y vs))) = refl
 
 -- three in front of three are a child's six
 pub three_more : (v w x : Value) (vs : Values)

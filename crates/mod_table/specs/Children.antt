@@ -5,13 +5,13 @@ use Rattle.std.specs.Str.{bytes_eq}
 use Rattle.erl_term.specs.Value.{Value, Values}
 use Rattle.erl_term.specs.Value.Value.{int, atom, list, tuple}
 use Rattle.erl_term.specs.Value.Values.{no_values, value}
+use Rattle.rel_files.specs.Parts.{three}
 use Rattle.rel_files.specs.Sketch.{name_in}
 use Rattle.mod_table.specs.declared.child.Restart.{Restart}
 use Rattle.mod_table.specs.declared.child.Restart.TheVariants.{Permanent, Transient, Temporary}
 use Rattle.mod_table.specs.declared.child.ChildKind.{ChildKind}
 use Rattle.mod_table.specs.declared.child.ChildKind.TheVariants.{Worker, Supervisor}
 use Rattle.mod_table.specs.Table.{ChildSpec}
-use Rattle.mod_table.specs.Parts.{three}
 
 -- the text of an atom
 abbrev pub atom_in : Value → Option (List ℕ)

@@ -5,17 +5,20 @@ use Rattle.std.specs.Str.{bytes_eq}
 use Rattle.erl_term.specs.Value.{Value, Values}
 use Rattle.erl_term.specs.Value.Value.{tuple}
 use Rattle.erl_term.specs.Value.Values.{no_values, value}
-use Rattle.rel_files.specs.Parts.{list_in, two, pair_in, four, is_word}
+use Rattle.rel_files.specs.Parts.{list_in, two, pair_in, three, four, is_word}
+use Rattle.rel_files.specs.Sketch.{version_or_empty}
 use Rattle.mod_table.specs.Table.{OldVersion, Row}
 use Rattle.mod_table.specs.Table.OldVersion.{up, down}
 use Rattle.mod_table.specs.Table.Row.{on, add, stop, change}
-use Rattle.mod_table.specs.Parts.{tagged_in, three, number_in, version_in}
+use Rattle.mod_table.specs.Parts.{tagged_in, number_in}
+
+-- N, R of a row with this state and this input
+abbrev pub on_row : ℕ → ℕ → Value → Value → Option Row
+on_row s i next reply = option_and_then (λ n. option_map (λ r. on s i n r) (number_in reply)) (number_in next)
 
 -- S, I, N, R
 abbrev pub on_in : Values → Option Row
-on_in vs =
-    option_and_then (λ m. option_and_then (λ s. option_and_then (λ i. option_and_then (λ n. option_map (λ r. on s i n r)
-    (number_in m.3)) (number_in m.2)) (number_in m.1)) (number_in m.0)) (four vs)
+on_in vs = option_and_then (λ m. option_and_then (λ s. option_and_then (λ i. on_row s i m.2 m.3) (number_in m.1)) (number_in m.0)) (four vs)
 
 -- I, K
 abbrev pub add_in : Values → Option Row
@@ -29,12 +32,12 @@ stop_in vs =
 
 -- down, Vsn
 abbrev pub down_in : Values → Option OldVersion
-down_in vs = option_and_then (λ m. if is_word (codes "down") m.0 then option_map down (version_in m.1) else None) (two vs)
+down_in vs = option_and_then (λ m. if is_word (codes "down") m.0 then option_map down (version_or_empty m.1) else None) (two vs)
 
 -- Vsn, or {down, Vsn}
 abbrev pub old_in : Value → Option OldVersion
 old_in (tuple vs) = down_in vs
-old_in v = option_map up (version_in v)
+old_in v = option_map up (version_or_empty v)
 
 -- {S, N}
 abbrev pub move_in : Value → Option (ℕ × ℕ)

@@ -5,8 +5,8 @@ ghost use Rattle.erl_term.specs.Value.{members_of, value_of};
 ghost use Rattle.mod_table.specs.Children.{atom_in, start_in, restart_of, restart_in, is_shutdown, kind_of, kind_in, is_only, lists_only, child_members, child_parts, child_of_parts, child_in, children_in};
 ghost use Rattle.mod_table.specs.InMemory.{child_of};
 
-use crate::parts::three;
 use erl_term::Term;
+use rel_files::parts::three;
 use rel_files::text::name_in;
 use std::alloc::{AllocError, Global};
 

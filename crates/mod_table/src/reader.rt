@@ -11,7 +11,7 @@ use rel_files::{FileFault, read_one_term};
 use std::alloc::Global;
 
 /// A `.mod` file: its term, and the table that this describes.
-#[derive(Debug, Drop)]
+#[derive(Drop)]
 pub struct ModFile {
     pub term: Term,
     pub table: Table,

@@ -5,13 +5,13 @@ ghost use Rattle.mod_table.specs.Decide.{fits_call, call_of, fits_change, moved,
 ghost use Rattle.mod_table.specs.Headed.{row_has_version};
 ghost use Rattle.mod_table.specs.InMemory.{old_of, row_of};
 
-use crate::parts::is_version;
 use crate::same::is_same;
 use crate::{Old, Step};
 use erl_term::Term;
+use rel_files::text::is_version;
 use std::alloc::{AllocError, Global};
 
-#[derive(Debug, Drop)]
+#[derive(Drop)]
 pub(crate) enum Row {
     // In this state, at this input: the next state and the reply.
     On(u32, u32, u32, u32),

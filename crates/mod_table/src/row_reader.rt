@@ -3,13 +3,14 @@ ghost use Rattle.std.specs.Prelude.{◌≡◌, IfOk, map};
 ghost use Rattle.std.specs.Option.{option_map};
 ghost use Rattle.erl_term.specs.Value.{members_of, value_of};
 ghost use Rattle.mod_table.specs.InMemory.{old_of, row_of};
-ghost use Rattle.mod_table.specs.Rows.{on_in, add_in, stop_in, change_in, down_in, old_in, move_in, moves_in, row_in, rows_in};
+ghost use Rattle.mod_table.specs.Rows.{on_row, on_in, add_in, stop_in, change_in, down_in, old_in, move_in, moves_in, row_in, rows_in};
 
 use crate::Old;
-use crate::parts::{number_in, tagged_in, three, version_in};
+use crate::parts::{number_in, tagged_in};
 use crate::row::Row;
 use erl_term::Term;
-use rel_files::parts::{four, is_word, list_in, pair_in, two};
+use rel_files::parts::{four, is_word, list_in, pair_in, three, two};
+use rel_files::text::version_or_empty;
 use std::alloc::{AllocError, Global};
 
 fn on_in(members: &[Term]) -> Option<Row>
@@ -18,6 +19,14 @@ fn on_in(members: &[Term]) -> Option<Row>
     let (state, input, next, reply) = four(members)?;
     let state = number_in(state)?;
     let input = number_in(input)?;
+    on_row(state, input, next, reply)
+}
+
+// What such a row leads to.
+fn on_row(state: u32, input: u32, next: &Term, reply: &Term) -> Option<Row>
+    ensures { option_map row_of result
+        ≡ on_row state input (value_of next.now) (value_of reply.now) }
+{
     let next = number_in(next)?;
     let reply = number_in(reply)?;
     Some(Row::On(state, input, next, reply))
@@ -48,7 +57,7 @@ fn old_in(alloc: Global, term: &Term) -> Result<Option<Old>, AllocError>
 {
     match term {
         Term::Tuple(members) => down_in(alloc, members),
-        _ => match version_in(alloc, term)? {
+        _ => match version_or_empty(alloc, term)? {
             Some(vsn) => Ok(Some(Old::Up(vsn))),
             None => Ok(None),
         },
@@ -65,7 +74,7 @@ fn down_in(alloc: Global, members: &[Term]) -> Result<Option<Old>, AllocError>
     if !is_word(word, "down") {
         return Ok(None);
     }
-    match version_in(alloc, vsn)? {
+    match version_or_empty(alloc, vsn)? {
         Some(vsn) => Ok(Some(Old::Down(vsn))),
         None => Ok(None),
     }

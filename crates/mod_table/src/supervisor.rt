@@ -8,16 +8,15 @@ ghost use Rattle.mod_table.specs.InMemory.{child_of};
 
 use crate::Child;
 use crate::child::children_in;
-use crate::parts::{is_version, three, version_in};
 use erl_term::Term;
 use rel_files::duplicates::first_name_twice;
-use rel_files::parts::list_in;
-use rel_files::text::name_in;
+use rel_files::parts::{list_in, three};
+use rel_files::text::{is_version, name_in, version_or_empty};
 use std::alloc::{AllocError, Global};
 use std::marker::Model;
 
 /// The table of a supervisor. Contracts see it as its name, its version and its children.
-#[derive(Debug, Drop)]
+#[derive(Drop)]
 pub struct Super {
     name: String,
     vsn: String,
@@ -72,7 +71,7 @@ impl Super {
         let Some(name) = name_in(name) else {
             return Ok(None);
         };
-        let Some(vsn) = version_in(alloc, vsn)? else {
+        let Some(vsn) = version_or_empty(alloc, vsn)? else {
             return Ok(None);
         };
         let Some(children) = list_in(children) else {

@@ -8,7 +8,7 @@ use erl_term::Term;
 use std::alloc::{AllocError, Global};
 
 /// The table of a module.
-#[derive(Debug, Drop)]
+#[derive(Drop)]
 pub enum Table {
     Worker(Worker),
     Super(Super),

@@ -7,18 +7,18 @@ ghost use Rattle.mod_table.specs.Decide.{step_of, change_of};
 ghost use Rattle.mod_table.specs.Headed.{has_versions, row_has_version, worker_in};
 ghost use Rattle.mod_table.specs.InMemory.{old_of, row_of};
 
-use crate::parts::{is_version, number_in, version_in};
+use crate::parts::number_in;
 use crate::row::Row;
 use crate::row_reader::rows_in;
 use crate::{Old, Step};
 use erl_term::Term;
 use rel_files::parts::{four, list_in};
-use rel_files::text::name_in;
+use rel_files::text::{is_version, name_in, version_or_empty};
 use std::alloc::{AllocError, Global};
 use std::marker::Model;
 
 /// The table of a worker. Contracts see it as its name, its version, its first state and its rows.
-#[derive(Debug, Drop)]
+#[derive(Drop)]
 pub struct Worker {
     name: String,
     vsn: String,
@@ -103,7 +103,7 @@ impl Worker {
         let Some(name) = name_in(name) else {
             return Ok(None);
         };
-        let Some(vsn) = version_in(alloc, vsn)? else {
+        let Some(vsn) = version_or_empty(alloc, vsn)? else {
             return Ok(None);
         };
         let Some(first) = number_in(first) else {

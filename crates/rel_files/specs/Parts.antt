@@ -20,6 +20,11 @@ abbrev pub pair_in : Value → Option (Value × Value)
 pair_in (tuple vs) = two vs
 pair_in v = None
 
+-- the three members of a tuple
+abbrev pub three : Values → Option (Value × Value × Value)
+three (value v (value w (value x no_values))) = Some (v, w, x)
+three vs = None
+
 -- the four members of a tuple
 abbrev pub four : Values → Option (Value × Value × Value × Value)
 four (value v (value w (value x (value y no_values)))) = Some (v, w, x, y)

@@ -1,5 +1,5 @@
 -- What is made of a term before it is known whether a name stands twice and each version is one.
-use Rattle.std.specs.Prelude.{ℕ, suc, pos, Bool, true, false, ◌&&◌, List, [], ◌∷◌, Option, None, Some, if◌then◌else◌}
+use Rattle.std.specs.Prelude.{ℕ, suc, pos, Bool, true, false, ◌&&◌, List, [], ◌∷◌, Option, None, Some, unwrap_or, if◌then◌else◌}
 use Rattle.std.specs.Option.{option_map, option_and_then}
 use Rattle.std.specs.Str.{bytes_eq}
 use Rattle.erl_term.specs.Lexing.{is_in}
@@ -11,7 +11,7 @@ use Rattle.rel_files.specs.declared.release.StartType.TheVariants.{Permanent, Tr
 use Rattle.rel_files.specs.Name.{is_name}
 use Rattle.rel_files.specs.Form.{start_word}
 use Rattle.rel_files.specs.Release.{Release, Application}
-use Rattle.rel_files.specs.Parts.{AppParts, app_parts, RelParts, rel_parts}
+use Rattle.rel_files.specs.Parts.{list_in, AppParts, app_parts, RelParts, rel_parts}
 
 -- how many there are
 abbrev pub count : Values → ℕ
@@ -40,6 +40,10 @@ characters_in lowest (value v vs) = option_and_then (λ c. option_map (λ cs. c 
 -- the text of 1 to 62 such characters
 abbrev pub text_in : ℕ → Values → Option (List ℕ)
 text_in lowest vs = if is_in 1 62 (count vs) then characters_in lowest vs else None
+
+-- the text of a version, or the empty text, which is none, of numbers that are no version
+abbrev pub version_or_empty : Value → Option (List ℕ)
+version_or_empty v = option_and_then (λ vs. if are_numbers vs then Some (unwrap_or (text_in 0x21 vs) []) else None) (list_in v)
 
 -- the name that an atom is
 abbrev pub name_in : Value → Option (List ℕ)

@@ -2,7 +2,7 @@
 ghost use Rattle.std.specs.Prelude.{◌≡◌, codes};
 ghost use Rattle.std.specs.Option.{option_map};
 ghost use Rattle.erl_term.specs.Value.{members_of, value_of};
-ghost use Rattle.rel_files.specs.Parts.{list_in, two, pair_in, four, four_in, is_word, app_members, app_parts, title_in, erts_in, rel_parts};
+ghost use Rattle.rel_files.specs.Parts.{list_in, two, pair_in, three, four, four_in, is_word, app_members, app_parts, title_in, erts_in, rel_parts};
 
 use erl_term::Term;
 
@@ -61,6 +61,17 @@ pub fn two(members: &[Term]) -> Option<(&Term, &Term)>
         None => Some((first, second)),
         Some(_) => None,
     }
+}
+
+/// The three terms of a row of three.
+#[tactic(auto, using(crate::proofs::Pairs::one_more))]
+pub fn three(members: &[Term]) -> Option<(&Term, &Term, &Term)>
+    ensures { option_map (λ t. (value_of t.0.now, value_of t.1.now, value_of t.2.now)) result
+        ≡ three (members_of members.now) }
+{
+    let (first, rest) = members.split_first()?;
+    let (second, third) = two(rest)?;
+    Some((first, second, third))
 }
 
 /// The four members of a tuple of four.

@@ -4,11 +4,15 @@ ghost use Rattle.std.specs.List.{list_all};
 ghost use Rattle.std.specs.Option.{option_map};
 ghost use Rattle.erl_term.specs.Lexing.{is_in};
 ghost use Rattle.erl_term.specs.Value.{members_of, value_of};
-ghost use Rattle.rel_files.specs.Name.{is_name_byte, is_name};
-ghost use Rattle.rel_files.specs.Sketch.{is_number, are_numbers, count, character_in, characters_in, text_in, name_in, names_of};
+ghost use Rattle.rel_files.specs.Name.{is_name_byte, is_name, is_text};
+ghost use Rattle.rel_files.specs.Sketch.{is_number, are_numbers, count, character_in, characters_in, text_in, version_or_empty, name_in, names_of};
 
+use crate::parts::list_in;
 use erl_term::Term;
 use std::alloc::{AllocError, Global};
+
+// The lowest character of a version.
+const VISIBLE: u8 = b'!';
 
 fn is_name_byte(byte: u8) -> bool
     ensures { result ≡ is_name_byte byte }
@@ -37,6 +41,25 @@ pub fn name_in(term: &Term) -> Option<&str>
         Term::Atom(name) if is_name(name.as_str()) => Some(name.as_str()),
         _ => None,
     }
+}
+
+fn is_version_byte(byte: u8) -> bool
+    ensures { result ≡ is_in 0x21 0x7E byte }
+{
+    matches!(byte, b'!'..=b'~')
+}
+
+fn are_version_bytes(bytes: &[u8]) -> bool
+    ensures { result ≡ list_all (is_in 0x21 0x7E) bytes.now }
+{
+    bytes.iter().all(|byte| is_version_byte(*byte))
+}
+
+/// Whether it is the text of a version: 1 to 62 characters from `!` to `~`.
+pub fn is_version(text: &str) -> bool
+    ensures { result ≡ is_text 0x21 text.now }
+{
+    1 <= text.len() && text.len() <= 62 && are_version_bytes(text.as_bytes())
 }
 
 fn is_number(term: &Term) -> bool
@@ -97,6 +120,24 @@ fn character_in(lowest: u8, term: &Term) -> Option<char>
     match term {
         Term::Int(n @ 0..=126) if i64::from(lowest) <= *n => Some(char::from(*n as u8)),
         _ => None,
+    }
+}
+
+/// The text of a version; the empty text, which is none, where numbers stand that are no version; nothing for another
+/// term. So a reader can tell a bad version behind all faults of the shape.
+pub fn version_or_empty(alloc: Global, term: &Term) -> Result<Option<String>, AllocError>
+    ensures { IfOk result (λ vsn.
+        option_map string_bytes vsn ≡ version_or_empty (value_of term.now)) }
+{
+    let Some(items) = list_in(term) else {
+        return Ok(None);
+    };
+    if !are_numbers(items) {
+        return Ok(None);
+    }
+    match text_in(alloc, VISIBLE, items)? {
+        Some(text) => Ok(Some(text)),
+        None => Ok(Some(String::new(alloc))),
     }
 }
 

@@ -17,7 +17,6 @@ mod error;
 mod laws;
 mod start;
 mod text;
-mod version;
 
 pub use error::StartError;
 pub use laws::{a_start_is_read_back, no_slot_spells_two_starts};

@@ -12,10 +12,12 @@ ghost use Rattle.start_record.specs.Text.{Versions, versions_of, AreVersions, Ar
 use crate::StartError;
 use crate::error::slot_error;
 use crate::text::{spell, versions_in};
-use crate::version::MAX_VERSION;
 use rel_disk::Disk;
 use rel_store::Store;
 use std::alloc::Global;
+
+// The longest version, in bytes.
+const MAX_VERSION: usize = 62;
 
 /// What a node starts.
 #[derive(Debug, PartialEq, Drop)]

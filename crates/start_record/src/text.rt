@@ -4,8 +4,8 @@ ghost use Rattle.std.specs.Str.{IsUtf8};
 ghost use Rattle.start_record.specs.Text.{Versions, versions_of, AreTooLong, start_text, SpellsStart, SpellsNoStart};
 
 use crate::Start;
-use crate::version::is_version;
 use arrayvec::ArrayString;
+use rel_files::text::is_version;
 
 // Two versions, a space and a new line.
 pub(crate) const MAX_TEXT: usize = 126;

@@ -1,0 +1,48 @@
+-- What a file says, from its one term.
+use Rattle.std.proofs.Common.{◌≡◌, ◌≢◌, ◌∙◌, ℕ, List, Result, Ok, Err, Option, Some, codes, IfOk, IfErr, inr, ap, sym, subst}
+use Rattle.std.specs.Option.{option_map, option_and_then}
+use Rattle.erl_term.specs.Value.{Value}
+use Rattle.rel_files.specs.declared.fault.FileFault.{FileFault}
+use Rattle.rel_files.specs.declared.fault.FileFault.TheVariants.{NoMemory}
+use Rattle.rel_files.specs.Kind.{HasTermAt}
+use Rattle.rel_files.specs.Name.{IsFirstTwice}
+use Rattle.rel_files.proofs.Outcomes.{never_both}
+use Rattle.app_file.specs.declared.app.App.{App}
+use Rattle.app_file.specs.Parts.{Entries, Contents, value_at, vsn_in, modules_at, top_at, contents, contents_in}
+use Rattle.app_file.specs.File.{Specification, with_term, specification_in, IsAppTerm, SaysApp, IsTermFault, IsAppFault}
+use Rattle.app_file.specs.InMemory.{specification_of}
+
+-- what keys say, from what each of them says
+pub of_its_keys : (e : Entries) (name vsn : List ℕ) (modules : List (List ℕ)) (top : Option (List ℕ)) → name ≡ e.name → Some vsn ≡ vsn_in e.pairs
+    → Some modules ≡ modules_at (value_at (codes "modules") e.pairs) → Some top ≡ top_at (value_at (codes "mod") e.pairs)
+    → Some (record { name = name; vsn = vsn; modules = modules; top = top }) ≡ contents e
+of_its_keys e name vsn modules top name_is vsn_is modules_is top_is =
+    let said : Option (List ℕ) → Option (List (List ℕ)) → Option (Option (List ℕ)) → List ℕ → Option Contents =
+    λ v m t n. option_and_then (λ vsn. option_and_then (λ modules. option_map (λ top. record { name = n; vsn = vsn; modules = modules; top = top }) t) m) v in
+    λ j. said (vsn_is j) (modules_is j) (top_is j) (name_is j)
+
+-- what a term of the shape says
+pub read : (v : Value) (c : Contents) → Some c ≡ contents_in v → specification_in v ≡ Some (with_term v c)
+read v c some = sym (ap (option_map (with_term v)) some)
+
+-- a term of which a module stands twice says no application
+pub none_twice : (v : Value) (c : Contents) (a : Specification) (n : List ℕ) → Some c ≡ contents_in v → IsFirstTwice c.modules n → IsAppTerm v a → ⊥
+none_twice v c a n some twice is =
+    let same : Some (with_term v c) ≡ Some a = sym (read v c some) ∙ is.shape in
+    let one : with_term v c ≡ a = cc in
+    never_both a.modules n is.distinct (subst (λ (x : Specification). IsFirstTwice x.modules n) one twice)
+
+-- what a file says, its term says
+pub of_its_term : (bytes : List ℕ) (a : Specification) (v : Value) (says : SaysApp bytes a) → v ≡ says.2.0.term → IsAppTerm v a
+of_its_term bytes a v says same = subst (λ (w : Value). IsAppTerm w a) (sym (same ∙ says.2.2)) says.3
+
+-- what its term says, a file says
+pub of_a_file : (r : Result App FileFault) (bytes : List ℕ) (at : ℕ) (v : Value) → HasTermAt bytes at v
+    → IfOk r (λ app. IsAppTerm v (specification_of app)) → IfOk r (λ app. SaysApp bytes (specification_of app))
+of_a_file (Ok app) bytes at v has is = (at, v, has, is)
+of_a_file (Err f) bytes at v has is = tt
+
+pub fault_of_a_file : (r : Result App FileFault) (bytes : List ℕ) (at : ℕ) (v : Value) → HasTermAt bytes at v
+    → IfErr r (λ f. f ≢ NoMemory → IsTermFault v at f) → IfErr r (λ f. f ≢ NoMemory → IsAppFault bytes f)
+fault_of_a_file (Ok app) bytes at v has fault = tt
+fault_of_a_file (Err f) bytes at v has fault = λ other. inr (at, v, has, fault other)

@@ -1,0 +1,21 @@
+-- Laws of files, whatever reads them.
+use Rattle.std.specs.Prelude.{◌≡◌, ◌⊎◌, ℕ, List}
+use Rattle.rel_files.specs.Fault.{Fault}
+use Rattle.rel_files.specs.Kind.{Says, HasFault}
+use Rattle.app_file.specs.File.{Specification, app_files}
+
+-- No file says two applications.
+abbrev pub SaysOneApp : Type 0
+SaysOneApp = (bytes : List ℕ) (s t : Specification) → Says app_files bytes s → Says app_files bytes t → s ≡ t
+
+-- No file has two faults.
+abbrev pub HasOneFault : Type 0
+HasOneFault = (bytes : List ℕ) (f g : Fault) → HasFault app_files bytes f → HasFault app_files bytes g → f ≡ g
+
+-- No file both says an application and has a fault.
+abbrev pub NeverBoth : Type 0
+NeverBoth = (bytes : List ℕ) (t : Specification) (f : Fault) → Says app_files bytes t → HasFault app_files bytes f → ⊥
+
+-- Each file says an application or has a fault.
+abbrev pub SaysOrFails : Type 0
+SaysOrFails = (bytes : List ℕ) → ((t : Specification) × Says app_files bytes t) ⊎ ((f : Fault) × HasFault app_files bytes f)

@@ -1,0 +1,4 @@
+pub mod Parts
+pub mod File
+pub mod InMemory
+pub mod Laws

@@ -1,0 +1,22 @@
+//! Laws of the files themselves, whatever reads them. Each function does nothing: its contract is the law.
+ghost use Rattle.app_file.specs.Laws.{SaysOneApp, HasOneFault, NeverBoth, SaysOrFails};
+
+/// No file says two applications.
+pub fn no_file_says_two_applications()
+    ensures { SaysOneApp }
+{}
+
+/// A file has one fault at most.
+pub fn a_file_has_one_fault()
+    ensures { HasOneFault }
+{}
+
+/// No file both says an application and has a fault.
+pub fn no_file_says_an_application_and_has_a_fault()
+    ensures { NeverBoth }
+{}
+
+/// Each file says an application or has a fault.
+pub fn each_file_says_an_application_or_has_a_fault()
+    ensures { SaysOrFails }
+{}
