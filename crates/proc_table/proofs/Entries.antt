@@ -43,7 +43,7 @@ own_none_by m n (e ∷ es) a ne =
     let no : (e.by == m) ≡ false = let h = a.0 in grind (arith, nat_tests) in
     rw no (own_none_by m n es a.1 ne)
 
-by_handler : (es : List HistoryEntry) → ByHandler es → AllBy 0 es
+pub by_handler : (es : List HistoryEntry) → ByHandler es → AllBy 0 es
 by_handler [] b = tt
 by_handler (e ∷ es) b = (b.0, by_handler es b.2)
 

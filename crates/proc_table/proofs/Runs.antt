@@ -11,7 +11,7 @@ use Rattle.proc_table.specs.Agrees.{slots, States, start, FitsPart, FitsSeat, Ag
 use Rattle.proc_table.specs.Moves.{Moves, Run, Reached, RunsAgree, ReachedAgrees, HeldAlone}
 use Rattle.proc_table.specs.Moves.Moves.{takes, gives, misses, lays, lifts, learns, splits, joins}
 use Rattle.proc_table.proofs.StepKinds.{takes_agree, gives_agree, misses_agree, learns_agree, lays_agree, lifts_agree}
-use Rattle.proc_table.proofs.Joining.{splits_agree, joins_agree}
+use Rattle.proc_table.proofs.JoinLemmas.{splits_agree, joins_agree}
 
 pub move_agrees : (s t : States) → Moves s t → Agrees s → Agrees t
 move_agrees s t (takes m) a = takes_agree s t m a
@@ -101,7 +101,7 @@ reached_agrees s r = runs_agree start s r start_agrees
 pub next : (s t : States) → Reached s → Moves s t → Reached t
 next s t r m = (suc r.0, (s, r.1, m))
 
-none_out : (b : Bool) → (b ≡ true → ⊥) → b ≡ false
+pub none_out : (b : Bool) → (b ≡ true → ⊥) → b ≡ false
 none_out true ne = absurd (ne refl)
 none_out false ne = refl
 

@@ -7,6 +7,7 @@ pub mod Histories
 pub mod Views
 pub mod Agrees
 pub mod Moves
+pub mod Moments
 pub mod Steps
 pub mod Seats
 pub mod Calls

@@ -1,14 +1,18 @@
 -- What two clients that met know of one process.
-use Rattle.std.specs.Prelude.{◌≡◌, ℕ, List, [], ◌∷◌, ◌++◌}
+use Rattle.std.specs.Prelude.{◌≡◌, ◌≢◌, ◌⊎◌, ℕ, List, [], ◌∷◌, ◌++◌}
+use mathlib.Core.List.{IsPrefix}
 use Rattle.proc_table.specs.declared.view.View.{View}
 use Rattle.proc_table.specs.declared.pass.Tried.{Tried}
 use Rattle.proc_table.specs.declared.pass.Tried.TheVariants as tried
+use Rattle.proc_table.specs.declared.value.Outcome.{Outcome}
 use Rattle.proc_table.specs.declared.value.Outcome.TheVariants as outcome
 use Rattle.proc_table.specs.Events.{HistoryEntry, entry, own}
 use Rattle.proc_table.specs.Events.Event.{call}
 use Rattle.proc_table.specs.Histories.{IsLegal}
 use Rattle.proc_table.specs.Views.{seen, mine}
-use Rattle.proc_table.specs.Calls.{Joined}
+use Rattle.proc_table.specs.Calls.{Called, Joined}
+use Rattle.proc_table.specs.Holds.{Released}
+use Rattle.proc_table.specs.Moves.{ByHandler}
 use Rattle.proc_table.specs.Waits.{AnswersAtLast}
 
 -- the entries of a call that was answered so
@@ -35,3 +39,11 @@ abbrev pub TwoClients : Type 0
 TwoClients = (p round input other : ℕ) (v w : View) (t u : Tried) (first second both : View)
     → AnswersAtLast p round input v t first → AnswersAtLast p round other w u second → Joined first second both
     → BothCalled p round input other v w t u both
+
+-- Of a process that the handler held and released with these entries, each call of a client that was answered stands before the
+-- hold, or behind the release, in any history that both have seen a beginning of.
+abbrev pub CallsStandApart : Type 0
+CallsStandApart = (p round input : ℕ) (o : Outcome) (entries : List HistoryEntry) (v w first second : View) (history : List HistoryEntry)
+    → ByHandler entries → Released p entries v w → first.number ≢ 0 → (c : Called p round input o first second)
+    → IsPrefix (seen w p) history → IsPrefix (seen second p) history
+    → IsPrefix (seen second p) (seen v p) ⊎ IsPrefix (seen w p) (seen first p ++ c.between)

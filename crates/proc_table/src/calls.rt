@@ -2,6 +2,7 @@
 ghost use Rattle.std.specs.Prelude.{◌≡◌, ◌≢◌, []};
 ghost use Rattle.proc_table.specs.Calls.{Answers, Shows, tried_of, peeked_of};
 ghost use Rattle.proc_table.specs.Histories.{replay};
+ghost use Rattle.proc_table.specs.Moments.{Once, HasAtCall, HasAtPeek};
 ghost use Rattle.proc_table.specs.Outcomes.{outcome_in, state_in, call_entries};
 ghost use Rattle.proc_table.specs.Steps.{Adding, InHand, given};
 ghost use Rattle.proc_table.specs.Views.{seen};
@@ -17,6 +18,7 @@ impl ProcTable {
         requires { pass.old.table ≡ self.now }
         ensures table { pass.new.table ≡ pass.old.table }
         ensures answer { Answers pid.slot pid.round input pass.old.view result pass.new.view }
+        ensures moment { Once pass.old.view (HasAtCall pid.slot result) }
     {
         let found = self.take(&mut pass.seat, pid.slot, 1);
         if found == 1 {
@@ -34,6 +36,7 @@ impl ProcTable {
         requires { pass.old.table ≡ self.now }
         ensures table { pass.new.table ≡ pass.old.table }
         ensures answer { Shows pid.slot pid.round pass.old.view result pass.new.view }
+        ensures moment { Once pass.old.view (HasAtPeek pid.slot result) }
     {
         let word = self.take(&mut pass.seat, pid.slot, 1);
         if word == 1 {
@@ -52,7 +55,8 @@ impl ProcTable {
         requires pass { seat.old.me.0.number ≢ 0 }
         requires hand { InHand pid.slot seat.old.me }
         ensures table { seat.new.table_id ≡ seat.old.table_id }
-        ensures outcome { result ≡ outcome_in pid.round input (replay (seen seat.old.me.0 pid.slot)) }
+        ensures outcome { result
+            ≡ outcome_in pid.round input (replay (seen seat.old.me.0 pid.slot)) }
         ensures gave { seat.new.me
             ≡ (given seat.old.me.0 pid.slot (call_entries seat.old.me.0.number input result), []) }
     {
@@ -73,7 +77,8 @@ impl ProcTable {
     )
         requires table { seat.old.table_id ≡ self.now }
         requires added { E.added ≡ call_entries seat.old.me.0.number input outcome }
-        requires adds { Adding (call_entries seat.old.me.0.number input outcome) pid.slot seat.old.me }
+        requires adds { Adding (call_entries seat.old.me.0.number input outcome)
+            pid.slot seat.old.me }
         ensures table { seat.new.table_id ≡ seat.old.table_id }
         ensures gave { seat.new.me
             ≡ (given seat.old.me.0 pid.slot (call_entries seat.old.me.0.number input outcome), []) }

@@ -122,7 +122,8 @@ impl Now {
         ensures found { result
             ≡ finds_row_if (old_of old.now) (value_of extra.now) self.old self.old.standing }
         ensures now { self.new ≡ where_up
-            (λ n. moved_to n (changes n (old_of old.now) (value_of extra.now))) self.old self.old.standing }
+            (λ n. moved_to n (changes n (old_of old.now) (value_of extra.now)))
+            self.old self.old.standing }
     {
         match self.standing {
             Standing::Up => match self.table.change(old, extra, self.state) {
@@ -137,7 +138,8 @@ impl Now {
     }
 
     fn stop(&mut self)
-        ensures { self.new ≡ where_up (λ n. record n { standing = Standing.Stopped }) self.old self.old.standing }
+        ensures { self.new
+            ≡ where_up (λ n. record n { standing = Standing.Stopped }) self.old self.old.standing }
     {
         match self.standing {
             Standing::Up => self.standing = Standing::Stopped,

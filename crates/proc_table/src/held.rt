@@ -83,7 +83,8 @@ impl Held {
 
     /// The process has this table from now on. Nothing changes where none stands.
     pub fn load(&mut self, table: Worker)
-        ensures { self.new ≡ record { slot = self.old.slot; value = after self.old.value (loaded table) } }
+        ensures { self.new
+            ≡ record { slot = self.old.slot; value = after self.old.value (loaded table) } }
     {
         self.value.load(table);
     }
@@ -117,7 +118,8 @@ impl Held {
 
     /// Nothing stands in the slot any more.
     pub fn give_up(&mut self)
-        ensures { self.new ≡ record { slot = self.old.slot; value = after self.old.value given_up } }
+        ensures { self.new
+            ≡ record { slot = self.old.slot; value = after self.old.value given_up } }
     {
         self.value.give_up();
     }
@@ -163,7 +165,8 @@ impl ProcTable {
         requires table { seat.old.table ≡ self.now }
         requires out { is_out seat.old.view held.slot ≡ true }
         requires begins { BeginsLast held.value entries.now }
-        requires legal { IsLegal (seen seat.old.view held.slot ++ entries_of held.value entries.now) }
+        requires legal { IsLegal
+            (seen seat.old.view held.slot ++ entries_of held.value entries.now) }
         requires value { held.value
             ≡ replay (seen seat.old.view held.slot ++ entries_of held.value entries.now) }
         ensures table { seat.new.table ≡ seat.old.table }

@@ -1,6 +1,6 @@
 //! Laws of the definitions themselves. Each function does nothing: its contract is the law.
 ghost use Rattle.proc_table.specs.Moves.{RunsAgree, ReachedAgrees, HeldAlone};
-ghost use Rattle.proc_table.specs.Together.{TwoClients};
+ghost use Rattle.proc_table.specs.Together.{TwoClients, CallsStandApart};
 
 /// Every run of the kinds of step, by any number of passes, keeps agreement.
 pub fn every_run_keeps_agreement()
@@ -21,4 +21,9 @@ pub fn who_has_a_process_has_it_alone()
 /// each once.
 pub fn two_clients_see_one_history()
     ensures { TwoClients }
+{}
+
+/// While the handler holds a process, no call of it is answered: each call stands before the hold, or behind the release.
+pub fn no_call_is_answered_while_held()
+    ensures { CallsStandApart }
 {}

@@ -13,6 +13,13 @@ pub struct Pid {
 }
 
 impl Pid {
+    /// How many slots a table has: one more than the last slot.
+    pub fn count() -> usize
+        ensures { result ≡ slots }
+    {
+        SLOTS
+    }
+
     /// Nothing for a slot past the last.
     pub fn new(slot: usize, round: u32) -> Option<Pid>
         ensures { MatchOption result (slots ≤ slot)

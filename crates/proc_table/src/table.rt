@@ -3,6 +3,7 @@ ghost use Rattle.std.specs.Prelude.{◌≡◌, ◌≢◌, ◌<◌, ◌==◌, ℕ
 ghost use Rattle.atomic_table.specs.Seated.{TableId, table_id_coded};
 ghost use Rattle.proc_table.specs.Agrees.{slots};
 ghost use Rattle.proc_table.specs.declared.value.Value.{Value};
+ghost use Rattle.proc_table.specs.Moments.{Once, HasAtWord};
 ghost use Rattle.proc_table.specs.Parts.{part_of};
 ghost use Rattle.proc_table.specs.Steps.{Ready, Took, Missed, Adding, given, with_laid, Learnt};
 ghost use Rattle.proc_table.specs.Views.{word_of, is_out, one_more, new_pass, joined};
@@ -30,7 +31,8 @@ impl Model for ProcTable {
 
     ghost view = { λ t. t.table.shared.table_id };
 
-    ghost invariant = { λ t. (t.table.shared.table_id.words ≡ slots) × (t.table.shared.table_id.slots ≡ slots) };
+    ghost invariant = { λ t. (t.table.shared.table_id.words ≡ slots)
+        × (t.table.shared.table_id.slots ≡ slots) };
 }
 
 impl ProcTable {
@@ -43,6 +45,7 @@ impl ProcTable {
         ensures table { seat.new.table_id ≡ seat.old.table_id }
         ensures told { MatchBool (result == 0)
             (Took slot seat.old.me seat.new.me) (Missed slot result seat.old.me seat.new.me) }
+        ensures moment { Once seat.old.me.0 (HasAtWord slot result) }
     {
         self.table
             .shared
@@ -84,7 +87,8 @@ impl ProcTable {
         requires laid { (part_of seat.old.me.0.parts slot).laid ≡ true }
         requires empty { seat.old.me.1 ≡ [] }
         ensures table { seat.new.table_id ≡ seat.old.table_id }
-        ensures lifted { (y : Value) × (seat.new.me ≡ (with_laid seat.old.me.0 slot false, (slot, y) ∷ [])) }
+        ensures lifted { (y : Value)
+            × (seat.new.me ≡ (with_laid seat.old.me.0 slot false, (slot, y) ∷ [])) }
     {
         self.table.shared.load::<Lift>(seat, slot);
     }

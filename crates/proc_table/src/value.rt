@@ -89,7 +89,8 @@ impl Value {
 impl Now {
     fn call(&mut self, input: u32) -> Option<Outcome>
         ensures outcome { result ≡ outcome_in_now self.old input }
-        ensures now { self.new ≡ where_up (λ n. called n (answer n input)) self.old self.old.standing }
+        ensures now { self.new
+            ≡ where_up (λ n. called n (answer n input)) self.old self.old.standing }
     {
         match self.standing {
             Standing::Up => {

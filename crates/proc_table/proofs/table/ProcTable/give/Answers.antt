@@ -1,5 +1,5 @@
 use Rattle.std.proofs.Common.{rules, ◌<◌, subst, sym}
-use Rattle.proc_table.proofs.Allowed.{gives_allowed}
+use Rattle.proc_table.proofs.StepLemmas.{gives_allowed}
 use Rattle.proc_table.proofs.table.ProcTable.give.Goals as goal
 
 pub store-requires : goal.store-requires

@@ -1,5 +1,5 @@
 use Rattle.std.proofs.Common.{refl, ◌∙◌}
-use Rattle.proc_table.proofs.Waiting.{waited_not, waited_more}
+use Rattle.proc_table.proofs.WaitLemmas.{waited_not, waited_more}
 use Rattle.proc_table.proofs.table.ProcTable.hold.Goals as goal
 
 pub loop-init : goal.loop-init

@@ -1,6 +1,6 @@
 use Rattle.std.proofs.Common.{rules, ◌<◌, subst, sym}
 use Rattle.proc_table.proofs.Slots.{some_slot}
-use Rattle.proc_table.proofs.Allowed.{joins_allowed}
+use Rattle.proc_table.proofs.StepLemmas.{joins_allowed}
 use Rattle.proc_table.proofs.table.ProcTable.join.Goals as goal
 
 pub join_seat-requires : goal.join_seat-requires

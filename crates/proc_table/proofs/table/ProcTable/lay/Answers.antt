@@ -1,5 +1,5 @@
 use Rattle.std.proofs.Common.{rules, ◌<◌, subst, sym}
-use Rattle.proc_table.proofs.Allowed.{lays_allowed}
+use Rattle.proc_table.proofs.StepLemmas.{lays_allowed}
 use Rattle.proc_table.proofs.table.ProcTable.lay.Goals as goal
 
 pub load-requires : goal.load-requires

@@ -1,6 +1,6 @@
 use Rattle.std.proofs.Common.{rules, ◌<◌, subst, sym}
 use Rattle.proc_table.proofs.Slots.{some_slot}
-use Rattle.proc_table.proofs.Allowed.{learns_allowed}
+use Rattle.proc_table.proofs.StepLemmas.{learns_allowed}
 use Rattle.proc_table.proofs.table.ProcTable.learn.Goals as goal
 
 pub load-requires : goal.load-requires

@@ -1,4 +1,4 @@
-use Rattle.proc_table.proofs.Holding.{release_made}
+use Rattle.proc_table.proofs.HoldLemmas.{release_made}
 use Rattle.proc_table.proofs.table.ProcTable.let_go.Goals as goal
 
 pub invariant_of-seat : goal.invariant_of-seat

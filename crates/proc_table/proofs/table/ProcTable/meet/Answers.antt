@@ -1,4 +1,4 @@
-use Rattle.proc_table.proofs.Meeting.{after_join, joined_pass, with_empty}
+use Rattle.proc_table.proofs.MeetLemmas.{after_join, joined_pass, with_empty}
 use Rattle.proc_table.proofs.table.ProcTable.meet.Goals as goal
 
 pub invariant_of-result : goal.invariant_of-result

@@ -1,4 +1,4 @@
-use Rattle.proc_table.proofs.Meeting.{is_new}
+use Rattle.proc_table.proofs.MeetLemmas.{is_new}
 use Rattle.proc_table.proofs.table.ProcTable.new_pass.Goals as goal
 
 pub invariant_of-result : goal.invariant_of-result

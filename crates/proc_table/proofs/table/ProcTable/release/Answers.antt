@@ -1,6 +1,6 @@
 use Rattle.proc_table.specs.Releases.{entries_of}
-use Rattle.proc_table.proofs.Holding.{release_made}
-use Rattle.proc_table.proofs.Releasing.{entries_by_handler}
+use Rattle.proc_table.proofs.HoldLemmas.{release_made}
+use Rattle.proc_table.proofs.ReleaseLemmas.{entries_by_handler}
 use Rattle.proc_table.proofs.table.ProcTable.release.Goals as goal
 
 pub invariant_of-seat : goal.invariant_of-seat

@@ -1,7 +1,7 @@
 use Rattle.std.proofs.Common.{rules}
 use Rattle.proc_table.specs.Histories.{replay}
 use Rattle.proc_table.specs.Views.{seen}
-use Rattle.proc_table.proofs.Passing.{call_adds}
+use Rattle.proc_table.proofs.PassLemmas.{call_adds}
 use Rattle.proc_table.proofs.table.ProcTable.run.Goals as goal
 
 pub slot_mut-requires : goal.slot_mut-requires

@@ -1,6 +1,6 @@
 use Rattle.std.proofs.Common.{rules, ◌<◌, subst, sym}
 use Rattle.proc_table.proofs.Slots.{some_slot}
-use Rattle.proc_table.proofs.Allowed.{splits_allowed}
+use Rattle.proc_table.proofs.StepLemmas.{splits_allowed}
 use Rattle.proc_table.proofs.table.ProcTable.split.Goals as goal
 
 pub split_seat-requires : goal.split_seat-requires

@@ -1,5 +1,5 @@
 use Rattle.std.proofs.Common.{rules, ◌<◌, subst, sym}
-use Rattle.proc_table.proofs.Allowed.{takes_allowed}
+use Rattle.proc_table.proofs.StepLemmas.{takes_allowed}
 use Rattle.proc_table.proofs.table.ProcTable.take.Goals as goal
 
 pub compare_exchange-requires : goal.compare_exchange-requires

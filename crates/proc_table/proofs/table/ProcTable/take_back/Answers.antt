@@ -1,4 +1,4 @@
-use Rattle.proc_table.proofs.Meeting.{after_join, joined_handler, with_empty}
+use Rattle.proc_table.proofs.MeetLemmas.{after_join, joined_handler, with_empty}
 use Rattle.proc_table.proofs.table.ProcTable.take_back.Goals as goal
 
 pub invariant_of-seat : goal.invariant_of-seat

@@ -1,4 +1,4 @@
-use Rattle.proc_table.proofs.Passing.{call_made, on_zero, took_alone}
+use Rattle.proc_table.proofs.PassLemmas.{call_made, on_zero, took_alone}
 use Rattle.proc_table.proofs.table.ProcTable.try_call.Goals as goal
 
 pub invariant_of-pass-2 : goal.invariant_of-pass-2

@@ -14,7 +14,7 @@ use Rattle.proc_table.specs.Steps.{Me, Known, Took, Adding, given, with_laid}
 use Rattle.proc_table.specs.Seats.{IsHandler}
 use Rattle.proc_table.specs.Holds.{HeldNow, Released}
 use Rattle.proc_table.proofs.PartViews.{PartNow, set_part, then_part, part_known}
-use Rattle.proc_table.proofs.Passing.{taken, is_taken, own_behind}
+use Rattle.proc_table.proofs.PassLemmas.{taken, is_taken, own_behind}
 
 -- the handler's word is 2
 pub handler_word : (n : ℕ) → n ≡ 0 → 2 ≡ word_of n

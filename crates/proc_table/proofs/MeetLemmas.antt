@@ -10,7 +10,7 @@ use Rattle.proc_table.specs.Agrees.{slots}
 use Rattle.proc_table.specs.Steps.{Me, Known, Learnt}
 use Rattle.proc_table.specs.Seats.{IsPass, IsHandler}
 use Rattle.proc_table.specs.Calls.{Made, Joined}
-use Rattle.proc_table.proofs.Joining.{joined_at, only_seen_at}
+use Rattle.proc_table.proofs.JoinLemmas.{joined_at, only_seen_at}
 use Rattle.proc_table.proofs.Runs.{all_replicate, length_replicate}
 
 -- the handler's seat of a new table
