@@ -1,0 +1,4 @@
+pub mod PartLemmas
+pub mod OrderLemmas
+pub mod ReverseLemmas
+pub mod AppendLemmas

@@ -1,0 +1,10 @@
+use Rattle.std.proofs.Common.{◌≡◌, ◌++◌, drop}
+use Rattle.std.specs.List.{flat_map}
+use Rattle.relup_file.specs.Instruction.{script_of}
+use Rattle.relup_translate.specs.Release.{way_of}
+use Rattle.relup_translate.specs.Script.{row_script}
+use Rattle.relup_translate.specs.Memory.{rows_of}
+use Rattle.relup_translate.proofs.script.push_changes.Given as goal
+
+abbrev pub invariant-loop-change : goal.invariant-loop-change
+invariant-loop-change l = script_of l.out.items ++ flat_map (row_script (way_of l.way)) (rows_of (drop l.change-index l.changes)) ≡ script_of l.initial.out.items ++ flat_map (row_script (way_of l.way)) (rows_of l.changes)

@@ -1,0 +1,53 @@
+//! Why no relup is made, without memory of its own.
+ghost use Rattle.std.specs.Prelude.{◌≡◌, IfOk};
+ghost use Rattle.relup_translate.specs.Fault.{fault_of, Says};
+
+use crate::TranslateError;
+use std::alloc::{AllocError, Global};
+
+// The reasons in the order of their kinds, with the application that is asked, the version or the module.
+#[derive(Clone, Copy)]
+pub(crate) enum TranslationFault<'a> {
+    NoAppup(&'a str),
+    NoEntry(&'a str, &'a str),
+    UnknownModule(&'a str),
+    RegexVersion(&'a str),
+    NeedsNewEmulator,
+    Unsupported(&'a str),
+}
+
+impl TranslationFault<'_> {
+    // The error that says this.
+    pub(crate) fn error(self, alloc: Global) -> TranslateError
+        ensures { Says result (fault_of self.entry) }
+    {
+        match self.error_or_none(alloc) {
+            Ok(error) => error,
+            Err(_) => TranslateError::NoMemory,
+        }
+    }
+
+    fn error_or_none(self, alloc: Global) -> Result<TranslateError, AllocError>
+        ensures { IfOk result (λ e. Says e (fault_of self.entry)) }
+    {
+        match self {
+            TranslationFault::NoAppup(app) => {
+                Ok(TranslateError::NoAppup(String::from_str(alloc, app)?))
+            }
+            TranslationFault::NoEntry(app, vsn) => Ok(TranslateError::NoEntry(
+                String::from_str(alloc, app)?,
+                String::from_str(alloc, vsn)?,
+            )),
+            TranslationFault::UnknownModule(name) => {
+                Ok(TranslateError::UnknownModule(String::from_str(alloc, name)?))
+            }
+            TranslationFault::RegexVersion(app) => {
+                Ok(TranslateError::RegexVersion(String::from_str(alloc, app)?))
+            }
+            TranslationFault::NeedsNewEmulator => Ok(TranslateError::NeedsNewEmulator),
+            TranslationFault::Unsupported(app) => {
+                Ok(TranslateError::Unsupported(String::from_str(alloc, app)?))
+            }
+        }
+    }
+}

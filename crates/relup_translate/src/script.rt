@@ -1,0 +1,121 @@
+//! The script of a way.
+ghost use Rattle.std.specs.Prelude.{◌≡◌, ◌++◌, IfOk, OnOk, map};
+ghost use Rattle.std.specs.List.{flat_map};
+ghost use Rattle.relup_file.specs.Instruction.{script_of};
+ghost use Rattle.relup_translate.specs.Release.{way_of};
+ghost use Rattle.relup_translate.specs.Fetches.{mention_of};
+ghost use Rattle.relup_translate.specs.Script.{mentions, written_fetches, row_script};
+ghost use Rattle.relup_translate.specs.Translation.{way_script};
+ghost use Rattle.relup_translate.specs.Memory.{row_of_change, rows_of, Appends};
+
+use crate::changes::{AppChange, changes};
+use crate::fetches::{Mention, push_fetches};
+use crate::release::Way;
+use crate::rows::{push_app_modules, push_mentions, push_row, push_written_fetches};
+use crate::single::{push_added, push_removed};
+use relup_file::Instr;
+use std::alloc::{AllocError, Global};
+
+fn push_change_mentions<'a>(
+    way: Way<'a>,
+    change: AppChange<'a>,
+    out: &mut Vec<Mention<'a>>,
+) -> Result<(), AllocError>
+    ensures { OnOk result (map mention_of out.new.items ≡ map mention_of out.old.items
+        ++ mentions (way_of way.entry) (row_of_change change.entry)) }
+{
+    match change {
+        AppChange::Coming(app) => push_app_modules(way.target, app.name.as_str(), out),
+        AppChange::Changing(row) => push_mentions(way, row, out),
+        AppChange::Going(_) => Ok(()),
+    }
+}
+
+fn all_mentions<'a>(
+    alloc: Global,
+    way: Way<'a>,
+    changes: &[AppChange<'a>],
+) -> Result<Vec<Mention<'a>>, AllocError>
+    ensures { IfOk result (λ v. map mention_of v.items
+        ≡ flat_map (mentions (way_of way.entry)) (rows_of changes.now)) }
+{
+    let mut all = Vec::new(alloc);
+    for change in changes {
+        push_change_mentions(way, *change, &mut all)?;
+    }
+    Ok(all)
+}
+
+fn push_change_fetches(
+    alloc: Global,
+    change: AppChange<'_>,
+    out: &mut Vec<Instr>,
+) -> Result<(), AllocError>
+    ensures { OnOk result
+        (Appends out.old.items out.new.items (written_fetches (row_of_change change.entry))) }
+{
+    match change {
+        AppChange::Changing(row) => push_written_fetches(alloc, row, out),
+        _ => Ok(()),
+    }
+}
+
+fn push_all_fetches(
+    alloc: Global,
+    changes: &[AppChange<'_>],
+    out: &mut Vec<Instr>,
+) -> Result<(), AllocError>
+    ensures { OnOk result (Appends out.old.items out.new.items
+        (flat_map written_fetches (rows_of changes.now))) }
+{
+    for change in changes {
+        push_change_fetches(alloc, *change, out)?;
+    }
+    Ok(())
+}
+
+fn push_change(
+    alloc: Global,
+    way: Way<'_>,
+    change: AppChange<'_>,
+    out: &mut Vec<Instr>,
+) -> Result<(), AllocError>
+    ensures { OnOk result
+        (Appends out.old.items out.new.items
+        (row_script (way_of way.entry) (row_of_change change.entry))) }
+{
+    match change {
+        AppChange::Coming(app) => push_added(alloc, way, app.start, app.name.as_str(), out),
+        AppChange::Changing(row) => push_row(alloc, way, row, out),
+        AppChange::Going(app) => push_removed(alloc, way, app.name.as_str(), out),
+    }
+}
+
+fn push_changes(
+    alloc: Global,
+    way: Way<'_>,
+    changes: &[AppChange<'_>],
+    out: &mut Vec<Instr>,
+) -> Result<(), AllocError>
+    ensures { OnOk result (Appends out.old.items out.new.items
+        (flat_map (row_script (way_of way.entry)) (rows_of changes.now))) }
+{
+    for change in changes {
+        push_change(alloc, way, *change, out)?;
+    }
+    Ok(())
+}
+
+// The fetches, the point of no return, and all else.
+pub(crate) fn way_script(alloc: Global, way: Way<'_>) -> Result<Vec<Instr>, AllocError>
+    ensures { IfOk result (λ v. script_of v.items ≡ way_script (way_of way.entry)) }
+{
+    let changes = changes(alloc, way)?;
+    let mentions = all_mentions(alloc, way, &changes)?;
+    let mut script = Vec::new(alloc);
+    push_fetches(alloc, &mentions, &mut script)?;
+    push_all_fetches(alloc, &changes, &mut script)?;
+    script.push(Instr::PointOfNoReturn)?;
+    push_changes(alloc, way, &changes, &mut script)?;
+    Ok(script)
+}
