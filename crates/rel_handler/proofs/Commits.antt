@@ -109,12 +109,15 @@ module _ {D : Type 0} (v : Ghosts D) (h : Handler D) (s : IsSound v.seen v.may_l
       starting : LeavesOnly v.moment v.left_since (disk_in h) (store.disk_in new) (λ c. IsImageAt c (list_in h) (end_in h) × ((start_slot c ≡ start_in v.seen h) ⊎ (start_slot c ≡ slot_with words)))
       starting =
           weakened v.moment v.left_since (disk_in h) (store.disk_in new) _ (λ c. IsImageAt c (list_in h) (end_in h) × ((start_slot c ≡ start_in v.seen h) ⊎ (start_slot c ≡ slot_with words)))
-          (λ c either. (record {
-            image_of = record { bodies = store.records_in h.store; store = records_stay c either.0; list = s.list alive };
-            ends =
-                ends_so c (store.records_in h.store) (base_of (v.seen (disk_in h))) (records_stay c either.0) (stores.base_kept_by_start v.moment v.left_since v.seen v.may_leave h.store settled_store c either.1)
-                ∙ ap (λ g. g + 1) (sym settled_store.end);
-          }, either_slot c either.0))
+          (λ c either. (
+            record {
+              image_of = record { bodies = store.records_in h.store; store = records_stay c either.0; list = s.list alive };
+              ends =
+                  ends_so c (store.records_in h.store) (base_of (v.seen (disk_in h))) (records_stay c either.0) (stores.base_kept_by_start v.moment v.left_since v.seen v.may_leave h.store settled_store c either.1)
+                  ∙ ap (λ g. g + 1) (sym settled_store.end);
+            },
+            either_slot c either.0,
+          ))
           (both v.moment v.left_since (disk_in h) (store.disk_in new) _ _ leaves kept)
 
       -- the device failed in it

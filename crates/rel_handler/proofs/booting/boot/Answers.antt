@@ -46,8 +46,11 @@ returns-in-Err-repair-clause-any_moment g c =
 pub returns-in-Err-repair-clause-synced : goal.returns-in-Err-repair-clause-synced
 returns-in-Err-repair-clause-synced g c =
     let (at, settles) = c.in-Ok.ensures.synced in
-    inr (at, subst (λ d. SettlesAt g.D.Disk.seen g.D.Disk.may_leave g.D.Disk.moment g.D.Disk.left_since c.args.disk d at) (sym c.into_disk.ensures)
-    (boot_settles g.D.Disk g.met.D.Disk.counts_now c.args.disk c.in-Ok.handler c.in-Ok.ensures.opened c.repair.new.handler c.repair.ensures.repairs at settles))
+    inr (
+      at,
+      subst (λ d. SettlesAt g.D.Disk.seen g.D.Disk.may_leave g.D.Disk.moment g.D.Disk.left_since c.args.disk d at) (sym c.into_disk.ensures)
+          (boot_settles g.D.Disk g.met.D.Disk.counts_now c.args.disk c.in-Ok.handler c.in-Ok.ensures.opened c.repair.new.handler c.repair.ensures.repairs at settles),
+    )
 
 -- the events of a store that is known
 pub returns-in-Err-clause-stored : goal.returns-in-Err-clause-stored
