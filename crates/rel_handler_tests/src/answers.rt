@@ -191,11 +191,7 @@ fn push_start<D: Disk>(
 }
 
 // What the start record on this disk says.
-pub(crate) fn starts<D: Disk + Drop>(
-    alloc: Global,
-    disk: D,
-    text: &mut String,
-) -> Result<D, Fail> {
+pub(crate) fn starts<D: Disk + Drop>(alloc: Global, disk: D, text: &mut String) -> Result<D, Fail> {
     match Store::open_disk(alloc, disk) {
         Ok(store) => {
             let mut store = store;
