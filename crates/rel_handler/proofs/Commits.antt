@@ -29,15 +29,14 @@ use Rattle.rel_handler.specs.Image.{IsImageAt, IsStarted, start_slot, HasSpace}
 use Rattle.rel_handler.specs.Refusals.{CommandRefused}
 use Rattle.rel_handler.specs.State.{disk_in, list_in, is_dead, end_in, start_in, IsSound, IsSame}
 use Rattle.rel_handler.specs.Taking.{commanded}
-use Rattle.start_record.specs.Text.{Versions, AreVersions, SpellsStart, start_text as text_of_start}
-use Rattle.start_record.proofs.StartMoments.{reads_back}
+use Rattle.start_record.specs.Text.{Versions, AreVersions, start_text as text_of_start}
 use Rattle.rel_list.proofs.PermanentLaws.{permanent_stays}
 use Rattle.rel_handler.specs.Files.{started as start_versions}
 use Rattle.rel_handler.specs.declared.error.HandlerError.{HandlerError}
 use Rattle.rel_handler.specs.declared.error.HandlerError.TheVariants.{Device}
 use Rattle.rel_handler.specs.declared.handler.Handler.{Handler}
 use Rattle.rel_handler.proofs.CommandLemmas.{commanded_step, small_and_few}
-use Rattle.rel_handler.proofs.Images.{ends_so, each_image, stored_before, stored_after, started_by, while_committing, with_record}
+use Rattle.rel_handler.proofs.Images.{ends_so, each_image, stored_before, stored_after, started_by, started_by_text, while_committing, with_record}
 
 -- what holds of a call that didn't fail
 pub opened : {T E : Type 0} (r : Result T E) (P : Type 0) → false ≡ is_err r → OnOk r P → P
@@ -239,13 +238,9 @@ module _ {D : Type 0} (v : Ghosts D) (h : Handler D) (s : IsSound v.seen v.may_l
   module _ (e : Event) (size : ℕ) (mid : Handler D) (commits : Commits v e size h mid) (is_done : IsDone v e size h mid) (stays : start_in v.seen mid ≡ start_in v.seen h)
       (reads : (d : D) → v.may_leave d (v.seen d)) (versions : Versions) (release : Release) (are : AreVersions versions) (of : versions ≡ start_versions release) (listed : permanent (list_in mid) ≡ Some release)
       (new : Handler D) (keeps : Keeps v (text_of_start versions) mid new) where
-    -- the new start record
-    started_new_one : (es : Releases) → permanent es ≡ Some release → (c : List ℕ) → start_slot c ≡ slot_with (text_of_start versions) → IsStarted es c
-    started_new_one es is c slot = record { release = release; listed = is; spells = subst (λ w. SpellsStart (start_slot c) w) of (subst (λ l. SpellsStart l versions) (sym slot) (reads_back versions are)) }
-
     either_started : HasStarted v h → (c : List ℕ) → (start_slot c ≡ start_in v.seen mid) ⊎ (start_slot c ≡ slot_with (text_of_start versions)) → IsStarted (list_in h) c ⊎ IsStarted (list_in mid) c
     either_started started_now c (inl old) = inl (started_by (list_in h) (list_in h) (v.seen (disk_in h)) c refl (old ∙ stays) (started_now (v.seen (disk_in h)) (reads (disk_in h))))
-    either_started started_now c (inr slot) = inr (started_new_one (list_in mid) listed c slot)
+    either_started started_now c (inr slot) = inr (started_by_text (list_in mid) release versions c are of listed slot)
 
     pub commits_then : Commits v e size h new
     commits_then = record {
@@ -259,7 +254,7 @@ module _ {D : Type 0} (v : Ghosts D) (h : Handler D) (s : IsSound v.seen v.may_l
     }
 
     pub is_started_then : ((c : List ℕ) → v.may_leave (disk_in new) c → IsImageAt c (list_in new) (end_in new) × (start_slot c ≡ slot_with (text_of_start versions))) → HasStarted v new
-    is_started_then images c now = started_new_one (list_in new) (ap permanent keeps.list ∙ listed) c (images c now).1
+    is_started_then images c now = started_by_text (list_in new) release versions c are of (ap permanent keeps.list ∙ listed) (images c now).1
 
     pub is_done_then : is_dead new ≡ false → ((c : List ℕ) → v.may_leave (disk_in new) c → IsImageAt c (list_in new) (end_in new) × (start_slot c ≡ slot_with (text_of_start versions))) → IsDone v e size h new
     is_done_then works images = record {
@@ -280,6 +275,6 @@ module _ {D : Type 0} (v : Ghosts D) (h : Handler D) (s : IsSound v.seen v.may_l
         failed_behind (inr stood) = ⊎_elim (λ less. inl (omega (arith, keeps.counted, stood))) (λ same. inr (omega arith)) (cases_lt (v.failures (disk_in h)) (v.failures (disk_in mid)))
 
 -- an error that became this refusal
-pub refuses_with : {T : Type 0} (P : HandlerError → Type 0) (r : Result T HandlerError) (why : HandlerError) → IsErr r × IsErrAnd r (λ e. e ≡ why) → P why → IfErr r P
+pub refuses_with : {T E : Type 0} (P : E → Type 0) (r : Result T E) (why : E) → IsErr r × IsErrAnd r (λ e. e ≡ why) → P why → IfErr r P
 refuses_with P (Ok x) why is p = tt
 refuses_with P (Err e) why (err, is) p = subst P (sym is) p

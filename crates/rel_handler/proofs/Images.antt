@@ -27,7 +27,7 @@ use Rattle.rel_handler.specs.Commits.{IsRecordFor}
 use Rattle.rel_handler.specs.Events.{Known, doubted, IsPrefix, IsOfPrefix, IsNoneOrOfPrefix, uncertain, IsStoredAs}
 use Rattle.rel_handler.specs.Files.{started, start_text}
 use Rattle.rel_handler.specs.Image.{IsImageOf, IsImageAt, IsStarted, start_slot, holds_a_store}
-use Rattle.start_record.specs.Text.{SpellsStart}
+use Rattle.start_record.specs.Text.{Versions, AreVersions, SpellsStart, start_text as text_of_start}
 use Rattle.start_record.proofs.StartMoments.{reads_back}
 use Rattle.rel_handler.specs.Moments.{BootsTo}
 use Rattle.rel_handler.proofs.Lists.{list_after-push}
@@ -121,13 +121,14 @@ first_record r body small spelled = ((makes r, entry r Permanent ∷ [], spelled
     there : assigned (makes r) [] ≡ Some (entry r Permanent ∷ [])
     there = ap (λ b. with_one_permanent (if b then step (made r) [] else None)) small
 
--- The start record of a new node.
+-- A start slot with the text of a release's start is that release's start record.
+pub started_by_text : (es : Releases) (r : Release) (versions : Versions) (c : List ℕ) → AreVersions versions → versions ≡ started r → permanent es ≡ Some r → start_slot c ≡ slot_with (text_of_start versions) → IsStarted es c
+started_by_text es r versions c are of listed slot =
+    record { release = r; listed = listed; spells = subst (λ w. SpellsStart (start_slot c) w) of (subst (λ l. SpellsStart l versions) (sym slot) (reads_back versions are)) }
+
+-- and so it is in a new node
 pub started_new : (r : Release) (start c : List ℕ) → HasVersions r → start ≡ start_text r → start_slot c ≡ slot_with start → IsStarted (entry r Permanent ∷ []) c
-started_new r start c versions is slot = record {
-  release = r;
-  listed = refl;
-  spells = subst (λ l. SpellsStart l (started r)) (sym (slot ∙ ap slot_with is)) (reads_back (started r) (versions.erts, versions.own));
-}
+started_new r start c versions is slot = started_by_text (entry r Permanent ∷ []) r (started r) c (versions.erts, versions.own) refl refl (slot ∙ ap slot_with is)
 
 -- A creation leaves no store or one of a prefix.
 pub while_creating : (r : Release) (body start : List ℕ) → is_small r ≡ true → HasVersions r → start ≡ start_text r → Spells body (makes r) → (c : List ℕ) → IsNoneOrNew body start c → IsNoneOrOfPrefix (doubted [] (made r)) c

@@ -1,7 +1,7 @@
 -- The start record of a node that is booted.
-use Rattle.std.proofs.Common.{◌≡◌, ◌⊎◌, inl, inr, ⊎_elim, ℕ, ◌≤◌, Bool, true, false, cond, find, List, [], ◌∷◌, length, Option, Some, None, Result, Ok, Err, true≢false, refl, sym, ap, ◌∙◌, subst, arith}
+use Rattle.std.proofs.Common.{◌≡◌, ◌⊎◌, inl, inr, ⊎_elim, ℕ, ◌≤◌, Bool, true, false, cond, find, List, [], ◌∷◌, length, Option, Some, None, true≢false, refl, sym, ap, ◌∙◌, subst, arith}
 use Rattle.std.specs.Option.{option_map}
-use Rattle.std.specs.Prelude.{◌==◌, IfErr, IsErr, IsErrAnd}
+use Rattle.std.specs.Prelude.{◌==◌}
 use Rattle.rel_disk.specs.declared.disk.Disk.{Ghosts}
 use Rattle.rel_disk.specs.Moments.{LeavesOnly}
 use Rattle.rel_disk.proofs.Moments.{joined, weakened}
@@ -16,7 +16,6 @@ use Rattle.rel_records.specs.Lists.{Makes, HaveVersions}
 use Rattle.rel_store.specs.Layout.{slot_with}
 use Rattle.rel_store.specs.State as store
 use Rattle.start_record.specs.Text.{Versions, AreVersions, SpellsStart, start_text as text_of_start}
-use Rattle.start_record.proofs.StartMoments.{reads_back}
 use Rattle.rel_handler.specs.Booting.{IsOpened, Repairs}
 use Rattle.rel_handler.specs.Commits.{HasStarted, HasOldStartOr, HasRead, Keeps}
 use Rattle.rel_handler.specs.Files.{started as start_versions}
@@ -24,10 +23,9 @@ use Rattle.rel_handler.specs.Events.{HasStart, Stored, MayHave, IsStoredAs}
 use Rattle.rel_handler.specs.Image.{IsImageOf, IsImageAt, IsStarted, IsRepairOf, start_slot}
 use Rattle.rel_handler.specs.Moments.{SettlesAt}
 use Rattle.rel_handler.specs.State.{disk_in, list_in, is_dead, end_in, start_in, IsSound}
-use Rattle.rel_handler.specs.declared.error.BootError.{BootError}
 use Rattle.rel_handler.specs.declared.handler.Handler.{Handler}
 use Rattle.rel_handler.proofs.BadRecords.{stands_for_one}
-use Rattle.rel_handler.proofs.Images.{started_by}
+use Rattle.rel_handler.proofs.Images.{started_by, started_by_text}
 
 -- a list without a permanent release has no entry of that status
 none_permanent : (es : Releases) → permanent es ≡ None → length (of_status is_permanent es) ≡ 0
@@ -55,11 +53,6 @@ permanent_versions (e ∷ es) r all is = go (is_permanent e.status) (permanent_v
         → option_map (λ (f : Entry). f.release) (cond b (Some e) (find (λ (f : Entry). is_permanent f.status) es)) ≡ Some r → HasVersions r
     go true rest is = let same : e.release ≡ r = cc is in subst HasVersions same all.0
     go false rest is = rest is
-
--- an error that became this refusal
-pub boot_refused_with : {T : Type 0} (P : BootError → Type 0) (r : Result T BootError) (why : BootError) → IsErr r × IsErrAnd r (λ e. e ≡ why) → P why → IfErr r P
-boot_refused_with P (Ok x) why is p = tt
-boot_refused_with P (Err e) why (err, is) p = subst P (sym is) p
 
 module _ {D : Type 0} (v : Ghosts D) (h mid : Handler D) (read : HasRead v h mid) where
   slot_same : start_in v.seen mid ≡ start_in v.seen h
@@ -89,13 +82,10 @@ module _ {D : Type 0} (v : Ghosts D) (h mid : Handler D) (read : HasRead v h mid
 
     -- another one is written over
     module _ (new : Handler D) (keeps : Keeps v (text_of_start versions) mid new) where
-      new_start : (es : Releases) → permanent es ≡ Some r → (c : List ℕ) → start_slot c ≡ slot_with (text_of_start versions) → IsStarted es c
-      new_start es is c slot = record { release = r; listed = is; spells = subst (λ w. SpellsStart (start_slot c) w) of (subst (λ l. SpellsStart l versions) (sym slot) (reads_back versions are)) }
-
       writing : (c : List ℕ) → HasOldStartOr v.seen mid (λ d. start_slot d ≡ slot_with (text_of_start versions)) c → HasOldStartOr v.seen h (IsStarted (list_in h)) c
       writing c (image, slot) = (
         subst (λ n. IsImageAt c (list_in h) n) read.end (subst (λ l. IsImageAt c l (end_in mid)) read.list image),
-        ⊎_elim (λ old. inl (old ∙ slot_same)) (λ new. inr (new_start (list_in h) listed c new)) slot,
+        ⊎_elim (λ old. inl (old ∙ slot_same)) (λ new. inr (started_by_text (list_in h) r versions c are of listed new)) slot,
       )
 
       pub written_over : Repairs v h new
@@ -110,7 +100,7 @@ module _ {D : Type 0} (v : Ghosts D) (h mid : Handler D) (read : HasRead v h mid
       }
 
       pub started_now : ((c : List ℕ) → v.may_leave (disk_in new) c → IsImageAt c (list_in new) (end_in new) × (start_slot c ≡ slot_with (text_of_start versions))) → HasStarted v new
-      started_now images c now = new_start (list_in new) (ap permanent (keeps.list ∙ read.list) ∙ listed) c (images c now).1
+      started_now images c now = started_by_text (list_in new) r versions c are of (ap permanent (keeps.list ∙ read.list) ∙ listed) (images c now).1
 
 -- a boot is a reading of the node and a repair
 module _ {D : Type 0} (v : Ghosts D) (counts_now : (disk : D) (t : ℕ) (c : List ℕ) → t ≤ v.moment disk → v.may_leave disk c → v.left_since disk t c) (disk : D) (h : Handler D) (opened : IsOpened v disk h) (new : Handler D) (repairs : Repairs v h new) where

@@ -7,8 +7,8 @@ use Rattle.start_record.specs.Text.{AreVersions, versions_of}
 use Rattle.rel_handler.specs.Booting.{RepairRefused}
 use Rattle.rel_handler.specs.State.{list_in}
 use Rattle.rel_handler.specs.declared.error.BootError.TheVariants.{NoMemory}
-use Rattle.rel_handler.proofs.Commits.{have_versions, read_nothing}
-use Rattle.rel_handler.proofs.RepairLemmas.{one_is_permanent, permanent_versions, boot_refused_with, right_already, written_over, started_now}
+use Rattle.rel_handler.proofs.Commits.{have_versions, read_nothing, refuses_with}
+use Rattle.rel_handler.proofs.RepairLemmas.{one_is_permanent, permanent_versions, right_already, written_over, started_now}
 use Rattle.rel_handler.proofs.booting.repair.Goals as goal
 
 -- a list that records make has a permanent release
@@ -20,7 +20,7 @@ unreachable-requires g c =
 pub returns-in_err-start-clause-refused : goal.returns-in_err-start-clause-refused
 returns-in_err-start-clause-refused g c =
     let h = c.args.handler.now in
-    boot_refused_with (RepairRefused g.D.Disk h h) c.from_residual.result NoMemory c.from_residual.ensures (read_nothing g.D.Disk h (g.met.D.Disk.only_now _))
+    refuses_with (RepairRefused g.D.Disk h h) c.from_residual.result NoMemory c.from_residual.ensures (read_nothing g.D.Disk h (g.met.D.Disk.only_now _))
 
 -- the start record is right
 pub returns-then-branch-clause-started : goal.returns-then-branch-clause-started
