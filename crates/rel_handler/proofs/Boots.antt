@@ -24,7 +24,7 @@ use Rattle.rel_store.specs.State as store
 use Rattle.rel_store.specs.declared.store.Store.{Store}
 use Rattle.rel_handler.specs.Events.{Known, doubted, IsNoneOrOfPrefix}
 use Rattle.rel_handler.specs.Files.{start_text}
-use Rattle.rel_handler.specs.Image.{IsImageOf}
+use Rattle.rel_handler.specs.Image.{IsImageOf, IsStarted}
 use Rattle.rel_handler.specs.Moments.{Begins, BeginsAt, SettlesAt}
 use Rattle.rel_handler.specs.Refusals.{told_records}
 use Rattle.rel_handler.specs.State.{IsSound}
@@ -37,9 +37,9 @@ pub made_again : (bodies records : List (List ℕ)) (es : Releases) → bodies �
 made_again bodies records es same makes_it = subst (λ rs. Makes rs (booted es)) same (subst (Makes bodies) (sym (as_booted bodies es makes_it)) makes_it)
 
 -- a handler of such a list
-pub sound_so : {D : Type 0} (seen : D → List ℕ) (may_leave : D → List ℕ → Type 0) (of : Store D) (es : Releases) → store.IsSoundStore seen may_leave of → store.IsSettled seen may_leave of → Makes (store.records_in of) (booted es)
-    → IsSound seen may_leave (record { store = of; list = es; dead = false })
-sound_so seen may_leave of es sound settled makes_it = record { store = sound; works = λ still. settled.works; list = λ still. makes_it }
+pub sound_so : {D : Type 0} (seen : D → List ℕ) (may_leave : D → List ℕ → Type 0) (of : Store D) (es : Releases) → store.IsSettled seen may_leave of → Makes (store.records_in of) (booted es)
+    → ((c : List ℕ) → may_leave of.disk c → IsStarted es c) → IsSound seen may_leave (record { store = of; list = es; dead = false })
+sound_so seen may_leave of es settled makes_it started = record { ready = λ alive. record { store = settled; list = makes_it }; started = λ alive. started }
 
 -- bytes with the records of a list stand for it
 pub image_so : (c : List ℕ) (bodies records : List (List ℕ)) (es : Releases) → bodies ≡ records → Makes bodies es → records_of c ≡ Ok records → IsImageOf c es × (booted es ≡ es)

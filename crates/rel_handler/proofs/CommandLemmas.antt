@@ -1,5 +1,5 @@
 -- What the list takes of a command, and why it refuses one.
-use Rattle.std.proofs.Common.{◌≡◌, ℕ, ◌<◌, ◌≤◌, ◌+◌, Bool, true, false, cond, find, List, [], ◌∷◌, ◌++◌, length, length-append, Option, Some, None, Result, Ok, Err, is_some, refl, sym, ap, ◌∙◌, subst, arith}
+use Rattle.std.proofs.Common.{◌≡◌, inl, inr, ℕ, ◌<◌, ◌≤◌, ◌+◌, Bool, true, false, cond, find, List, [], ◌∷◌, ◌++◌, length, length-append, Option, Some, None, Result, Ok, Err, is_some, refl, sym, ap, ◌∙◌, subst, arith}
 use Rattle.std.specs.Prelude.{if◌then◌else◌, nat_le}
 use Rattle.std.proofs.lemmas.Bool.Decides.{nat_tests}
 use Rattle.std.specs.Option.{option_map}
@@ -11,7 +11,7 @@ use Rattle.rel_list.specs.declared.fault.ListError.TheVariants as list
 use Rattle.rel_list.specs.declared.status.Status.{Status}
 use Rattle.rel_list.specs.declared.status.Status.TheVariants.{Unpacked, Current, Old, Permanent}
 use Rattle.rel_list.specs.Releases.{Releases, Entry, entry, status_of, release_at, permanent}
-use Rattle.rel_list.specs.Event.{Event, may_be_made_permanent, permanent_status, list_made_permanent, step}
+use Rattle.rel_list.specs.Event.{Event, may_be_made_permanent, may_be_rebooted, permanent_status, list_made_permanent, step}
 use Rattle.rel_list.specs.Status.{is_current, is_permanent}
 use Rattle.rel_list.specs.Event.Event.{made, unpacked, installed, made_permanent, removed, reboot_old, boot}
 use Rattle.rel_list.specs.Refusal.{refusal, listed_refusal}
@@ -20,6 +20,7 @@ use Rattle.rel_records.specs.Limits.{most_releases, is_small}
 use Rattle.rel_records.specs.Lists.{HaveVersions}
 use Rattle.rel_records.specs.Writing.{IsOfListed}
 use Rattle.rel_records.proofs.RecordPlaces.{chosen}
+use Rattle.rel_handler.specs.Commits.{MakesPermanent}
 use Rattle.rel_handler.specs.Refusals.{CommandRefused}
 use Rattle.rel_handler.specs.State.{list_in, is_dead, IsSame}
 use Rattle.rel_handler.specs.Taking.{list_refusal, refused_or, kept_short, commanded}
@@ -239,13 +240,20 @@ refused_by_list failures h r size why alive barred = by_why why (subst IsOfList 
     by_why told.TooMany of barred = ((alive, barred), same)
 
 -- A release that isn't listed isn't made permanent.
-pub unlisted : (v : List ℕ) (es : Releases) → release_at v es ≡ None → commanded (made_permanent v) es ≡ Err told.NoSuchRelease
-unlisted v es none = ap (λ o. refused_or o (step (made_permanent v) es)) (no_status (find (λ (e : Entry). bytes_eq v e.release.vsn) es) none)
+pub unlisted : (v : List ℕ) (e : Event) (es : Releases) → MakesPermanent v e → release_at v es ≡ None → commanded e es ≡ Err told.NoSuchRelease
+unlisted v e es moves none = go moves
   where
-    no_status : (o : Option Entry) → option_map (λ (e : Entry). e.release) o ≡ None
-        → listed_refusal (λ s. if is_current s then None else Some (list.BadStatus s)) (option_map (λ (e : Entry). e.status) o) ≡ Some list.NoSuchRelease
-    no_status None none = refl
-    no_status (Some e) none = absurd cc
+    no_status : (by_status : Status → Option ListError) (o : Option Entry) → option_map (λ (e : Entry). e.release) o ≡ None
+        → listed_refusal by_status (option_map (λ (e : Entry). e.status) o) ≡ Some list.NoSuchRelease
+    no_status by_status None none = refl
+    no_status by_status (Some e) none = absurd cc
+
+    refused : (e : Event) → IsOfListed e → refusal e es ≡ Some list.NoSuchRelease → commanded e es ≡ Err told.NoSuchRelease
+    refused e listed is = list_refuses e es list.NoSuchRelease listed is
+
+    go : MakesPermanent v e → commanded e es ≡ Err told.NoSuchRelease
+    go (inl is) = subst (λ e. commanded e es ≡ Err told.NoSuchRelease) (sym is) (refused (made_permanent v) tt (no_status _ (find (λ (e : Entry). bytes_eq v e.release.vsn) es) none))
+    go (inr is) = subst (λ e. commanded e es ≡ Err told.NoSuchRelease) (sym is) (refused (reboot_old v) tt (no_status _ (find (λ (e : Entry). bytes_eq v e.release.vsn) es) none))
 
 -- The release that was made permanent is the permanent one.
 permanent_now : (v : List ℕ) (es : Releases) → permanent (list_made_permanent v es) ≡ release_at v es
@@ -264,11 +272,16 @@ permanent_now v (e ∷ es) = go (bytes_eq v e.release.vsn) e.status (permanent_n
     go false Old rest = rest
     go false Permanent rest = rest
 
-pub made_permanent_so : (v : List ℕ) (es next : Releases) → step (made_permanent v) es ≡ Some next → permanent next ≡ release_at v es
-made_permanent_so v es next is =
-    let (may, made_so) = chosen (may_be_made_permanent (status_of v es)) (Some (list_made_permanent v es)) next is in
+moved : (v : List ℕ) (es next : Releases) (may : Bool) → (if may then Some (list_made_permanent v es) else None) ≡ Some next → permanent next ≡ release_at v es
+moved v es next may is =
+    let (can, made_so) = chosen may (Some (list_made_permanent v es)) next is in
     let same : list_made_permanent v es ≡ next = cc in
     ap permanent (sym same) ∙ permanent_now v es
+
+-- so it is behind both events
+pub permanent_behind : (v : List ℕ) (e : Event) (es next : Releases) → MakesPermanent v e → step e es ≡ Some next → permanent next ≡ release_at v es
+permanent_behind v e es next (inl same) is = moved v es next (may_be_made_permanent (status_of v es)) (subst (λ e. step e es ≡ Some next) same is)
+permanent_behind v e es next (inr same) is = moved v es next (may_be_rebooted (status_of v es)) (subst (λ e. step e es ≡ Some next) same is)
 
 -- a listed release has the versions of the list
 pub listed_versions : (v : List ℕ) (es : Releases) (r : Release) → HaveVersions es → release_at v es ≡ Some r → HasVersions r

@@ -1,5 +1,5 @@
 -- A handler at rest, and one that commits an event.
-use Rattle.std.proofs.Common.{◌≡◌, ◌⊎◌, inl, inr, ⊎_elim, ℕ, ◌+◌, ◌≤◌, true, false, List, [], ◌∷◌, ◌++◌, length, Some, Result, Ok, Err, refl, sym, ap, ◌∙◌, subst, arith}
+use Rattle.std.proofs.Common.{◌≡◌, ◌⊎◌, inl, inr, ⊎_elim, ℕ, ◌+◌, ◌≤◌, true, false, List, [], ◌∷◌, ◌++◌, length, Some, Result, Ok, Err, true≢false, refl, sym, ap, ◌∙◌, subst, arith}
 use Rattle.std.proofs.lemmas.Bool.{cases_lt}
 use Rattle.std.specs.Prelude.{is_err, IfErr, IsErr, IsErrAnd, OnOk}
 use Rattle.rel_disk.specs.declared.disk.Disk.{Ghosts}
@@ -23,13 +23,14 @@ use Rattle.rel_store.specs.State as store
 use Rattle.rel_store.specs.declared.error.StoreError.{StoreError}
 use Rattle.rel_store.specs.declared.error.StoreError.TheVariants as fault
 use Rattle.rel_store.specs.declared.store.Store.{Store}
-use Rattle.rel_handler.specs.Commits.{Commits, IsDone, IsRecordFor, Keeps, HasStarted}
+use Rattle.rel_handler.specs.Commits.{Commits, IsDone, IsRecordFor, Keeps, HasOldStartOr}
 use Rattle.rel_handler.specs.Events.{Events, uncertain, IsStoredAs}
 use Rattle.rel_handler.specs.Image.{IsImageAt, IsStarted, start_slot, HasSpace}
 use Rattle.rel_handler.specs.Refusals.{CommandRefused}
-use Rattle.rel_handler.specs.State.{disk_in, list_in, is_dead, end_in, start_in, IsSound, IsSame}
+use Rattle.rel_handler.specs.State.{disk_in, list_in, is_dead, end_in, start_in, HasStarted, IsReady, IsSound, IsSame}
 use Rattle.rel_handler.specs.Taking.{commanded}
 use Rattle.start_record.specs.Text.{Versions, AreVersions, start_text as text_of_start}
+use Rattle.rel_list.specs.Laws.{leaves_permanent}
 use Rattle.rel_list.proofs.PermanentLaws.{permanent_stays}
 use Rattle.rel_handler.specs.Files.{started as start_versions}
 use Rattle.rel_handler.specs.declared.error.HandlerError.{HandlerError}
@@ -84,75 +85,76 @@ failed_so failures old new n (Err fault.NotAStore) err refused fits room works =
 failed_so failures old new n (Err (fault.Damaged at)) err refused fits room works = absurd refused
 failed_so failures old new n (Err fault.Exists) err refused fits room works = absurd refused
 
+-- A device that failed in the second of two calls failed in both together.
+pub failed_behind : (a b c : ℕ) → a ≤ b → b ≤ c → HasFailed b c → HasFailed a c
+failed_behind a b c first second (inl rose) = inl (omega arith)
+failed_behind a b c first second (inr stood) = ⊎_elim (λ less. inl (omega (arith, stood))) (λ same. inr (omega arith)) (cases_lt a b)
+
+-- A handler that is dead knows nothing.
+pub dead_is_sound : {D : Type 0} (v : Ghosts D) (h : Handler D) → is_dead h ≡ true → IsSound v.seen v.may_leave h
+dead_is_sound v h dead = record {
+  ready = λ alive. absurd (true≢false (sym dead ∙ alive));
+  started = λ alive. absurd (true≢false (sym dead ∙ alive));
+}
+
+-- a handler that works again
+abbrev pub revived : {D : Type 0} → Handler D → Handler D
+revived h = record { store = h.store; list = h.list; dead = false }
+
+-- It is sound where it is ready and has the start record of its list.
+pub revived_is_sound : {D : Type 0} (v : Ghosts D) (h : Handler D) → IsReady v.seen v.may_leave h → HasStarted v.may_leave h → IsSound v.seen v.may_leave (revived h)
+revived_is_sound v h ready started = record { ready = λ alive. record { store = ready.store; list = ready.list }; started = λ alive. started }
+
+module _ {D : Type 0} (v : Ghosts D) (h : Handler D) (ready : IsReady v.seen v.may_leave h) where
+  -- each image of its disk stands for its list
+  pub image_now : (c : List ℕ) → v.may_leave (disk_in h) c → IsImageAt c (list_in h) (end_in h)
+  image_now c now = each_image v.seen v.may_leave h.store (list_in h) ready.store ready.list c now
+
+  -- The start record is being written, and the records stay.
+  module _ (new : Store D) (words : List ℕ) (leaves : LeavesOnly v.moment v.left_since (disk_in h) (store.disk_in new) (StandsWithEither (store.records_in h.store) (start_in v.seen h) (slot_with words)))
+      (kept : LeavesOnly v.moment v.left_since (disk_in h) (store.disk_in new) (LeavesOthers (IsInOtherSlot (v.seen (disk_in h))) (v.seen (disk_in h)))) where
+    records_stay : (c : List ℕ) → StandsWithEither (store.records_in h.store) (start_in v.seen h) (slot_with words) c → records_of c ≡ Ok (store.records_in h.store)
+    records_stay c (inl stands) = stands.records
+    records_stay c (inr stands) = stands.records
+
+    either_slot : (c : List ℕ) → StandsWithEither (store.records_in h.store) (start_in v.seen h) (slot_with words) c → (start_slot c ≡ start_in v.seen h) ⊎ (start_slot c ≡ slot_with words)
+    either_slot c (inl stands) = inl stands.start
+    either_slot c (inr stands) = inr stands.start
+
+    starting : LeavesOnly v.moment v.left_since (disk_in h) (store.disk_in new) (HasOldStartOr v.seen h (λ c. start_slot c ≡ slot_with words))
+    starting =
+        weakened v.moment v.left_since (disk_in h) (store.disk_in new) _ (HasOldStartOr v.seen h (λ c. start_slot c ≡ slot_with words))
+        (λ c either. (
+          record {
+            image_of = record { bodies = store.records_in h.store; store = records_stay c either.0; list = ready.list };
+            ends =
+                ends_so c (store.records_in h.store) (base_of (v.seen (disk_in h))) (records_stay c either.0) (stores.base_kept_by_start v.moment v.left_since v.seen v.may_leave h.store ready.store c either.1)
+                ∙ ap (λ g. g + 1) (sym ready.store.end);
+          },
+          either_slot c either.0,
+        ))
+        (both v.moment v.left_since (disk_in h) (store.disk_in new) _ _ leaves kept)
+
+    pub keeps : store.end_in new ≡ end_in h → v.failures (disk_in h) ≤ v.failures (store.disk_in new) → Keeps v words h (record { store = new; list = h.list; dead = true })
+    keeps end counted = record { dead = refl; list = refl; end = end; any_moment = starting; counted = counted }
+
+  -- It is there, and the handler is ready.
+  module _ (new : Store D) (settled : store.IsSettled v.seen v.may_leave new) (records : store.records_in new ≡ store.records_in h.store) where
+    pub ready_still : IsReady v.seen v.may_leave (record { store = new; list = h.list; dead = true })
+    ready_still = record { store = settled; list = subst (λ bodies. Makes bodies (booted h.list)) (sym records) ready.list }
+
+    pub images_still : (words : List ℕ) → store.text_in v.seen new ≡ slot_with words → (c : List ℕ) → v.may_leave (store.disk_in new) c → IsImageAt c h.list (store.end_in new) × (start_slot c ≡ slot_with words)
+    images_still words written c now = (each_image v.seen v.may_leave new h.list settled ready_still.list c now, ap (λ l. start_slot l) (settled.durable c now) ∙ written)
+
 module _ {D : Type 0} (v : Ghosts D) (h : Handler D) (s : IsSound v.seen v.may_leave h) where
-  module _ (alive : is_dead h ≡ false) where
-    settled_store : store.IsSettled v.seen v.may_leave h.store
-    settled_store = s.store.settled (s.works alive)
-
-    -- each image of its disk stands for its list
-    image_now : (c : List ℕ) → v.may_leave (disk_in h) c → IsImageAt c (list_in h) (end_in h)
-    image_now c now = each_image v.seen v.may_leave h.store (list_in h) settled_store (s.list alive) c now
-
-    -- The start record is being written, and the records stay.
-    module _ (new : Store D) (sound : store.IsSoundStore v.seen v.may_leave new) (words : List ℕ) (leaves : LeavesOnly v.moment v.left_since (disk_in h) (store.disk_in new) (StandsWithEither (store.records_in h.store) (start_in v.seen h) (slot_with words)))
-        (kept : LeavesOnly v.moment v.left_since (disk_in h) (store.disk_in new) (LeavesOthers (IsInOtherSlot (v.seen (disk_in h))) (v.seen (disk_in h))))
-        (end : store.end_in new ≡ end_in h) (counted : v.failures (disk_in h) ≤ v.failures (store.disk_in new)) where
-      records_stay : (c : List ℕ) → StandsWithEither (store.records_in h.store) (start_in v.seen h) (slot_with words) c → records_of c ≡ Ok (store.records_in h.store)
-      records_stay c (inl stands) = stands.records
-      records_stay c (inr stands) = stands.records
-
-      either_slot : (c : List ℕ) → StandsWithEither (store.records_in h.store) (start_in v.seen h) (slot_with words) c → (start_slot c ≡ start_in v.seen h) ⊎ (start_slot c ≡ slot_with words)
-      either_slot c (inl stands) = inl stands.start
-      either_slot c (inr stands) = inr stands.start
-
-      starting : LeavesOnly v.moment v.left_since (disk_in h) (store.disk_in new) (λ c. IsImageAt c (list_in h) (end_in h) × ((start_slot c ≡ start_in v.seen h) ⊎ (start_slot c ≡ slot_with words)))
-      starting =
-          weakened v.moment v.left_since (disk_in h) (store.disk_in new) _ (λ c. IsImageAt c (list_in h) (end_in h) × ((start_slot c ≡ start_in v.seen h) ⊎ (start_slot c ≡ slot_with words)))
-          (λ c either. (
-            record {
-              image_of = record { bodies = store.records_in h.store; store = records_stay c either.0; list = s.list alive };
-              ends =
-                  ends_so c (store.records_in h.store) (base_of (v.seen (disk_in h))) (records_stay c either.0) (stores.base_kept_by_start v.moment v.left_since v.seen v.may_leave h.store settled_store c either.1)
-                  ∙ ap (λ g. g + 1) (sym settled_store.end);
-            },
-            either_slot c either.0,
-          ))
-          (both v.moment v.left_since (disk_in h) (store.disk_in new) _ _ leaves kept)
-
-      -- the device failed in it
-      pub keeps_dead : Keeps v words h (record { store = new; list = h.list; dead = true })
-      keeps_dead = record {
-        sound = record { store = sound; works = λ living. cc living; list = λ living. cc living };
-        list = refl;
-        end = end;
-        any_moment = starting;
-        counted = counted;
-      }
-
-      -- it is there
-      module _ (settled : store.IsSettled v.seen v.may_leave new) (records : store.records_in new ≡ store.records_in h.store) where
-        makes_still : Makes (store.records_in new) (booted h.list)
-        makes_still = subst (λ bodies. Makes bodies (booted h.list)) (sym records) (s.list alive)
-
-        pub keeps : Keeps v words h (record { store = new; list = h.list; dead = false })
-        keeps = record {
-          sound = record { store = sound; works = λ living. settled.works; list = λ living. makes_still };
-          list = refl;
-          end = end;
-          any_moment = starting;
-          counted = counted;
-        }
-
-        pub images_still : store.text_in v.seen new ≡ slot_with words → (c : List ℕ) → v.may_leave (store.disk_in new) c → IsImageAt c h.list (store.end_in new) × (start_slot c ≡ slot_with words)
-        images_still written c now = (each_image v.seen v.may_leave new h.list settled makes_still c now, ap (λ l. start_slot l) (settled.durable c now) ∙ written)
-
   module _ (only_now : (c : List ℕ) → v.left_since (disk_in h) (v.moment (disk_in h)) c → v.may_leave (disk_in h) c) (e : Event) (size : ℕ) where
     -- a command that hasn't touched the disk
-    resting : (new : D) → new ≡ disk_in h → is_dead h ≡ false → HasStarted v h → (events : Events) → list_after events ≡ Some (list_in h)
+    resting : (new : D) → new ≡ disk_in h → is_dead h ≡ false → (events : Events) → list_after events ≡ Some (list_in h)
         → LeavesOnly v.moment v.left_since (disk_in h) new (IsStoredAs (uncertain events (end_in h) e size))
-    resting new same alive started_now events after =
+    resting new same alive events after =
         subst (λ d. LeavesOnly v.moment v.left_since (disk_in h) d (IsStoredAs (uncertain events (end_in h) e size))) (sym same)
-        (started v.moment v.left_since (disk_in h) (IsStoredAs (uncertain events (end_in h) e size)) (λ c left. stored_before events (end_in h) e size (list_in h) c after (image_now alive c (only_now c left)) (started_now c (only_now c left))))
+        (started v.moment v.left_since (disk_in h) (IsStoredAs (uncertain events (end_in h) e size))
+        (λ c left. stored_before events (end_in h) e size (list_in h) c after (image_now v h (s.ready alive) c (only_now c left)) (s.started alive c (only_now c left))))
 
     -- a command that has changed nothing
     pub unchanged : Commits v e size h h
@@ -163,9 +165,11 @@ module _ {D : Type 0} (v : Ghosts D) (h : Handler D) (s : IsSound v.seen v.may_l
       pub rested : Commits v e size h (record { store = reserved; list = h.list; dead = h.dead })
       rested = record {
         sound = record {
-          store = sound;
-          works = λ alive. same.failed ∙ s.works alive;
-          list = λ alive. subst (λ bodies. Makes bodies (booted h.list)) (sym same.records) (s.list alive);
+          ready = λ alive. record {
+            store = sound.settled (same.failed ∙ (s.ready alive).store.works);
+            list = subst (λ bodies. Makes bodies (booted h.list)) (sym same.records) (s.ready alive).list;
+          };
+          started = λ alive. subst (λ d. (c : List ℕ) → v.may_leave d c → IsStarted (list_in h) c) (sym same.disk) (s.started alive);
         };
         any_moment = resting (store.disk_in reserved) same.disk;
         counted = subst (λ d. v.failures (disk_in h) ≤ v.failures d) (sym same.disk) (omega arith);
@@ -174,105 +178,100 @@ module _ {D : Type 0} (v : Ghosts D) (h : Handler D) (s : IsSound v.seen v.may_l
       pub same_but_memory : IsSame h (record { store = reserved; list = h.list; dead = h.dead })
       same_but_memory = record { disk = same.disk; list = refl; dead = refl; end = same.end }
 
-  -- A record is appended behind a reservation. Then the list is the new one, and the node works again or doesn't.
-  module _ (alive : is_dead h ≡ false) (reserved : Store D) (same : store.IsSame h.store reserved) (e : Event) (next : Releases) (body : List ℕ) (told : IsRecordFor body e (list_in h)) (is : step e (list_in h) ≡ Some next) (reads : (d : D) → v.may_leave d (v.seen d)) where
+  -- A record is appended behind a reservation.
+  module _ (alive : is_dead h ≡ false) (reserved : Store D) (same : store.IsSame h.store reserved) (e : Event) (next : Releases) (body : List ℕ) (told : IsRecordFor body e (list_in h)) (is : step e (list_in h) ≡ Some next) where
     pub reserved_works : store.has_failed reserved ≡ false
-    reserved_works = same.failed ∙ s.works alive
+    reserved_works = same.failed ∙ (s.ready alive).store.works
 
     -- the records begin where they began
     base_there : (c : List ℕ) → LeavesOthers (IsInRecord (store.gate_in reserved) (length body)) (v.seen (disk_in h)) c → base_of c ≡ base_of (v.seen (disk_in h))
     base_there c leaves =
         let same_gate : store.gate_in reserved ≡ store.gate_in h.store = omega (arith, same.end) in
-        stores.base_kept v.moment v.left_since v.seen v.may_leave h.store (settled_store alive) (length body) c (subst (λ g. LeavesOthers (IsInRecord g (length body)) (v.seen (disk_in h)) c) same_gate leaves)
+        stores.base_kept v.moment v.left_since v.seen v.may_leave h.store (s.ready alive).store (length body) c (subst (λ g. LeavesOthers (IsInRecord g (length body)) (v.seen (disk_in h)) c) same_gate leaves)
 
-    committing : (new : D) (text : List ℕ) → LeavesOnly v.moment v.left_since (store.disk_in reserved) new (StandsEither (store.records_in reserved) body text)
-        → LeavesOnly v.moment v.left_since (store.disk_in reserved) new (LeavesOthers (IsInRecord (store.gate_in reserved) (length body)) (v.seen (store.disk_in reserved)))
-        → text ≡ start_in v.seen h → HasStarted v h → (events : Events) → list_after events ≡ Some (list_in h) → LeavesOnly v.moment v.left_since (disk_in h) new (IsStoredAs (uncertain events (end_in h) e (length body)))
-    committing new text leaves kept slot started_now events after =
-        subst (λ d. LeavesOnly v.moment v.left_since d new (IsStoredAs (uncertain events (end_in h) e (length body)))) same.disk
-        (weakened v.moment v.left_since (store.disk_in reserved) new _ (IsStoredAs (uncertain events (end_in h) e (length body)))
-        (λ c either. while_committing e (list_in h) next (store.records_in h.store) body text events (s.list alive) told is after (base_of (v.seen (disk_in h))) (end_in h) (ap (λ g. g + 1) (settled_store alive).end)
-        (v.seen (disk_in h)) (sym slot) (started_now (v.seen (disk_in h)) (reads (disk_in h))) c
-        (subst (λ bodies. StandsEither bodies body text c) same.records either.0, base_there c (subst (λ d. LeavesOthers (IsInRecord (store.gate_in reserved) (length body)) (v.seen d) c) same.disk either.1)))
-        (both v.moment v.left_since (store.disk_in reserved) new _ _ leaves kept))
+    module _ (reads : (d : D) → v.may_leave d (v.seen d)) (new : Store D) (text : List ℕ) (leaves : LeavesOnly v.moment v.left_since (store.disk_in reserved) (store.disk_in new) (StandsEither (store.records_in reserved) body text))
+        (kept : LeavesOnly v.moment v.left_since (store.disk_in reserved) (store.disk_in new) (LeavesOthers (IsInRecord (store.gate_in reserved) (length body)) (v.seen (store.disk_in reserved)))) (slot : text ≡ start_in v.seen h) where
+      committing : (events : Events) → list_after events ≡ Some (list_in h) → LeavesOnly v.moment v.left_since (disk_in h) (store.disk_in new) (IsStoredAs (uncertain events (end_in h) e (length body)))
+      committing events after =
+          subst (λ d. LeavesOnly v.moment v.left_since d (store.disk_in new) (IsStoredAs (uncertain events (end_in h) e (length body)))) same.disk
+          (weakened v.moment v.left_since (store.disk_in reserved) (store.disk_in new) _ (IsStoredAs (uncertain events (end_in h) e (length body)))
+          (λ c either. while_committing e (list_in h) next (store.records_in h.store) body text events (s.ready alive).list told is after (base_of (v.seen (disk_in h))) (end_in h) (ap (λ g. g + 1) (s.ready alive).store.end)
+          (v.seen (disk_in h)) (sym slot) (s.started alive (v.seen (disk_in h)) (reads (disk_in h))) c
+          (subst (λ bodies. StandsEither bodies body text c) same.records either.0, base_there c (subst (λ d. LeavesOthers (IsInRecord (store.gate_in reserved) (length body)) (v.seen d) c) same.disk either.1)))
+          (both v.moment v.left_since (store.disk_in reserved) (store.disk_in new) _ _ leaves kept))
 
-    module _ (new : Store D) (sound : store.IsSoundStore v.seen v.may_leave new) (text : List ℕ) (leaves : LeavesOnly v.moment v.left_since (store.disk_in reserved) (store.disk_in new) (StandsEither (store.records_in reserved) body text))
-        (kept : LeavesOnly v.moment v.left_since (store.disk_in reserved) (store.disk_in new) (LeavesOthers (IsInRecord (store.gate_in reserved) (length body)) (v.seen (store.disk_in reserved))))
-        (slot : text ≡ start_in v.seen h) (counted : v.failures (store.disk_in reserved) ≤ v.failures (store.disk_in new)) where
-      counted_so : v.failures (disk_in h) ≤ v.failures (store.disk_in new)
-      counted_so = subst (λ d. v.failures d ≤ v.failures (store.disk_in new)) same.disk counted
-
-      -- the device failed in it
-      pub commits_dead : Commits v e (length body) h (record { store = new; list = next; dead = true })
-      commits_dead = record {
-        sound = record { store = sound; works = λ living. cc living; list = λ living. cc living };
-        any_moment = λ living started_now events after. committing (store.disk_in new) text leaves kept slot started_now events after;
-        counted = counted_so;
+      pub commits : v.failures (store.disk_in reserved) ≤ v.failures (store.disk_in new) → Commits v e (length body) h (record { store = new; list = next; dead = true })
+      commits counted = record {
+        sound = record { ready = λ living. cc living; started = λ living. cc living };
+        any_moment = λ living. committing;
+        counted = subst (λ d. v.failures d ≤ v.failures (store.disk_in new)) same.disk counted;
       }
 
-      -- it is there
-      module _ (settled : store.IsSettled v.seen v.may_leave new) (added : store.records_in new ≡ store.records_in reserved ++ body ∷ []) where
-        makes_next : Makes (store.records_in new) (booted next)
-        makes_next =
-            subst (λ bodies. Makes bodies (booted next)) (sym (added ∙ ap (λ bodies. bodies ++ body ∷ []) same.records)) (with_record e (list_in h) next (store.records_in h.store) body (s.list alive) told is)
+    -- It is there.
+    module _ (new : Store D) (settled : store.IsSettled v.seen v.may_leave new) (added : store.records_in new ≡ store.records_in reserved ++ body ∷ []) where
+      pub ready_next : IsReady v.seen v.may_leave (record { store = new; list = next; dead = true })
+      ready_next = record {
+        store = settled;
+        list =
+            subst (λ bodies. Makes bodies (booted next)) (sym (added ∙ ap (λ bodies. bodies ++ body ∷ []) same.records)) (with_record e (list_in h) next (store.records_in h.store) body (s.ready alive).list told is);
+      }
 
-        pub commits : Commits v e (length body) h (record { store = new; list = next; dead = false })
-        commits = record {
-          sound = record { store = sound; works = λ living. settled.works; list = λ living. makes_next };
-          any_moment = λ living started_now events after. committing (store.disk_in new) text leaves kept slot started_now events after;
-          counted = counted_so;
-        }
+      pub is_done : commanded e (list_in h) ≡ Ok next → HasSpace (end_in h) (length body) → store.end_in new ≡ store.end_in reserved + (5 + length body) → IsDone v e (length body) h (record { store = new; list = next; dead = true })
+      is_done accepted fits end = record {
+        accepted = accepted;
+        acknowledged = λ c now. each_image v.seen v.may_leave new next settled ready_next.list c now;
+        fits = fits;
+        end = end ∙ ap (λ n. n + (5 + length body)) same.end;
+      }
 
-        pub is_done : commanded e (list_in h) ≡ Ok next → HasSpace (end_in h) (length body) → store.end_in new ≡ store.end_in reserved + (5 + length body) → store.text_in v.seen new ≡ text → IsDone v e (length body) h (record { store = new; list = next; dead = false })
-        is_done accepted fits end stays = record {
-          works = refl;
-          accepted = accepted;
-          acknowledged = λ c now. each_image v.seen v.may_leave new next settled makes_next c now;
-          started = λ leaves started_now c now.
-              started_by (list_in h) next (v.seen (disk_in h)) c (permanent_stays e (list_in h) next leaves is) (ap (λ l. start_slot l) (settled.durable c now) ∙ stays ∙ slot) (started_now (v.seen (disk_in h)) (reads (disk_in h)));
-          fits = fits;
-          end = end ∙ ap (λ n. n + (5 + length body)) same.end;
-        }
+  -- A committed event, behind which the start slot is as it was.
+  module _ (alive : is_dead h ≡ false) (e : Event) (size : ℕ) (mid : Handler D) (commits : Commits v e size h mid) (is_done : IsDone v e size h mid) (ready : IsReady v.seen v.may_leave mid) (stays : start_in v.seen mid ≡ start_in v.seen h) (reads : (d : D) → v.may_leave d (v.seen d)) where
+    stepped : step e (list_in h) ≡ Some (list_in mid)
+    stepped = commanded_step e (list_in h) (list_in mid) is_done.accepted
 
-  -- A committed event with the start record written behind it.
-  module _ (e : Event) (size : ℕ) (mid : Handler D) (commits : Commits v e size h mid) (is_done : IsDone v e size h mid) (stays : start_in v.seen mid ≡ start_in v.seen h)
-      (reads : (d : D) → v.may_leave d (v.seen d)) (versions : Versions) (release : Release) (are : AreVersions versions) (of : versions ≡ start_versions release) (listed : permanent (list_in mid) ≡ Some release)
-      (new : Handler D) (keeps : Keeps v (text_of_start versions) mid new) where
-    either_started : HasStarted v h → (c : List ℕ) → (start_slot c ≡ start_in v.seen mid) ⊎ (start_slot c ≡ slot_with (text_of_start versions)) → IsStarted (list_in h) c ⊎ IsStarted (list_in mid) c
-    either_started started_now c (inl old) = inl (started_by (list_in h) (list_in h) (v.seen (disk_in h)) c refl (old ∙ stays) (started_now (v.seen (disk_in h)) (reads (disk_in h))))
-    either_started started_now c (inr slot) = inr (started_by_text (list_in mid) release versions c are of listed slot)
+    old_start : IsStarted (list_in h) (v.seen (disk_in h))
+    old_start = s.started alive (v.seen (disk_in h)) (reads (disk_in h))
 
-    pub commits_then : Commits v e size h new
-    commits_then = record {
-      sound = keeps.sound;
-      any_moment = λ alive started_now events after.
-          joined v.moment v.left_since (disk_in h) (disk_in mid) (disk_in new) (IsStoredAs (uncertain events (end_in h) e size)) (commits.any_moment alive started_now events after)
-          (weakened v.moment v.left_since (disk_in mid) (disk_in new) _ (IsStoredAs (uncertain events (end_in h) e size))
-          (λ c image. stored_after events (end_in h) e size (list_in h) (list_in mid) c after (commanded_step e (list_in h) (list_in mid) is_done.accepted) (subst (IsImageAt c (list_in mid)) is_done.end image.0) (either_started started_now c image.1))
-          keeps.any_moment);
-      counted = omega (arith, commits.counted, keeps.counted);
-    }
+    -- The permanent release is the one that it was, so that the handler may work again.
+    module _ (leaves : leaves_permanent e ≡ true) where
+      start_is_right : HasStarted v.may_leave mid
+      start_is_right c now = started_by (list_in h) (list_in mid) (v.seen (disk_in h)) c (permanent_stays e (list_in h) (list_in mid) leaves stepped) (ap (λ l. start_slot l) (ready.store.durable c now) ∙ stays) old_start
 
-    pub is_started_then : ((c : List ℕ) → v.may_leave (disk_in new) c → IsImageAt c (list_in new) (end_in new) × (start_slot c ≡ slot_with (text_of_start versions))) → HasStarted v new
-    is_started_then images c now = started_by_text (list_in new) release versions c are of (ap permanent keeps.list ∙ listed) (images c now).1
+      pub commits_alive : Commits v e size h (revived mid)
+      commits_alive = record { sound = revived_is_sound v mid ready start_is_right; any_moment = commits.any_moment; counted = commits.counted }
 
-    pub is_done_then : is_dead new ≡ false → ((c : List ℕ) → v.may_leave (disk_in new) c → IsImageAt c (list_in new) (end_in new) × (start_slot c ≡ slot_with (text_of_start versions))) → IsDone v e size h new
-    is_done_then works images = record {
-      works = works;
-      accepted = is_done.accepted ∙ ap (λ l. Ok l) (sym keeps.list);
-      acknowledged = λ c now. (images c now).0;
-      started = λ leaves started_now. is_started_then images;
-      fits = is_done.fits;
-      end = keeps.end ∙ is_done.end;
-    }
+    -- The start record is written behind it.
+    module _ (versions : Versions) (release : Release) (are : AreVersions versions) (of : versions ≡ start_versions release) (listed : permanent (list_in mid) ≡ Some release)
+        (new : Handler D) (keeps : Keeps v (text_of_start versions) mid new) where
+      either_started : (c : List ℕ) → (start_slot c ≡ start_in v.seen mid) ⊎ (start_slot c ≡ slot_with (text_of_start versions)) → IsStarted (list_in h) c ⊎ IsStarted (list_in mid) c
+      either_started c (inl old) = inl (started_by (list_in h) (list_in h) (v.seen (disk_in h)) c refl (old ∙ stays) old_start)
+      either_started c (inr slot) = inr (started_by_text (list_in mid) release versions c are of listed slot)
 
-    -- the device failed when the event was committed already
-    pub fails_then : is_dead h ≡ false → HasFailed (v.failures (disk_in mid)) (v.failures (disk_in new)) → is_dead new ≡ true → CommandRefused v.failures e size h new Device
-    fails_then alive failed gone = ((alive, (list_in mid, is_done.accepted), is_done.fits), failed_behind failed, gone)
-      where
-        failed_behind : HasFailed (v.failures (disk_in mid)) (v.failures (disk_in new)) → HasFailed (v.failures (disk_in h)) (v.failures (disk_in new))
-        failed_behind (inl rose) = inl (omega (arith, commits.counted))
-        failed_behind (inr stood) = ⊎_elim (λ less. inl (omega (arith, keeps.counted, stood))) (λ same. inr (omega arith)) (cases_lt (v.failures (disk_in h)) (v.failures (disk_in mid)))
+      pub commits_then : Commits v e size h new
+      commits_then = record {
+        sound = dead_is_sound v new keeps.dead;
+        any_moment = λ living events after.
+            joined v.moment v.left_since (disk_in h) (disk_in mid) (disk_in new) (IsStoredAs (uncertain events (end_in h) e size)) (commits.any_moment living events after)
+            (weakened v.moment v.left_since (disk_in mid) (disk_in new) _ (IsStoredAs (uncertain events (end_in h) e size))
+            (λ c image. stored_after events (end_in h) e size (list_in h) (list_in mid) c after stepped (subst (IsImageAt c (list_in mid)) is_done.end image.0) (either_started c image.1))
+            keeps.any_moment);
+        counted = omega (arith, commits.counted, keeps.counted);
+      }
+
+      pub is_started_then : ((c : List ℕ) → v.may_leave (disk_in new) c → IsImageAt c (list_in new) (end_in new) × (start_slot c ≡ slot_with (text_of_start versions))) → HasStarted v.may_leave new
+      is_started_then images c now = started_by_text (list_in new) release versions c are of (ap permanent keeps.list ∙ listed) (images c now).1
+
+      pub is_done_then : ((c : List ℕ) → v.may_leave (disk_in new) c → IsImageAt c (list_in new) (end_in new) × (start_slot c ≡ slot_with (text_of_start versions))) → IsDone v e size h new
+      is_done_then images = record {
+        accepted = is_done.accepted ∙ ap (λ l. Ok l) (sym keeps.list);
+        acknowledged = λ c now. (images c now).0;
+        fits = is_done.fits;
+        end = keeps.end ∙ is_done.end;
+      }
+
+      -- the device failed when the event was committed already
+      pub fails_then : HasFailed (v.failures (disk_in mid)) (v.failures (disk_in new)) → CommandRefused v.failures e size h new Device
+      fails_then failed = ((alive, (list_in mid, is_done.accepted), is_done.fits), failed_behind _ _ _ commits.counted keeps.counted failed, keeps.dead)
 
 -- an error that became this refusal
 pub refuses_with : {T E : Type 0} (P : E → Type 0) (r : Result T E) (why : E) → IsErr r × IsErrAnd r (λ e. e ≡ why) → P why → IfErr r P

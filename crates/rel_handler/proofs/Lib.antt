@@ -2,6 +2,7 @@ mod Lists
 pub mod CommandLemmas
 pub mod Images
 pub mod Boots
+pub mod PermanenceLemmas
 pub mod RepairLemmas
 mod BadRecords
 pub mod Commits

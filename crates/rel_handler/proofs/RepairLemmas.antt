@@ -4,7 +4,7 @@ use Rattle.std.specs.Option.{option_map}
 use Rattle.std.specs.Prelude.{◌==◌}
 use Rattle.rel_disk.specs.declared.disk.Disk.{Ghosts}
 use Rattle.rel_disk.specs.Moments.{LeavesOnly}
-use Rattle.rel_disk.proofs.Moments.{joined, weakened}
+use Rattle.rel_disk.proofs.Moments.{started, joined, weakened}
 use Rattle.rel_files.specs.File.{HasVersions}
 use Rattle.rel_files.specs.Release.{Release}
 use Rattle.rel_list.specs.Releases.{Releases, Entry, of_status, permanent}
@@ -17,12 +17,12 @@ use Rattle.rel_store.specs.Layout.{slot_with}
 use Rattle.rel_store.specs.State as store
 use Rattle.start_record.specs.Text.{Versions, AreVersions, SpellsStart, start_text as text_of_start}
 use Rattle.rel_handler.specs.Booting.{IsOpened, Repairs}
-use Rattle.rel_handler.specs.Commits.{HasStarted, HasOldStartOr, HasRead, Keeps}
+use Rattle.rel_handler.specs.Commits.{HasOldStartOr, HasRead, Keeps}
 use Rattle.rel_handler.specs.Files.{started as start_versions}
 use Rattle.rel_handler.specs.Events.{HasStart, Stored, MayHave, IsStoredAs}
 use Rattle.rel_handler.specs.Image.{IsImageOf, IsImageAt, IsStarted, IsRepairOf, start_slot}
 use Rattle.rel_handler.specs.Moments.{SettlesAt}
-use Rattle.rel_handler.specs.State.{disk_in, list_in, is_dead, end_in, start_in, IsSound}
+use Rattle.rel_handler.specs.State.{disk_in, list_in, end_in, start_in, HasStarted, IsReady}
 use Rattle.rel_handler.specs.declared.handler.Handler.{Handler}
 use Rattle.rel_handler.proofs.BadRecords.{stands_for_one}
 use Rattle.rel_handler.proofs.Images.{started_by, started_by_text}
@@ -54,6 +54,15 @@ permanent_versions (e ∷ es) r all is = go (is_permanent e.status) (permanent_v
     go true rest is = let same : e.release ≡ r = cc is in subst HasVersions same all.0
     go false rest is = rest is
 
+-- nothing was read or written yet
+pub repairs_nothing : {D : Type 0} (v : Ghosts D) (h : Handler D) → ((c : List ℕ) → v.left_since (disk_in h) (v.moment (disk_in h)) c → v.may_leave (disk_in h) c) → Repairs v h h
+repairs_nothing v h only_now = record {
+  list = refl;
+  end = refl;
+  any_moment = started v.moment v.left_since (disk_in h) _ (λ c left. inl (only_now c left));
+  counted = omega arith;
+}
+
 module _ {D : Type 0} (v : Ghosts D) (h mid : Handler D) (read : HasRead v h mid) where
   slot_same : start_in v.seen mid ≡ start_in v.seen h
   slot_same = ap (λ l. start_slot l) read.only_read.same
@@ -61,7 +70,6 @@ module _ {D : Type 0} (v : Ghosts D) (h mid : Handler D) (read : HasRead v h mid
   -- a start record that is right is left
   pub reads_alone : Repairs v h mid
   reads_alone = record {
-    sound = read.sound;
     list = read.list;
     end = read.end;
     any_moment = weakened v.moment v.left_since (disk_in h) (disk_in mid) (v.may_leave (disk_in h)) _ (λ c now. inl now) read.only_read.any_moment;
@@ -70,15 +78,12 @@ module _ {D : Type 0} (v : Ghosts D) (h mid : Handler D) (read : HasRead v h mid
 
   module _ (versions : Versions) (r : Release) (are : AreVersions versions) (of : versions ≡ start_versions r) (listed : permanent (list_in h) ≡ Some r) where
     -- each crash leaves it then
-    pub right_already : is_dead mid ≡ false → SpellsStart (start_in v.seen h) versions → HasStarted v mid
-    right_already works spells c now = record {
+    pub right_already : IsReady v.seen v.may_leave mid → SpellsStart (start_in v.seen h) versions → HasStarted v.may_leave mid
+    right_already ready spells c now = record {
       release = r;
       listed = ap permanent read.list ∙ listed;
-      spells = subst (λ w. SpellsStart (start_slot c) w) of (subst (λ l. SpellsStart l versions) (sym (ap (λ l. start_slot l) (settled.durable c now) ∙ slot_same)) spells);
+      spells = subst (λ w. SpellsStart (start_slot c) w) of (subst (λ l. SpellsStart l versions) (sym (ap (λ l. start_slot l) (ready.store.durable c now) ∙ slot_same)) spells);
     }
-      where
-        settled : store.IsSettled v.seen v.may_leave mid.store
-        settled = read.sound.store.settled (read.sound.works works)
 
     -- another one is written over
     module _ (new : Handler D) (keeps : Keeps v (text_of_start versions) mid new) where
@@ -90,7 +95,6 @@ module _ {D : Type 0} (v : Ghosts D) (h mid : Handler D) (read : HasRead v h mid
 
       pub written_over : Repairs v h new
       written_over = record {
-        sound = keeps.sound;
         list = keeps.list ∙ read.list;
         end = keeps.end ∙ read.end;
         any_moment =
@@ -99,7 +103,7 @@ module _ {D : Type 0} (v : Ghosts D) (h mid : Handler D) (read : HasRead v h mid
         counted = omega (arith, read.counted, keeps.counted);
       }
 
-      pub started_now : ((c : List ℕ) → v.may_leave (disk_in new) c → IsImageAt c (list_in new) (end_in new) × (start_slot c ≡ slot_with (text_of_start versions))) → HasStarted v new
+      pub started_now : ((c : List ℕ) → v.may_leave (disk_in new) c → IsImageAt c (list_in new) (end_in new) × (start_slot c ≡ slot_with (text_of_start versions))) → HasStarted v.may_leave new
       started_now images c now = started_by_text (list_in new) r versions c are of (ap permanent (keeps.list ∙ read.list) ∙ listed) (images c now).1
 
 -- a boot is a reading of the node and a repair

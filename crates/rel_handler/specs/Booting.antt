@@ -1,20 +1,19 @@
 -- The two parts of a boot: a node is read from its disk, and its start record is repaired.
-use Rattle.std.specs.Prelude.{◌≡◌, ◌⊎◌, ℕ, ◌≤◌, false, List}
+use Rattle.std.specs.Prelude.{◌≡◌, ◌⊎◌, ℕ, ◌≤◌, List}
 use Rattle.rel_disk.specs.declared.disk.Disk.{Ghosts}
 use Rattle.rel_disk.specs.Moments.{LeavesOnly, HasFailed}
 use Rattle.rel_list.specs.Event.{booted}
 use Rattle.rel_store.specs.Contents.{HasOnlyRead}
 use Rattle.rel_handler.specs.Commits.{HasOldStartOr}
 use Rattle.rel_handler.specs.Image.{IsImageOf, IsImageAt, IsStarted, store_end}
-use Rattle.rel_handler.specs.State.{disk_in, list_in, is_dead, end_in, IsSound}
+use Rattle.rel_handler.specs.State.{disk_in, list_in, end_in, IsReady}
 use Rattle.rel_handler.specs.declared.error.BootError.{BootError}
 use Rattle.rel_handler.specs.declared.error.BootError.TheVariants.{Device, NoMemory}
 use Rattle.rel_handler.specs.declared.handler.Handler.{Handler}
 
 -- The handler was read from this disk: the bytes of the disk stand for its list, and so does what a crash leaves.
 pub record IsOpened {D : Type 0} (v : Ghosts D) (disk : D) (handler : Handler D) : Type 0 where
-  pub sound : IsSound v.seen v.may_leave handler
-  pub works : is_dead handler ≡ false
+  pub ready : IsReady v.seen v.may_leave handler
   pub only_read : HasOnlyRead v.seen v.may_leave v.moment v.left_since disk (disk_in handler)
   pub image : IsImageOf (v.seen disk) (list_in handler)
   pub again : booted (list_in handler) ≡ list_in handler
@@ -24,7 +23,6 @@ pub record IsOpened {D : Type 0} (v : Ghosts D) (disk : D) (handler : Handler D)
 -- Whatever a repair of the start record answers: a crash at any moment of it leaves what one before it would have left, or
 -- the list with the old start record or that of the permanent release.
 pub record Repairs {D : Type 0} (v : Ghosts D) (old new : Handler D) : Type 0 where
-  pub sound : IsSound v.seen v.may_leave new
   pub list : list_in new ≡ list_in old
   pub end : end_in new ≡ end_in old
   pub any_moment : LeavesOnly v.moment v.left_since (disk_in old) (disk_in new)

@@ -1,8 +1,8 @@
 -- Why a call is refused, and what stands after it.
-use Rattle.std.specs.Prelude.{◌≡◌, ℕ, true, false, List, Ok, Err}
+use Rattle.std.specs.Prelude.{◌≡◌, ℕ, true, false, List, None, Ok, Err}
 use Rattle.rel_disk.specs.Moments.{HasFailed}
 use Rattle.rel_files.specs.Release.{Release}
-use Rattle.rel_list.specs.Releases.{Releases}
+use Rattle.rel_list.specs.Releases.{Releases, release_at}
 use Rattle.rel_list.specs.Event.{Event}
 use Rattle.rel_store.specs.Records.{records_of}
 use Rattle.rel_store.specs.declared.error.StoreError.{StoreError}
@@ -15,7 +15,7 @@ use Rattle.rel_records.specs.declared.fault.RecordsError.TheVariants as records
 use Rattle.rel_handler.specs.State.{disk_in, list_in, is_dead, end_in, IsSame}
 use Rattle.rel_handler.specs.Taking.{commanded}
 use Rattle.rel_handler.specs.declared.error.HandlerError.{HandlerError}
-use Rattle.rel_handler.specs.declared.error.HandlerError.TheVariants.{TooMany, Device, Full, Dead, NoMemory, Exists}
+use Rattle.rel_handler.specs.declared.error.HandlerError.TheVariants.{TooMany, Device, Full, Dead, NoMemory, Exists, NoSuchRelease}
 use Rattle.rel_handler.specs.declared.error.BootError.{BootError}
 use Rattle.rel_handler.specs.declared.error.BootError.TheVariants as boot
 use Rattle.rel_handler.specs.declared.handler.Handler.{Handler}
@@ -42,16 +42,18 @@ CommandRefused failures e size old new Device = IsPossible e size old × HasFail
 CommandRefused failures e size old new Exists = ⊥
 CommandRefused failures e size old new why = IsRefused e old why × IsSame old new
 
--- Why the start record isn't read: memory was refused, and the handler works on, or the device failed.
-abbrev pub ReadRefused : {D : Type 0} → (D → ℕ) → Handler D → Handler D → HandlerError → Type 0
-ReadRefused failures old new NoMemory = is_dead new ≡ false
-ReadRefused failures old new Device = HasFailed (failures (disk_in old)) (failures (disk_in new)) × (is_dead new ≡ true)
-ReadRefused failures old new _ = ⊥
+-- Why no start is found for a version: no release has it, or memory was refused.
+abbrev pub IsStartRefusal : List ℕ → Releases → HandlerError → Type 0
+IsStartRefusal vsn es NoMemory = Unit {0}
+IsStartRefusal vsn es why = (release_at vsn es ≡ None) × (why ≡ NoSuchRelease)
 
--- Why the start isn't told: nothing has changed, or the device failed and the handler is dead.
+-- Why the start isn't told: the handler was dead, memory was refused and it works on, or the device failed and it is dead.
 abbrev pub StartRefused : {D : Type 0} → (D → ℕ) → Handler D → Handler D → HandlerError → Type 0
 StartRefused failures old new Dead = (is_dead old ≡ true) × IsSame old new
-StartRefused failures old new why = (is_dead old ≡ false) × ReadRefused failures old new why
+StartRefused failures old new NoMemory = (is_dead old ≡ false) × (is_dead new ≡ false)
+StartRefused failures old new Device =
+    (is_dead old ≡ false) × HasFailed (failures (disk_in old)) (failures (disk_in new)) × (is_dead new ≡ true)
+StartRefused failures old new _ = ⊥
 
 -- Why a node isn't made with this release, on a disk with these bytes, by a record with a body of so many. Nothing has been
 -- written then, unless the device failed.

@@ -5,6 +5,7 @@ use Rattle.rel_list.specs.Releases.{Releases}
 use Rattle.rel_list.specs.Event.{booted}
 use Rattle.rel_store.specs.State as of_store
 use Rattle.rel_records.specs.Lists.{Makes}
+use Rattle.rel_handler.specs.Image.{IsStarted}
 use Rattle.rel_handler.specs.declared.handler.Handler.{Handler}
 
 -- its disk
@@ -32,12 +33,19 @@ end_in handler = of_store.end_in handler.store
 abbrev pub start_in : {D : Type 0} → (D → List ℕ) → Handler D → List ℕ
 start_in seen handler = of_store.text_in seen handler.store
 
--- What is known of a handler between two calls: unless it is dead, its store is settled, and the records make its list as
--- it is behind a boot.
+-- Its store is settled, and the records make its list as it is behind a boot.
+pub record IsReady {D : Type 0} (seen : D → List ℕ) (may_leave : D → List ℕ → Type 0) (handler : Handler D) : Type 0 where
+  pub store : of_store.IsSettled seen may_leave handler.store
+  pub list : Makes (of_store.records_in handler.store) (booted handler.list)
+
+-- From now on each crash leaves the start record of the list's permanent release.
+abbrev pub HasStarted : {D : Type 0} → (D → List ℕ → Type 0) → Handler D → Type 0
+HasStarted may_leave handler = (c : List ℕ) → may_leave (disk_in handler) c → IsStarted (list_in handler) c
+
+-- What is known of a handler between two calls, unless it is dead.
 pub record IsSound {D : Type 0} (seen : D → List ℕ) (may_leave : D → List ℕ → Type 0) (handler : Handler D) : Type 0 where
-  pub store : of_store.IsSoundStore seen may_leave handler.store
-  pub works : is_dead handler ≡ false → of_store.has_failed handler.store ≡ false
-  pub list : is_dead handler ≡ false → Makes (of_store.records_in handler.store) (booted handler.list)
+  pub ready : is_dead handler ≡ false → IsReady seen may_leave handler
+  pub started : is_dead handler ≡ false → HasStarted may_leave handler
 
 -- nothing of it has changed but the memory that it holds
 pub record IsSame {D : Type 0} (old new : Handler D) : Type 0 where

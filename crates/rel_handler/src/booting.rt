@@ -5,20 +5,20 @@ ghost use Rattle.rel_list.specs.Releases.{Releases};
 ghost use Rattle.rel_list.specs.Event.{booted};
 ghost use Rattle.rel_store.specs.Contents.{OpenRefused, HasOnlyRead};
 ghost use Rattle.rel_handler.specs.Booting.{IsOpened, Repairs, RepairRefused};
-ghost use Rattle.rel_handler.specs.Commits.{HasStarted, HasRead};
+ghost use Rattle.rel_handler.specs.Commits.{HasRead};
 ghost use Rattle.rel_handler.specs.Events.{Known, IsOfPrefix, Stored, IsStoredAs};
 ghost use Rattle.rel_handler.specs.Image.{IsImageOf, IsImageAt, IsStarted, IsRepairOf, store_end};
 ghost use Rattle.rel_handler.specs.Moments.{BootsTo, IsSynced};
 ghost use Rattle.rel_handler.specs.Refusals.{BootRefused, told_boot, IsOpenError};
-ghost use Rattle.rel_handler.specs.State.{disk_in, disk_of, list_in, is_dead, end_in, start_in, IsSound};
+ghost use Rattle.rel_handler.specs.State.{disk_in, disk_of, list_in, is_dead, end_in, start_in, HasStarted, IsReady, IsSound};
 ghost use Rattle.start_record.specs.Text.{versions_of, SpellsStart};
 
-use crate::handler::start_of;
-use crate::{BootError, Handler, HandlerError};
+use crate::start::start_of;
+use crate::{BootError, Handler};
 use rel_disk::Disk;
 use rel_records::read_list;
 use rel_store::{Store, StoreError};
-use start_record::Start;
+use start_record::{Start, StartError, read_start};
 use std::alloc::Global;
 
 /// Boots the node on a disk: its list is that of the store's records. Syncs the disk, reads each record once, and then the
@@ -36,8 +36,7 @@ pub fn boot<D: Disk>(alloc: Global, disk: D) -> Result<Handler<D>, (BootError, D
         → IsImageAt c (list_in handler) (end_in handler)) }
     ensures end { IfOk result (λ handler. end_in handler ≡ store_end (D.seen disk)) }
 
-    // The start record is that of the permanent release, and one that was so before is not written.
-    ensures started { IfOk result (HasStarted D.Disk) }
+    // A start record that was that of the permanent release is not written; behind the boot it is (`sound`).
     ensures right { IfOk result (λ handler. IsStarted (list_in handler) (D.seen disk)
         → HasOnlyRead D.seen D.may_leave D.moment D.left_since disk (disk_in handler)) }
 
@@ -76,12 +75,15 @@ pub fn boot<D: Disk>(alloc: Global, disk: D) -> Result<Handler<D>, (BootError, D
         Err(refusal) => return Err(refusal),
     };
     match repair(alloc, &mut handler) {
-        Ok(()) => Ok(handler),
+        Ok(()) => {
+            handler.dead = false;
+            Ok(handler)
+        }
         Err(error) => Err((error, handler.into_disk())),
     }
 }
 
-// Reads the node from a disk.
+// Reads the node from a disk. It is dead until its start record is that of its permanent release.
 fn open<D: Disk>(alloc: Global, disk: D) -> Result<Handler<D>, (BootError, D)>
     ensures opened { IfOk result (IsOpened D.Disk disk) }
     ensures only { (es : Releases) → IsImageOf (D.seen disk) es
@@ -100,7 +102,7 @@ fn open<D: Disk>(alloc: Global, disk: D) -> Result<Handler<D>, (BootError, D)>
             Ok(list) => Ok(Handler {
                 store,
                 list,
-                dead: false,
+                dead: true,
             }),
             Err(error) => Err((BootError::from(error), store.into_disk())),
         },
@@ -110,13 +112,12 @@ fn open<D: Disk>(alloc: Global, disk: D) -> Result<Handler<D>, (BootError, D)>
 
 // Writes the start record where it isn't that of the permanent release.
 fn repair<D: Disk>(alloc: Global, handler: &mut Handler<D>) -> Result<(), BootError>
-    requires sound { IsSound D.seen D.may_leave handler.old }
-    requires works { is_dead handler.old ≡ false }
+    requires { IsReady D.seen D.may_leave handler.old }
     ensures repairs { Repairs D.Disk handler.old handler.new }
-    ensures works { OnOk result (is_dead handler.new ≡ false) }
+    ensures ready { OnOk result (IsReady D.seen D.may_leave handler.new) }
     ensures acknowledged { OnOk result ((c : List ℕ) → D.may_leave (disk_in handler.new) c
         → IsImageAt c (list_in handler.new) (end_in handler.new)) }
-    ensures started { OnOk result (HasStarted D.Disk handler.new) }
+    ensures started { OnOk result (HasStarted D.may_leave handler.new) }
     ensures right { OnOk result (IsStarted (list_in handler.old) (D.seen (disk_in handler.old))
         → HasOnlyRead D.seen D.may_leave D.moment D.left_since
         (disk_in handler.old) (disk_in handler.new)) }
@@ -139,18 +140,17 @@ fn starts<D: Disk>(
     handler: &mut Handler<D>,
     start: &Start,
 ) -> Result<bool, BootError>
-    requires sound { IsSound D.seen D.may_leave handler.old }
-    requires works { is_dead handler.old ≡ false }
+    requires { IsReady D.seen D.may_leave handler.old }
     ensures read { HasRead D.Disk handler.old handler.new }
-    ensures works { OnOk result (is_dead handler.new ≡ false) }
+    ensures ready { OnOk result (IsReady D.seen D.may_leave handler.new) }
     ensures value { IfOk result (λ is. IsTrue is
         ↔ SpellsStart (start_in D.seen handler.old) (versions_of start.now)) }
     ensures refused { IfErr result (RepairRefused D.Disk handler.old handler.new) }
 {
-    match handler.find_start(alloc) {
-        Ok(Some(found)) => Ok(is_same(&found, start)),
-        Ok(None) => Ok(false),
-        Err(HandlerError::NoMemory) => Err(BootError::NoMemory),
+    match read_start(alloc, &mut handler.store) {
+        Ok(found) => Ok(is_same(&found, start)),
+        Err(StartError::BadStart) => Ok(false),
+        Err(StartError::NoMemory) => Err(BootError::NoMemory),
         Err(_) => Err(BootError::Device),
     }
 }

@@ -1,10 +1,11 @@
 // An event and its record are committed.
-ghost use Rattle.std.specs.Prelude.{◌≡◌, false, length, IfErr, OnOk};
+ghost use Rattle.std.specs.Prelude.{◌≡◌, true, false, length, IfErr, OnOk};
 ghost use Rattle.rel_list.specs.Event.{event_of};
+ghost use Rattle.rel_list.specs.Laws.{leaves_permanent};
 ghost use Rattle.rel_records.specs.Writing.{IsOfListed};
 ghost use Rattle.rel_handler.specs.Commits.{Commits, IsDone, IsRecordFor};
 ghost use Rattle.rel_handler.specs.Refusals.{CommandRefused, IsAllowed};
-ghost use Rattle.rel_handler.specs.State.{list_in, is_dead, start_in, IsSound};
+ghost use Rattle.rel_handler.specs.State.{list_in, is_dead, start_in, IsReady, IsSound};
 ghost use Rattle.rel_handler.specs.Taking.{change_size};
 
 use crate::{Handler, HandlerError};
@@ -14,9 +15,9 @@ use rel_records::change_body;
 use std::alloc::Global;
 
 impl<D: Disk> Handler<D> {
-    // Has the list take an event, and then the store its record. The handler is dead in between, and stays so where the
-    // device fails.
-    pub(crate) fn commit(
+    // Has the list take an event, and then the store its record. The handler is dead from the write on, until its caller
+    // has written all that belongs to the event.
+    pub(crate) fn append(
         &mut self,
         alloc: Global,
         event: Event,
@@ -28,6 +29,7 @@ impl<D: Disk> Handler<D> {
         ensures commits { Commits D.Disk (event_of event) (length body.now) self.old self.new }
         ensures done { OnOk result
             (IsDone D.Disk (event_of event) (length body.now) self.old self.new) }
+        ensures ready { OnOk result (IsReady D.seen D.may_leave self.new) }
         ensures start { OnOk result (start_in D.seen self.new ≡ start_in D.seen self.old) }
         ensures refused { IfErr result (CommandRefused D.failures (event_of event)
             (length body.now) self.old self.new) }
@@ -45,12 +47,11 @@ impl<D: Disk> Handler<D> {
         if self.store.append(alloc, body.as_bytes()).is_err() {
             return Err(HandlerError::Device);
         }
-        self.dead = false;
         Ok(())
     }
 
-    // Commits an event that brings no release, where the list allows it.
-    pub(crate) fn change(&mut self, alloc: Global, event: Event) -> Result<(), HandlerError>
+    // Appends the record of an event that brings no release, where the list allows it.
+    pub(crate) fn append_change(&mut self, alloc: Global, event: Event) -> Result<(), HandlerError>
         requires sound { IsSound D.seen D.may_leave self.old }
         requires works { is_dead self.old ≡ false }
         requires listed { IsOfListed (event_of event) }
@@ -58,6 +59,7 @@ impl<D: Disk> Handler<D> {
             (change_size (event_of event) (list_in self.old)) self.old self.new }
         ensures done { OnOk result (IsDone D.Disk (event_of event)
             (change_size (event_of event) (list_in self.old)) self.old self.new) }
+        ensures ready { OnOk result (IsReady D.seen D.may_leave self.new) }
         ensures start { OnOk result (start_in D.seen self.new ≡ start_in D.seen self.old) }
         ensures refused { IfErr result (CommandRefused D.failures (event_of event)
             (change_size (event_of event) (list_in self.old)) self.old self.new) }
@@ -66,6 +68,50 @@ impl<D: Disk> Handler<D> {
             return Err(HandlerError::from(why));
         }
         let body = change_body(alloc, &self.list, &event)?;
-        self.commit(alloc, event, body.as_str())
+        self.append(alloc, event, body.as_str())
+    }
+
+    // Commits an event behind which the permanent release is the one that it was.
+    pub(crate) fn commit(
+        &mut self,
+        alloc: Global,
+        event: Event,
+        body: &str,
+    ) -> Result<(), HandlerError>
+        requires sound { IsSound D.seen D.may_leave self.old }
+        requires allowed { IsAllowed (event_of event) self.old }
+        requires told { IsRecordFor body.now (event_of event) (list_in self.old) }
+        requires stays { leaves_permanent (event_of event) ≡ true }
+        ensures commits { Commits D.Disk (event_of event) (length body.now) self.old self.new }
+        ensures works { OnOk result (is_dead self.new ≡ false) }
+        ensures done { OnOk result
+            (IsDone D.Disk (event_of event) (length body.now) self.old self.new) }
+        ensures start { OnOk result (start_in D.seen self.new ≡ start_in D.seen self.old) }
+        ensures refused { IfErr result (CommandRefused D.failures (event_of event)
+            (length body.now) self.old self.new) }
+    {
+        self.append(alloc, event, body)?;
+        self.dead = false;
+        Ok(())
+    }
+
+    // So for an event that brings no release, where the list allows it.
+    pub(crate) fn change(&mut self, alloc: Global, event: Event) -> Result<(), HandlerError>
+        requires sound { IsSound D.seen D.may_leave self.old }
+        requires works { is_dead self.old ≡ false }
+        requires listed { IsOfListed (event_of event) }
+        requires stays { leaves_permanent (event_of event) ≡ true }
+        ensures commits { Commits D.Disk (event_of event)
+            (change_size (event_of event) (list_in self.old)) self.old self.new }
+        ensures works { OnOk result (is_dead self.new ≡ false) }
+        ensures done { OnOk result (IsDone D.Disk (event_of event)
+            (change_size (event_of event) (list_in self.old)) self.old self.new) }
+        ensures start { OnOk result (start_in D.seen self.new ≡ start_in D.seen self.old) }
+        ensures refused { IfErr result (CommandRefused D.failures (event_of event)
+            (change_size (event_of event) (list_in self.old)) self.old self.new) }
+    {
+        self.append_change(alloc, event)?;
+        self.dead = false;
+        Ok(())
     }
 }

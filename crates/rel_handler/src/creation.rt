@@ -7,7 +7,6 @@ ghost use Rattle.rel_records.specs.Limits.{is_small};
 ghost use Rattle.rel_records.specs.Reading.{Spells};
 ghost use Rattle.rel_records.specs.Record.{makes};
 ghost use Rattle.rel_store.specs.Layout.{slot_with};
-ghost use Rattle.rel_handler.specs.Commits.{HasStarted};
 ghost use Rattle.rel_handler.specs.Events.{doubted};
 ghost use Rattle.rel_handler.specs.Files.{IsRelFile, start_text, made_size};
 ghost use Rattle.rel_handler.specs.Image.{IsImageOf, IsImageAt, holds_a_store, end_behind, first_end, HasSpace};
@@ -41,7 +40,6 @@ impl<D: Disk> Handler<D> {
             → D.may_leave (disk_in handler) c → IsImageAt c (list_in handler) (end_in handler)) }
         ensures start { IfOk result (λ handler. start_in D.seen handler
             ≡ slot_with (start_text (release_of file.release))) }
-        ensures started { IfOk result (HasStarted D.Disk) }
         ensures fits { OnOk result (HasSpace first_end (made_size file)) }
         ensures end { IfOk result (λ handler. end_in handler
             ≡ end_behind first_end (made_size file)) }

@@ -1,13 +1,12 @@
 // A node's releases on a disk, and the commands on them.
 ghost use Rattle.std.specs.Prelude.{◌≡◌, true, false, string_bytes, Ok, Err, IfOk, IfErr, OnOk, MatchOption, MatchResult};
 ghost use Rattle.rel_files.specs.Release.{release_of};
-ghost use Rattle.rel_list.specs.Event.Event.{unpacked, installed, made_permanent, removed};
+ghost use Rattle.rel_list.specs.Event.Event.{unpacked, installed, made_permanent, removed, reboot_old};
 ghost use Rattle.rel_list.specs.Releases.{Releases, running};
-ghost use Rattle.rel_handler.specs.Commits.{Commits, IsDone, HasStarted};
-ghost use Rattle.rel_handler.specs.Files.{IsRelFile, unpacked_size, started};
+ghost use Rattle.rel_handler.specs.Commits.{Commits, IsDone};
+ghost use Rattle.rel_handler.specs.Files.{IsRelFile, unpacked_size};
 ghost use Rattle.rel_handler.specs.Refusals.{CommandRefused};
-ghost use Rattle.rel_handler.specs.State.{disk_in, list_in, is_dead, start_in, version_of, IsSound};
-ghost use Rattle.start_record.specs.Text.{versions_of};
+ghost use Rattle.rel_handler.specs.State.{disk_in, list_in, is_dead, start_in, version_of, HasStarted, IsSound};
 ghost use Rattle.rel_handler.specs.Taking.{commanded, change_size};
 
 use crate::HandlerError;
@@ -16,7 +15,6 @@ use rel_files::{Rel, RelFile};
 use rel_list::{Event, ReleaseList};
 use rel_records::{MOST_RELEASES, is_small, unpacked_body};
 use rel_store::Store;
-use start_record::Start;
 use std::alloc::{AllocError, Global};
 
 /// A node's releases on a disk.
@@ -81,6 +79,7 @@ impl<D: Disk> Handler<D> {
             self.old self.new }
         ensures done { OnOk result (IsDone D.Disk (unpacked (release_of file.release))
             (unpacked_size file) self.old self.new) }
+        ensures works { OnOk result (is_dead self.new ≡ false) }
         ensures start { OnOk result (start_in D.seen self.new ≡ start_in D.seen self.old) }
         ensures refused { IfErr result (CommandRefused D.failures
             (unpacked (release_of file.release)) (unpacked_size file) self.old self.new) }
@@ -104,6 +103,7 @@ impl<D: Disk> Handler<D> {
             (change_size (installed vsn.now) (list_in self.old)) self.old self.new }
         ensures done { OnOk result (IsDone D.Disk (installed vsn.now)
             (change_size (installed vsn.now) (list_in self.old)) self.old self.new) }
+        ensures works { OnOk result (is_dead self.new ≡ false) }
         ensures start { OnOk result (start_in D.seen self.new ≡ start_in D.seen self.old) }
         ensures other { IfOk result (λ i. string_bytes i.other
             ≡ version_of (running (list_in self.old))) }
@@ -120,7 +120,7 @@ impl<D: Disk> Handler<D> {
     }
 
     /// Makes the current release, of this version, the permanent one: the list is committed, then the start record. At `Ok`
-    /// both are acknowledged (`done`, `started`).
+    /// both are acknowledged (`done`; `sound` of `commits` has `started`).
     ///
     /// Refusals, in this order: `Dead`, `NoSuchRelease`, `BadStatus`, `Full`; else as `set_unpacked`. After a `Device` the
     /// list has the event or not, and the start record is the old one or the new.
@@ -130,21 +130,39 @@ impl<D: Disk> Handler<D> {
             (change_size (made_permanent vsn.now) (list_in self.old)) self.old self.new }
         ensures done { OnOk result (IsDone D.Disk (made_permanent vsn.now)
             (change_size (made_permanent vsn.now) (list_in self.old)) self.old self.new) }
-        ensures started { OnOk result (HasStarted D.Disk self.new) }
+        ensures works { OnOk result (is_dead self.new ≡ false) }
         ensures refused { IfErr result (CommandRefused D.failures (made_permanent vsn.now)
             (change_size (made_permanent vsn.now) (list_in self.old)) self.old self.new) }
     {
         if self.dead {
             return Err(HandlerError::Dead);
         }
-        let Some(release) = self.list.release(vsn) else {
-            return Err(HandlerError::NoSuchRelease);
-        };
-        let start = start_of(alloc, release)?;
-        let vsn = String::from_str(alloc, vsn)?;
-        self.change(alloc, Event::MadePermanent(vsn))?;
-        self.commit_start(&start)?;
+        let event = Event::MadePermanent(String::from_str(alloc, vsn)?);
+        self.move_permanent(alloc, vsn, event)?;
+        self.dead = false;
         Ok(())
+    }
+
+    /// Makes an old release the permanent one, and has the node boot: the list is committed, then the start record. At `Ok`
+    /// both are acknowledged (`done`, `started`), and the handler is dead until the next boot.
+    ///
+    /// Refusals, in this order: `Dead`, `NoSuchRelease`, `BadStatus`, `Full`; else as `make_permanent`.
+    pub fn reboot_old_release(&mut self, alloc: Global, vsn: &str) -> Result<(), HandlerError>
+        requires { IsSound D.seen D.may_leave self.old }
+        ensures commits { Commits D.Disk (reboot_old vsn.now)
+            (change_size (reboot_old vsn.now) (list_in self.old)) self.old self.new }
+        ensures done { OnOk result (IsDone D.Disk (reboot_old vsn.now)
+            (change_size (reboot_old vsn.now) (list_in self.old)) self.old self.new) }
+        ensures started { OnOk result (HasStarted D.may_leave self.new) }
+        ensures dead { OnOk result (is_dead self.new ≡ true) }
+        ensures refused { IfErr result (CommandRefused D.failures (reboot_old vsn.now)
+            (change_size (reboot_old vsn.now) (list_in self.old)) self.old self.new) }
+    {
+        if self.dead {
+            return Err(HandlerError::Dead);
+        }
+        let reboot = Event::RebootOld(String::from_str(alloc, vsn)?);
+        self.move_permanent(alloc, vsn, reboot)
     }
 
     /// Takes a release out of the list. At `Ok` that is acknowledged (`done`).
@@ -156,6 +174,7 @@ impl<D: Disk> Handler<D> {
             (change_size (removed vsn.now) (list_in self.old)) self.old self.new }
         ensures done { OnOk result (IsDone D.Disk (removed vsn.now)
             (change_size (removed vsn.now) (list_in self.old)) self.old self.new) }
+        ensures works { OnOk result (is_dead self.new ≡ false) }
         ensures start { OnOk result (start_in D.seen self.new ≡ start_in D.seen self.old) }
         ensures refused { IfErr result (CommandRefused D.failures (removed vsn.now)
             (change_size (removed vsn.now) (list_in self.old)) self.old self.new) }
@@ -194,14 +213,4 @@ fn running_version(alloc: Global, list: &ReleaseList) -> Result<String, AllocErr
         Some(release) => String::from_str(alloc, release.vsn.as_str()),
         None => Ok(String::new(alloc)),
     }
-}
-
-// What a node with this release as the permanent one starts.
-pub(crate) fn start_of(alloc: Global, release: &Rel) -> Result<Start, AllocError>
-    ensures { IfOk result (λ start. versions_of start ≡ started (release_of release.now)) }
-{
-    Ok(Start {
-        erts: String::from_str(alloc, release.erts.as_str())?,
-        vsn: String::from_str(alloc, release.vsn.as_str())?,
-    })
 }

@@ -1,8 +1,8 @@
 //! A node's releases on a disk, under commands that survive a stop at any moment.
 //!
 //! A [`Handler`] keeps the list of a node's releases, and on a disk a store with a record for each change of it. `create`
-//! makes a node, `set_unpacked` brings a further release, `install_release`, `make_permanent` and `remove_release` change the
-//! list, `boot` reads the node from its disk again, `start` tells what the start record says.
+//! makes a node, `set_unpacked` brings a further release, `install_release`, `make_permanent`, `remove_release` and
+//! `reboot_old_release` change the list, `boot` reads the node from its disk again, `start` tells what the start record says.
 //!
 //! Each command is an event of the list (`step`). Stopped at any moment of a call (of `create` from its first sync on, and
 //! then it may also be no store), the disk stands for the list of a prefix of the accepted events that holds every
@@ -10,8 +10,9 @@
 //! the device alone. After an `Ok` the disk stands for the list with the command's event (`IsDone`). A refusal changes
 //! nothing, but after `Device` the handler is dead until the next boot.
 //!
-//! The start record is that of the permanent release after an `Ok` (`HasStarted`), and at each moment that, or the one of
-//! the release that was permanent before the last event of the prefix (`HasStart`): a boot repairs it.
+//! The start record is that of the permanent release between two calls of a handler that isn't dead (`HasStarted`), and at
+//! each moment that, or the one of the release that was permanent before the last event of the prefix (`HasStart`): a boot
+//! repairs it.
 //!
 //! The law `a_disk_boots_or_is_refused` says of all bytes that they stand for one list or a boot refuses them, never both.
 //!

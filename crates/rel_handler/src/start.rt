@@ -1,20 +1,24 @@
 // The start record of a node.
-ghost use Rattle.std.specs.Prelude.{◌≡◌, ◌⊎◌, ℕ, List, false, true, Some, IfOk, IfErr, OnOk, MatchOption};
+ghost use Rattle.std.specs.Prelude.{◌≡◌, ℕ, List, false, true, Some, IfOk, IfErr, OnOk};
 ghost use Rattle.rel_disk.specs.Moments.{HasFailed};
-ghost use Rattle.rel_files.specs.Release.{Release};
-ghost use Rattle.rel_list.specs.Releases.{permanent};
-ghost use Rattle.rel_handler.specs.Commits.{Keeps, HasRead, HasStarted};
+ghost use Rattle.rel_files.specs.Release.{Release, release_of};
+ghost use Rattle.rel_list.specs.Event.{event_of};
+ghost use Rattle.rel_list.specs.Releases.{permanent, release_at};
+ghost use Rattle.rel_handler.specs.Commits.{Commits, IsDone, Keeps, HasRead, MakesPermanent};
 ghost use Rattle.rel_handler.specs.Files.{started};
 ghost use Rattle.rel_handler.specs.Image.{IsImageAt, start_slot};
-ghost use Rattle.rel_handler.specs.Refusals.{ReadRefused, StartRefused};
-ghost use Rattle.rel_handler.specs.State.{disk_in, list_in, is_dead, end_in, start_in, IsSound};
+ghost use Rattle.rel_handler.specs.Refusals.{CommandRefused, StartRefused, IsStartRefusal};
+ghost use Rattle.rel_handler.specs.State.{disk_in, list_in, is_dead, end_in, HasStarted, IsReady, IsSound};
+ghost use Rattle.rel_handler.specs.Taking.{change_size};
 ghost use Rattle.rel_store.specs.Layout.{slot_with};
-ghost use Rattle.start_record.specs.Text.{AreVersions, versions_of, start_text, SpellsStart, SpellsNoStart};
+ghost use Rattle.start_record.specs.Text.{AreVersions, versions_of, start_text};
 
 use crate::{Handler, HandlerError};
 use rel_disk::{DeviceFault, Disk};
+use rel_files::Rel;
+use rel_list::{Event, ReleaseList};
 use start_record::{Start, StartError, read_start, write_start};
-use std::alloc::Global;
+use std::alloc::{AllocError, Global};
 
 impl<D: Disk> Handler<D> {
     /// What the node starts, as its start record tells it: the permanent release, and its version of the runtime system.
@@ -22,8 +26,8 @@ impl<D: Disk> Handler<D> {
     ///
     /// Refusals: `Dead`, `Device`, behind which the handler is dead, `NoMemory`.
     pub fn start(&mut self, alloc: Global) -> Result<Start, HandlerError>
-        requires sound { IsSound D.seen D.may_leave self.old }
-        requires started { is_dead self.old ≡ false → HasStarted D.Disk self.old }
+        requires { IsSound D.seen D.may_leave self.old }
+        ensures sound { IsSound D.seen D.may_leave self.new }
         ensures read { HasRead D.Disk self.old self.new }
         ensures works { OnOk result (is_dead self.new ≡ false) }
         ensures tells { IfOk result (λ start. (r : Release)
@@ -33,27 +37,10 @@ impl<D: Disk> Handler<D> {
         if self.dead {
             return Err(HandlerError::Dead);
         }
-        match self.find_start(alloc)? {
-            Some(start) => Ok(start),
-            None => unreachable!(),
-        }
-    }
-
-    // The start that the start record spells, if it spells one. The handler is dead where the device fails.
-    pub(crate) fn find_start(&mut self, alloc: Global) -> Result<Option<Start>, HandlerError>
-        requires sound { IsSound D.seen D.may_leave self.old }
-        requires works { is_dead self.old ≡ false }
-        ensures read { HasRead D.Disk self.old self.new }
-        ensures works { OnOk result (is_dead self.new ≡ false) }
-        ensures found { IfOk result (λ found. MatchOption found
-            (SpellsNoStart (start_in D.seen self.old))
-            (λ start. SpellsStart (start_in D.seen self.old) (versions_of start))) }
-        ensures refused { IfErr result (ReadRefused D.failures self.old self.new) }
-    {
         match read_start(alloc, &mut self.store) {
-            Ok(start) => Ok(Some(start)),
-            Err(StartError::BadStart) => Ok(None),
+            Ok(start) => Ok(start),
             Err(StartError::NoMemory) => Err(HandlerError::NoMemory),
+            Err(StartError::BadStart) => unreachable!(),
             Err(_) => {
                 self.dead = true;
                 Err(HandlerError::Device)
@@ -61,25 +48,71 @@ impl<D: Disk> Handler<D> {
         }
     }
 
-    // Writes the start record behind a committed event. The handler is dead in between, and stays so where the device fails.
-    pub(crate) fn commit_start(&mut self, start: &Start) -> Result<(), DeviceFault>
+    // Commits an event that makes the release of this version the permanent one: the list, and then the start record.
+    // Behind it the handler is dead.
+    pub(crate) fn move_permanent(
+        &mut self,
+        alloc: Global,
+        vsn: &str,
+        event: Event,
+    ) -> Result<(), HandlerError>
         requires sound { IsSound D.seen D.may_leave self.old }
         requires works { is_dead self.old ≡ false }
+        requires moves { MakesPermanent vsn.now (event_of event) }
+        ensures commits { Commits D.Disk (event_of event)
+            (change_size (event_of event) (list_in self.old)) self.old self.new }
+        ensures done { OnOk result (IsDone D.Disk (event_of event)
+            (change_size (event_of event) (list_in self.old)) self.old self.new) }
+        ensures ready { OnOk result (IsReady D.seen D.may_leave self.new) }
+        ensures started { OnOk result (HasStarted D.may_leave self.new) }
+        ensures dead { OnOk result (is_dead self.new ≡ true) }
+        ensures refused { IfErr result (CommandRefused D.failures (event_of event)
+            (change_size (event_of event) (list_in self.old)) self.old self.new) }
+    {
+        let start = start_at(alloc, &self.list, vsn)?;
+        self.append_change(alloc, event)?;
+        self.commit_start(&start)?;
+        Ok(())
+    }
+
+    // Writes the start record behind a committed event. The handler is dead behind it.
+    pub(crate) fn commit_start(&mut self, start: &Start) -> Result<(), DeviceFault>
+        requires ready { IsReady D.seen D.may_leave self.old }
         requires versions { AreVersions (versions_of start.now) }
         ensures keeps { Keeps D.Disk (start_text (versions_of start.now)) self.old self.new }
-        ensures works { OnOk result (is_dead self.new ≡ false) }
+        ensures ready { OnOk result (IsReady D.seen D.may_leave self.new) }
         ensures acknowledged { OnOk result ((c : List ℕ) → D.may_leave (disk_in self.new) c
             → IsImageAt c (list_in self.new) (end_in self.new)
             × (start_slot c ≡ slot_with (start_text (versions_of start.now)))) }
         ensures failed { IfErr result (λ _.
-            HasFailed (D.failures (disk_in self.old)) (D.failures (disk_in self.new))
-            × (is_dead self.new ≡ true)) }
+            HasFailed (D.failures (disk_in self.old)) (D.failures (disk_in self.new))) }
     {
         self.dead = true;
         if write_start(&mut self.store, start).is_err() {
             return Err(DeviceFault);
         }
-        self.dead = false;
         Ok(())
     }
+}
+
+// What a node starts once the release of this version is its permanent one.
+fn start_at(alloc: Global, list: &ReleaseList, vsn: &str) -> Result<Start, HandlerError>
+    ensures found { IfOk result (λ start. (r : Release)
+        × (release_at vsn.now list.now ≡ Some r) × (versions_of start ≡ started r)) }
+    ensures refused { IfErr result (IsStartRefusal vsn.now list.now) }
+{
+    let Some(release) = list.release(vsn) else {
+        return Err(HandlerError::NoSuchRelease);
+    };
+    Ok(start_of(alloc, release)?)
+}
+
+// What a node with this release as the permanent one starts.
+pub(crate) fn start_of(alloc: Global, release: &Rel) -> Result<Start, AllocError>
+    ensures { IfOk result (λ start. versions_of start ≡ started (release_of release.now)) }
+{
+    Ok(Start {
+        erts: String::from_str(alloc, release.erts.as_str())?,
+        vsn: String::from_str(alloc, release.vsn.as_str())?,
+    })
 }

@@ -4,7 +4,7 @@ ghost use Rattle.rel_store.specs.State.{IsSoundStore};
 
 use crate::fixtures::rel_file;
 use rel_disk::{Disk, FailDisk, MemDisk};
-use rel_handler::{BootError, Handler, boot};
+use rel_handler::{BootError, Handler, HandlerError, boot};
 use rel_list::ReleaseList;
 use rel_store::Store;
 use start_record::read_start;
@@ -28,7 +28,16 @@ fn releases<D: Disk>(node: &Handler<D>, text: &mut String) -> Result<(), AllocEr
     }
 }
 
-// What a node answers to a further release, where one is named.
+// Whether a command was done.
+fn push_done(done: Result<(), HandlerError>, text: &mut String) -> Result<(), Fail> {
+    match done {
+        Ok(()) => text.push_str(" ok")?,
+        Err(error) => write!(text, " {error}")?,
+    }
+    Ok(())
+}
+
+// What a node answers to a further release.
 fn unpack<D: Disk>(
     alloc: Global,
     node: &mut Handler<D>,
@@ -38,14 +47,7 @@ fn unpack<D: Disk>(
     requires { IsSound D.seen D.may_leave node.old }
     ensures { IsSound D.seen D.may_leave node.new }
 {
-    if release.is_empty() {
-        return Ok(());
-    }
-    match node.set_unpacked(alloc, rel_file(alloc, release)?) {
-        Ok(()) => text.push_str(" ok")?,
-        Err(error) => write!(text, " {error}")?,
-    }
-    Ok(())
+    push_done(node.set_unpacked(alloc, rel_file(alloc, release)?), text)
 }
 
 // What a node answers to the installation of the release of this version.
@@ -65,42 +67,37 @@ fn install<D: Disk>(
     Ok(())
 }
 
-// What a node answers to the removal of the release of this version.
-fn remove<D: Disk>(
-    alloc: Global,
-    node: &mut Handler<D>,
-    vsn: &str,
-    text: &mut String,
-) -> Result<(), Fail>
+// What a node tells of its start record.
+fn tell_start<D: Disk>(alloc: Global, node: &mut Handler<D>, text: &mut String) -> Result<(), Fail>
     requires { IsSound D.seen D.may_leave node.old }
     ensures { IsSound D.seen D.may_leave node.new }
 {
-    match node.remove_release(alloc, vsn) {
-        Ok(()) => text.push_str(" ok")?,
+    match node.start(alloc) {
+        Ok(start) => write!(text, " starts {} {}", start.erts, start.vsn)?,
         Err(error) => write!(text, " {error}")?,
     }
     Ok(())
 }
 
-// What a node answers where the release of this version is made permanent.
-fn make_permanent<D: Disk>(
+// Whether a node does what the sign says with the release of this version.
+fn change<D: Disk>(
     alloc: Global,
     node: &mut Handler<D>,
+    sign: char,
     vsn: &str,
-    text: &mut String,
-) -> Result<(), Fail>
+) -> Result<(), HandlerError>
     requires { IsSound D.seen D.may_leave node.old }
     ensures { IsSound D.seen D.may_leave node.new }
 {
-    match node.make_permanent(alloc, vsn) {
-        Ok(()) => text.push_str(" ok")?,
-        Err(error) => write!(text, " {error}")?,
+    match sign {
+        '!' => node.make_permanent(alloc, vsn),
+        '<' => node.reboot_old_release(alloc, vsn),
+        _ => node.remove_release(alloc, vsn),
     }
-    Ok(())
 }
 
-// What a node answers to a command, where one is given: `+B` installs B, `!B` makes it permanent, `-B` removes it, and `B`
-// takes it in.
+// What a node answers to a command, where one is given: `+B` installs B, `!B` makes it permanent, `<B` reboots it, `-B`
+// removes it, `?` tells the start, and `B` takes B in.
 fn command<D: Disk>(
     alloc: Global,
     node: &mut Handler<D>,
@@ -110,16 +107,16 @@ fn command<D: Disk>(
     requires { IsSound D.seen D.may_leave node.old }
     ensures { IsSound D.seen D.may_leave node.new }
 {
-    if let Some(vsn) = word.strip_prefix('+') {
-        return install(alloc, node, vsn, text);
+    let mut rest = word.chars();
+    match rest.next() {
+        None => Ok(()),
+        Some('?') => tell_start(alloc, node, text),
+        Some('+') => install(alloc, node, rest.as_str(), text),
+        Some(sign @ ('!' | '<' | '-')) => {
+            push_done(change(alloc, node, sign, rest.as_str()), text)
+        }
+        Some(_) => unpack(alloc, node, word, text),
     }
-    if let Some(vsn) = word.strip_prefix('!') {
-        return make_permanent(alloc, node, vsn, text);
-    }
-    if let Some(vsn) = word.strip_prefix('-') {
-        return remove(alloc, node, vsn, text);
-    }
-    unpack(alloc, node, word, text)
 }
 
 // What it answers to each of at most three commands.

@@ -408,11 +408,35 @@ fn start_record_repaired(rt: HostRuntime) -> Result<(), Fail> {
     shows(&rt, rt.alloc(), REPAIRED)
 }
 
-// What a node of A and B answers that installs B and makes it permanent where this call of the device fails, what the start
-// record says then, and behind a boot.
-fn permanent_on_failing(alloc: Global, call: u64, text: &mut String) -> Result<(), Fail> {
-    let disk = create(alloc, new_disk(alloc)?, "A B +B", &mut String::new(alloc))?;
-    let disk = boots(alloc, FailDisk::new(disk, call), "+B !B", text)?;
+// An old release that is rebooted is permanent at once, the former one old, and the node answers nothing until it boots.
+const REBOOTED: &str = "\
+create A B +B => A permanent; ok other A open A permanent;B current;
+boot +B !B ? => A permanent;B unpacked; other A ok starts 14.2 B open A old;B permanent;
+boot ? <A ? => A old;B permanent; starts 14.2 B ok Dead dead Dead
+start => 14.2 A
+boot <A <C ? => A permanent;B old; BadStatus permanent NoSuchRelease starts 14.2 A open A permanent;B old;
+boot B <B +A => A permanent;B old; ExistingRelease ok Dead dead Dead
+boot => A old;B permanent;
+";
+
+#[test]
+fn old_release_rebooted(rt: HostRuntime) -> Result<(), Fail> {
+    shows(&rt, rt.alloc(), REBOOTED)
+}
+
+// What a node of A and B, prepared by the first commands, answers to the others where this call of the device fails, what the
+// start record says then, and behind a boot.
+fn moves_on_failing(
+    alloc: Global,
+    prepared: &str,
+    commands: &str,
+    call: u64,
+    text: &mut String,
+) -> Result<(), Fail> {
+    let mut unread = String::new(alloc);
+    let disk = create(alloc, new_disk(alloc)?, "A B", &mut unread)?;
+    let disk = boots(alloc, disk, prepared, &mut unread)?;
+    let disk = boots(alloc, FailDisk::new(disk, call), commands, text)?;
     let disk = follow(alloc, disk, "fail 0", text)?;
     let disk = starts(alloc, disk, text)?;
     let disk = boots(alloc, disk, "", text)?;
@@ -440,9 +464,47 @@ fn stopped_before_the_start_record(rt: HostRuntime) -> Result<(), Fail> {
     let alloc = rt.alloc();
     let mut text = String::new(alloc);
     for call in 16..25 {
-        permanent_on_failing(alloc, call, &mut text)?;
+        moves_on_failing(alloc, "+B", "+B !B", call, &mut text)?;
     }
     same(&rt, text.as_str(), PERMANENCES);
+    Ok(())
+}
+
+// One of a node with four records has thirteen, so the list is committed by the calls from the fourteenth on, and the start
+// record by those from the eighteenth on.
+const REBOOTS: &str = " \
+A old;B permanent; Device dead Dead failures 1 14.2 B A old;B permanent; 14.2 B
+ A old;B permanent; Device dead Dead failures 1 14.2 B A old;B permanent; 14.2 B
+ A old;B permanent; Device dead Dead failures 1 14.2 B A old;B permanent; 14.2 B
+ A old;B permanent; Device dead Dead failures 1 14.2 B A permanent;B old; 14.2 A
+ A old;B permanent; Device dead Dead failures 1 14.2 B A permanent;B old; 14.2 A
+ A old;B permanent; Device dead Dead failures 1 14.2 B A permanent;B old; 14.2 A
+ A old;B permanent; Device dead Dead failures 1 14.2 B A permanent;B old; 14.2 A
+ A old;B permanent; Device dead Dead failures 1 14.2 A A permanent;B old; 14.2 A
+ A old;B permanent; ok dead Dead failures 0 14.2 A A permanent;B old; 14.2 A
+";
+
+#[test]
+fn reboot_stopped_before_the_start_record(rt: HostRuntime) -> Result<(), Fail> {
+    let alloc = rt.alloc();
+    let mut text = String::new(alloc);
+    for call in 14..23 {
+        moves_on_failing(alloc, "+B !B", "<A", call, &mut text)?;
+    }
+    same(&rt, text.as_str(), REBOOTS);
+    Ok(())
+}
+
+// The start record is read by the twelfth call: behind a failure of it the node is dead, and nothing was written.
+const START_NOT_READ: &str =
+    " A permanent;B unpacked; Device Dead dead Dead failures 1 14.2 A A permanent;B unpacked; 14.2 A\n";
+
+#[test]
+fn start_on_a_failing_device(rt: HostRuntime) -> Result<(), Fail> {
+    let alloc = rt.alloc();
+    let mut text = String::new(alloc);
+    moves_on_failing(alloc, "+B", "? ?", 12, &mut text)?;
+    same(&rt, text.as_str(), START_NOT_READ);
     Ok(())
 }
 

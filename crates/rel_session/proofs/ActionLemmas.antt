@@ -15,7 +15,7 @@ use Rattle.rel_list.specs.Event.Event.{made, unpacked}
 use Rattle.rel_records.specs.Limits.{is_small}
 use Rattle.rel_session.specs.AnswerLaws.{is_one_line, HasLinePath}
 use Rattle.rel_session.specs.Commands.{Command, File}
-use Rattle.rel_session.specs.Commands.Command.{file, create, set_unpacked, install, permanent, remove, boot, releases, quit, bad}
+use Rattle.rel_session.specs.Commands.Command.{file, create, set_unpacked, install, permanent, remove, boot, start, releases, quit, bad}
 use Rattle.rel_session.specs.Commands.File.{bytes, too_large}
 use Rattle.rel_session.specs.Files.{Files, Found, Says, usable, IsFound}
 use Rattle.rel_session.specs.LawsBelow.{FileLaws}
@@ -24,7 +24,7 @@ use Rattle.rel_session.specs.Node.Place.{raw, closed, running, dead}
 use Rattle.rel_session.specs.Refusals.{Refusal}
 use Rattle.rel_session.specs.Refusals.Refusal.{too_many}
 use Rattle.rel_session.specs.Transition.{Action, ComesTo, OnNode, listed, creation, unpacking, version_of}
-use Rattle.rel_session.specs.Transition.Action.{answers, makes_node, changes_node, boots_node}
+use Rattle.rel_session.specs.Transition.Action.{answers, makes_node, changes_node, boots_node, tells_start}
 use Rattle.rel_session.proofs.AnswerLines.{parts, joined, IsWhole, HasLine, refusal_whole, listing_whole, installed_plain}
 
 module _ (laws : FileLaws) where
@@ -85,6 +85,7 @@ one_action laws files p q (install vsn) x y kinds is also = inl (is ∙ sym also
 one_action laws files p q (permanent vsn) x y kinds is also = inl (is ∙ sym also)
 one_action laws files p q (remove vsn) x y kinds is also = inl (is ∙ sym also)
 one_action laws files p q boot x y kinds is also = inl (is ∙ sym also)
+one_action laws files p q start x y kinds is also = inl (is ∙ sym also)
 one_action laws files p q releases x y kinds is also = inr (is, also)
 one_action laws files p q quit x y kinds is also = absurd is
 one_action laws files p q bad x y kinds is also = inl (is ∙ sym also)
@@ -101,6 +102,7 @@ some_action laws files p (install vsn) = inr (_, refl)
 some_action laws files p (permanent vsn) = inr (_, refl)
 some_action laws files p (remove vsn) = inr (_, refl)
 some_action laws files p boot = inr (_, refl)
+some_action laws files p start = inr (_, refl)
 some_action laws files p releases = inr (_, refl)
 some_action laws files p quit = inl refl
 some_action laws files p bad = inr (_, refl)
@@ -128,6 +130,7 @@ IsGoodAction (answers text) = IsWhole text
 IsGoodAction (makes_node found) = HasVersions found.release
 IsGoodAction (changes_node c) = OfEvent c.event × ((list : Releases) → is_one_line (c.details list) ≡ true)
 IsGoodAction boots_node = Unit {0}
+IsGoodAction tells_start = Unit {0}
 
 good_as : (x y : Action) → x ≡ y → IsGoodAction y → IsGoodAction x
 good_as x y is good = subst IsGoodAction (sym is) good
@@ -175,6 +178,7 @@ good_action files p (install vsn) does line is = good_as does _ is (tt, λ list.
 good_action files p (permanent vsn) does line is = good_as does _ is (tt, λ list. refl)
 good_action files p (remove vsn) does line is = good_as does _ is (tt, λ list. refl)
 good_action files p boot does line is = good_as does _ is tt
+good_action files p start does line is = good_as does _ is tt
 good_action files p releases does line is = good_as does _ is (whole_list p)
 good_action files p quit does line is = absurd is
 good_action files p bad does line is = good_as does _ is (λ behind. refl)

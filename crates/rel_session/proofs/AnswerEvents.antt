@@ -26,7 +26,7 @@ use Rattle.rel_session.specs.Node.Place.{raw, closed, running, dead}
 use Rattle.rel_session.specs.Refusals.{refusal_of, refusal_line, handler_refusal, boot_line}
 use Rattle.rel_session.specs.Refusals.Refusal.{device}
 use Rattle.rel_session.specs.Transition
-use Rattle.rel_session.specs.Transition.Action.{answers, makes_node, changes_node, boots_node}
+use Rattle.rel_session.specs.Transition.Action.{answers, makes_node, changes_node, boots_node, tells_start}
 use Rattle.rel_session.proofs.ActionLemmas.{Kind, kind_of, one_action}
 use Rattle.rel_session.proofs.ActionLemmas.Kind.{of_bytes, at_rest, runs, fails}
 
@@ -72,6 +72,11 @@ abbrev booted : Kind → Report → Effect
 booted k it_is_done = effect (done (booting ∷ [])) runs
 booted k it_failed = effect (failed_with None) (left k)
 booted k nothing_done = effect nothing k
+
+-- the start is told where a node runs
+abbrev tells : Kind → Report → Effect
+tells runs it_failed = effect (failed_with None) fails
+tells k t = effect nothing k
 
 -- The reply has the effect that its answer tells.
 abbrev HasEffect : (Report → Effect) → Reply → Type 0
@@ -178,6 +183,7 @@ acted k (answers text) t = effect nothing k
 acted k (makes_node found) t = created k found t
 acted k (changes_node c) t = changed k c t
 acted k boots_node t = booted k t
+acted k tells_start t = tells k t
 
 acts : (p : Place) (does : Transition.Action) (a : Reply) → Transition.Acts p does a → HasEffect (acted (kind_of p) does) a
 acts p (answers text) a is = effect_as (acted (kind_of p) (answers text)) a _ is refl
@@ -187,6 +193,11 @@ acts (raw x) (changes_node c) a is = effect_as (changed of_bytes c) a _ is refl
 acts (closed s) (changes_node c) a is = effect_as (changed at_rest c) a _ is refl
 acts (dead s) (changes_node c) a is = effect_as (changed fails c) a _ is refl
 acts p boots_node a is = boots p a is
+acts (running events end) tells_start a (inl is) = effect_as (tells runs) a _ is refl
+acts (running events end) tells_start a (inr is) = effect_as (tells runs) a _ is refl
+acts (raw x) tells_start a is = effect_as (tells of_bytes) a _ is refl
+acts (closed s) tells_start a is = effect_as (tells at_rest) a _ is refl
+acts (dead s) tells_start a is = effect_as (tells fails) a _ is refl
 
 pub one_effect : FileLaws → (files : Files) (p q : Place) (c : Command) (a b : Reply) → kind_of p ≡ kind_of q → a.answer ≡ b.answer → Transition.Transition files p c a → Transition.Transition files q c b → effect_of a ≡ effect_of b
 one_effect texts files p q c a b kinds same (x, comes, is) (y, comes_too, also) = go (one_action texts files p q c x y kinds comes comes_too)

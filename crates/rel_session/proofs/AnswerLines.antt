@@ -170,7 +170,7 @@ boot_line_whole boot_error.NoMemory behind = refl
 boot_line_whole (boot_error.BadRecord i) behind = refl
 
 -- What is printed of a release has no newline.
-append_plain : (a b : List ℕ) → is_one_line a ≡ true → is_one_line b ≡ true → is_one_line (a ++ b) ≡ true
+pub append_plain : (a b : List ℕ) → is_one_line a ≡ true → is_one_line b ≡ true → is_one_line (a ++ b) ≡ true
 append_plain a b p q = list_all-append (λ (x : ℕ). not (x == 10)) a b ∙ joined (is_one_line a) (is_one_line b) p q
 
 abbrev pub ArePlain : List (List ℕ) → Type 0

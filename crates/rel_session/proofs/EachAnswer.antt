@@ -26,7 +26,7 @@ use Rattle.rel_session.specs.Refusals.{boot_line}
 use Rattle.rel_session.specs.Run.Ending.{ended, cut_off}
 use Rattle.rel_session.specs.AnswerLaws.{IsCertain, HasList, HasAnswer, EachHasAnAnswer}
 use Rattle.rel_session.specs.Transition
-use Rattle.rel_session.specs.Transition.Action.{answers, makes_node, changes_node, boots_node}
+use Rattle.rel_session.specs.Transition.Action.{answers, makes_node, changes_node, boots_node, tells_start}
 use Rattle.rel_handler.proofs.CommandLemmas.{commanded_step}
 use Rattle.rel_session.proofs.ActionLemmas.{some_action}
 use Rattle.rel_session.proofs.Histories.{events_of_image}
@@ -120,11 +120,17 @@ changed p c (of_raw x) = fair_reply _ _ refl refl (of_raw x)
 changed p c (rests events end list after) = fair_reply _ _ refl refl (rests events end list after)
 changed p c (runs events end list after) = changes events end list c after
 
+told : (p : Place) → IsFair p → Has (Transition.Acts p tells_start)
+told p (of_raw x) = fair_reply _ _ refl refl (of_raw x)
+told p (rests events end list after) = fair_reply _ _ refl refl (rests events end list after)
+told p (runs events end list after) = fair_reply _ _ (inl refl) refl (runs events end list after)
+
 acts : BootLaws → (p : Place) (does : Transition.Action) → IsFair p → Has (Transition.Acts p does)
 acts laws p (answers text) fair = fair_reply _ (reply text nothing p) refl refl fair
 acts laws p (makes_node found) fair = makes p found fair
 acts laws p (changes_node c) fair = changed p c fair
 acts laws p boots_node fair = boots laws p fair
+acts laws p tells_start fair = told p fair
 
 -- A reply to the first command, and what follows it.
 one_more : (files : Files) (p : Place) (c : Command) (rest : Feed Command) (a : Reply) → Transition.Transition files p c a → a.outcome.failed ≡ false → HasAnswer (files_behind files c) a.after rest → HasAnswer files p (next c rest)

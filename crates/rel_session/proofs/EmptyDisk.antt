@@ -11,7 +11,7 @@ use Rattle.rel_session.specs.Node.Place.{raw}
 use Rattle.rel_session.specs.Run.{Executes, Replies, Ending}
 use Rattle.rel_session.specs.RunLaws.{acknowledged_at, BecomesKnown, NoneFails, NoneAcknowledged, BeginsWithAMaking}
 use Rattle.rel_session.specs.Transition
-use Rattle.rel_session.specs.Transition.Action.{answers, makes_node, changes_node, boots_node}
+use Rattle.rel_session.specs.Transition.Action.{answers, makes_node, changes_node, boots_node, tells_start}
 use Rattle.rel_session.proofs.AcknowledgedEvents.{first_answered, loses_nothing}
 use Rattle.rel_session.proofs.DeviceLemmas.{IsDevice}
 
@@ -42,6 +42,7 @@ on_empty files c a (answers text, comes, is) = on_empty_as a _ is (inl (refl, in
 on_empty files c a (makes_node found, comes, is) = makes found a is
 on_empty files c a (changes_node change, comes, is) = on_empty_as a _ is (inl (refl, inl refl))
 on_empty files c a (boots_node, comes, is) = boots a is
+on_empty files c a (tells_start, comes, is) = on_empty_as a _ is (inl (refl, inl refl))
 
 -- where it was left empty
 still_empty : (a : Reply) → OnEmpty a → a.outcome.failed ≡ false → a.outcome.acknowledged ≡ [] → a.after ≡ raw []

@@ -17,7 +17,7 @@ use Rattle.rel_session.specs.Refusals.Refusal.{device}
 use Rattle.rel_session.specs.Run.{Executes}
 use Rattle.rel_session.specs.AnswerLaws.{FailsOnlyWithTheDevice, TellsDoubt}
 use Rattle.rel_session.specs.Transition
-use Rattle.rel_session.specs.Transition.Action.{answers, makes_node, changes_node, boots_node}
+use Rattle.rel_session.specs.Transition.Action.{answers, makes_node, changes_node, boots_node, tells_start}
 use Rattle.rel_session.proofs.AcknowledgedEvents.{first_answered}
 
 -- Nothing is in doubt, or the device failed and that is told.
@@ -66,6 +66,11 @@ acts (closed s) (changes_node c) a is = plain a _ is (inl refl)
 acts (running events end) (changes_node c) a is = changes events end c (releases_after events) (commanded c.event (releases_after events)) a is
 acts (dead s) (changes_node c) a is = plain a _ is (inl refl)
 acts p boots_node a is = boots p a is
+acts (running events end) tells_start a (inl is) = plain a _ is (inl refl)
+acts (running events end) tells_start a (inr is) = plain a _ is (inl refl)
+acts (raw bytes) tells_start a is = plain a _ is (inl refl)
+acts (closed s) tells_start a is = plain a _ is (inl refl)
+acts (dead s) tells_start a is = plain a _ is (inl refl)
 
 is_plain : (files : Files) (p : Place) (c : Command) (a : Reply) → Transition.Transition files p c a → IsPlain a
 is_plain files p c a (does, comes, is) = acts p does a is

@@ -9,6 +9,7 @@ pub mod DeviceLemmas
 pub mod ListLemmas
 pub mod Prefixes
 pub mod Replies
+pub mod StartReplies
 pub mod ReplyTexts
 pub mod LoopLemmas
 pub mod GivenFiles

@@ -11,7 +11,7 @@ use Rattle.rel_handler.specs.Image.{store_end}
 use Rattle.rel_handler.specs.Events.{Events, MayHave, IsStoredAs, certain}
 use Rattle.rel_handler.proofs.Commits.{have_versions}
 use Rattle.rel_session.specs.Commands.{Command, ParsedLine, parse_line, parse_words, parse_command, parse_change, with_word, without_words, path_in, version_in, is_blank, words_of, is_end, file_of, most_line, put_parsed, commands_of, commands_behind}
-use Rattle.rel_session.specs.Commands.Command.{file, create, set_unpacked, install, permanent, remove, boot, releases, quit, bad}
+use Rattle.rel_session.specs.Commands.Command.{file, create, set_unpacked, install, permanent, remove, boot, start, releases, quit, bad}
 use Rattle.rel_session.specs.Commands.ParsedLine.{blank, file_begins, whole_command}
 use Rattle.rel_session.specs.Device.{Device}
 use Rattle.rel_session.specs.Feed.{Feed, bytes_within}
@@ -93,11 +93,12 @@ change_plain word words =
 word_plain : (word : List ℕ) (words : List (List ℕ)) → ArePlain words → IsPlainLine (parse_command word words)
 word_plain word words plain =
     either (bytes_eq word (codes "boot")) (without_words words (whole_command boot)) _ (alone_plain words boot tt)
+    (either (bytes_eq word (codes "start")) (without_words words (whole_command start)) _ (alone_plain words start tt)
     (either (bytes_eq word (codes "releases")) (without_words words (whole_command releases)) _ (alone_plain words releases tt)
     (either (bytes_eq word (codes "quit")) (without_words words (whole_command quit)) _ (alone_plain words quit tt)
     (either (bytes_eq word (codes "file")) (with_word (path_in words) file_begins) _ (path_plain words file_begins plain (λ path line. tt))
     (either (bytes_eq word (codes "create")) (with_word (path_in words) (λ path. whole_command (create path))) _ (path_plain words (λ path. whole_command (create path)) plain (λ path line. line))
-    (either (bytes_eq word (codes "set_unpacked")) (with_word (path_in words) (λ path. whole_command (set_unpacked path))) _ (path_plain words (λ path. whole_command (set_unpacked path)) plain (λ path line. line)) (change_plain word words))))))
+    (either (bytes_eq word (codes "set_unpacked")) (with_word (path_in words) (λ path. whole_command (set_unpacked path))) _ (path_plain words (λ path. whole_command (set_unpacked path)) plain (λ path line. line)) (change_plain word words)))))))
 
 words_plain : (words : List (List ℕ)) → ArePlain words → IsPlainLine (parse_words words)
 words_plain [] plain = tt

@@ -1,7 +1,7 @@
 -- A device that does not fail leaves one answer to each command.
 use Rattle.std.proofs.Common.{◌≡◌, ◌≢◌, ◌⊎◌, inl, inr, ℕ, Bool, true, false, List, [], ◌∷◌, ◌++◌, length, codes, Some, Result, Ok, Err, refl, sym, ap, ◌∙◌, subst}
 use Rattle.std.specs.Option.{option_and_then}
-use Rattle.rel_list.specs.Releases.{Releases, running as running_release}
+use Rattle.rel_list.specs.Releases.{Releases, running as running_release, permanent}
 use Rattle.rel_list.specs.Event.{list_after, step, booted}
 use Rattle.rel_list.specs.Event.Event.{made, boot as booting}
 use Rattle.rel_handler.specs.declared.error.BootError.{BootError}
@@ -27,7 +27,7 @@ use Rattle.rel_session.specs.Run.Ending.{ended, cut_off, early}
 use Rattle.rel_session.specs.AnswerLaws.{IsCertain, AreSame, HaveOneAnswer}
 use Rattle.rel_session.specs.RunLaws.{NoneFails}
 use Rattle.rel_session.specs.Transition
-use Rattle.rel_session.specs.Transition.Action.{answers, makes_node, changes_node, boots_node}
+use Rattle.rel_session.specs.Transition.Action.{answers, makes_node, changes_node, boots_node, tells_start}
 use Rattle.rel_session.proofs.AcknowledgedEvents.{next_answered, none_left}
 use Rattle.rel_session.proofs.ActionLemmas.{kind_of, one_action}
 use Rattle.rel_session.proofs.ListLemmas.{list_after-more, same_list}
@@ -163,11 +163,20 @@ module _ (a b : Reply) (both : Both a b) where
       let then : releases_after others ≡ releases_after events = ap list_or_none (sym same) in
       changes events others end c (releases_after events) (commanded c.event (releases_after events)) same is (subst (λ l. Transition.Changes others end c l (commanded c.event l) b) then also)
 
+  told : (p q : Place) → Alike p q → Transition.Acts p tells_start a → Transition.Acts q tells_start b → Same a b
+  told p q (same_bytes x) is also = as_these a b _ _ is also (refl, refl, same_bytes x)
+  told p q (same_store events end) is also = as_these a b _ _ is also (refl, refl, same_store events end)
+  told p q (same_lists events others end same) (inl is) (inl also) =
+      as_these a b _ _ is also (ap (λ o. Transition.ok_line (Transition.start_versions (permanent (list_or_none o)))) same, refl, same_lists events others end same)
+  told p q (same_lists events others end same) (inl is) (inr also) = failure b _ also refl both.1
+  told p q (same_lists events others end same) (inr is) other = failure a _ is refl both.0
+
   acts : BootLaws → (p q : Place) (does : Transition.Action) → Alike p q → Transition.Acts p does a → Transition.Acts q does b → Same a b
   acts laws p q (answers text) alike is also = as_these a b _ _ is also (refl, refl, alike)
   acts laws p q (makes_node found) alike is also = makes p q found alike is also
   acts laws p q (changes_node c) alike is also = changed p q c alike is also
   acts laws p q boots_node alike is also = boots laws p q alike is also
+  acts laws p q tells_start alike is also = told p q alike is also
 
   one_reply : FileLaws → BootLaws → (files : Files) (p q : Place) (c : Command) → Alike p q → Transition.Transition files p c a → Transition.Transition files q c b → Same a b
   one_reply texts laws files p q c alike (does, comes, is) (again, comes_too, also) =

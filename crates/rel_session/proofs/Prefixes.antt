@@ -98,10 +98,3 @@ reached_with events end e size c of = by_events _ of.has
 pub stored : (events : Events) (end : ℕ) (list : Releases) (c : List ℕ) → list_after events ≡ Some list → IsImageAt c list end → IsStarted list c → IsStoredAs (certain events end) c
 stored events end list c after image started =
     record { events = events; has = inl (refl, image.ends); list = list; after = after; image_of = image.image_of; start = inl (list, after, started) }
-
--- the start record of the list that these events make
-pub started_list : (events : Events) (list : Releases) (c : List ℕ) → list_after events ≡ Some list → StartsBehind events c → IsStarted list c
-started_list events list c after (es, made_so, started) =
-    let same : Some es ≡ Some list = sym made_so ∙ after in
-    let one : es ≡ list = cc in
-    subst (λ l. IsStarted l c) one started

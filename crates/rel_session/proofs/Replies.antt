@@ -19,7 +19,7 @@ use Rattle.rel_records.specs.Limits.{is_small}
 use Rattle.rel_handler.specs.Moments.{Begins, BeginsAt, WritesNothing}
 use Rattle.rel_records.specs.Record.{makes as makes_record, body_of}
 use Rattle.rel_handler.specs.Refusals.{CommandRefused, CreateRefused, BootRefused, IsBootRefusal}
-use Rattle.rel_handler.specs.State.{disk_in, list_in, is_dead, end_in, IsSame}
+use Rattle.rel_handler.specs.State.{disk_in, list_in, is_dead, end_in, HasStarted, IsSame}
 use Rattle.rel_handler.specs.Taking.{commanded}
 use Rattle.rel_session.specs.declared.place.Place.{Place as PlaceInMemory}
 use Rattle.rel_session.specs.declared.place.Place.TheVariants as memory
@@ -35,13 +35,13 @@ use Rattle.rel_session.specs.Refusals.{Refusal, refusal_of, refusal_line, handle
 use Rattle.rel_session.specs.Refusals.Refusal.{full, exists, device, dead as dead_node}
 use Rattle.rel_session.specs.Run.{IsReached, Holds, Moments}
 use Rattle.rel_session.specs.Transition
-use Rattle.rel_session.specs.Transition.Action.{changes_node}
-use Rattle.rel_handler.specs.Commits.{Commits, IsDone, HasStarted}
+use Rattle.rel_session.specs.Transition.Action.{changes_node, tells_start}
+use Rattle.rel_handler.specs.Commits.{Commits, IsDone}
 use Rattle.rel_handler.proofs.CommandLemmas.{commanded_step}
 use Rattle.rel_session.proofs.DeviceLemmas.{IsDevice, weakened, still}
 use Rattle.rel_session.proofs.Histories.{events_of_image}
 use Rattle.rel_session.proofs.ListLemmas.{list_after-push}
-use Rattle.rel_session.proofs.Prefixes.{reached, reached_with, stored, started_list}
+use Rattle.rel_session.proofs.Prefixes.{reached, reached_with, stored}
 
 -- what an error became is the refusal
 pub told_so : (r : Result (String Global) RefusalInMemory) (why : RefusalInMemory) → IsErrAnd r (λ e. e ≡ why) → r ≡ Err why
@@ -122,7 +122,7 @@ module _ {D : Type 0} (v : Device D) (laws : IsDevice v) where
 
   -- A handler whose list is that of these events.
   pub runs_at : (h : Handler D) (events : Events) (end : ℕ) → is_dead h ≡ false → list_after events ≡ Some (list_in h) → end_in h ≡ end
-      → ((c : List ℕ) → v.may_leave (disk_in h) c → IsImageAt c (list_in h) (end_in h)) → HasStarted v h → IsAt v (memory.Made h) (running events end)
+      → ((c : List ℕ) → v.may_leave (disk_in h) c → IsImageAt c (list_in h) (end_in h)) → HasStarted v.may_leave h → IsAt v (memory.Made h) (running events end)
   runs_at h events end alive after ends images started = (
     λ c now. (stored events end (list_in h) c after (subst (IsImageAt c (list_in h)) ends (images c now)) (started c now), (list_in h, after, started c now)),
     alive,
@@ -143,7 +143,7 @@ module _ {D : Type 0} (v : Device D) (laws : IsDevice v) where
   -- a boot that is done
   module _ (old : PlaceInMemory D) (disk : D) (taken : disk ≡ disk_at old) (h : Handler D) (alive : is_dead h ≡ false)
       (image : IsImageAt (v.seen disk) (list_in h) (end_in h)) (again : booted (list_in h) ≡ list_in h)
-      (images : (c : List ℕ) → v.may_leave (disk_in h) c → IsImageAt c (list_in h) (end_in h)) (started : HasStarted v h)
+      (images : (c : List ℕ) → v.may_leave (disk_in h) c → IsImageAt c (list_in h) (end_in h)) (started : HasStarted v.may_leave h)
       (only : (es : Releases) → IsImageOf (v.seen disk) es → list_in h ≡ booted es)
       (leaves : LeavesOnly v disk (disk_in h) (λ c. v.may_leave disk c ⊎ IsRepairOf (v.seen disk) c))
       (stored_all : (s : Stored) → ((c : List ℕ) → v.may_leave disk c → IsStoredAs s c) → LeavesOnly v disk (disk_in h) (IsStoredAs s)) (counted : v.failures disk ≤ v.failures (disk_in h)) where
@@ -286,7 +286,7 @@ module _ {D : Type 0} (v : Device D) (laws : IsDevice v) where
     store_there s here = let of = here (v.seen disk) (laws.reads_an_image disk) in stores of.list of.image_of
 
     pub makes : (h : Handler D) → ((at : D) × BeginsAt v.seen v.may_leave v.moment v.left_since (doubted [] (made found.release)) disk (disk_in h) at)
-        → ((c : List ℕ) → v.may_leave (disk_in h) c → IsImageAt c (list_in h) (end_in h)) → HasStarted v h → list_in h ≡ entry found.release Permanent ∷ [] → is_dead h ≡ false → (holds_a_store (v.seen disk) ≡ true → ⊥)
+        → ((c : List ℕ) → v.may_leave (disk_in h) c → IsImageAt c (list_in h) (end_in h)) → HasStarted v.may_leave h → list_in h ≡ entry found.release Permanent ∷ [] → is_dead h ≡ false → (holds_a_store (v.seen disk) ≡ true → ⊥)
         → HasSpace first_end size → end_in h ≡ end_behind first_end size → v.failures disk ≤ v.failures (disk_in h) → (answer : List ℕ) → answer ≡ Transition.ok_line found.release.vsn
         → (p : Place) → IsAt v (memory.Idle disk) p → Replied v p (λ a. Transition.MakesNode p found a × (a.answer ≡ answer)) (memory.Idle disk) (memory.Made h)
     makes h begun images started list alive free fits ends counted answer is (closed s) at = absurd (free (store_there s at))
@@ -436,42 +436,37 @@ module _ {D : Type 0} (v : Device D) (laws : IsDevice v) where
           let of_list : releases_after events ≡ list_in h = ap list_or_none after in
           right events end a (subst (λ l. Transition.Changes events end change l (commanded change.event l) a) (sym of_list) (subst (λ r. Transition.Changes events end change (list_in h) r a) (sym is) done_so))
 
-      -- the start record is that of the list's permanent release
-      started_now : (events : Events) (end : ℕ) → Holds v (running events end) (disk_in h) → list_after events ≡ Some (list_in h) → HasStarted v h
-      started_now events end here after c now = started_list events (list_in h) c after (here c now).1
+      moments_at : (events : Events) → list_after events ≡ Some (list_in h) → LeavesOnly v (disk_in h) (disk_in new) (IsReached (settled events) (change.event ∷ []))
+      moments_at events after = weakened v (disk_in h) (disk_in new) _ _ (reached_with events (end_in h) change.event body_size) (commits.any_moment alive events after)
 
-      moments_at : (events : Events) → HasStarted v h → list_after events ≡ Some (list_in h) → LeavesOnly v (disk_in h) (disk_in new) (IsReached (settled events) (change.event ∷ []))
-      moments_at events started after = weakened v (disk_in h) (disk_in new) _ _ (reached_with events (end_in h) change.event body_size) (commits.any_moment alive started events after)
-
-      replies_done : (HasStarted v h → HasStarted v new) → IsDone v change.event body_size h new → (p : Place) → IsAt v (memory.Made h) p
+      replies_done : is_dead new ≡ false → IsDone v change.event body_size h new → (p : Place) → IsAt v (memory.Made h) p
           → Replied v p (λ a. P p a × (a.answer ≡ Transition.done_line (change.details (list_in h)))) (memory.Made h) (memory.Made new)
-      replies_done starts is_done (raw bytes) at = absurd at
-      replies_done starts is_done (closed s) at = absurd at
-      replies_done starts is_done (dead s) at = never (sym alive ∙ at.1)
-      replies_done starts is_done (running events end) (here, living, after, stop) =
-          let started = started_now events end here after in
+      replies_done works is_done (raw bytes) at = absurd at
+      replies_done works is_done (closed s) at = absurd at
+      replies_done works is_done (dead s) at = never (sym alive ∙ at.1)
+      replies_done works is_done (running events end) (here, living, after, stop) =
           let then = events ++ change.event ∷ [] in
           let end_then = end_behind end body_size in
-          let place = runs_at new then end_then is_done.works (list_after-push events change.event (list_in h) (list_in new) after (commanded_step change.event (list_in h) (list_in new) is_done.accepted))
-          (is_done.end ∙ ap (λ n. end_behind n body_size) stop) is_done.acknowledged (starts started) in
+          let place = runs_at new then end_then works (list_after-push events change.event (list_in h) (list_in new) after (commanded_step change.event (list_in h) (list_in new) is_done.accepted))
+          (is_done.end ∙ ap (λ n. end_behind n body_size) stop) is_done.acknowledged (commits.sound.started works) in
           let a = reply (Transition.done_line (change.details (list_in h))) (done (change.event ∷ [])) (running then end_then) in
           record {
             given = a;
             right = (right_for events end (Ok (list_in new)) a after is_done.accepted (inl (subst (λ n. HasSpace n body_size) stop is_done.fits, inl refl)), refl);
             at = place;
-            happens = record { moments = moments_at events started after; holds = place.0; cause = λ e. never e; counted = commits.counted };
+            happens = record { moments = moments_at events after; holds = place.0; cause = λ e. never e; counted = commits.counted };
           }
 
       -- it is done, and so answered
-      pub changes : (HasStarted v h → HasStarted v new) → IsDone v change.event body_size h new → (text : String Global) → string_bytes text ≡ Transition.done_line (change.details (list_in h)) → Answers v P (Ok text) (memory.Made h) (memory.Made new)
-      changes starts is_done text is p at =
-          let r = replies_done starts is_done p at in
+      pub changes : is_dead new ≡ false → IsDone v change.event body_size h new → (text : String Global) → string_bytes text ≡ Transition.done_line (change.details (list_in h)) → Answers v P (Ok text) (memory.Made h) (memory.Made new)
+      changes works is_done text is p at =
+          let r = replies_done works is_done p at in
           record { given = r.given; right = (r.right.0, r.right.1 ∙ sym is); at = r.at; happens = r.happens }
 
       -- it is done, and memory is refused for its answer
-      pub changes_untold : (HasStarted v h → HasStarted v new) → IsDone v change.event body_size h new → Answers v P (Err refusal.NoMemory) (memory.Made h) (memory.Made new)
-      changes_untold starts is_done p at =
-          let r = replies_done starts is_done p at in
+      pub changes_untold : is_dead new ≡ false → IsDone v change.event body_size h new → Answers v P (Err refusal.NoMemory) (memory.Made h) (memory.Made new)
+      changes_untold works is_done p at =
+          let r = replies_done works is_done p at in
           inl (record { given = r.given; right = r.right.0; at = r.at; happens = r.happens })
 
       -- It doesn't.
@@ -482,15 +477,14 @@ module _ {D : Type 0} (v : Device D) (laws : IsDevice v) where
       device_failed list allowed fits cause gone (dead s) at = never (sym alive ∙ at.1)
       device_failed list allowed fits cause gone (running events end) (here, living, after, stop) =
           let s = uncertain events end change.event body_size in
-          let started = started_now events end here after in
-          let leaves = subst (λ n. LeavesOnly v (disk_in h) (disk_in new) (IsStoredAs (uncertain events n change.event body_size))) stop (commits.any_moment alive started events after) in
+          let leaves = subst (λ n. LeavesOnly v (disk_in h) (disk_in new) (IsStoredAs (uncertain events n change.event body_size))) stop (commits.any_moment alive events after) in
           let holds : Holds v (dead s) (disk_in new) = λ c now. leaves.each c (laws.counts_now (disk_in new) (v.moment (disk_in h)) c leaves.later now) in
           let a = failed (Some change.event) (dead s) in
           record {
             given = a;
             right = (right_for events end (Ok list) a after allowed (inl (subst (λ n. HasSpace n body_size) stop fits, inr refl)), refl);
             at = (holds, gone);
-            happens = record { moments = moments_at events started after; holds = holds; cause = λ e. cause; counted = commits.counted };
+            happens = record { moments = moments_at events after; holds = holds; cause = λ e. cause; counted = commits.counted };
           }
 
       same_reply : (why : Refusal) (o : Result Releases HandlerError) → commanded change.event (list_in h) ≡ o → IsSame h new
@@ -557,9 +551,15 @@ module _ {D : Type 0} (v : Device D) (laws : IsDevice v) where
   idle_sets files path (running events end) idle = absurd (idle events end refl)
   idle_sets files path (dead s) idle = (Transition.refuses dead_node, refl, refl)
 
-  -- and so is a change
+  -- and so are a change and `start`
   pub idle_changes : (c : Transition.Change) (p : Place) → ((events : Events) (end : ℕ) → p ≡ running events end → ⊥) → Transition.Acts p (changes_node c) (refused dead_node p)
   idle_changes c (raw bytes) idle = refl
   idle_changes c (closed s) idle = refl
   idle_changes c (running events end) idle = absurd (idle events end refl)
   idle_changes c (dead s) idle = refl
+
+  pub idle_tells : (p : Place) → ((events : Events) (end : ℕ) → p ≡ running events end → ⊥) → Transition.Acts p tells_start (refused dead_node p)
+  idle_tells (raw bytes) idle = refl
+  idle_tells (closed s) idle = refl
+  idle_tells (running events end) idle = absurd (idle events end refl)
+  idle_tells (dead s) idle = refl

@@ -18,7 +18,7 @@ use Rattle.rel_session.specs.Files.{files_of, files_behind, give}
 use Rattle.rel_session.specs.InMemory.{disk_at, IsAt, Replied, NothingDone, Answers, TellsReply, FollowsCommand, IsLine, IsText}
 use Rattle.rel_session.specs.Node.{Place, Reply, reply, nothing}
 use Rattle.rel_session.specs.Refusals.{refusal_of, refusal_line}
-use Rattle.rel_session.specs.Transition.{Transition, installed_line}
+use Rattle.rel_session.specs.Transition.{Transition, ok_line, installed_line}
 use Rattle.rel_session.specs.Transition.Action.{answers}
 use Rattle.rel_session.proofs.DeviceLemmas.{IsDevice}
 use Rattle.rel_session.proofs.Replies.{stays, leaves_all}
@@ -131,3 +131,9 @@ pub tells_installed : (line : Result (String Global) AllocError) (printed other 
 tells_installed (Err e) printed other told is = tt
 tells_installed (Ok s) printed other told is =
     told ∙ ap (λ t. codes "ok " ++ t) (sym (append_assoc printed (codes " [] []") (codes "\n"))) ∙ ap (λ t. codes "ok " ++ ((t ++ codes " [] []") ++ codes "\n")) is
+
+-- the line of a start
+pub tells_versions : (line : Result (String Global) AllocError) (erts vsn : List ℕ) → IfOk line (λ s. string_bytes s ≡ codes "ok " ++ (erts ++ (codes " " ++ (vsn ++ codes "\n"))))
+    → IfOk line (λ s. string_bytes s ≡ ok_line (erts ++ (codes " " ++ vsn)))
+tells_versions (Err e) erts vsn told = tt
+tells_versions (Ok s) erts vsn told = told ∙ ap (λ t. codes "ok " ++ t) (sym (append_assoc erts (codes " " ++ vsn) (codes "\n")))

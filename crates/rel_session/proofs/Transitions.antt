@@ -13,7 +13,7 @@ use Rattle.rel_session.specs.Node.{Place, Reply, reply, nothing, releases_after}
 use Rattle.rel_session.specs.Node.Place.{raw, closed, running, dead}
 use Rattle.rel_session.specs.RunLaws.{MayBe, acknowledged_at, IsKnown, Finds, Keeps}
 use Rattle.rel_session.specs.Transition
-use Rattle.rel_session.specs.Transition.Action.{answers, makes_node, changes_node, boots_node}
+use Rattle.rel_session.specs.Transition.Action.{answers, makes_node, changes_node, boots_node, tells_start}
 
 same_known : (p : Place) (es : Events) → es ≡ [] → IsKnown p ⊎ (es ≢ []) → IsKnown p
 same_known p es none (inl known) = known
@@ -99,6 +99,11 @@ acts (closed s) (changes_node c) a is = still_as (closed s) _ a is
 acts (running events end) (changes_node c) a is = changes events end c (releases_after events) (commanded c.event (releases_after events)) a is
 acts (dead s) (changes_node c) a is = still_as (dead s) _ a is
 acts p boots_node a is = boots p a is
+acts (running events end) tells_start a (inl is) = still_as (running events end) _ a is
+acts (running events end) tells_start a (inr is) = keeps_as (running events end) a _ is (keeps_known (running events end) _ events refl (sym (append-nil events)) tt)
+acts (raw bytes) tells_start a is = still_as (raw bytes) _ a is
+acts (closed s) tells_start a is = still_as (closed s) _ a is
+acts (dead s) tells_start a is = still_as (dead s) _ a is
 
 pub each_keeps : (files : Files) (p : Place) (c : Command) (a : Reply) → Transition.Transition files p c a → Keeps p a
 each_keeps files p c a (does, comes, is) = acts p does a is

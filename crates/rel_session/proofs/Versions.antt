@@ -13,6 +13,7 @@ use Rattle.rel_list.specs.Event.Event.{made, unpacked, installed, made_permanent
 use Rattle.rel_records.specs.Lists.{HaveVersions}
 use Rattle.rel_records.specs.Record.{makes as makes_record, body_of}
 use Rattle.rel_handler.proofs.Commits.{have_versions}
+use Rattle.rel_handler.proofs.RepairLemmas.{permanent_versions}
 use Rattle.rel_handler.specs.declared.error.HandlerError.{HandlerError}
 use Rattle.rel_handler.specs.declared.error.HandlerError.TheVariants as handler_error
 use Rattle.rel_handler.specs.Events.{Events, Stored, MayHave, certain, uncertain}
@@ -20,18 +21,18 @@ use Rattle.rel_handler.specs.Image.{holds_a_store}
 use Rattle.rel_handler.specs.Taking.{commanded}
 use Rattle.rel_session.specs.Commands.{Command}
 use Rattle.rel_session.specs.Files.{Files, Found}
-use Rattle.rel_session.specs.Node.{Place, Reply, releases_after}
+use Rattle.rel_session.specs.Node.{Place, Reply, releases_after, list_or_none}
 use Rattle.rel_session.specs.Node.Place.{raw, closed, running, dead}
 use Rattle.rel_session.specs.Refusals.{refusal_of, refusal_line, handler_refusal}
 use Rattle.rel_session.specs.Refusals.Refusal.{device, bad_status}
 use Rattle.rel_session.specs.AnswerLaws.{is_one_line, HasLinePath, HasVersionsAt}
 use Rattle.rel_session.specs.RunLaws.{MayBe}
 use Rattle.rel_session.specs.Transition
-use Rattle.rel_session.specs.Transition.Action.{answers, makes_node, changes_node, boots_node}
+use Rattle.rel_session.specs.Transition.Action.{answers, makes_node, changes_node, boots_node, tells_start}
 use Rattle.rel_session.proofs.ActionLemmas.{OfEvent, one_line, IsGoodAction, good_action}
 use Rattle.rel_session.proofs.ListLemmas.{list_after-more}
 use Rattle.rel_session.proofs.Transitions.{may_have}
-use Rattle.rel_session.proofs.AnswerLines.{IsWhole, ok_whole, done_whole, refusal_whole, boot_line_whole}
+use Rattle.rel_session.proofs.AnswerLines.{IsWhole, ok_whole, done_whole, refusal_whole, boot_line_whole, append_plain}
 
 more_versions : (es : Releases) (e : Entry) → HaveVersions es → HasVersions e.release → HaveVersions (es ++ e ∷ [])
 more_versions [] e all one = (one, tt)
@@ -177,6 +178,24 @@ boots (running events end) all a is = boots_store (certain events end) only a is
     only es l (inr same) after = all l (ap list_after (sym same) ∙ after)
 boots (dead s) all a is = boots_store s all a is
 
+-- the versions of the permanent release
+start_plain : (es : Releases) → HaveVersions es → is_one_line (Transition.start_versions (permanent es)) ≡ true
+start_plain es all = go (permanent es) refl
+  where
+    go : (o : Option Release) → permanent es ≡ o → is_one_line (Transition.start_versions o) ≡ true
+    go None e = refl
+    go (Some r) e =
+        let of = permanent_versions es r all e in
+        append_plain r.erts (codes " " ++ r.vsn) (one_line r.erts of.erts) (append_plain (codes " ") r.vsn refl (one_line r.vsn of.own))
+
+-- each list of these events has versions
+listed_versions : (events : Events) → OfList events → HaveVersions (releases_after events)
+listed_versions events all = go (list_after events) all
+  where
+    go : (o : Option Releases) → ((l : Releases) → o ≡ Some l → HaveVersions l) → HaveVersions (list_or_none o)
+    go None each = tt
+    go (Some l) each = each l refl
+
 acts : (p : Place) (does : Transition.Action) → IsGoodAction does → HasVersionsAt p → (a : Reply) → Transition.Acts p does a → IsGood a
 acts p (answers text) good all a is = good_as a _ is (good, all)
 acts p (makes_node found) good all a is = makes p found good all a is
@@ -185,6 +204,15 @@ acts (raw x) (changes_node c) good all a is = good_as a _ is ((λ behind. refl),
 acts (closed s) (changes_node c) good all a is = good_as a _ is ((λ behind. refl), all)
 acts (dead s) (changes_node c) good all a is = good_as a _ is ((λ behind. refl), all)
 acts p boots_node good all a is = boots p all a is
+acts (running events end) tells_start good all a (inl is) = good_as a _ is (ok_whole _ (start_plain (releases_after events) (listed_versions events all)), all)
+acts (running events end) tells_start good all a (inr is) = good_as a _ is (device_line, only)
+  where
+    only : (es : Events) (l : Releases) → MayBe (certain events end) es → list_after es ≡ Some l → HaveVersions l
+    only es l (inl same) after = all l (ap list_after (sym same) ∙ after)
+    only es l (inr same) after = all l (ap list_after (sym same) ∙ after)
+acts (raw x) tells_start good all a is = good_as a _ is ((λ behind. refl), all)
+acts (closed s) tells_start good all a is = good_as a _ is ((λ behind. refl), all)
+acts (dead s) tells_start good all a is = good_as a _ is ((λ behind. refl), all)
 
 pub each_good : (files : Files) (p : Place) (c : Command) → HasLinePath c → HasVersionsAt p → (a : Reply) → Transition.Transition files p c a → IsGood a
 each_good files p c line all a (does, comes, is) = acts p does (good_action files p c does line comes) all a is

@@ -34,6 +34,7 @@ pub data Command : Type 0 where
   permanent : List ℕ → Command
   remove : List ℕ → Command
   boot : Command
+  start : Command
   releases : Command
   quit : Command
   bad : Command
@@ -82,6 +83,7 @@ parse_path_command word words =
 abbrev pub parse_command : List ℕ → List (List ℕ) → ParsedLine
 parse_command word words =
     if bytes_eq word (codes "boot") then without_words words (whole_command boot)
+    else if bytes_eq word (codes "start") then without_words words (whole_command start)
     else if bytes_eq word (codes "releases") then without_words words (whole_command releases)
     else if bytes_eq word (codes "quit") then without_words words (whole_command quit)
     else parse_path_command word words
@@ -143,6 +145,7 @@ command_of (memory.Install v) = install (string_bytes v)
 command_of (memory.Permanent v) = permanent (string_bytes v)
 command_of (memory.Remove v) = remove (string_bytes v)
 command_of memory.Boot = boot
+command_of memory.Start = start
 command_of memory.Releases = releases
 command_of memory.Quit = quit
 command_of memory.Bad = bad

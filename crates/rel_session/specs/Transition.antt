@@ -1,8 +1,8 @@
 -- What a node replies to a command: what the command comes to, and what the node does then.
-use Rattle.std.specs.Prelude.{◌≡◌, ◌⊎◌, ℕ, Bool, true, false, List, [], ◌∷◌, ◌++◌, length, codes, None, Some, Result, Ok, Err}
+use Rattle.std.specs.Prelude.{◌≡◌, ◌⊎◌, ℕ, Bool, true, false, List, [], ◌∷◌, ◌++◌, length, codes, Option, None, Some, Result, Ok, Err}
 use Rattle.erl_term.specs.Printing.{text_of}
 use Rattle.rel_files.specs.Release.{Release}
-use Rattle.rel_list.specs.Releases.{Releases, running as running_release}
+use Rattle.rel_list.specs.Releases.{Releases, running as running_release, permanent as permanent_release}
 use Rattle.rel_list.specs.Event.{Event, list_after}
 use Rattle.rel_list.specs.Event.Event.{made, unpacked, installed, made_permanent, removed, boot as booting}
 use Rattle.rel_records.specs.Record.{makes, adds, body_of}
@@ -15,7 +15,7 @@ use Rattle.rel_handler.specs.Refusals.{IsBootRefusal}
 use Rattle.rel_handler.specs.Taking.{commanded, change_size}
 pub use Rattle.rel_handler.specs.State.{version_of}
 use Rattle.rel_session.specs.Commands.{Command}
-use Rattle.rel_session.specs.Commands.Command.{file, create, set_unpacked, install, permanent, remove, boot, releases, quit, bad}
+use Rattle.rel_session.specs.Commands.Command.{file, create, set_unpacked, install, permanent, remove, boot, start, releases, quit, bad}
 use Rattle.rel_session.specs.Files.{Files, Found, IsFound}
 use Rattle.rel_session.specs.Listing.{listing, text_value}
 use Rattle.rel_session.specs.Node.{Place, releases_after, Reply, reply, refused, failed, nothing, done, failed_with}
@@ -42,12 +42,13 @@ pub record Change : Type 0 where
   pub size : Releases → ℕ
   pub details : Releases → List ℕ
 
--- What a command comes to, once its words and its file are known: an answer alone, or one of three things that a node does.
+-- What a command comes to, once its words and its file are known: an answer alone, or one of four things that a node does.
 pub data Action : Type 0 where
   answers : List ℕ → Action
   makes_node : Found → Action
   changes_node : Change → Action
   boots_node : Action
+  tells_start : Action
 
 abbrev pub refuses : Refusal → Action
 refuses why = answers (refusal_line why)
@@ -108,6 +109,7 @@ ComesTo files p (install vsn) does = does ≡ changes_node (installation vsn)
 ComesTo files p (permanent vsn) does = does ≡ changes_node (permanence vsn)
 ComesTo files p (remove vsn) does = does ≡ changes_node (removal vsn)
 ComesTo files p boot does = does ≡ boots_node
+ComesTo files p start does = does ≡ tells_start
 ComesTo files p releases does = does ≡ answers (listed p)
 ComesTo files p bad does = does ≡ answers (codes "error session 1 BadCommand\n")
 ComesTo files p quit does = ⊥
@@ -168,6 +170,17 @@ Boots (closed s) a = BootsStore s a
 Boots (running events end) a = BootsStore (certain events end) a
 Boots (dead s) a = BootsStore s a
 
+-- what a node starts whose permanent release is this: the version of the runtime system, and its own
+abbrev pub start_versions : Option Release → List ℕ
+start_versions None = []
+start_versions (Some r) = r.erts ++ (codes " " ++ r.vsn)
+
+-- The start record is read, which is that of the permanent release, or the device failed in it.
+abbrev pub TellsStart : Events → ℕ → Reply → Type 0
+TellsStart events end a =
+    (a ≡ reply (ok_line (start_versions (permanent_release (releases_after events)))) nothing (running events end))
+    ⊎ (a ≡ failed None (dead (certain events end)))
+
 -- What the node replies then.
 abbrev pub Acts : Place → Action → Reply → Type 0
 Acts p (answers text) a = a ≡ reply text nothing p
@@ -176,6 +189,8 @@ Acts (running events end) (changes_node c) a =
     Changes events end c (releases_after events) (commanded c.event (releases_after events)) a
 Acts p (changes_node c) a = a ≡ refused dead_node p
 Acts p boots_node a = Boots p a
+Acts (running events end) tells_start a = TellsStart events end a
+Acts p tells_start a = a ≡ refused dead_node p
 
 -- The reply to a command.
 abbrev pub Transition : Files → Place → Command → Reply → Type 0

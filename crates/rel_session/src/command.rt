@@ -18,6 +18,8 @@ pub enum Command {
     Remove(String),
     /// Boots the node on the disk.
     Boot,
+    /// Tells what the node starts.
+    Start,
     /// Lists the node's releases.
     Releases,
     /// Ends the session.

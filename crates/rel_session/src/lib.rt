@@ -33,6 +33,7 @@ mod node;
 mod parsed_line;
 mod place;
 mod refusal;
+mod start;
 mod words;
 
 pub use command_loop::session;

@@ -1,7 +1,7 @@
 //! The node of a session.
 ghost use Rattle.std.specs.Prelude.{◌≡◌, codes, None, Some, Ok, Err, string_bytes, IfOk, IfErr, OnOk, MatchResult};
 ghost use Rattle.rel_session.specs.Commands.{command_of, given_of};
-ghost use Rattle.rel_session.specs.Commands.Command.{file as file_given, create, set_unpacked, install, permanent, remove, boot};
+ghost use Rattle.rel_session.specs.Commands.Command.{file as file_given, create, set_unpacked, install, permanent, remove, boot, start};
 ghost use Rattle.rel_session.specs.Files.{files_of, no_files, give};
 ghost use Rattle.rel_session.specs.InMemory.{Answers, IsLine, IsText};
 ghost use Rattle.rel_session.specs.Transition.{Transition};
@@ -65,6 +65,7 @@ impl<D: Disk> Node<D> {
             Command::Permanent(vsn) => self.make_permanent(alloc, vsn.as_str()),
             Command::Remove(vsn) => self.remove(alloc, vsn.as_str()),
             Command::Boot => self.boot(alloc),
+            Command::Start => self.start(alloc),
             Command::Releases => {
                 let lines = self.place.releases(alloc);
                 (self, text_of(lines))
@@ -194,6 +195,18 @@ impl<D: Disk> Node<D> {
         let Node { place, files } = self;
         let (place, line) = place.boot(alloc);
         (Node { place, files }, text_of(line))
+    }
+
+    /// Tells what the node starts.
+    fn start(self, alloc: Global) -> (Node<D>, Result<Option<String>, SessionError>)
+        requires { IsSoundPlace D.seen D.may_leave self.place }
+        ensures sound { IsSoundPlace D.seen D.may_leave result.0.place }
+        ensures followed { FollowsCommand D.Disk start result.1 self result.0 }
+        ensures memory { IfErr result.1 (λ e. e ≡ SessionError.NoMemory) }
+    {
+        let Node { place, files } = self;
+        let (place, told) = place.start(alloc);
+        (Node { place, files }, line_of(alloc, told))
     }
 }
 

@@ -1,14 +1,12 @@
 //! What a line says where a command may stand.
 ghost use Rattle.std.specs.Prelude.{◌≡◌, ℕ, List, map, string_bytes, IfOk, MatchOption};
-ghost use Rattle.std.specs.List.{list_all};
 ghost use Rattle.std.specs.Option.{option_map};
-ghost use Rattle.erl_term.specs.Lexing.{is_in};
-ghost use Rattle.rel_files.specs.Name.{is_text};
 ghost use Rattle.rel_session.specs.Commands.{is_blank as blank, path_in as path_of, version_in as version_of};
 
 use crate::command::Command;
 use crate::line::Line;
 use crate::words::words_in;
+use rel_files::text::is_version;
 use std::alloc::{AllocError, Global};
 
 /// How many bytes the line of a command has at most.
@@ -73,6 +71,7 @@ impl ParsedLine {
     {
         match word {
             "boot" => Ok(ParsedLine::without_words(words, Command::Boot)),
+            "start" => Ok(ParsedLine::without_words(words, Command::Start)),
             "releases" => Ok(ParsedLine::without_words(words, Command::Releases)),
             "quit" => Ok(ParsedLine::without_words(words, Command::Quit)),
             _ => ParsedLine::of_path_command(alloc, word, words),
@@ -155,21 +154,6 @@ fn version_in(alloc: Global, words: &[&str]) -> Result<Option<String>, AllocErro
         [vsn] if is_version(vsn) => Ok(Some(String::from_str(alloc, vsn)?)),
         _ => Ok(None),
     }
-}
-
-// Whether it is the text of a version: 1 to 62 characters from ! to ~.
-fn is_version(word: &str) -> bool
-    ensures { result ≡ is_text 0x21 word.now }
-{
-    let bytes = word.as_bytes();
-    bytes.len() >= 1 && bytes.len() <= 62 && is_visible(bytes)
-}
-
-// Whether each byte is from ! to ~.
-fn is_visible(bytes: &[u8]) -> bool
-    ensures { result ≡ list_all (is_in 0x21 0x7E) bytes.now }
-{
-    bytes.iter().all(|byte| *byte >= b'!' && *byte <= b'~')
 }
 
 // Whether there is nothing to see in it.

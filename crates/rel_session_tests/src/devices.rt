@@ -273,3 +273,18 @@ fn each_device_call_of_a_permanence_fails(rt: HostRuntime) -> Result<(), Fail> {
     }
     Ok(())
 }
+
+/// What a session answers in which the call behind those of the two releases fails, and what a next one finds.
+const START_FAILED: &str =
+    "ok\nok\nok A\nok B\nerror handler 16 Device\nerror handler 18 Dead\nok A\nok 14.2 A\n";
+
+/// The start record isn't read: nothing is in doubt, and a boot tells it.
+#[test]
+fn start_on_a_failing_device(rt: HostRuntime) -> Result<(), Fail> {
+    let alloc = rt.alloc();
+    let input = joined(alloc, [TWO_RELEASES, "start\nstart\nboot\nstart\n", ""])?;
+    let disk = FailDisk::new(empty_disk(alloc)?, 12);
+    let ran = session_on(alloc, disk, input.as_slice())?;
+    same(&rt, ran.written.as_slice(), START_FAILED.as_bytes());
+    Ok(())
+}

@@ -23,6 +23,9 @@ install C
 install D
 remove D
 releases
+permanent C
+start
+releases
 boot
 releases
 =>ok
@@ -42,9 +45,14 @@ error handler 1 NoSuchRelease
 {"ch_rel","A",["ch_app-1"],permanent}
 {"ch_rel","C",["ch_app-2"],current}
 ok 2
-ok A
-{"ch_rel","A",["ch_app-1"],permanent}
-{"ch_rel","C",["ch_app-2"],unpacked}
+ok
+ok 14.2 C
+{"ch_rel","A",["ch_app-1"],old}
+{"ch_rel","C",["ch_app-2"],permanent}
+ok 2
+ok C
+{"ch_rel","A",["ch_app-1"],old}
+{"ch_rel","C",["ch_app-2"],permanent}
 ok 2
 "#;
 
@@ -95,19 +103,23 @@ const PERMANENT: &str = r#"file a.rel
 {release,{"ch_rel","A"},{erts,"14.2"},[{ch_app,"1"}]}.
 .end
 file b.rel
-{release,{"ch_rel","B"},{erts,"14.2"},[{ch_app,"2"}]}.
+{release,{"ch_rel","B"},{erts,"15"},[{ch_app,"2"}]}.
 .end
 create a.rel
 permanent A
+start
 set_unpacked b.rel
 permanent B
 permanent D
 install B
+start
 permanent B
+start
 permanent B
 releases
 install A
 boot
+start
 permanent A
 remove A
 releases
@@ -117,17 +129,21 @@ permanent A B
 ok
 ok A
 error handler 4 BadStatus permanent
+ok 14.2 A
 ok B
 error handler 4 BadStatus unpacked
 error handler 1 NoSuchRelease
 ok "A" [] []
+ok 14.2 A
 ok
+ok 15 B
 error handler 4 BadStatus permanent
 {"ch_rel","A",["ch_app-1"],old}
 {"ch_rel","B",["ch_app-2"],permanent}
 ok 2
 ok "B" [] []
 ok B
+ok 15 B
 error handler 4 BadStatus unpacked
 ok
 {"ch_rel","B",["ch_app-2"],permanent}
@@ -209,10 +225,11 @@ install  B\n=>error session 1 BadCommand\n|\
 install \u{e9}\n=>error session 1 BadCommand\n|\
 remove\n=>error session 1 BadCommand\n|\
 remove B C\n=>error session 1 BadCommand\n|\
-remove \n=>error session 1 BadCommand\n";
+remove \n=>error session 1 BadCommand\n|\
+start B\n=>error session 1 BadCommand\n";
 
 const NO_NODE: &str = "\
-install B\nremove B\n=>error handler 18 Dead\nerror handler 18 Dead\n";
+install B\nremove B\nstart\n=>error handler 18 Dead\nerror handler 18 Dead\nerror handler 18 Dead\n";
 
 #[test]
 fn words_and_no_node(rt: HostRuntime) -> Result<(), Fail> {

@@ -1,10 +1,10 @@
-use Rattle.std.proofs.Common.{inl, inr, ⊎_elim, refl, sym, subst, ap, ◌∙◌}
+use Rattle.std.proofs.Common.{inl, inr, ⊎_elim, sym, subst, ap, ◌∙◌}
 use Rattle.rel_records.proofs.Progress.{bodies_in}
 use Rattle.rel_store.specs.Contents.{HasOnlyRead, IsSyncedAt}
 use Rattle.rel_store.specs.Records.{end_of}
 use Rattle.rel_store.specs.State.{records_in}
 use Rattle.rel_handler.specs.Refusals.{told_boot}
-use Rattle.rel_handler.proofs.Boots.{IsLack, made_again, sound_so, image_so, read_so, only_memory, only_reads, settles_so}
+use Rattle.rel_handler.proofs.Boots.{IsLack, made_again, image_so, read_so, only_memory, only_reads, settles_so}
 use Rattle.rel_handler.proofs.Images.{each_image, settled_end, booted_image}
 use Rattle.rel_handler.proofs.booting.open.Goals as goal
 
@@ -17,8 +17,7 @@ returns-in-Ok-read_list-clause-opened g c =
     let makes = made_again (bodies_in c.records.result.now) _ list c.records.ensures c.in-Ok-read_list.ensures.made in
     let (at, synced) = ⊎_elim (λ never. absurd never) (λ synced. synced) c.in-Ok.ensures.synced in
     record {
-      sound = sound_so g.D.Disk.seen g.D.Disk.may_leave store list c.in-Ok.ensures.sound c.in-Ok.ensures.settled makes;
-      works = refl;
+      ready = record { store = c.in-Ok.ensures.settled; list = makes };
       only_read = only_reads g.D.Disk.seen g.D.Disk.may_leave g.D.Disk.moment g.D.Disk.left_since g.met.D.Disk.counts_now c.args.disk store.disk synced.same c.in-Ok.ensures.any_moment;
       image = image;
       again = again;

@@ -6,21 +6,24 @@ use Rattle.rel_store.specs.State.{records_in}
 use Rattle.start_record.specs.Text.{AreVersions, versions_of}
 use Rattle.rel_handler.specs.Booting.{RepairRefused}
 use Rattle.rel_handler.specs.State.{list_in}
-use Rattle.rel_handler.specs.declared.error.BootError.TheVariants.{NoMemory}
-use Rattle.rel_handler.proofs.Commits.{have_versions, read_nothing, refuses_with}
-use Rattle.rel_handler.proofs.RepairLemmas.{one_is_permanent, permanent_versions, right_already, written_over, started_now}
+use Rattle.rel_handler.specs.declared.error.BootError.TheVariants.{Device, NoMemory}
+use Rattle.rel_handler.proofs.Commits.{have_versions, read_nothing, refuses_with, failed_behind}
+use Rattle.rel_handler.proofs.RepairLemmas.{one_is_permanent, repairs_nothing, permanent_versions, right_already, written_over, started_now}
 use Rattle.rel_handler.proofs.booting.repair.Goals as goal
 
 -- a list that records make has a permanent release
 pub unreachable-requires : goal.unreachable-requires
 unreachable-requires g c =
     let h = c.args.handler.now in
-    one_is_permanent (list_in h) (sym (one-booted (list_in h)) ∙ (c.requires.sound.list c.requires.works).1) (sym c.in_default.ensures)
+    one_is_permanent (list_in h) (sym (one-booted (list_in h)) ∙ c.requires.list.1) (sym c.in_default.ensures)
 
 pub returns-in_err-start-clause-refused : goal.returns-in_err-start-clause-refused
 returns-in_err-start-clause-refused g c =
     let h = c.args.handler.now in
     refuses_with (RepairRefused g.D.Disk h h) c.from_residual.result NoMemory c.from_residual.ensures (read_nothing g.D.Disk h (g.met.D.Disk.only_now _))
+
+pub returns-in_err-start-clause-repairs : goal.returns-in_err-start-clause-repairs
+returns-in_err-start-clause-repairs g c = repairs_nothing g.D.Disk c.args.handler.now (g.met.D.Disk.only_now _)
 
 -- the start record is right
 pub returns-then-branch-clause-started : goal.returns-then-branch-clause-started
@@ -28,9 +31,9 @@ returns-then-branch-clause-started g c =
     let h = c.args.handler.now in
     let r = release_of c.in-Some.release.now in
     let listed : permanent (list_in h) ≡ Some r = sym c.in-Some.ensures in
-    let has = permanent_versions (list_in h) r (have_versions (records_in h.store) (list_in h) (c.requires.sound.list c.requires.works)) listed in
+    let has = permanent_versions (list_in h) r (have_versions (records_in h.store) (list_in h) c.requires.list) listed in
     let are = subst AreVersions (sym c.in_ok-start.ensures) (has.erts, has.own) in
-    right_already g.D.Disk h c.starts.new.handler c.in_ok-starts.ensures.read (versions_of c.in_ok-start.start) r are c.in_ok-start.ensures listed (c.in_ok-starts.ensures.works) (c.in_ok-starts.ensures.value.0 c.if-branch.true)
+    right_already g.D.Disk h c.starts.new.handler c.in_ok-starts.ensures.read (versions_of c.in_ok-start.start) r are c.in_ok-start.ensures listed c.in_ok-starts.ensures.ready (c.in_ok-starts.ensures.value.0 c.if-branch.true)
 
 -- it is written
 pub commit_start-requires-clause-versions : goal.commit_start-requires-clause-versions
@@ -38,7 +41,7 @@ commit_start-requires-clause-versions g c =
     let h = c.args.handler.now in
     let r = release_of c.in-Some.release.now in
     let listed : permanent (list_in h) ≡ Some r = sym c.in-Some.ensures in
-    let has = permanent_versions (list_in h) r (have_versions (records_in h.store) (list_in h) (c.requires.sound.list c.requires.works)) listed in
+    let has = permanent_versions (list_in h) r (have_versions (records_in h.store) (list_in h) c.requires.list) listed in
     let are = subst AreVersions (sym c.in_ok-start.ensures) (has.erts, has.own) in
     are
 
@@ -47,16 +50,21 @@ returns-in_err-commit_start-clause-repairs g c =
     let h = c.args.handler.now in
     let r = release_of c.in-Some.release.now in
     let listed : permanent (list_in h) ≡ Some r = sym c.in-Some.ensures in
-    let has = permanent_versions (list_in h) r (have_versions (records_in h.store) (list_in h) (c.requires.sound.list c.requires.works)) listed in
+    let has = permanent_versions (list_in h) r (have_versions (records_in h.store) (list_in h) c.requires.list) listed in
     let are = subst AreVersions (sym c.in_ok-start.ensures) (has.erts, has.own) in
     written_over g.D.Disk h c.starts.new.handler c.in_ok-starts.ensures.read (versions_of c.in_ok-start.start) r are c.in_ok-start.ensures listed c.commit_start.new.self c.commit_start.ensures.keeps
+
+pub returns-in_err-commit_start-clause-refused : goal.returns-in_err-commit_start-clause-refused
+returns-in_err-commit_start-clause-refused g c =
+    refuses_with (RepairRefused g.D.Disk c.args.handler.now c.commit_start.new.self) c.from_residual-in_err-commit_start.result Device c.from_residual-in_err-commit_start.ensures
+    (failed_behind _ _ _ c.in_ok-starts.ensures.read.counted c.commit_start.ensures.keeps.counted c.in_err-commit_start.ensures.failed)
 
 pub returns-clause-repairs : goal.returns-clause-repairs
 returns-clause-repairs g c =
     let h = c.args.handler.now in
     let r = release_of c.in-Some.release.now in
     let listed : permanent (list_in h) ≡ Some r = sym c.in-Some.ensures in
-    let has = permanent_versions (list_in h) r (have_versions (records_in h.store) (list_in h) (c.requires.sound.list c.requires.works)) listed in
+    let has = permanent_versions (list_in h) r (have_versions (records_in h.store) (list_in h) c.requires.list) listed in
     let are = subst AreVersions (sym c.in_ok-start.ensures) (has.erts, has.own) in
     written_over g.D.Disk h c.starts.new.handler c.in_ok-starts.ensures.read (versions_of c.in_ok-start.start) r are c.in_ok-start.ensures listed c.commit_start.new.self c.commit_start.ensures.keeps
 
@@ -69,6 +77,6 @@ returns-clause-started g c =
     let h = c.args.handler.now in
     let r = release_of c.in-Some.release.now in
     let listed : permanent (list_in h) ≡ Some r = sym c.in-Some.ensures in
-    let has = permanent_versions (list_in h) r (have_versions (records_in h.store) (list_in h) (c.requires.sound.list c.requires.works)) listed in
+    let has = permanent_versions (list_in h) r (have_versions (records_in h.store) (list_in h) c.requires.list) listed in
     let are = subst AreVersions (sym c.in_ok-start.ensures) (has.erts, has.own) in
     started_now g.D.Disk h c.starts.new.handler c.in_ok-starts.ensures.read (versions_of c.in_ok-start.start) r are c.in_ok-start.ensures listed c.commit_start.new.self c.commit_start.ensures.keeps c.in_ok-commit_start.ensures.acknowledged

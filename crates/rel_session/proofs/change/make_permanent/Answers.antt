@@ -38,4 +38,4 @@ pub returns-clause-committed : goal.returns-clause-committed
 returns-clause-committed g c =
     let laws : IsDevice g.D.Disk = record { reads_an_image = g.met.D.Disk.reads_an_image; counts_now = g.met.D.Disk.counts_now; only_now = g.met.D.Disk.only_now } in
     changes g.D.Disk laws _ c.args.handler.now (search rules) (permanence c.args.vsn.now) (λ events end a is. is) c.make_permanent.new.self
-    c.in_ok-make_permanent.ensures.commits (λ old. c.in_ok-make_permanent.ensures.started) c.in_ok-make_permanent.ensures.done c.in_ok-line.line (search rules)
+    c.in_ok-make_permanent.ensures.commits c.in_ok-make_permanent.ensures.works c.in_ok-make_permanent.ensures.done c.in_ok-line.line (search rules)

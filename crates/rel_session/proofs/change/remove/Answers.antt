@@ -38,4 +38,4 @@ pub returns-clause-removed : goal.returns-clause-removed
 returns-clause-removed g c =
     let laws : IsDevice g.D.Disk = record { reads_an_image = g.met.D.Disk.reads_an_image; counts_now = g.met.D.Disk.counts_now; only_now = g.met.D.Disk.only_now } in
     changes g.D.Disk laws _ c.args.handler.now (search rules) (removal c.args.vsn.now) (λ events end a is. is) c.remove_release.new.self
-    c.in_ok-remove_release.ensures.commits (c.in_ok-remove_release.ensures.done.started refl) c.in_ok-remove_release.ensures.done c.in_ok-line.line (search rules)
+    c.in_ok-remove_release.ensures.commits c.in_ok-remove_release.ensures.works c.in_ok-remove_release.ensures.done c.in_ok-line.line (search rules)

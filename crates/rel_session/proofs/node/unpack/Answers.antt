@@ -54,4 +54,4 @@ returns-clause-unpacked g c =
     let new = c.set_unpacked.new.self in
     let found = found_of c.in_ok-file.file in
     changes g.D.Disk laws _ h (search rules) (unpacked_change found) (λ events end a is. (changes_node (unpacked_change found), (Ok found, c.in_ok-file.ensures.found, refl), is)) new
-    c.in_ok-set_unpacked.ensures.commits (c.in_ok-set_unpacked.ensures.done.started refl) c.in_ok-set_unpacked.ensures.done c.in_ok-line.line (search rules)
+    c.in_ok-set_unpacked.ensures.commits c.in_ok-set_unpacked.ensures.works c.in_ok-set_unpacked.ensures.done c.in_ok-line.line (search rules)

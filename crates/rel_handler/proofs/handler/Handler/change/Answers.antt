@@ -1,32 +1,8 @@
-use Rattle.std.proofs.Common.{◌≡◌, None, rules, length, ap, ◌∙◌, subst}
-use Rattle.std.specs.Prelude.{OnOk}
 use Rattle.rel_list.specs.Event.{event_of}
-use Rattle.rel_list.specs.Refusal.{refusal}
-use Rattle.rel_store.specs.State.{records_in}
-use Rattle.rel_handler.specs.Commits.{IsDone}
-use Rattle.rel_handler.specs.State.{list_in}
-use Rattle.rel_handler.specs.Taking.{change_size}
-use Rattle.rel_handler.proofs.Commits.{unchanged, have_versions}
-use Rattle.rel_handler.proofs.CommandLemmas.{list_allows}
+use Rattle.rel_handler.proofs.Commits.{commits_alive}
 use Rattle.rel_handler.proofs.handler.Handler.change.Goals as goal
 
-pub change_body-requires-clause-versions : goal.change_body-requires-clause-versions
-change_body-requires-clause-versions g c =
-    have_versions (records_in c.args.self.now.store) (list_in c.args.self.now) (c.requires.sound.list c.requires.works)
-
--- nothing was written yet
-pub returns-in_err-body-clause-commits : goal.returns-in_err-body-clause-commits
-returns-in_err-body-clause-commits g c =
-    unchanged g.D.Disk c.args.self.now c.requires.sound (g.met.D.Disk.only_now _) (event_of c.args.event) (change_size (event_of c.args.event) (list_in c.args.self.now))
-
-pub commit-requires-clause-allowed : goal.commit-requires-clause-allowed
-commit-requires-clause-allowed g c =
-    let allowed : refusal (event_of c.args.event) (list_in c.args.self.now) ≡ None = search rules in
-    (c.requires.works, list_allows (event_of c.args.event) (list_in c.args.self.now) c.requires.listed allowed)
-
-pub returns-clause-done : goal.returns-clause-done
-returns-clause-done g c =
-    let e = event_of c.args.event in
-    let h = c.args.self.now in
-    let long : length c.as_str.result.now ≡ change_size e (list_in h) = ap length (c.as_str.ensures.value ∙ c.in_ok-body.ensures.body _) in
-    subst (λ n. OnOk c.commit.result (IsDone g.D.Disk e n h c.commit.new.self)) long c.commit.ensures.done
+pub returns-clause-commits : goal.returns-clause-commits
+returns-clause-commits g c =
+    let done = c.in_ok-append_change.ensures in
+    commits_alive g.D.Disk c.args.self.now c.requires.sound c.requires.works (event_of c.args.event) _ c.append_change.new.self done.commits done.done done.ready done.start g.met.D.Disk.reads_an_image c.requires.stays

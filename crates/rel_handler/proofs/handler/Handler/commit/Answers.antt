@@ -1,56 +1,8 @@
-use Rattle.std.proofs.Common.{◌≡◌, ◌+◌, [], ◌∷◌, ◌++◌, arith, rules, refl, sym, ap, subst, length}
-use Rattle.rel_disk.specs.Moments.{HasFailed}
 use Rattle.rel_list.specs.Event.{event_of}
-use Rattle.rel_store.specs.Layout.{text_of}
-use Rattle.rel_store.specs.State as store
-use Rattle.rel_handler.proofs.CommandLemmas.{commanded_then}
-use Rattle.rel_handler.proofs.Commits.{opened, failed_so, reserved_works, commits_dead, commits, is_done}
+use Rattle.rel_handler.proofs.Commits.{commits_alive}
 use Rattle.rel_handler.proofs.handler.Handler.commit.Goals as goal
 
--- the device failed
-pub returns-then-is_err-3-clause-commits : goal.returns-then-is_err-3-clause-commits
-returns-then-is_err-3-clause-commits g c =
-    let h = c.args.self.now in
-    let e = event_of c.args.event in
-    let stepped = opened c.accept.result _ c.if-is_err-2.ensures.value c.accept.ensures.accepted in
-    let works = reserved_works g.D.Disk h c.requires.sound c.requires.allowed.0 c.reserve.new.self c.reserve.ensures.kept e c.accept.new.self c.args.body.now c.requires.told stepped g.met.D.Disk.reads_an_image in
-    commits_dead g.D.Disk h c.requires.sound c.requires.allowed.0 c.reserve.new.self c.reserve.ensures.kept e c.accept.new.self c.args.body.now c.requires.told stepped g.met.D.Disk.reads_an_image
-    c.append.new.self c.append.ensures.sound _ (rw c.as_bytes.ensures.value at c.append.ensures.any_moment works) (rw c.as_bytes.ensures.value at c.append.ensures.others works) (ap (λ d. text_of (g.D.Disk.seen d)) c.reserve.ensures.kept.disk) c.append.ensures.counted
-
-pub returns-then-is_err-3-clause-refused : goal.returns-then-is_err-3-clause-refused
-returns-then-is_err-3-clause-refused g c =
-    let h = c.args.self.now in
-    let size = length c.args.body.now in
-    let stepped = opened c.accept.result _ c.if-is_err-2.ensures.value c.accept.ensures.accepted in
-    let works = reserved_works g.D.Disk h c.requires.sound c.requires.allowed.0 c.reserve.new.self c.reserve.ensures.kept (event_of c.args.event) c.accept.new.self c.args.body.now c.requires.told stepped g.met.D.Disk.reads_an_image in
-    let fits : store.Fits (store.end_in h.store) size = search rules in
-    let room = opened c.reserve.result _ c.if-is_err.ensures.value c.reserve.ensures.room size (omega arith) in
-    let failed = failed_so g.D.Disk.failures c.reserve.new.self c.append.new.self size c.append.result c.if-is_err-3.ensures.value (rw c.as_bytes.ensures.value at c.append.ensures.refused) (subst (λ n. store.Fits n size) (sym c.reserve.ensures.kept.end) fits) room works in
-    ((c.requires.allowed.0, c.requires.allowed.1, fits), subst (λ d. HasFailed (g.D.Disk.failures d) (g.D.Disk.failures (store.disk_in c.append.new.self))) c.reserve.ensures.kept.disk failed, refl)
-
--- the record is there
 pub returns-clause-commits : goal.returns-clause-commits
 returns-clause-commits g c =
-    let h = c.args.self.now in
-    let e = event_of c.args.event in
-    let stepped = opened c.accept.result _ c.if-is_err-2.ensures.value c.accept.ensures.accepted in
-    let works = reserved_works g.D.Disk h c.requires.sound c.requires.allowed.0 c.reserve.new.self c.reserve.ensures.kept e c.accept.new.self c.args.body.now c.requires.told stepped g.met.D.Disk.reads_an_image in
-    let added : store.records_in c.append.new.self ≡ store.records_in c.reserve.new.self ++ c.as_bytes.result.now ∷ [] = opened c.append.result _ c.if-is_err-3.ensures.value c.append.ensures.added in
-    commits g.D.Disk h c.requires.sound c.requires.allowed.0 c.reserve.new.self c.reserve.ensures.kept e c.accept.new.self c.args.body.now c.requires.told stepped g.met.D.Disk.reads_an_image
-    c.append.new.self c.append.ensures.sound _ (rw c.as_bytes.ensures.value at c.append.ensures.any_moment works) (rw c.as_bytes.ensures.value at c.append.ensures.others works) (ap (λ d. text_of (g.D.Disk.seen d)) c.reserve.ensures.kept.disk) c.append.ensures.counted
-    (opened c.append.result _ c.if-is_err-3.ensures.value c.append.ensures.settled) (rw c.as_bytes.ensures.value at added)
-
-pub returns-clause-done : goal.returns-clause-done
-returns-clause-done g c =
-    let h = c.args.self.now in
-    let e = event_of c.args.event in
-    let size = length c.args.body.now in
-    let stepped = opened c.accept.result _ c.if-is_err-2.ensures.value c.accept.ensures.accepted in
-    let works = reserved_works g.D.Disk h c.requires.sound c.requires.allowed.0 c.reserve.new.self c.reserve.ensures.kept e c.accept.new.self c.args.body.now c.requires.told stepped g.met.D.Disk.reads_an_image in
-    let fits : store.Fits (store.end_in h.store) size = search rules in
-    let added : store.records_in c.append.new.self ≡ store.records_in c.reserve.new.self ++ c.as_bytes.result.now ∷ [] = opened c.append.result _ c.if-is_err-3.ensures.value c.append.ensures.added in
-    let end : store.end_in c.append.new.self ≡ store.end_in c.reserve.new.self + (5 + length c.as_bytes.result.now) = opened c.append.result _ c.if-is_err-3.ensures.value c.append.ensures.end in
-    is_done g.D.Disk h c.requires.sound c.requires.allowed.0 c.reserve.new.self c.reserve.ensures.kept e c.accept.new.self c.args.body.now c.requires.told stepped g.met.D.Disk.reads_an_image
-    c.append.new.self c.append.ensures.sound _ (rw c.as_bytes.ensures.value at c.append.ensures.any_moment works) (rw c.as_bytes.ensures.value at c.append.ensures.others works) (ap (λ d. text_of (g.D.Disk.seen d)) c.reserve.ensures.kept.disk) c.append.ensures.counted
-    (opened c.append.result _ c.if-is_err-3.ensures.value c.append.ensures.settled) (rw c.as_bytes.ensures.value at added)
-    (commanded_then e h.list c.accept.new.self c.requires.allowed.1 stepped) fits (rw c.as_bytes.ensures.value at end) (opened c.append.result _ c.if-is_err-3.ensures.value c.append.ensures.start)
+    let done = c.in_ok-append.ensures in
+    commits_alive g.D.Disk c.args.self.now c.requires.sound c.requires.allowed.0 (event_of c.args.event) _ c.append.new.self done.commits done.done done.ready done.start g.met.D.Disk.reads_an_image c.requires.stays

@@ -10,7 +10,10 @@ pub returns-in-Ok-create-clause-sound : goal.returns-in-Ok-create-clause-sound
 returns-in-Ok-create-clause-sound g c =
     let small : is_small (release_of c.args.file.release) ≡ true = search rules in
     let spelled = rw (sym c.as_bytes.ensures.value) at c.in-Ok.ensures.spells in
-    sound_so g.D.Disk.seen g.D.Disk.may_leave c.in-Ok-create.store c.in-Ok.new.list c.in-Ok-create.ensures.sound c.in-Ok-create.ensures.settled (made_new (release_of c.args.file.release) c.as_bytes.result.now _ c.in-Ok.new.list small spelled c.in-Ok-create.ensures.records c.in-Ok.ensures.list)
+    sound_so g.D.Disk.seen g.D.Disk.may_leave c.in-Ok-create.store c.in-Ok.new.list c.in-Ok-create.ensures.settled (made_new (release_of c.args.file.release) c.as_bytes.result.now _ c.in-Ok.new.list small spelled c.in-Ok-create.ensures.records c.in-Ok.ensures.list)
+    (λ d now. subst (λ l. IsStarted l d) (sym c.in-Ok.ensures.list)
+    (started_new (release_of c.args.file.release) c.as_bytes-2.result.now d c.requires.says.versions (c.as_bytes-2.ensures.value ∙ c.in-Ok.ensures.start)
+    (ap (λ l. start_slot l) (c.in-Ok-create.ensures.settled.durable d now) ∙ c.in-Ok-create.ensures.start)))
 
 pub returns-in-Ok-create-clause-acknowledged : goal.returns-in-Ok-create-clause-acknowledged
 returns-in-Ok-create-clause-acknowledged g c = λ d now.
@@ -69,9 +72,3 @@ returns-in_default-clause-refused g c =
 
 pub returns-clause-taken : goal.returns-clause-taken
 returns-clause-taken g c = c.in-Err.ensures.taken
-
-pub returns-in-Ok-create-clause-started : goal.returns-in-Ok-create-clause-started
-returns-in-Ok-create-clause-started g c = λ d now.
-    subst (λ l. IsStarted l d) (sym c.in-Ok.ensures.list)
-    (started_new (release_of c.args.file.release) c.as_bytes-2.result.now d c.requires.says.versions (c.as_bytes-2.ensures.value ∙ c.in-Ok.ensures.start)
-    (ap (λ l. start_slot l) (c.in-Ok-create.ensures.settled.durable d now) ∙ c.in-Ok-create.ensures.start))

@@ -7,11 +7,10 @@ pub unreachable-requires : goal.unreachable-requires
 unreachable-requires g c =
     let h = c.args.self.now in
     let s = c.requires.started c.if-self.false (g.D.Disk.seen (disk_in h)) (g.met.D.Disk.reads_an_image (disk_in h)) in
-    rw c.in-None.is at c.in_ok-start.ensures.found _ s.spells
+    (rw c.in-Err-BadStart.field-0-is at c.in-Err-BadStart.ensures.refused).0 _ s.spells
 
-pub returns-clause-tells : goal.returns-clause-tells
-returns-clause-tells g c =
+pub returns-in-Ok-clause-tells : goal.returns-in-Ok-clause-tells
+returns-in-Ok-clause-tells g c =
     let h = c.args.self.now in
     let s = c.requires.started c.if-self.false (g.D.Disk.seen (disk_in h)) (g.met.D.Disk.reads_an_image (disk_in h)) in
-    let spelled = rw c.in-Some.is at c.in_ok-start.ensures.found in
-    (s.release, s.listed, spells_one (start_in g.D.Disk.seen h) _ _ spelled s.spells)
+    (s.release, s.listed, spells_one (start_in g.D.Disk.seen h) _ _ c.in-Ok.ensures.read s.spells)

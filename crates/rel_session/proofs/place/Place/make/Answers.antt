@@ -29,7 +29,7 @@ returns-in-Ok-create-clause-made g c =
     let laws : IsDevice g.D.Disk = record { reads_an_image = g.met.D.Disk.reads_an_image; counts_now = g.met.D.Disk.counts_now; only_now = g.met.D.Disk.only_now } in
     let found = found_of c.args.file in
     from_there g.D.Disk laws (λ p a. MakesNode p found a) (Ok c.in-Ok.line) c.args.self (memory.Idle c.in-Idle.disk) (memory.Made c.in-Ok-create.handler) c.in-Idle.is
-    (makes g.D.Disk laws c.in-Idle.disk found c.create.ensures.node c.in-Ok-create.handler c.in-Ok-create.ensures.begun c.in-Ok-create.ensures.acknowledged c.in-Ok-create.ensures.started c.in-Ok-create.ensures.list c.in-Ok-create.ensures.works
+    (makes g.D.Disk laws c.in-Idle.disk found c.create.ensures.node c.in-Ok-create.handler c.in-Ok-create.ensures.begun c.in-Ok-create.ensures.acknowledged (c.in-Ok-create.ensures.sound.started c.in-Ok-create.ensures.works) c.in-Ok-create.ensures.list c.in-Ok-create.ensures.works
     (λ magic. let none = (c.in-Ok-create.ensures.taken magic).1 in cc) c.in-Ok-create.ensures.fits c.in-Ok-create.ensures.end c.in-Ok-create.ensures.counted _ (search rules))
 
 pub returns-in-Err-clause-made : goal.returns-in-Err-clause-made

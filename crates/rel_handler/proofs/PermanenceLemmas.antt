@@ -1,0 +1,59 @@
+-- An event that makes a listed release the permanent one: the list is committed, and then the start record.
+use Rattle.std.proofs.Common.{◌≡◌, inl, inr, List, Some, sym, ◌∙◌, subst, false, ℕ}
+use Rattle.rel_disk.specs.declared.disk.Disk.{Ghosts}
+use Rattle.rel_disk.specs.Moments.{HasFailed}
+use Rattle.rel_files.specs.Release.{Release}
+use Rattle.rel_list.specs.Event.{Event}
+use Rattle.rel_list.specs.Event.Event.{made_permanent, reboot_old}
+use Rattle.rel_list.specs.Releases.{permanent, release_at}
+use Rattle.rel_records.specs.Writing.{IsOfListed}
+use Rattle.rel_store.specs.Layout.{slot_with}
+use Rattle.rel_store.specs.State.{records_in}
+use Rattle.start_record.specs.Text.{Versions, AreVersions, start_text}
+use Rattle.rel_handler.specs.Commits.{Commits, IsDone, Keeps, MakesPermanent}
+use Rattle.rel_handler.specs.Files.{started}
+use Rattle.rel_handler.specs.Image.{IsImageAt, start_slot}
+use Rattle.rel_handler.specs.Refusals.{CommandRefused}
+use Rattle.rel_handler.specs.State.{disk_in, list_in, is_dead, end_in, start_in, HasStarted, IsReady, IsSound}
+use Rattle.rel_handler.specs.Taking.{change_size}
+use Rattle.rel_handler.specs.declared.error.HandlerError.TheVariants.{Device}
+use Rattle.rel_handler.specs.declared.handler.Handler.{Handler}
+use Rattle.rel_handler.proofs.CommandLemmas.{commanded_step, permanent_behind, listed_versions}
+use Rattle.rel_handler.proofs.Commits.{have_versions, commits_then, is_started_then, is_done_then, fails_then}
+
+-- it brings no release
+pub brings_none : (vsn : List ℕ) (e : Event) → MakesPermanent vsn e → IsOfListed e
+brings_none vsn e (inl is) = subst IsOfListed (sym is) tt
+brings_none vsn e (inr is) = subst IsOfListed (sym is) tt
+
+-- the versions of the release that a list has at this version
+abbrev pub AreOf : {D : Type 0} → Handler D → List ℕ → Versions → Type 0
+AreOf h vsn versions = (r : Release) × (release_at vsn (list_in h) ≡ Some r) × (versions ≡ started r)
+
+module _ {D : Type 0} (v : Ghosts D) (h : Handler D) (s : IsSound v.seen v.may_leave h) (alive : is_dead h ≡ false) (vsn : List ℕ) (versions : Versions) (found : AreOf h vsn versions) where
+  -- they are texts of versions
+  pub are_versions : AreVersions versions
+  are_versions =
+      let has = listed_versions vsn (list_in h) found.0 (have_versions (records_in h.store) (list_in h) (s.ready alive).list) found.1 in
+      subst AreVersions (sym found.2) (has.erts, has.own)
+
+  -- The event was appended, and the start record is being written.
+  module _ (e : Event) (moves : MakesPermanent vsn e) (mid : Handler D) (commits : Commits v e (change_size e (list_in h)) h mid) (is_done : IsDone v e (change_size e (list_in h)) h mid)
+      (ready : IsReady v.seen v.may_leave mid) (stays : start_in v.seen mid ≡ start_in v.seen h) (reads : (d : D) → v.may_leave d (v.seen d)) (new : Handler D) (keeps : Keeps v (start_text versions) mid new) where
+    listed : permanent (list_in mid) ≡ Some found.0
+    listed = permanent_behind vsn e (list_in h) (list_in mid) moves (commanded_step e (list_in h) (list_in mid) is_done.accepted) ∙ found.1
+
+    pub moving : Commits v e (change_size e (list_in h)) h new
+    moving = commits_then v h s alive e _ mid commits is_done ready stays reads versions found.0 are_versions found.2 listed new keeps
+
+    -- the device failed
+    pub not_moved : HasFailed (v.failures (disk_in mid)) (v.failures (disk_in new)) → CommandRefused v.failures e (change_size e (list_in h)) h new Device
+    not_moved = fails_then v h s alive e _ mid commits is_done ready stays reads versions found.0 are_versions found.2 listed new keeps
+
+    -- each crash leaves the new start record
+    module _ (images : (c : List ℕ) → v.may_leave (disk_in new) c → IsImageAt c (list_in new) (end_in new) × (start_slot c ≡ slot_with (start_text versions))) where
+      pub moved_start : HasStarted v.may_leave new
+      moved_start = is_started_then v h s alive e _ mid commits is_done ready stays reads versions found.0 are_versions found.2 listed new keeps images
+
+      pub is_moved : IsDone v e (change_size e (list_in h)) h new
+      is_moved = is_done_then v h s alive e _ mid commits is_done ready stays reads versions found.0 are_versions found.2 listed new keeps images

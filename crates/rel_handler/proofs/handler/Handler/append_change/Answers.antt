@@ -1,0 +1,32 @@
+use Rattle.std.proofs.Common.{◌≡◌, None, rules, length, ap, ◌∙◌, subst}
+use Rattle.std.specs.Prelude.{OnOk}
+use Rattle.rel_list.specs.Event.{event_of}
+use Rattle.rel_list.specs.Refusal.{refusal}
+use Rattle.rel_store.specs.State.{records_in}
+use Rattle.rel_handler.specs.Commits.{IsDone}
+use Rattle.rel_handler.specs.State.{list_in}
+use Rattle.rel_handler.specs.Taking.{change_size}
+use Rattle.rel_handler.proofs.Commits.{unchanged, have_versions}
+use Rattle.rel_handler.proofs.CommandLemmas.{list_allows}
+use Rattle.rel_handler.proofs.handler.Handler.append_change.Goals as goal
+
+pub change_body-requires-clause-versions : goal.change_body-requires-clause-versions
+change_body-requires-clause-versions g c =
+    have_versions (records_in c.args.self.now.store) (list_in c.args.self.now) (c.requires.sound.ready c.requires.works).list
+
+-- nothing was written yet
+pub returns-in_err-body-clause-commits : goal.returns-in_err-body-clause-commits
+returns-in_err-body-clause-commits g c =
+    unchanged g.D.Disk c.args.self.now c.requires.sound (g.met.D.Disk.only_now _) (event_of c.args.event) (change_size (event_of c.args.event) (list_in c.args.self.now))
+
+pub append-requires-clause-allowed : goal.append-requires-clause-allowed
+append-requires-clause-allowed g c =
+    let allowed : refusal (event_of c.args.event) (list_in c.args.self.now) ≡ None = search rules in
+    (c.requires.works, list_allows (event_of c.args.event) (list_in c.args.self.now) c.requires.listed allowed)
+
+pub returns-clause-done : goal.returns-clause-done
+returns-clause-done g c =
+    let e = event_of c.args.event in
+    let h = c.args.self.now in
+    let long : length c.as_str.result.now ≡ change_size e (list_in h) = ap length (c.as_str.ensures.value ∙ c.in_ok-body.ensures.body _) in
+    subst (λ n. OnOk c.append.result (IsDone g.D.Disk e n h c.append.new.self)) long c.append.ensures.done

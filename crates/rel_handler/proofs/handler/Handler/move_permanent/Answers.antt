@@ -1,0 +1,51 @@
+use Rattle.rel_list.specs.Event.{event_of}
+use Rattle.start_record.specs.Text.{versions_of}
+use Rattle.rel_handler.specs.Refusals.{CommandRefused}
+use Rattle.rel_handler.specs.Taking.{change_size}
+use Rattle.rel_handler.specs.State.{list_in}
+use Rattle.rel_handler.specs.declared.error.HandlerError.TheVariants.{Device}
+use Rattle.rel_handler.proofs.Commits.{refuses_with}
+use Rattle.rel_handler.proofs.PermanenceLemmas.{brings_none, are_versions, moving, not_moved, moved_start, is_moved}
+use Rattle.rel_handler.proofs.handler.Handler.move_permanent.Goals as goal
+
+pub append_change-requires-clause-listed : goal.append_change-requires-clause-listed
+append_change-requires-clause-listed g c = brings_none c.args.vsn.now (event_of c.args.event) c.requires.moves
+
+pub commit_start-requires-clause-versions : goal.commit_start-requires-clause-versions
+commit_start-requires-clause-versions g c =
+    are_versions g.D.Disk c.args.self.now c.requires.sound c.requires.works c.args.vsn.now (versions_of c.in_ok-start.start) c.in_ok-start.ensures.found
+
+-- the device failed in the second write
+pub returns-in_err-commit_start-clause-commits : goal.returns-in_err-commit_start-clause-commits
+returns-in_err-commit_start-clause-commits g c =
+    let then = c.in_ok-append_change.ensures in
+    moving g.D.Disk c.args.self.now c.requires.sound c.requires.works c.args.vsn.now (versions_of c.in_ok-start.start) c.in_ok-start.ensures.found
+    (event_of c.args.event) c.requires.moves c.append_change.new.self then.commits then.done then.ready then.start g.met.D.Disk.reads_an_image c.commit_start.new.self c.commit_start.ensures.keeps
+
+pub returns-in_err-commit_start-clause-refused : goal.returns-in_err-commit_start-clause-refused
+returns-in_err-commit_start-clause-refused g c =
+    let then = c.in_ok-append_change.ensures in
+    let e = event_of c.args.event in
+    let h = c.args.self.now in
+    refuses_with (CommandRefused g.D.Disk.failures e (change_size e (list_in h)) h c.commit_start.new.self) c.from_residual-in_err-commit_start.result Device c.from_residual-in_err-commit_start.ensures
+    (not_moved g.D.Disk h c.requires.sound c.requires.works c.args.vsn.now (versions_of c.in_ok-start.start) c.in_ok-start.ensures.found
+    e c.requires.moves c.append_change.new.self then.commits then.done then.ready then.start g.met.D.Disk.reads_an_image c.commit_start.new.self c.commit_start.ensures.keeps c.in_err-commit_start.ensures.failed)
+
+-- both are written
+pub returns-clause-commits : goal.returns-clause-commits
+returns-clause-commits g c =
+    let then = c.in_ok-append_change.ensures in
+    moving g.D.Disk c.args.self.now c.requires.sound c.requires.works c.args.vsn.now (versions_of c.in_ok-start.start) c.in_ok-start.ensures.found
+    (event_of c.args.event) c.requires.moves c.append_change.new.self then.commits then.done then.ready then.start g.met.D.Disk.reads_an_image c.commit_start.new.self c.commit_start.ensures.keeps
+
+pub returns-clause-done : goal.returns-clause-done
+returns-clause-done g c =
+    let then = c.in_ok-append_change.ensures in
+    is_moved g.D.Disk c.args.self.now c.requires.sound c.requires.works c.args.vsn.now (versions_of c.in_ok-start.start) c.in_ok-start.ensures.found
+    (event_of c.args.event) c.requires.moves c.append_change.new.self then.commits then.done then.ready then.start g.met.D.Disk.reads_an_image c.commit_start.new.self c.commit_start.ensures.keeps c.in_ok-commit_start.ensures.acknowledged
+
+pub returns-clause-started : goal.returns-clause-started
+returns-clause-started g c =
+    let then = c.in_ok-append_change.ensures in
+    moved_start g.D.Disk c.args.self.now c.requires.sound c.requires.works c.args.vsn.now (versions_of c.in_ok-start.start) c.in_ok-start.ensures.found
+    (event_of c.args.event) c.requires.moves c.append_change.new.self then.commits then.done then.ready then.start g.met.D.Disk.reads_an_image c.commit_start.new.self c.commit_start.ensures.keeps c.in_ok-commit_start.ensures.acknowledged

@@ -1,0 +1,109 @@
+-- What `start` replies: the start record is read, and it is that of the permanent release.
+use Rattle.std.proofs.Common.{◌≡◌, inl, inr, ℕ, true, false, List, Some, None, Result, Ok, Err, Option, refl, sym, ap, ◌∙◌, subst, codes, ◌++◌}
+use Rattle.std.specs.Prelude.{String, string_bytes}
+use Rattle.std.specs.declared.alloc.Global.{Global}
+use Rattle.rel_files.specs.Release.{Release}
+use Rattle.rel_list.specs.Releases.{permanent}
+use Rattle.rel_list.specs.Event.{list_after}
+use Rattle.rel_handler.specs.Commits.{HasRead}
+use Rattle.rel_handler.specs.Events.{Events, certain, IsStoredAs}
+use Rattle.rel_handler.specs.Refusals.{StartRefused}
+use Rattle.rel_handler.specs.State.{disk_in, list_in, is_dead}
+use Rattle.rel_handler.specs.declared.error.HandlerError.{HandlerError}
+use Rattle.rel_handler.specs.declared.error.HandlerError.TheVariants as handler_error
+use Rattle.rel_handler.specs.declared.handler.Handler.{Handler}
+use Rattle.rel_session.specs.Device.{Device, HasFailed}
+use Rattle.rel_session.specs.InMemory.{IsAt, Replied, NothingDone, Answers}
+use Rattle.rel_session.specs.Node.{Place, Reply, reply, failed, nothing, releases_after, list_or_none}
+use Rattle.rel_session.specs.Node.Place.{raw, closed, running, dead}
+use Rattle.rel_session.specs.Refusals.{refusal_line, handler_refusal}
+use Rattle.rel_session.specs.Refusals.Refusal.{device}
+use Rattle.rel_session.specs.Run.{Holds}
+use Rattle.rel_session.specs.Transition.{Acts, ok_line, start_versions}
+use Rattle.rel_session.specs.Transition.Action.{tells_start}
+use Rattle.rel_session.specs.declared.place.Place.TheVariants as memory
+use Rattle.rel_session.specs.declared.refusal.Refusal.{Refusal as RefusalInMemory}
+use Rattle.rel_session.specs.declared.refusal.Refusal.TheVariants as refusal
+use Rattle.rel_session.proofs.DeviceLemmas.{IsDevice}
+use Rattle.rel_session.proofs.Replies.{held, kept, quiet, moments_of_nothing, holds_still}
+
+module _ {D : Type 0} (v : Device D) (laws : IsDevice v) (h new : Handler D) (alive : is_dead h ≡ false) (read : HasRead v h new) where
+  abbrev Does : Place → Reply → Type 0
+  Does p a = Acts p tells_start a
+
+  still_holds : (p : Place) → IsAt v (memory.Made h) p → Holds v p (disk_in new)
+  still_holds p at = holds_still v laws p (disk_in h) (disk_in new) (held v laws (memory.Made h) p at) read.only_read.same read.only_read.any_moment
+
+  never : {A : Type 0} → false ≡ true → A
+  never e = absurd cc
+
+  -- the node runs on
+  runs_on : is_dead new ≡ false → (events : Events) (end : ℕ) → IsAt v (memory.Made h) (running events end) → IsAt v (memory.Made new) (running events end)
+  runs_on works events end at = (still_holds (running events end) at, works, at.2 ∙ ap (λ l. Some l) (sym read.list), read.end ∙ at.3)
+
+  told_there : is_dead new ≡ false → (r : Release) → permanent (list_in h) ≡ Some r → (answer : List ℕ) → answer ≡ ok_line (r.erts ++ (codes " " ++ r.vsn))
+      → (p : Place) → IsAt v (memory.Made h) p → Replied v p (λ a. Does p a × (a.answer ≡ answer)) (memory.Made h) (memory.Made new)
+  told_there works r listed answer is (raw bytes) at = absurd at
+  told_there works r listed answer is (closed s) at = absurd at
+  told_there works r listed answer is (dead s) at = never (sym alive ∙ at.1)
+  told_there works r listed answer is (running events end) at =
+      let there : permanent (releases_after events) ≡ Some r = ap (λ o. permanent (list_or_none o)) at.2 ∙ listed in
+      let line = ok_line (start_versions (permanent (releases_after events))) in
+      record {
+        given = reply line nothing (running events end);
+        right = (inl (refl), ap (λ o. ok_line (start_versions o)) there ∙ sym is);
+        at = runs_on works events end at;
+        happens = record {
+          moments = moments_of_nothing v laws (running events end) (disk_in h) (disk_in new) at.0 read.only_read.any_moment;
+          holds = still_holds (running events end) at;
+          cause = λ e. never e;
+          counted = read.counted;
+        };
+      }
+
+  pub told : is_dead new ≡ false → (start : (r : Release) × (permanent (list_in h) ≡ Some r)) → (text : String Global) → string_bytes text ≡ ok_line (start.0.erts ++ (codes " " ++ start.0.vsn))
+      → Answers v Does (Ok text) (memory.Made h) (memory.Made new)
+  told works start text is p at = told_there works start.0 start.1 (string_bytes text) is p at
+
+  -- memory was refused, and the disk was read alone
+  nothing_done : is_dead new ≡ false → (p : Place) → IsAt v (memory.Made h) p → NothingDone v p (memory.Made h) (memory.Made new)
+  nothing_done works p at = record { nothing_new = read.only_read.any_moment; holds = still_holds p at; counted = read.counted }
+
+  pub untold : is_dead new ≡ false → Answers v Does (Err refusal.NoMemory) (memory.Made h) (memory.Made new)
+  untold works p at = inr (nothing_done works p at)
+
+  -- the device failed
+  device_failed : HasFailed v (disk_in h) (disk_in new) → is_dead new ≡ true → (p : Place) → IsAt v (memory.Made h) p
+      → Replied v p (λ a. Does p a × (a.answer ≡ refusal_line device)) (memory.Made h) (memory.Made new)
+  device_failed cause gone (raw bytes) at = absurd at
+  device_failed cause gone (closed s) at = absurd at
+  device_failed cause gone (dead s) at = never (sym alive ∙ at.1)
+  device_failed cause gone (running events end) at =
+      let s = certain events end in
+      let stored : (c : List ℕ) → v.may_leave (disk_in h) c → IsStoredAs s c = λ c now. (at.0 c now).0 in
+      let holds = kept v laws (IsStoredAs s) (disk_in h) (disk_in new) stored read.only_read.any_moment in
+      record {
+        given = failed None (dead s);
+        right = (inr (refl), refl);
+        at = (holds, gone);
+        happens = record {
+          moments = quiet v laws s _ (disk_in h) (disk_in new) stored read.only_read.any_moment;
+          holds = holds;
+          cause = λ e. cause;
+          counted = read.counted;
+        };
+      }
+
+  pub told_none : (e : HandlerError) → StartRefused v.failures h new e → Answers v Does (Err (handler_refusal e)) (memory.Made h) (memory.Made new)
+  told_none handler_error.Dead (gone, same) = never (sym alive ∙ gone)
+  told_none handler_error.NoMemory (living, works) = untold works
+  told_none handler_error.Device (living, cause, gone) = device_failed cause gone
+  told_none handler_error.NoSuchRelease lost = absurd lost
+  told_none handler_error.ExistingRelease lost = absurd lost
+  told_none handler_error.AlreadyInstalled lost = absurd lost
+  told_none (handler_error.BadStatus s) lost = absurd lost
+  told_none handler_error.Permanent lost = absurd lost
+  told_none handler_error.Running lost = absurd lost
+  told_none handler_error.TooMany lost = absurd lost
+  told_none handler_error.Full lost = absurd lost
+  told_none handler_error.Exists lost = absurd lost
