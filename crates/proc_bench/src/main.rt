@@ -1,69 +1,31 @@
 //! How fast processes are called.
 //!
-//! `proc_bench` calls one process 1,000,000 times by one client, and does the same work by a plain call of its table, and under
-//! a lock of std. It writes the last reply of each, and the nanoseconds of processor time that one took, on standard error.
+//! `proc_bench` calls one process by one, two and four clients at once, each in a thread of its own, and four processes by a
+//! client each. It does the same work by plain calls of the process's table, and under a lock of std. Each thread does it
+//! 1,000,000 times. It writes how often a second it was done, and the processor time that it took, on standard error.
 #![tactic(auto)]
 
 ghost use Rattle.std.specs.Prelude.{◌≡◌};
 
-use mod_table::{Restart, Step, Table, Worker, read_mod};
-use proc_table::{Beginning, Name, Pass, Pid, ProcTable, Tried};
+mod watch;
+mod works;
+
+use mod_table::{Restart, Table, Worker, read_mod};
+use proc_table::{Beginning, HandlerSeat, Name, Pid, ProcTable};
 use std::alloc::Global;
-use std::io;
+use std::io::Eprint;
 use std::process::ExitCode;
 use std::sync::{Mutex, Wait};
-use std::time::{CpuClock, Duration};
-
-const CALLS: u32 = 1_000_000;
+use std::thread::Threads;
+use std::time::{Clock, CpuClock};
+use watch::Watch;
+use works::{Calls, Locked, Steps, Work, four_at_once, two_at_once};
 
 /// It counts its calls.
 const COUNTER: &[u8] = b"{worker,counter,\"1\",0,[{add,1,1}]}.";
 
-// The last reply of so many calls of the process.
-fn calls(table: &ProcTable, pass: &mut Pass, pid: Pid) -> u32
-    requires { pass.old.table ≡ table.now }
-    ensures { pass.new.table ≡ pass.old.table }
-{
-    let mut last = 0;
-    for _ in 0..CALLS {
-        match table.try_call(pass, pid, 1) {
-            Tried::Done(reply) => last = reply,
-            _ => {}
-        }
-    }
-    last
-}
-
-// The same work without a table of processes.
-fn steps(worker: &Worker) -> u32 {
-    let mut state = 0;
-    for _ in 0..CALLS {
-        match worker.step(state, 1) {
-            Step::Next(next, _) => state = next,
-            _ => {}
-        }
-    }
-    state
-}
-
-// The same work under a lock.
-fn locked_steps<R: Wait>(rt: &R, worker: &Worker, state: &Mutex<u32>) -> u32 {
-    let mut last = 0;
-    for _ in 0..CALLS {
-        let mut state = state.lock(rt);
-        match worker.step(*state, 1) {
-            Step::Next(next, reply) => {
-                *state = next;
-                last = reply;
-            }
-            _ => {}
-        }
-    }
-    last
-}
-
 // A process that counts its calls.
-fn begins(alloc: Global, worker: &Worker) -> Option<Beginning> {
+fn beginning(alloc: Global, worker: &Worker) -> Option<Beginning> {
     Some(Beginning {
         app: Name::new(String::from_str(alloc, "bench").ok()?),
         id: Name::new(String::from_str(alloc, "counter").ok()?),
@@ -72,40 +34,213 @@ fn begins(alloc: Global, worker: &Worker) -> Option<Beginning> {
     })
 }
 
-fn nanoseconds(from: Duration, to: Duration) -> u128 {
-    to.as_nanos().saturating_sub(from.as_nanos()) / CALLS as u128
+// It begins in this slot.
+fn begin<R: Wait>(
+    rt: &R,
+    table: &ProcTable,
+    seat: &mut HandlerSeat,
+    slot: usize,
+    begins: Option<Beginning>,
+) -> Option<Pid>
+    requires { seat.old.table ≡ table.now }
+    ensures { seat.new.table ≡ seat.old.table }
+{
+    table.begin(rt, seat, Pid::new(slot, 0)?, begins?).ok()
 }
 
-fn main(rt: HostRuntime) -> io::Result<ExitCode> {
-    let Ok(Table::Worker(worker)) = read_mod(rt.alloc(), COUNTER) else {
-        return Ok(ExitCode::FAILURE);
-    };
-    let Ok((table, mut seat)) = ProcTable::new(rt.alloc()) else {
-        return Ok(ExitCode::FAILURE);
-    };
-    let Some(slot) = Pid::new(0, 0) else {
-        return Ok(ExitCode::FAILURE);
-    };
-    let Some(begins) = begins(rt.alloc(), &worker) else {
-        return Ok(ExitCode::FAILURE);
-    };
-    let Ok(pid) = table.begin(&rt, &mut seat, slot, begins) else {
-        return Ok(ExitCode::FAILURE);
-    };
-    let mut pass = table.new_pass(&mut seat);
-    let state = Mutex::new(0u32);
-    let start = rt.thread_cpu_time()?;
-    let called = calls(&table, &mut pass, pid);
-    let after_calls = rt.thread_cpu_time()?;
-    let stepped = steps(&worker);
-    let after_steps = rt.thread_cpu_time()?;
-    let locked = locked_steps(&rt, &worker, &state);
-    let end = rt.thread_cpu_time()?;
-    eprintln!(rt; "try_call {called} {} ns", nanoseconds(start, after_calls))?;
-    eprintln!(rt;
-        "step {stepped} {} ns",
-        nanoseconds(after_calls, after_steps)
+fn by_one<R: Wait + Clock + CpuClock + Eprint, A: Work + Drop>(
+    rt: &R,
+    what: &str,
+    work: A,
+) -> Option<()> {
+    let watch = Watch::start(rt).ok()?;
+    work.work(rt);
+    watch.tell(rt, what, 1).ok()
+}
+
+fn by_two<R: Threads + Wait + Sync + Clock + CpuClock + Eprint, A: Work + Drop + Send>(
+    rt: &R,
+    what: &str,
+    first: A,
+    second: A,
+) -> Option<()> {
+    let watch = Watch::start(rt).ok()?;
+    two_at_once(rt, first, second);
+    watch.tell(rt, what, 2).ok()
+}
+
+fn by_four<R: Threads + Wait + Sync + Clock + CpuClock + Eprint, A: Work + Drop + Send>(
+    rt: &R,
+    what: &str,
+    first: A,
+    second: A,
+    third: A,
+    fourth: A,
+) -> Option<()> {
+    let watch = Watch::start(rt).ok()?;
+    four_at_once(rt, first, second, third, fourth);
+    watch.tell(rt, what, 4).ok()
+}
+
+// Calls of one process.
+fn of_one<R: Threads + Wait + Sync + Clock + CpuClock + Eprint>(
+    rt: &R,
+    table: &ProcTable,
+    seat: &mut HandlerSeat,
+    pid: Pid,
+) -> Option<()>
+    requires { seat.old.table ≡ table.now }
+    ensures { seat.new.table ≡ seat.old.table }
+{
+    let what = "calls of one process";
+    by_one(rt, what, Calls::new(table, seat, pid))?;
+    let first = Calls::new(table, seat, pid);
+    let second = Calls::new(table, seat, pid);
+    by_two(rt, what, first, second)?;
+    let first = Calls::new(table, seat, pid);
+    let second = Calls::new(table, seat, pid);
+    let third = Calls::new(table, seat, pid);
+    let fourth = Calls::new(table, seat, pid);
+    by_four(rt, what, first, second, third, fourth)
+}
+
+// Calls of four processes, each by a client of its own.
+fn of_four<R: Threads + Wait + Sync + Clock + CpuClock + Eprint>(
+    rt: &R,
+    what: &str,
+    table: &ProcTable,
+    seat: &mut HandlerSeat,
+    pids: [Pid; 4],
+) -> Option<()>
+    requires { seat.old.table ≡ table.now }
+    ensures { seat.new.table ≡ seat.old.table }
+{
+    let [one, two, three, four] = pids;
+    let first = Calls::new(table, seat, one);
+    let second = Calls::new(table, seat, two);
+    let third = Calls::new(table, seat, three);
+    let fourth = Calls::new(table, seat, four);
+    by_four(rt, what, first, second, third, fourth)
+}
+
+fn steps(alloc: Global, worker: &Worker) -> Option<Steps> {
+    Some(Steps {
+        worker: worker.copy(alloc).ok()?,
+    })
+}
+
+// The same work without a table of processes.
+fn plain<R: Threads + Wait + Sync + Clock + CpuClock + Eprint>(
+    rt: &R,
+    alloc: Global,
+    worker: &Worker,
+) -> Option<()> {
+    by_one(rt, "plain calls", steps(alloc, worker)?)?;
+    let first = steps(alloc, worker)?;
+    let second = steps(alloc, worker)?;
+    let third = steps(alloc, worker)?;
+    by_four(
+        rt,
+        "plain calls",
+        first,
+        second,
+        third,
+        steps(alloc, worker)?,
+    )
+}
+
+fn locked<'l>(alloc: Global, worker: &Worker, state: &'l Mutex<u32>) -> Option<Locked<'l>> {
+    Some(Locked {
+        worker: worker.copy(alloc).ok()?,
+        state,
+    })
+}
+
+// The same work under a lock of std.
+fn under_a_lock<R: Threads + Wait + Sync + Clock + CpuClock + Eprint>(
+    rt: &R,
+    alloc: Global,
+    worker: &Worker,
+    state: &Mutex<u32>,
+) -> Option<()> {
+    let what = "steps under one lock";
+    by_one(rt, what, locked(alloc, worker, state)?)?;
+    let first = locked(alloc, worker, state)?;
+    let second = locked(alloc, worker, state)?;
+    let third = locked(alloc, worker, state)?;
+    by_four(
+        rt,
+        what,
+        first,
+        second,
+        third,
+        locked(alloc, worker, state)?,
+    )
+}
+
+// Four processes, each in its slot.
+fn begin_four<R: Wait>(
+    rt: &R,
+    alloc: Global,
+    table: &ProcTable,
+    seat: &mut HandlerSeat,
+    slots: [usize; 4],
+    worker: &Worker,
+) -> Option<[Pid; 4]>
+    requires { seat.old.table ≡ table.now }
+    ensures { seat.new.table ≡ seat.old.table }
+{
+    let [one, two, three, four] = slots;
+    Some([
+        begin(rt, table, seat, one, beginning(alloc, worker))?,
+        begin(rt, table, seat, two, beginning(alloc, worker))?,
+        begin(rt, table, seat, three, beginning(alloc, worker))?,
+        begin(rt, table, seat, four, beginning(alloc, worker))?,
+    ])
+}
+
+// Calls of processes. The words of eight slots side by side lie in one line of a processor's cache.
+fn calls<R: Threads + Wait + Sync + Clock + CpuClock + Eprint>(
+    rt: &R,
+    alloc: Global,
+    worker: &Worker,
+) -> Option<()> {
+    let (table, seat) = ProcTable::new(alloc).ok()?;
+    let mut seat = seat;
+    let near = begin_four(rt, alloc, &table, &mut seat, [0, 1, 2, 3], worker)?;
+    let apart = begin_four(rt, alloc, &table, &mut seat, [8, 24, 40, 56], worker)?;
+    of_one(rt, &table, &mut seat, near[0])?;
+    of_four(
+        rt,
+        "calls of four processes side by side",
+        &table,
+        &mut seat,
+        near,
     )?;
-    eprintln!(rt; "lock {locked} {} ns", nanoseconds(after_steps, end))?;
-    Ok(ExitCode::SUCCESS)
+    of_four(
+        rt,
+        "calls of four processes in slots apart",
+        &table,
+        &mut seat,
+        apart,
+    )
+}
+
+fn bench<R: Threads + Wait + Sync + Clock + CpuClock + Eprint>(
+    rt: &R,
+    alloc: Global,
+) -> Option<()> {
+    let Ok(Table::Worker(worker)) = read_mod(alloc, COUNTER) else {
+        return None;
+    };
+    calls(rt, alloc, &worker)?;
+    plain(rt, alloc, &worker)?;
+    under_a_lock(rt, alloc, &worker, &Mutex::new(0))
+}
+
+fn main(rt: HostRuntime) -> ExitCode {
+    match bench(&rt, rt.alloc()) {
+        Some(()) => ExitCode::SUCCESS,
+        None => ExitCode::FAILURE,
+    }
 }

@@ -1,0 +1,18 @@
+-- A job may go to another thread: the table is shared, and the pass or the seat goes along.
+use denote.Ref.{NamedLft}
+use denote.Param.Send.{IsSend, sendable}
+use denote.Param.SendFields.{declared_send}
+use Rattle.proc_table.proofs.Crossing.{table_sync, pass_send, handler_send}
+use Rattle.proc_table.proofs.pid.Pid.TheSendSync as pid
+use Rattle.proc_table_tests.specs.contracts.jobs.CallAndWait as CallAndWait
+use Rattle.proc_table_tests.specs.contracts.jobs.Calls as Calls
+use Rattle.proc_table_tests.specs.contracts.jobs.Holds as Holds
+
+pub call_and_wait_send : (ℓ : NamedLft) → IsSend (CallAndWait.the_row ℓ)
+call_and_wait_send ℓ = declared_send (CallAndWait.the_type ℓ) (search (sendable, table_sync), (pass_send, (pid.the_send, tt)))
+
+pub calls_send : (ℓ : NamedLft) → IsSend (Calls.the_row ℓ)
+calls_send ℓ = declared_send (Calls.the_type ℓ) (search (sendable, table_sync), (pass_send, (pid.the_send, (search sendable, tt))))
+
+pub holds_send : (ℓ : NamedLft) → IsSend (Holds.the_row ℓ)
+holds_send ℓ = declared_send (Holds.the_type ℓ) (search (sendable, table_sync), (handler_send, (pid.the_send, (search sendable, tt))))
