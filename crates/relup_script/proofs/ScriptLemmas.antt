@@ -1,5 +1,5 @@
 -- Scripts and their faults: what is found in a script is its fault.
-use Rattle.std.proofs.Common.{◌≡◌, ℕ, ◌+◌, ◌<◌, suc, Bool, true, false, List, [], ◌∷◌, ◌++◌, length, Option, Some, None, if◌then◌else◌, ◌⊎◌, inl, inr, refl, sym, ap, subst, ◌∙◌, arith}
+use Rattle.std.proofs.Common.{◌≡◌, ℕ, ◌+◌, ◌<◌, suc, Bool, true, false, ◌&&◌, List, [], ◌∷◌, ◌++◌, length, Option, Some, None, if◌then◌else◌, ◌⊎◌, inl, inr, refl, sym, ap, subst, ◌∙◌, arith}
 use Rattle.std.specs.Prelude.{is_some}
 use Rattle.std.specs.List.{AllByRecursion}
 use Rattle.std.specs.Option.{option_map}
@@ -10,7 +10,7 @@ use Rattle.relup_script.specs.declared.script.Side.{Side}
 use Rattle.relup_script.specs.declared.script.Side.TheVariants.{Early, Late}
 use Rattle.relup_file.specs.Instruction.{Instruction}
 use Rattle.relup_file.specs.Instruction.Instruction.{point_of_no_return}
-use Rattle.relup_script.specs.Script.{is_point, is_supported, may_stand, IsRight, points, IsRunnable, fault_at, IsFirstFault, HasWrong, IsScriptFault, split_point, first_fault, part_fault, split_fault, script_fault}
+use Rattle.relup_script.specs.Script.{is_point, is_supported, may_precede, may_follow, may_stand, IsRight, points, IsRunnable, fault_at, IsFirstFault, HasWrong, IsScriptFault, split_point, first_fault, part_fault, split_fault, script_fault}
 
 -- The faults of one side.
 right_none : (side : Side) (n : ℕ) (i : Instruction) → IsRight side i → fault_at side n i ≡ None
@@ -281,3 +281,36 @@ tells_one script f is g = (λ same. fault_is script g (sym is ∙ ap Some same),
 
 pub tells_none : (script : List Instruction) → None ≡ script_fault script → (g : ScriptFault) → IsScriptFault script g → ⊥
 tells_none script is g h = let other = is_fault script g h in absurd cc
+
+-- A script with one point, behind which all may stand that stands there, has no fault but instructions that can't be run.
+all_early : (is : List Instruction) → AllByRecursion (λ i. (is_supported i && may_precede i) ≡ true) is → AllByRecursion (IsRight Early) is
+all_early [] h = tt
+all_early (i ∷ is) h = (h.0, all_early is h.1)
+
+follows : (i : Instruction) → may_follow i ≡ true → is_point i ≡ false
+follows point_of_no_return e = absurd cc
+follows i e = refl
+
+no_points_behind : (is : List Instruction) → AllByRecursion (λ i. may_follow i ≡ true) is → points is ≡ 0
+no_points_behind [] h = refl
+no_points_behind (i ∷ is) h = (λ j. (if follows i h.0 j then 1 else 0) + no_points_behind is h.1 j)
+
+late_unsupported : (n : ℕ) (is : List Instruction) (f : ScriptFault) → AllByRecursion (λ i. may_follow i ≡ true) is → part_fault Late n is ≡ Some f → (m : ℕ) × (f ≡ Unsupported m)
+late_unsupported n [] f h e = absurd cc
+late_unsupported n (i ∷ is) f h e = go (late_unsupported (n + 1) is f h.1) (is_supported i) (may_follow i) h.0 e
+  where
+    go : (part_fault Late (n + 1) is ≡ Some f → (m : ℕ) × (f ≡ Unsupported m)) → (a b : Bool) → b ≡ true
+        → first_fault (if a then (if b then None else Some (Misplaced (n + 1))) else Some (Unsupported (n + 1))) (part_fault Late (n + 1) is) ≡ Some f
+        → (m : ℕ) × (f ≡ Unsupported m)
+    go more true true p q = more q
+    go more true false p q = absurd cc
+    go more false b p q = (n + 1, cc)
+
+pub only_unsupported : (script before after : List Instruction) → script ≡ before ++ (point_of_no_return ∷ after)
+    → AllByRecursion (λ i. (is_supported i && may_precede i) ≡ true) before → AllByRecursion (λ i. may_follow i ≡ true) after
+    → (f : ScriptFault) → IsScriptFault script f → (n : ℕ) × (f ≡ Unsupported n)
+only_unsupported script before after is early late f h =
+    let right = all_early before early in
+    late_unsupported (length before + 1) after f late
+    (sym (ap (λ (o : Option ScriptFault). first_fault o (part_fault Late (length before + 1) after)) (right_all Early 0 before right))
+    ∙ (sym (alone script before after is (pointless Early before right) (no_points_behind after late)) ∙ is_fault script f h))

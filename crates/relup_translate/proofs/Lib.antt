@@ -1,4 +1,5 @@
 pub mod PartLemmas
-pub mod OrderLemmas
-pub mod ReverseLemmas
 pub mod AppendLemmas
+pub mod OutcomeLemmas
+pub mod ScriptLemmas
+pub mod ItselfLemmas

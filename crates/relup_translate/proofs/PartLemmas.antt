@@ -7,8 +7,8 @@ use Rattle.relup_file.specs.declared.instruction.Direction.TheVariants.{Up, Down
 use Rattle.relup_file.specs.Instruction.{Instruction}
 use Rattle.appup_file.specs.Instruction.{AppupInstruction}
 use Rattle.relup_translate.specs.Release.{WayForm}
-use Rattle.relup_translate.specs.Order.{BlockItemForm}
-use Rattle.relup_translate.specs.Block.{block}
+use Rattle.relup_block.specs.Order.{BlockItemForm}
+use Rattle.relup_block.specs.Block.{block}
 use Rattle.relup_translate.specs.Script.{PartForm, put_item, part_script, single}
 use Rattle.relup_translate.specs.Script.PartForm.{a_block, a_single}
 

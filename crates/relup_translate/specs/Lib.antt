@@ -1,8 +1,7 @@
 pub mod Release
-pub mod Order
-pub mod Block
 pub mod Fetches
 pub mod Script
 pub mod Fault
 pub mod Translation
 pub mod Memory
+pub mod Laws

@@ -1,7 +1,5 @@
 -- What parts of a script in the making stand for.
-use Rattle.std.specs.Prelude.{◌≡◌, List, [], ◌∷◌, ◌++◌, map, string_bytes}
-use Rattle.relup_file.specs.declared.instruction.Instr.{Instr}
-use Rattle.relup_file.specs.Instruction.{Instruction, script_of}
+use Rattle.std.specs.Prelude.{List, [], ◌∷◌, map, string_bytes}
 use Rattle.appup_file.specs.Instruction.{AppupInstruction, row_of}
 use Rattle.appup_file.specs.Instruction.AppupInstruction.{add_application, remove_application}
 use Rattle.relup_translate.specs.declared.changes.AppChange.{AppChange}
@@ -15,7 +13,3 @@ row_of_change (Going a) = remove_application (string_bytes a.now.name) ∷ []
 
 abbrev pub rows_of : List AppChange → List (List AppupInstruction)
 rows_of = map row_of_change
-
--- These instructions were written behind what stood there.
-abbrev pub Appends : List Instr → List Instr → List Instruction → Type 0
-Appends old new is = script_of new ≡ script_of old ++ is

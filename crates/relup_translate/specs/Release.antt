@@ -1,12 +1,13 @@
 -- What a relup's making needs to know of releases, without where it lies in memory.
 use Rattle.std.specs.Prelude.{ℕ, Bool, List, Option, map, string_bytes}
 use Rattle.std.specs.Option.{option_map}
-use Rattle.std.specs.List.{find, list_any}
+use Rattle.std.specs.List.{find}
 use Rattle.std.specs.Str.{bytes_eq}
 use Rattle.rel_files.specs.declared.release.StartType.{StartType}
 use Rattle.relup_file.specs.declared.instruction.Direction.{Direction}
 use Rattle.relup_file.specs.declared.instruction.Direction.TheVariants.{Up, Down}
 use Rattle.appup_file.specs.Instruction.{AppupForm, appup_of}
+use Rattle.relup_block.specs.Order.{is_among}
 use Rattle.relup_translate.specs.declared.release.RelupApp.{RelupApp}
 use Rattle.relup_translate.specs.declared.release.RelupRelease.{RelupRelease}
 use Rattle.relup_translate.specs.declared.release.Way.{Way}
@@ -49,10 +50,6 @@ way_of w = record { direction = w.direction; left = relup_release_of w.left.now;
 abbrev pub way_between : Direction → RelupReleaseForm → RelupReleaseForm → WayForm
 way_between Up new other = record { direction = Up; left = other; target = new }
 way_between Down new other = record { direction = Down; left = new; target = other }
-
--- whether a name is among these
-abbrev pub is_among : List ℕ → List (List ℕ) → Bool
-is_among s = list_any (λ (n : List ℕ). bytes_eq n s)
 
 -- the application of a name
 abbrev pub app_named : List ℕ → RelupReleaseForm → Option RelupAppForm

@@ -13,9 +13,9 @@ use Rattle.relup_file.specs.Instruction.Instruction.{load_object_code, point_of_
 use Rattle.appup_file.specs.Instruction.{AppupInstruction}
 use Rattle.appup_file.specs.Instruction.AppupInstruction.{update, update_supervisor, load_module, add_module, delete_module, add_application, remove_application, restart_application, low_level}
 use Rattle.relup_translate.specs.Release.{RelupAppForm, RelupReleaseForm, WayForm, app_named}
-use Rattle.relup_translate.specs.Order.{BlockItemForm}
-use Rattle.relup_translate.specs.Order.BlockItemForm.{updated, loaded}
-use Rattle.relup_translate.specs.Block.{block}
+use Rattle.relup_block.specs.Order.{BlockItemForm}
+use Rattle.relup_block.specs.Order.BlockItemForm.{updated, loaded}
+use Rattle.relup_block.specs.Block.{block}
 use Rattle.relup_translate.specs.Fetches.{MentionForm, mention, fetching}
 
 -- a module with the default words

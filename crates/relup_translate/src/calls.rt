@@ -5,7 +5,7 @@ ghost use Rattle.erl_term.specs.Value.Value.{atom};
 ghost use Rattle.rel_files.specs.Form.{start_word};
 ghost use Rattle.relup_file.specs.Instruction.{instruction_of};
 ghost use Rattle.relup_translate.specs.Script.{application_call, call_with, start_call, starting};
-ghost use Rattle.relup_translate.specs.Memory.{Appends};
+ghost use Rattle.relup_block.specs.Memory.{Appends};
 
 use erl_term::Term;
 use rel_files::StartType;

@@ -3,7 +3,7 @@ ghost use Rattle.std.specs.Prelude.{◌≡◌, [], IfOk, OnOk, map, string_bytes
 ghost use Rattle.relup_file.specs.Instruction.{fetch_of};
 ghost use Rattle.relup_translate.specs.Release.{relup_app_of};
 ghost use Rattle.relup_translate.specs.Fetches.{mention_of, mentions_app, mentions_module, modules_of, fetch, fetching};
-ghost use Rattle.relup_translate.specs.Memory.{Appends};
+ghost use Rattle.relup_block.specs.Memory.{Appends};
 
 use crate::release::RelupApp;
 use relup_file::{Fetch, Instr};

@@ -4,17 +4,21 @@
 //! definition `translation` (clauses `made` and `refused`), which goes by cases on the instruction and the direction. Only
 //! want of memory may come in their place.
 //!
+//! The functions of `laws` say of the definition that a relup is made exactly where no way between the releases has a fault,
+//! and that a refusal is the first fault; that each script that is made has one point of no return, and that `check` of
+//! `relup_script` finds nothing in it but instructions that can't be run anywhere; and that a relup from a release to itself
+//! changes nothing.
+//!
 //! Only tested: that a relup is made where memory is there. Trusted: the toolchain alone.
 #![tactic(auto)]
 
-mod block;
 mod calls;
 mod changes;
 mod copies;
 mod error;
 mod fault;
 mod fetches;
-mod order;
+pub mod laws;
 mod refusals;
 mod release;
 mod relup;

@@ -9,8 +9,9 @@ ghost use Rattle.relup_translate.specs.Fault.{fault_of};
 ghost use Rattle.relup_translate.specs.Translation.{known, target_has_module, target_has_app, left_has_app, deleted_fault, restart_fault, low_level_fault, instruction_fault, first_fault, counting_appup, by_appup, between_versions, other_version, app_fault, way_fault, release_fault, fault_between};
 
 use crate::fault::TranslationFault;
-use crate::release::{RelupApp, RelupRelease, Way, is_among};
+use crate::release::{RelupApp, RelupRelease, Way};
 use appup_file::{Appup, AppupInstr, EntryFault};
+use relup_block::is_among;
 use relup_file::{Direction, Instr};
 
 fn known(holds: bool, fault: TranslationFault<'_>) -> Option<TranslationFault<'_>>

@@ -1,10 +1,11 @@
 //! What the making of a relup needs to know of releases.
 ghost use Rattle.std.specs.Prelude.{◌≡◌, map, string_bytes};
 ghost use Rattle.std.specs.Option.{option_map};
-ghost use Rattle.relup_translate.specs.Release.{relup_app_of, relup_release_of, way_of, way_between, is_among, app_named, owner};
+ghost use Rattle.relup_translate.specs.Release.{relup_app_of, relup_release_of, way_of, way_between, app_named, owner};
 
 use appup_file::Appup;
 use rel_files::StartType;
+use relup_block::is_among;
 use relup_file::Direction;
 
 /// An application of a release.
@@ -61,18 +62,6 @@ impl<'a> Way<'a> {
             },
         }
     }
-}
-
-// Whether a name is among these.
-pub(crate) fn is_among(name: &str, names: &[String]) -> bool
-    ensures { result ≡ is_among name.now (map string_bytes names.now) }
-{
-    for other in names {
-        if other.as_str() == name {
-            return true;
-        }
-    }
-    false
 }
 
 impl RelupRelease {

@@ -4,18 +4,17 @@ ghost use Rattle.std.specs.List.{filter_map};
 ghost use Rattle.std.specs.Option.{option_map};
 ghost use Rattle.appup_file.specs.Instruction.{appup_instruction_of, row_of};
 ghost use Rattle.relup_translate.specs.Release.{relup_release_of, way_of};
-ghost use Rattle.relup_translate.specs.Order.{block_item_of};
+ghost use Rattle.relup_block.specs.Order.{block_item_of};
 ghost use Rattle.relup_translate.specs.Fetches.{mention, mention_of};
 ghost use Rattle.relup_translate.specs.Script.{app_modules, block_item, mentions_by, mentions, written_fetch, written_fetches, row_script};
-ghost use Rattle.relup_translate.specs.Memory.{Appends};
+ghost use Rattle.relup_block.specs.Memory.{Appends};
 
-use crate::block::push_block;
 use crate::copies::copy_instr;
 use crate::fetches::Mention;
-use crate::order::BlockItem;
 use crate::release::{RelupRelease, Way};
 use crate::single::push_single;
 use appup_file::AppupInstr;
+use relup_block::{BlockItem, push_block};
 use relup_file::Instr;
 use std::alloc::{AllocError, Global};
 

@@ -6,7 +6,8 @@ ghost use Rattle.relup_translate.specs.Release.{way_of};
 ghost use Rattle.relup_translate.specs.Fetches.{mention_of};
 ghost use Rattle.relup_translate.specs.Script.{mentions, written_fetches, row_script};
 ghost use Rattle.relup_translate.specs.Translation.{way_script};
-ghost use Rattle.relup_translate.specs.Memory.{row_of_change, rows_of, Appends};
+ghost use Rattle.relup_block.specs.Memory.{Appends};
+ghost use Rattle.relup_translate.specs.Memory.{row_of_change, rows_of};
 
 use crate::changes::{AppChange, changes};
 use crate::fetches::{Mention, push_fetches};

@@ -4,7 +4,7 @@ ghost use Rattle.relup_file.specs.Instruction.{purging_of, instruction_of};
 ghost use Rattle.appup_file.specs.Instruction.{appup_instruction_of};
 ghost use Rattle.relup_translate.specs.Release.{relup_app_of, relup_release_of, way_of, app_named};
 ghost use Rattle.relup_translate.specs.Script.{plain_purging, load_plainly, remove_plainly, call_with, leaving, coming, stopping, going, of_app, restarting, deleting, in_place, single};
-ghost use Rattle.relup_translate.specs.Memory.{Appends};
+ghost use Rattle.relup_block.specs.Memory.{Appends};
 
 use crate::calls::{push_call, push_start};
 use crate::copies::{copy_instr, copy_names};

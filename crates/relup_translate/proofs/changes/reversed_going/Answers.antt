@@ -1,5 +1,5 @@
 use Rattle.relup_translate.specs.Memory.{row_of_change}
-use Rattle.relup_translate.proofs.ReverseLemmas.{backwards}
+use Rattle.relup_block.proofs.ReverseLemmas.{backwards}
 use Rattle.relup_translate.proofs.changes.reversed_going.Goals as goal
 
 pub returns : goal.returns

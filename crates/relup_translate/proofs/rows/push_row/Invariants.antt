@@ -3,7 +3,7 @@ use Rattle.std.specs.List.{flat_map}
 use Rattle.appup_file.specs.Instruction.{row_of}
 use Rattle.relup_file.specs.Instruction.{script_of}
 use Rattle.relup_translate.specs.Release.{way_of}
-use Rattle.relup_translate.specs.Order.{block_items_of}
+use Rattle.relup_block.specs.Order.{block_items_of}
 use Rattle.relup_translate.specs.Script.{part_script, parts, row_script}
 use Rattle.relup_translate.proofs.PartLemmas.{unfinished}
 use Rattle.relup_translate.proofs.rows.push_row.Given as goal

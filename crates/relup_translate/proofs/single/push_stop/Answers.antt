@@ -1,6 +1,6 @@
 use Rattle.std.proofs.Common.{OnOk, codes, ℕ, List, [], ◌∷◌, subst}
 use Rattle.relup_translate.specs.Script.{call_with}
-use Rattle.relup_translate.specs.Memory.{Appends}
+use Rattle.relup_block.specs.Memory.{Appends}
 use Rattle.relup_translate.proofs.single.push_stop.Goals as goal
 
 pub returns : goal.returns

@@ -1,6 +1,7 @@
 use Rattle.std.proofs.Common.{◌≡◌, map, drop}
 use Rattle.std.specs.List.{find}
-use Rattle.relup_translate.specs.Release.{RelupAppForm, relup_app_of, relup_release_of, is_among, owner}
+use Rattle.relup_block.specs.Order.{is_among}
+use Rattle.relup_translate.specs.Release.{RelupAppForm, relup_app_of, relup_release_of, owner}
 use Rattle.relup_translate.proofs.release.RelupRelease.owner.Given as goal
 
 abbrev pub invariant-loop-app : goal.invariant-loop-app

@@ -1,0 +1,72 @@
+-- Laws of blocks, above the definition of their instructions.
+use Rattle.std.specs.Prelude.{◌≡◌, ℕ, true, false, List, [], ◌∷◌, ◌++◌, map, reverse, filter, IsPermutation}
+use Rattle.relup_file.specs.declared.instruction.Direction.{Direction}
+use Rattle.relup_file.specs.declared.instruction.Direction.TheVariants.{Up, Down}
+use Rattle.relup_file.specs.Instruction.{SuspensionForm, PurgingForm, ChangeForm, ConversionForm, Instruction}
+use Rattle.relup_file.specs.Instruction.Instruction.{suspend, load, code_change, resume}
+use Rattle.std.specs.List.{filter_map, flat_map}
+use Rattle.relup_block.specs.declared.order.ChoiceRule.{ChoiceRule}
+use Rattle.relup_block.specs.Order.{BlockItemForm, order}
+use Rattle.relup_block.specs.Block.{resumption, change, purging, is_of_kind, block}
+
+-- what an instruction loads,
+abbrev pub load_by : Instruction → List PurgingForm
+load_by (load p) = p ∷ []
+load_by i = []
+
+-- the states that it changes,
+abbrev pub changed_by : Instruction → List ChangeForm
+changed_by (code_change c) = c.changes
+changed_by i = []
+
+-- the modules that it suspends,
+abbrev pub suspended_by : Instruction → List (List ℕ)
+suspended_by (suspend ss) = map (λ (s : SuspensionForm). s.name) ss
+suspended_by i = []
+
+-- and those that it resumes
+abbrev pub resumed_by : Instruction → List (List ℕ)
+resumed_by (resume names) = names
+resumed_by i = []
+
+-- These modules are loaded by these instructions, each once, with its own words.
+abbrev pub Loads : List BlockItemForm → List Instruction → Type 0
+Loads xs is = IsPermutation (map purging xs) (flat_map load_by is)
+
+-- The states of these updates are changed, each once.
+abbrev pub Changes : List BlockItemForm → List ChangeForm → Type 0
+Changes xs cs = IsPermutation (filter_map change xs) cs
+
+-- An order of a block has its items, each once.
+abbrev pub OrderHasItems : Type 0
+OrderHasItems = (rule : ChoiceRule) (xs : List BlockItemForm) → IsPermutation xs (order rule xs)
+
+-- Each module of a block is loaded exactly once.
+abbrev pub LoadsEachOnce : Type 0
+LoadsEachOnce = (d : Direction) (xs : List BlockItemForm) → Loads xs (block d xs)
+
+-- The state of each advanced update is changed exactly once.
+abbrev pub ChangesEachOnce : Type 0
+ChangesEachOnce = (d : Direction) (xs : List BlockItemForm) → Changes xs (flat_map changed_by (block d xs))
+
+-- The updated modules are suspended, each once.
+abbrev pub SuspendsEachOnce : Type 0
+SuspendsEachOnce = (d : Direction) (xs : List BlockItemForm)
+    → IsPermutation (filter_map resumption xs) (flat_map suspended_by (block d xs))
+
+-- Those that are suspended are resumed, the last first.
+abbrev pub ResumesSuspended : Type 0
+ResumesSuspended = (d : Direction) (xs : List BlockItemForm)
+    → flat_map resumed_by (block d xs) ≡ reverse (flat_map suspended_by (block d xs))
+
+-- Going up, all modules are loaded before states are changed.
+abbrev pub LoadsBeforeChange : Type 0
+LoadsBeforeChange = (xs : List BlockItemForm) (front rest : List Instruction) (c : ConversionForm)
+    → block Up xs ≡ front ++ (code_change c ∷ rest)
+    → Loads xs front × Changes xs c.changes × Loads [] rest
+
+-- Going down, states are changed before their modules are loaded, but for those of static updates.
+abbrev pub ChangesBeforeLoad : Type 0
+ChangesBeforeLoad = (xs : List BlockItemForm) (front rest : List Instruction) (c : ConversionForm)
+    → block Down xs ≡ front ++ (code_change c ∷ rest)
+    → Loads (filter (is_of_kind true) xs) front × Changes xs c.changes × Loads (filter (is_of_kind false) xs) rest

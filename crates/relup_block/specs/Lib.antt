@@ -1,0 +1,5 @@
+pub mod Order
+pub mod Counts
+pub mod Block
+pub mod Memory
+pub mod Laws

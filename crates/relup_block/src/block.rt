@@ -1,0 +1,293 @@
+//! The instructions of a block.
+ghost use Rattle.std.specs.Prelude.{◌≡◌, IfOk, OnOk, map, string_bytes, filter, reverse};
+ghost use Rattle.std.specs.List.{filter_map};
+ghost use Rattle.std.specs.Option.{option_map};
+ghost use Rattle.relup_file.specs.Instruction.{suspension_of, change_of, purging_of};
+ghost use Rattle.relup_block.specs.Order.{block_item_of, block_items_of};
+ghost use Rattle.relup_block.specs.Block.{written_timeout, suspension, resumption, change, purging, is_static, is_of_kind, loading, suspending, changing, resuming, updating, in_orders, block};
+ghost use Rattle.relup_block.specs.Memory.{Appends};
+
+use crate::order::{BlockItem, ChoiceRule, order};
+use appup_file::{ModType, StateChange};
+use relup_file::{Change, Conversion, Direction, Instr, Purging, Suspension, Timeout};
+use std::alloc::{AllocError, Global};
+
+// A timeout, where it is not the default.
+fn written_timeout(timeout: Timeout) -> Option<Timeout>
+    ensures { result ≡ written_timeout timeout }
+{
+    match timeout {
+        Timeout::Default => None,
+        timeout => Some(timeout),
+    }
+}
+
+fn suspension(alloc: Global, item: BlockItem<'_>) -> Result<Option<Suspension>, AllocError>
+    ensures { IfOk result (λ o.
+        option_map suspension_of o ≡ suspension (block_item_of item.entry)) }
+{
+    match item {
+        BlockItem::Updated(update) => Ok(Some(Suspension {
+            name: String::from_str(alloc, update.name.as_str())?,
+            timeout: written_timeout(update.timeout),
+        })),
+        BlockItem::Loaded(_) => Ok(None),
+    }
+}
+
+fn resumption(alloc: Global, item: BlockItem<'_>) -> Result<Option<String>, AllocError>
+    ensures { IfOk result (λ o.
+        option_map string_bytes o ≡ resumption (block_item_of item.entry)) }
+{
+    match item {
+        BlockItem::Updated(update) => Ok(Some(String::from_str(alloc, update.name.as_str())?)),
+        BlockItem::Loaded(_) => Ok(None),
+    }
+}
+
+fn change(alloc: Global, item: BlockItem<'_>) -> Result<Option<Change>, AllocError>
+    ensures { IfOk result (λ o. option_map change_of o ≡ change (block_item_of item.entry)) }
+{
+    match item {
+        BlockItem::Updated(update) => match &update.change {
+            StateChange::Soft => Ok(None),
+            StateChange::Advanced(extra) => Ok(Some(Change {
+                name: String::from_str(alloc, update.name.as_str())?,
+                extra: extra.clone()?,
+            })),
+        },
+        BlockItem::Loaded(_) => Ok(None),
+    }
+}
+
+fn purging(alloc: Global, item: BlockItem<'_>) -> Result<Purging, AllocError>
+    ensures { IfOk result (λ p. purging_of p ≡ purging (block_item_of item.entry)) }
+{
+    match item {
+        BlockItem::Updated(update) => Ok(Purging {
+            name: String::from_str(alloc, update.name.as_str())?,
+            pre: update.pre,
+            post: update.post,
+        }),
+        BlockItem::Loaded(load) => Ok(Purging {
+            name: String::from_str(alloc, load.name.as_str())?,
+            pre: load.pre,
+            post: load.post,
+        }),
+    }
+}
+
+// Whether it is the update of a static module.
+fn is_static(item: BlockItem<'_>) -> bool
+    ensures { result ≡ is_static (block_item_of item.entry) }
+{
+    match item {
+        BlockItem::Updated(update) => match update.mod_type {
+            ModType::Static => true,
+            ModType::Dynamic => false,
+        },
+        BlockItem::Loaded(_) => false,
+    }
+}
+
+fn suspensions(alloc: Global, items: &[BlockItem<'_>]) -> Result<Vec<Suspension>, AllocError>
+    ensures { IfOk result (λ v.
+        map suspension_of v.items ≡ filter_map suspension (block_items_of items.now)) }
+{
+    let mut suspensions = Vec::with_capacity(alloc, items.len())?;
+    for item in items {
+        if let Some(suspension) = suspension(alloc, *item)? {
+            suspensions.push(suspension)?;
+        }
+    }
+    Ok(suspensions)
+}
+
+fn resumptions(alloc: Global, items: &[BlockItem<'_>]) -> Result<Vec<String>, AllocError>
+    ensures { IfOk result (λ v.
+        map string_bytes v.items ≡ filter_map resumption (block_items_of items.now)) }
+{
+    let mut names = Vec::with_capacity(alloc, items.len())?;
+    for item in items {
+        if let Some(name) = resumption(alloc, *item)? {
+            names.push(name)?;
+        }
+    }
+    Ok(names)
+}
+
+// In the reverse order of suspending.
+fn reversed_resumptions(alloc: Global, items: &[BlockItem<'_>]) -> Result<Vec<String>, AllocError>
+    ensures { IfOk result (λ v. map string_bytes v.items
+        ≡ reverse (filter_map resumption (block_items_of items.now))) }
+{
+    let mut names = resumptions(alloc, items)?;
+    names.reverse();
+    Ok(names)
+}
+
+fn changes(alloc: Global, items: &[BlockItem<'_>]) -> Result<Vec<Change>, AllocError>
+    ensures { IfOk result (λ v.
+        map change_of v.items ≡ filter_map change (block_items_of items.now)) }
+{
+    let mut changes = Vec::with_capacity(alloc, items.len())?;
+    for item in items {
+        if let Some(change) = change(alloc, *item)? {
+            changes.push(change)?;
+        }
+    }
+    Ok(changes)
+}
+
+fn push_suspend(
+    alloc: Global,
+    items: &[BlockItem<'_>],
+    out: &mut Vec<Instr>,
+) -> Result<(), AllocError>
+    ensures { OnOk result
+        (Appends out.old.items out.new.items (suspending (block_items_of items.now))) }
+{
+    let suspensions = suspensions(alloc, items)?;
+    if !suspensions.is_empty() {
+        out.push(Instr::Suspend(suspensions))?;
+    }
+    Ok(())
+}
+
+fn push_resume(
+    alloc: Global,
+    items: &[BlockItem<'_>],
+    out: &mut Vec<Instr>,
+) -> Result<(), AllocError>
+    ensures { OnOk result
+        (Appends out.old.items out.new.items (resuming (block_items_of items.now))) }
+{
+    let names = reversed_resumptions(alloc, items)?;
+    if !names.is_empty() {
+        out.push(Instr::Resume(names))?;
+    }
+    Ok(())
+}
+
+fn push_changes(
+    alloc: Global,
+    direction: Direction,
+    items: &[BlockItem<'_>],
+    out: &mut Vec<Instr>,
+) -> Result<(), AllocError>
+    ensures { OnOk result
+        (Appends out.old.items out.new.items (changing direction (block_items_of items.now))) }
+{
+    let changes = changes(alloc, items)?;
+    if !changes.is_empty() {
+        out.push(Instr::CodeChange(Conversion {
+            mode: Some(direction),
+            changes,
+        }))?;
+    }
+    Ok(())
+}
+
+fn push_loads(
+    alloc: Global,
+    items: &[BlockItem<'_>],
+    out: &mut Vec<Instr>,
+) -> Result<(), AllocError>
+    ensures { OnOk result
+        (Appends out.old.items out.new.items (loading (block_items_of items.now))) }
+{
+    for item in items {
+        out.push(Instr::Load(purging(alloc, *item)?))?;
+    }
+    Ok(())
+}
+
+// Those of static modules, or the others.
+fn items_that<'a>(
+    alloc: Global,
+    wanted: bool,
+    items: &[BlockItem<'a>],
+) -> Result<Vec<BlockItem<'a>>, AllocError>
+    ensures { IfOk result (λ v.
+        block_items_of v.items ≡ filter (is_of_kind wanted) (block_items_of items.now)) }
+{
+    let mut kept = Vec::with_capacity(alloc, items.len())?;
+    for item in items {
+        if is_static(*item) == wanted {
+            kept.push(*item)?;
+        }
+    }
+    Ok(kept)
+}
+
+fn push_updates(
+    alloc: Global,
+    direction: Direction,
+    items: &[BlockItem<'_>],
+    out: &mut Vec<Instr>,
+) -> Result<(), AllocError>
+    ensures { OnOk result
+        (Appends out.old.items out.new.items (updating direction (block_items_of items.now))) }
+{
+    match direction {
+        Direction::Up => {
+            push_loads(alloc, items, out)?;
+            push_changes(alloc, direction, items, out)
+        }
+        Direction::Down => {
+            push_loads(alloc, &items_that(alloc, true, items)?, out)?;
+            push_changes(alloc, direction, items, out)?;
+            push_loads(alloc, &items_that(alloc, false, items)?, out)
+        }
+    }
+}
+
+fn push_in_orders(
+    alloc: Global,
+    direction: Direction,
+    suspended: &[BlockItem<'_>],
+    items: &[BlockItem<'_>],
+    out: &mut Vec<Instr>,
+) -> Result<(), AllocError>
+    ensures { OnOk result (Appends out.old.items out.new.items
+        (in_orders direction (block_items_of suspended.now) (block_items_of items.now))) }
+{
+    push_suspend(alloc, suspended, out)?;
+    push_updates(alloc, direction, items, out)?;
+    push_resume(alloc, suspended, out)
+}
+
+/// Writes the instructions of a block behind those that stand in `out`. Up, what depends on others is suspended first and
+/// loaded last, and down the other way round.
+pub fn push_block(
+    alloc: Global,
+    direction: Direction,
+    items: &[BlockItem<'_>],
+    out: &mut Vec<Instr>,
+) -> Result<(), AllocError>
+    ensures { OnOk result
+        (Appends out.old.items out.new.items (block direction (block_items_of items.now))) }
+{
+    let dependents_first = order(alloc, ChoiceRule::DependentsFirst, items)?;
+    let dependencies_first = order(alloc, ChoiceRule::DependenciesFirst, items)?;
+    match direction {
+        Direction::Up => {
+            push_in_orders(
+                alloc,
+                direction,
+                &dependents_first,
+                &dependencies_first,
+                out,
+            )
+        }
+        Direction::Down => {
+            push_in_orders(
+                alloc,
+                direction,
+                &dependencies_first,
+                &dependents_first,
+                out,
+            )
+        }
+    }
+}

@@ -1,0 +1,37 @@
+//! Laws of blocks, above their definition. Each function does nothing: its contract is the law.
+ghost use Rattle.relup_block.specs.Laws.{OrderHasItems, LoadsEachOnce, ChangesEachOnce, SuspendsEachOnce, ResumesSuspended, LoadsBeforeChange, ChangesBeforeLoad};
+
+/// An order of a block has its items, each once.
+pub fn an_order_has_each_item_once()
+    ensures { OrderHasItems }
+{}
+
+/// Each module of a block is loaded exactly once.
+pub fn each_module_is_loaded_once()
+    ensures { LoadsEachOnce }
+{}
+
+/// The state of each advanced update is changed exactly once.
+pub fn each_state_is_changed_once()
+    ensures { ChangesEachOnce }
+{}
+
+/// The updated modules are suspended, each exactly once.
+pub fn each_update_is_suspended_once()
+    ensures { SuspendsEachOnce }
+{}
+
+/// Those that are suspended are resumed, the last first.
+pub fn the_suspended_are_resumed()
+    ensures { ResumesSuspended }
+{}
+
+/// Going up, all modules are loaded before states are changed.
+pub fn going_up_loads_before_it_changes()
+    ensures { LoadsBeforeChange }
+{}
+
+/// Going down, states are changed before modules are loaded; those of static updates alone are loaded before.
+pub fn going_down_changes_before_it_loads()
+    ensures { ChangesBeforeLoad }
+{}

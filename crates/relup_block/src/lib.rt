@@ -1,0 +1,19 @@
+//! Blocks of modules that are updated and loaded together: the instructions that a script has for one, and their order (OTP:
+//! appup(4), systools:make_relup/3; the order is this project's own).
+//!
+//! [`push_block`] writes the instructions of the definition `block`. They go by two orders of the block's items, which two
+//! rules of choice give (specs/Order).
+//!
+//! The functions of `laws` say of the definition that each module is loaded once and each state changed once; that the updated
+//! modules are suspended, and resumed the last first; that going up all is loaded before states are changed; and that going
+//! down states are changed before their modules are loaded, but for static updates.
+//!
+//! Only tested: that a block is written where memory is there. Trusted: the toolchain alone.
+#![tactic(auto)]
+
+mod block;
+pub mod laws;
+mod order;
+
+pub use block::push_block;
+pub use order::{BlockItem, is_among};

@@ -1,8 +1,0 @@
-use Rattle.std.proofs.Common.{◌≡◌, ◌++◌, take}
-use Rattle.relup_translate.specs.Order.{block_items_of}
-use Rattle.relup_translate.specs.Block.{loading}
-use Rattle.relup_file.specs.Instruction.{script_of}
-use Rattle.relup_translate.proofs.block.push_loads.Given as goal
-
-abbrev pub invariant-loop-item : goal.invariant-loop-item
-invariant-loop-item l = script_of l.out.items ≡ script_of l.initial.out.items ++ loading (block_items_of (take l.item-index l.items))

@@ -1,6 +1,0 @@
-use Rattle.std.proofs.Common.{string_bytes}
-use Rattle.relup_translate.proofs.ReverseLemmas.{backwards}
-use Rattle.relup_translate.proofs.block.reversed_resumptions.Goals as goal
-
-pub returns : goal.returns
-returns c = backwards string_bytes c.in_ok-names.names.items c.reverse.new.self.items _ c.reverse.ensures.items c.in_ok-names.ensures

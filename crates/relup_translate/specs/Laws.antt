@@ -1,0 +1,75 @@
+-- Laws of the translation, above its definition.
+use Rattle.std.specs.Prelude.{◌≡◌, ◌⊎◌, ◌↔◌, ℕ, List, [], ◌∷◌, ◌++◌, map, None, Some, Ok, Err, bytes_eq}
+use Rattle.std.specs.List.{AllByRecursion, IsDistinct}
+use Rattle.erl_term.specs.Value.Value.{list}
+use Rattle.erl_term.specs.Value.Values.{no_values}
+use Rattle.relup_file.specs.declared.instruction.Direction.TheVariants.{Up, Down}
+use Rattle.relup_file.specs.Instruction.{Instruction, EntryForm, RelupForm}
+use Rattle.relup_file.specs.Instruction.Instruction.{point_of_no_return}
+use Rattle.relup_script.specs.declared.fault.ScriptFault.{ScriptFault}
+use Rattle.relup_script.specs.declared.fault.ScriptFault.TheVariants.{Unsupported}
+use Rattle.relup_script.specs.Script.{IsScriptFault}
+use Rattle.relup_translate.specs.Release.{RelupAppForm, RelupReleaseForm, WayForm, way_between}
+use Rattle.relup_translate.specs.Fault.{FaultForm}
+use Rattle.relup_translate.specs.Translation.{way_fault, relup_between, translation}
+
+-- the ways of a relup: its upgrades, then its downgrades
+abbrev pub ways : RelupReleaseForm → List RelupReleaseForm → List RelupReleaseForm → List WayForm
+ways new ups downs = map (way_between Up new) ups ++ map (way_between Down new) downs
+
+-- None of these ways has a fault.
+abbrev pub AreSound : List WayForm → Type 0
+AreSound = AllByRecursion (λ w. way_fault w ≡ None)
+
+-- The first of these ways that has a fault has this one.
+pub record IsFirstFault (ws : List WayForm) (f : FaultForm) : Type 0 where
+  pub before : List WayForm
+  pub wrong : WayForm
+  pub after : List WayForm
+  pub is : ws ≡ before ++ (wrong ∷ after)
+  pub sound : AreSound before
+  pub fault : way_fault wrong ≡ Some f
+
+-- A relup is made exactly where no way has a fault, and it is this one.
+abbrev pub MakesSoundWays : Type 0
+MakesSoundWays = (new : RelupReleaseForm) (ups downs : List RelupReleaseForm) (r : RelupForm)
+    → (translation new ups downs ≡ Ok r) ↔ (AreSound (ways new ups downs) × (r ≡ relup_between new ups downs))
+
+-- A refusal is the first fault.
+abbrev pub RefusesFirstFault : Type 0
+RefusesFirstFault = (new : RelupReleaseForm) (ups downs : List RelupReleaseForm) (f : FaultForm)
+    → (translation new ups downs ≡ Err f) ↔ IsFirstFault (ways new ups downs) f
+
+-- Ways have one first fault at most,
+abbrev pub HaveOneFirstFault : Type 0
+HaveOneFirstFault = (ws : List WayForm) (f g : FaultForm) → IsFirstFault ws f → IsFirstFault ws g → f ≡ g
+
+-- they have none where none has a fault,
+abbrev pub NeverBoth : Type 0
+NeverBoth = (ws : List WayForm) (f : FaultForm) → AreSound ws → IsFirstFault ws f → ⊥
+
+-- and one elsewhere.
+abbrev pub AreSoundOrFail : Type 0
+AreSoundOrFail = (ws : List WayForm) → AreSound ws ⊎ ((f : FaultForm) × IsFirstFault ws f)
+
+-- A script has one point of no return, and each instruction that is run at all stands on its side of it.
+abbrev pub HasOnlyUnsupported : List Instruction → Type 0
+HasOnlyUnsupported script = (f : ScriptFault) → IsScriptFault script f → (n : ℕ) × (f ≡ Unsupported n)
+
+abbrev pub StandsRight : Type 0
+StandsRight = (new : RelupReleaseForm) (ups downs : List RelupReleaseForm) (r : RelupForm)
+    → translation new ups downs ≡ Ok r
+    → AllByRecursion (λ (e : EntryForm). HasOnlyUnsupported e.script) (r.ups ++ r.downs)
+
+-- the names of a release's applications
+abbrev pub app_names : RelupReleaseForm → List (List ℕ)
+app_names r = map (λ (a : RelupAppForm). a.name) r.apps
+
+-- the entry that changes nothing
+abbrev pub idle : RelupReleaseForm → EntryForm
+idle r = record { vsn = r.vsn; descr = list no_values; script = point_of_no_return ∷ [] }
+
+-- From a release to itself nothing changes.
+abbrev pub StaysItself : Type 0
+StaysItself = (r : RelupReleaseForm) → IsDistinct bytes_eq (app_names r)
+    → translation r (r ∷ []) (r ∷ []) ≡ Ok (record { vsn = r.vsn; ups = idle r ∷ []; downs = idle r ∷ [] })

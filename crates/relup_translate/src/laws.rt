@@ -1,0 +1,38 @@
+//! Laws of the translation, above its definition. Each function does nothing: its contract is the law.
+ghost use Rattle.relup_translate.specs.Laws.{MakesSoundWays, RefusesFirstFault, HaveOneFirstFault, NeverBoth, AreSoundOrFail, StandsRight, StaysItself};
+
+/// A relup is made exactly where no way between the releases has a fault.
+pub fn a_relup_is_made_exactly_without_a_fault()
+    ensures { MakesSoundWays }
+{}
+
+/// A refusal is the first fault: of the upgrades, then of the downgrades, each in the order given.
+pub fn a_refusal_is_the_first_fault()
+    ensures { RefusesFirstFault }
+{}
+
+/// Ways have one first fault at most.
+pub fn ways_have_one_first_fault()
+    ensures { HaveOneFirstFault }
+{}
+
+/// No ways are both without a fault and have a first one.
+pub fn no_ways_are_sound_and_have_a_fault()
+    ensures { NeverBoth }
+{}
+
+/// Ways are without a fault or have a first one.
+pub fn ways_are_sound_or_have_a_first_fault()
+    ensures { AreSoundOrFail }
+{}
+
+/// In a script that is made `check` of `relup_script` finds no fault but an instruction that can't be run anywhere: it has
+/// one point of no return, and each other instruction stands on its side of it.
+pub fn made_scripts_have_only_unsupported_instructions()
+    ensures { StandsRight }
+{}
+
+/// A relup from a release to itself changes nothing, where its applications have names of their own.
+pub fn a_release_stays_itself()
+    ensures { StaysItself }
+{}
