@@ -141,15 +141,20 @@ app_in s name no_values =
     else None
 app_in s name vs = None
 
+-- a word behind the first three, a name and terms
+abbrev pub other_named_in : List ℕ → List ℕ → Values → Option AppupInstruction
+other_named_in s name vs =
+    if bytes_eq s (codes "delete_module") then option_map delete_module (dependent_in name vs)
+    else if bytes_eq s (codes "add_application") then option_map add_application (added_in name vs)
+    else app_in s name vs
+
 -- a word, the name of a module or an application, and terms
 abbrev pub named_in : List ℕ → List ℕ → Values → Option AppupInstruction
 named_in s name vs =
     if bytes_eq s (codes "update") then update_in name vs
     else if bytes_eq s (codes "load_module") then option_map load_module (load_in name vs)
     else if bytes_eq s (codes "add_module") then option_map add_module (dependent_in name vs)
-    else if bytes_eq s (codes "delete_module") then option_map delete_module (dependent_in name vs)
-    else if bytes_eq s (codes "add_application") then option_map add_application (added_in name vs)
-    else app_in s name vs
+    else other_named_in s name vs
 
 -- what stands behind the word of an instruction that only an appup may have
 abbrev pub headed_in : List ℕ → Values → Option AppupInstruction

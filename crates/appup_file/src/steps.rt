@@ -4,7 +4,7 @@ ghost use Rattle.std.specs.Option.{option_map};
 ghost use Rattle.erl_term.specs.Value.{members_of, value_of};
 ghost use Rattle.relup_file.specs.Parts.{all_in};
 ghost use Rattle.appup_file.specs.Instruction.{appup_instruction_of, row_of};
-ghost use Rattle.appup_file.specs.Parts.{named_in, headed_in, high_level_in, appup_instruction_in};
+ghost use Rattle.appup_file.specs.Parts.{named_in, other_named_in, headed_in, high_level_in, appup_instruction_in};
 
 use crate::AppupInstr;
 use crate::applications::{added_in, app_in};
@@ -31,7 +31,22 @@ fn named_in(
         Ok(load_in(alloc, name, row)?.map(AppupInstr::LoadModule))
     } else if word == "add_module" {
         Ok(dependent_in(alloc, name, row)?.map(AppupInstr::AddModule))
-    } else if word == "delete_module" {
+    } else {
+        other_named_in(alloc, word, name, row)
+    }
+}
+
+// A word that is none of those above, a name and terms.
+fn other_named_in(
+    alloc: Global,
+    word: &str,
+    name: &str,
+    row: &[Term],
+) -> Result<Option<AppupInstr>, AllocError>
+    ensures { IfOk result (λ o.
+        option_map appup_instruction_of o ≡ other_named_in word.now name.now (members_of row.now)) }
+{
+    if word == "delete_module" {
         Ok(dependent_in(alloc, name, row)?.map(AppupInstr::DeleteModule))
     } else if word == "add_application" {
         Ok(added_in(alloc, name, row)?.map(AppupInstr::AddApplication))

@@ -1,16 +1,21 @@
 -- Terms one after another, and the entries of a relup.
-use Rattle.std.proofs.Common.{◌≡◌, ℕ, ◌+◌, ◌<◌, suc, ◌++◌, List, [], ◌∷◌, length, map, drop, get_or, Option, Some, None, Result, Ok, Err, MatchResult, IsErr, IsErrAnd, refl, sym, ap, subst, ◌∙◌, append_assoc}
+use Rattle.std.proofs.Common.{◌≡◌, ℕ, ◌+◌, ◌<◌, ◌≤◌, suc, ◌++◌, List, [], ◌∷◌, length, map, take, drop, get_or, Option, Some, None, Result, Ok, Err, MatchResult, IsErr, IsErrAnd, Vec, Global, refl, sym, ap, subst, ◌∙◌, append_assoc, arith}
 use Rattle.std.specs.Option.{option_map, option_and_then}
-use Rattle.std.proofs.lemmas.List.{map-append, drop_more}
+use Rattle.std.proofs.lemmas.List.{append-nil, drop_all, drop_more, map-append, take_all, take_more}
+use Rattle.erl_reader.specs.declared.term.Term.TheFolds.{fold-roll-Term}
+use Rattle.erl_reader.specs.declared.term.Term.TheVariants as variant
 use Rattle.erl_term.specs.Term.{Term}
-use Rattle.erl_term.specs.Value.{Value, Values, value_of, members_of}
+use Rattle.erl_term.specs.Value.{Value, Values, value_of, values_of, members_of}
+use Rattle.erl_term.specs.Value.Value.{list}
 use Rattle.erl_term.specs.Value.Values.{value}
+use Rattle.rel_files.specs.Form.{list_of}
 use Rattle.rel_files.specs.Sketch.{count}
 use Rattle.relup_file.specs.declared.fault.RelupFault.{RelupFault}
 use Rattle.relup_file.specs.declared.fault.RelupFault.TheVariants.{BadTerm, BadShape, NoMemory}
 use Rattle.relup_file.specs.declared.relup.Relup.{Relup}
-use Rattle.relup_file.specs.Instruction.{EntryForm, relup_of}
-use Rattle.relup_file.specs.Parts.{all_in, entries_in, Outer, outer_in, join, from_outer, relup_in, TellsBad}
+use Rattle.relup_file.specs.declared.relup.RelupEntry.{RelupEntry}
+use Rattle.relup_file.specs.Instruction.{EntryForm, entry_of, relup_of}
+use Rattle.relup_file.specs.Parts.{all_in, entry_in, put_entry, entries_in, Outer, outer_in, join, from_outer, relup_in, TellsBad}
 
 -- these in front of the others, if all of those are entries
 abbrev pub behind : List EntryForm → Result (List EntryForm) ℕ → Result (List EntryForm) ℕ
@@ -38,6 +43,73 @@ row_more {A} {B} f view items i item old new x all within at read grown so_far =
     ap (λ (front : List B). option_map (λ (rest : List B). front ++ rest) (all_in f (members_of (drop (i + 1) items)))) viewed
     ∙ (sym (one_more f (map view old) (view x) (value_of item) (members_of (drop (i + 1) items)) read)
     ∙ (ap (λ (ts : List Term). option_map (λ (rest : List B). map view old ++ rest) (all_in f (members_of ts))) (sym split) ∙ so_far))
+
+-- no step is left
+pub row_all : {A B : Type 0} (f : Value → Option B) (view : A → B) (items : List Term) (i : ℕ) (read : List A) → length items ≤ i
+    → option_map (λ rest. map view read ++ rest) (all_in f (members_of (drop i items))) ≡ all_in f (members_of items)
+    → Some (map view read) ≡ all_in f (members_of items)
+row_all {A} {B} f view items i read past so_far =
+    ap Some (sym (append-nil (map view read)))
+    ∙ (ap (λ (ts : List Term). option_map (λ (rest : List B). map view read ++ rest) (all_in f (members_of ts))) (sym (drop_all i items past)) ∙ so_far)
+
+-- one more term, of the item in its place
+pub terms_more : {A B : Type 0} (view : A → B) (form : B → Value) (items : List A) (i : ℕ) (item : A) (old new : List Term) (term : Term)
+    → i < length items → item ≡ get_or items i item → value_of term ≡ form (view item) → new ≡ old ++ term ∷ []
+    → map value_of old ≡ map form (map view (take i items)) → map value_of new ≡ map form (map view (take (i + 1) items))
+terms_more {A} {B} view form items i item old new term within at made grown so_far =
+    let split : take (i + 1) items ≡ take i items ++ item ∷ [] = take_more items i item within ∙ ap (λ (x : A). take i items ++ x ∷ []) (sym at) in
+    let viewed : map view (take (i + 1) items) ≡ map view (take i items) ++ view item ∷ [] = ap (map view) split ∙ map-append view (take i items) (item ∷ []) in
+    let spelled : map form (map view (take (i + 1) items)) ≡ map form (map view (take i items)) ++ form (view item) ∷ [] =
+    ap (map form) viewed ∙ map-append form (map view (take i items)) (view item ∷ []) in
+    (ap (map value_of) grown ∙ map-append value_of old (term ∷ [])) ∙ ((λ j. so_far j ++ made j ∷ []) ∙ sym spelled)
+
+-- each item has its term
+pub terms_all : {A B : Type 0} (view : A → B) (form : B → Value) (items : List A) (i : ℕ) (terms : Vec Term Global) → length items ≤ i
+    → map value_of terms.items ≡ map form (map view (take i items)) → value_of (variant.List terms) ≡ list_of (map form (map view items))
+terms_all {A} {B} view form items i terms past so_far =
+    let is : value_of (variant.List terms) ≡ list (members_of terms.items) = ap value_of (sym (variant.rolls-List terms)) ∙ fold-roll-Term _ _ _ in
+    is ∙ ((λ j. list (values_of (so_far j))) ∙ ap (λ (xs : List A). list_of (map form (map view xs))) (take_all i items past))
+
+-- one entry more behind those in front
+put_behind : (front : List EntryForm) (e : EntryForm) (n : ℕ) (r : Result (List EntryForm) ℕ) → behind (front ++ e ∷ []) r ≡ behind front (put_entry n (Some e) r)
+put_behind front e n (Ok es) = ap Ok (append_assoc front (e ∷ []) es)
+put_behind front e n (Err k) = refl
+
+-- one step on over entries
+pub entries_more : (before : ℕ) (terms : List Term) (i : ℕ) (term : Term) (old new : List RelupEntry) (entry : RelupEntry) (all : Result (List EntryForm) ℕ)
+    → i < length terms → term ≡ get_or terms i term → Some (entry_of entry) ≡ entry_in (value_of term) → new ≡ old ++ entry ∷ []
+    → behind (map entry_of old) (entries_in (before + i) (members_of (drop i terms))) ≡ all
+    → behind (map entry_of new) (entries_in (before + (i + 1)) (members_of (drop (i + 1) terms))) ≡ all
+entries_more before terms i term old new entry all within at read grown so_far =
+    let later : Values = members_of (drop (i + 1) terms) in
+    let number : before + (i + 1) ≡ before + i + 1 = omega arith in
+    let split : drop i terms ≡ term ∷ drop (i + 1) terms = drop_more terms i term within ∙ ap (λ (t : Term). t ∷ drop (i + 1) terms) (sym at) in
+    let viewed : map entry_of new ≡ map entry_of old ++ entry_of entry ∷ [] = ap (map entry_of) grown ∙ map-append entry_of old (entry ∷ []) in
+    (λ j. behind (viewed j) (entries_in (number j) later))
+    ∙ (put_behind (map entry_of old) (entry_of entry) (before + i + 1) (entries_in (before + i + 1) later)
+    ∙ ((λ j. behind (map entry_of old) (put_entry (before + i + 1) (read j) (entries_in (before + i + 1) later)))
+    ∙ (ap (λ (ts : List Term). behind (map entry_of old) (entries_in (before + i) (members_of ts))) (sym split) ∙ so_far)))
+
+-- no entry is left
+pub entries_all : (before : ℕ) (terms : List Term) (i : ℕ) (read : List RelupEntry) → length terms ≤ i
+    → behind (map entry_of read) (entries_in (before + i) (members_of (drop i terms))) ≡ entries_in before (members_of terms)
+    → entries_in before (members_of terms) ≡ Ok (map entry_of read)
+entries_all before terms i read past so_far =
+    sym so_far
+    ∙ (ap (λ (ts : List Term). behind (map entry_of read) (entries_in (before + i) (members_of ts))) (drop_all i terms past)
+    ∙ ap Ok (append-nil (map entry_of read)))
+
+-- the next is no entry
+pub entries_bad : (before : ℕ) (terms : List Term) (i : ℕ) (term : Term) (front : List EntryForm) (all : Result (List EntryForm) ℕ)
+    → i < length terms → term ≡ get_or terms i term → None ≡ entry_in (value_of term)
+    → behind front (entries_in (before + i) (members_of (drop i terms))) ≡ all → TellsBad all (BadShape (before + i + 1))
+entries_bad before terms i term front all within at none so_far =
+    let later : Values = members_of (drop (i + 1) terms) in
+    let split : drop i terms ≡ term ∷ drop (i + 1) terms = drop_more terms i term within ∙ ap (λ (t : Term). t ∷ drop (i + 1) terms) (sym at) in
+    let bad : Err (before + i + 1) ≡ all =
+    (λ j. behind front (put_entry (before + i + 1) (none j) (entries_in (before + i + 1) later)))
+    ∙ (ap (λ (ts : List Term). behind front (entries_in (before + i) (members_of ts))) (sym split) ∙ so_far) in
+    subst (λ (o : Result (List EntryForm) ℕ). TellsBad o (BadShape (before + i + 1))) bad refl
 
 count-members : (ts : List Term) → count (members_of ts) ≡ length ts
 count-members [] = refl

@@ -131,15 +131,20 @@ over_modules s names =
     else if bytes_eq s (codes "start") then Some (start names)
     else None
 
+-- a word behind the first two, and one term
+abbrev pub other_single_in : List ℕ → Value → Option Instruction
+other_single_in s v =
+    if bytes_eq s (codes "load") then option_map load (purging_in v)
+    else if bytes_eq s (codes "remove") then option_map remove (purging_in v)
+    else if bytes_eq s (codes "apply") then option_map apply (call_in v)
+    else option_and_then (over_modules s) (modules_in v)
+
 -- a word and one term
 abbrev pub single_in : List ℕ → Value → Option Instruction
 single_in s v =
     if bytes_eq s (codes "load_object_code") then option_map load_object_code (fetch_in v)
     else if bytes_eq s (codes "suspend") then option_map suspend (suspensions_in v)
-    else if bytes_eq s (codes "load") then option_map load (purging_in v)
-    else if bytes_eq s (codes "remove") then option_map remove (purging_in v)
-    else if bytes_eq s (codes "apply") then option_map apply (call_in v)
-    else option_and_then (over_modules s) (modules_in v)
+    else other_single_in s v
 
 -- a word and terms
 abbrev pub tagged_in : List ℕ → Values → Option Instruction

@@ -130,11 +130,9 @@ fn sync_nodes_term(alloc: Global, rest: &[Term]) -> Result<Term, AllocError>
     ensures { IfOk result (λ t.
         value_of t ≡ command (codes "sync_nodes") (members_of rest.now)) }
 {
-    let mut members = Vec::with_capacity(alloc, 1)?;
-    members.push(atom_term(alloc, "sync_nodes")?)?;
-    for term in rest {
-        members.push(term.clone()?)?;
-    }
+    let word = atom_term(alloc, "sync_nodes")?;
+    let mut members = copy_terms(alloc, rest)?;
+    members.insert(0, word)?;
     Ok(Term::Tuple(members))
 }
 

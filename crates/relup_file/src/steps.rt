@@ -3,7 +3,7 @@ ghost use Rattle.std.specs.Prelude.{◌≡◌, IfOk, map, string_bytes};
 ghost use Rattle.std.specs.Option.{option_map, option_and_then};
 ghost use Rattle.erl_term.specs.Value.{members_of, value_of};
 ghost use Rattle.relup_file.specs.Instruction.{instruction_of, script_of};
-ghost use Rattle.relup_file.specs.Parts.{all_in, bare_in, modules_in, over_modules, single_in, tagged_in, instruction_in, script_in};
+ghost use Rattle.relup_file.specs.Parts.{all_in, bare_in, modules_in, over_modules, single_in, other_single_in, tagged_in, instruction_in, script_in};
 
 use crate::Instr;
 use crate::copies::copy_terms;
@@ -62,7 +62,17 @@ fn single_in(alloc: Global, word: &str, term: &Term) -> Result<Option<Instr>, Al
         Ok(fetch_in(alloc, term)?.map(Instr::LoadObjectCode))
     } else if word == "suspend" {
         Ok(suspensions_in(alloc, term)?.map(Instr::Suspend))
-    } else if word == "load" {
+    } else {
+        other_single_in(alloc, word, term)
+    }
+}
+
+// A word that is none of those above, and one term.
+fn other_single_in(alloc: Global, word: &str, term: &Term) -> Result<Option<Instr>, AllocError>
+    ensures { IfOk result (λ o.
+        option_map instruction_of o ≡ other_single_in word.now (value_of term.now)) }
+{
+    if word == "load" {
         Ok(purging_in(alloc, term)?.map(Instr::Load))
     } else if word == "remove" {
         Ok(purging_in(alloc, term)?.map(Instr::Remove))

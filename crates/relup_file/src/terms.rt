@@ -16,10 +16,7 @@ pub(crate) fn atom_term(alloc: Global, word: &str) -> Result<Term, AllocError>
 pub(crate) fn pair_term(alloc: Global, first: Term, second: Term) -> Result<Term, AllocError>
     ensures { IfOk result (λ t. value_of t ≡ pair_term (value_of first) (value_of second)) }
 {
-    let mut members = Vec::with_capacity(alloc, 2)?;
-    members.push(first)?;
-    members.push(second)?;
-    Ok(Term::Tuple(members))
+    Ok(Term::Tuple(vec![in alloc; first, second]?))
 }
 
 pub(crate) fn triple_term(
@@ -31,11 +28,7 @@ pub(crate) fn triple_term(
     ensures { IfOk result (λ t.
         value_of t ≡ triple_term (value_of first) (value_of second) (value_of third)) }
 {
-    let mut members = Vec::with_capacity(alloc, 3)?;
-    members.push(first)?;
-    members.push(second)?;
-    members.push(third)?;
-    Ok(Term::Tuple(members))
+    Ok(Term::Tuple(vec![in alloc; first, second, third]?))
 }
 
 // A word and one term.

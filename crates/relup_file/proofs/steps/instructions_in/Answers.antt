@@ -1,9 +1,12 @@
 use Rattle.relup_file.specs.Instruction.{instruction_of}
 use Rattle.relup_file.specs.Parts.{instruction_in}
-use Rattle.relup_file.proofs.Rows.{row_more}
+use Rattle.relup_file.proofs.Rows.{row_more, row_all}
 use Rattle.relup_file.proofs.steps.instructions_in.Goals as goal
 
 pub loop-item-preserved : goal.loop-item-preserved
 loop-item-preserved c =
     row_more instruction_in instruction_of c.args.items.now c.loop-item.item-index c.item-item.result c.loop-item.script.items c.push.new.self.items c.in-Some.instr _
     c.loop-item-test.true c.item-item.is (rw c.in-Some.is at c.in_ok-instr.ensures) c.in_ok-push.ensures.items c.loop-item.invariant
+
+pub returns : goal.returns
+returns c = row_all instruction_in instruction_of c.args.items.now c.loop-item.item-index c.loop-item.script.items c.loop-item-test.false c.loop-item.invariant

@@ -1,13 +1,10 @@
-//! The answer to a case.
-use crate::shown::{shown_appup, shown_instrs};
+//! Appups.
+use crate::appup_texts::{shown_appup, shown_instrs};
 use appup_file::{Appup, AppupFault, read_appup};
 use relup_file::Direction;
 use std::alloc::{AllocError, Global};
 
-/// The answer in one of four modes. In `appup` the text is a file; the answer has the version of the appup, and of each
-/// entry the version and the number of instructions. In `instrs` the text is the instructions of a file's only upgrade; the
-/// answer has all that is read of them. In `up` and `down` it is a version and a file with a blank between; the answer is
-/// the number of instructions found.
+/// The answer in the modes of appups.
 pub(crate) fn answer(alloc: Global, mode: &str, text: &[u8]) -> Result<String, AllocError> {
     match mode {
         "appup" => match read_appup(alloc, text) {

@@ -1,20 +1,17 @@
-//! The answer to a case.
+//! Tables of modules.
 use erl_term::{Term, read_record};
 use mod_table::{Child, Old, Step, Super, Table, Worker, read_mod, read_mod_file, table_of_term};
 use rel_files::FileFault;
 use std::alloc::{AllocError, Global};
 
-/// The table or the fault, in one of four modes. In `mod` the text is a file. In `term` it is one too, whose term is kept
-/// and read again. In `step` it is a state, an input and a file, in `change` a direction, a version, an extra term, a state
-/// and a file: these ask the file's worker, and a copy of it.
-pub(crate) fn answer(alloc: Global, mode: &str, text: &[u8]) -> Result<String, AllocError> {
-    match mode {
-        "mod" => shown(alloc, read_mod(alloc, text)),
-        "term" => shown(alloc, of_the_term(alloc, text)),
-        "step" => stepped(alloc, text),
-        "change" => changed(alloc, text),
-        _ => String::from_str(alloc, "no such mode"),
-    }
+/// The table of a file.
+pub(crate) fn table(alloc: Global, file: &[u8]) -> Result<String, AllocError> {
+    shown(alloc, read_mod(alloc, file))
+}
+
+/// The table of a file, whose term is kept and read again.
+pub(crate) fn table_again(alloc: Global, file: &[u8]) -> Result<String, AllocError> {
+    shown(alloc, of_the_term(alloc, file))
 }
 
 // Reads the file's term again.
@@ -81,7 +78,8 @@ fn workers(alloc: Global, file: &[u8]) -> Result<Option<(Worker, Worker)>, Alloc
     }
 }
 
-fn stepped(alloc: Global, text: &[u8]) -> Result<String, AllocError> {
+/// What comes of a call in this state, with this input.
+pub(crate) fn step(alloc: Global, text: &[u8]) -> Result<String, AllocError> {
     let Some((state, text)) = number(text) else {
         return String::from_str(alloc, "no state");
     };
@@ -123,7 +121,8 @@ fn term_of(alloc: Global, text: &str) -> Result<Option<Term>, AllocError> {
     Ok(read_record(alloc, bytes.as_slice()).ok())
 }
 
-fn changed(alloc: Global, text: &[u8]) -> Result<String, AllocError> {
+/// The state after a change of code.
+pub(crate) fn change(alloc: Global, text: &[u8]) -> Result<String, AllocError> {
     let Some((direction, text)) = word(text) else {
         return String::from_str(alloc, "no direction");
     };

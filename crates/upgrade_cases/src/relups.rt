@@ -1,21 +1,22 @@
-//! The answer to a case.
+//! Relups, and the scripts in them.
 use erl_term::print;
 use relup_file::{Direction, Relup, RelupFault, print_relup, read_relup};
 use relup_script::{Found, ScriptFault, check, find_script};
 use std::alloc::{AllocError, Global};
 
-/// The answer in one of four modes. In `relup` the text is a file; the answer is the text that the relup is printed as.
-/// In `script` the text is the instructions of a file's only upgrade, and the answer is again the text of the file. In
-/// `check` the text is such instructions too, and the answer is whether they can be run. In `find` it is the version of a
-/// target, that of the running release, and their relups, of which one can be empty, with blanks and a bar between.
-pub(crate) fn answer(alloc: Global, mode: &str, text: &[u8]) -> Result<String, AllocError> {
-    match mode {
-        "relup" => printed(alloc, read_relup(alloc, text)),
-        "script" => printed(alloc, with_script(alloc, text)?),
-        "check" => checked(alloc, with_script(alloc, text)?),
-        "find" => searched(alloc, text),
-        _ => String::from_str(alloc, "no such mode"),
-    }
+/// The text that a file's relup is printed as.
+pub(crate) fn file(alloc: Global, text: &[u8]) -> Result<String, AllocError> {
+    printed(alloc, read_relup(alloc, text))
+}
+
+/// That of a file whose only upgrade has these instructions.
+pub(crate) fn script(alloc: Global, text: &[u8]) -> Result<String, AllocError> {
+    printed(alloc, with_script(alloc, text)?)
+}
+
+/// Whether these instructions can be run.
+pub(crate) fn script_check(alloc: Global, text: &[u8]) -> Result<String, AllocError> {
+    checked(alloc, with_script(alloc, text)?)
 }
 
 // Reads a file whose only upgrade has these instructions.
@@ -57,8 +58,8 @@ fn shown_check(alloc: Global, answer: Result<(), ScriptFault>) -> Result<String,
     }
 }
 
-// What is found with these versions and relups.
-fn searched(alloc: Global, text: &[u8]) -> Result<String, AllocError> {
+/// What is found with these versions and relups.
+pub(crate) fn search(alloc: Global, text: &[u8]) -> Result<String, AllocError> {
     let Ok(text) = str::from_utf8(text) else {
         return String::from_str(alloc, "no text");
     };

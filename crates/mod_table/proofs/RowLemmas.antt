@@ -1,0 +1,43 @@
+-- Terms one after another, of each of which something is read.
+use Rattle.std.proofs.Common.{◌≡◌, ℕ, ◌+◌, ◌<◌, ◌≤◌, ◌++◌, List, [], ◌∷◌, length, map, drop, get_or, Option, Some, None, sym, ap, ◌∙◌, append_assoc, refl}
+use Rattle.std.specs.Option.{option_map, option_and_then}
+use Rattle.std.proofs.lemmas.List.{append-nil, drop_all, drop_more, map-append}
+use Rattle.erl_term.specs.Term.{Term}
+use Rattle.erl_term.specs.Value.{Value, Values, value_of, members_of}
+use Rattle.erl_term.specs.Value.Values.{no_values, value}
+
+-- what a row of values gives: what each of them gives, one after another, if each gives something
+pub record ReadsEach {B : Type 0} (f : Value → Option B) (all : Values → Option (List B)) : Type 0 where
+  pub none : all no_values ≡ Some []
+  pub more : (v : Value) (vs : Values) → all (value v vs) ≡ option_and_then (λ (b : B). option_map (λ (bs : List B). b ∷ bs) (all vs)) (f v)
+
+joined : {B : Type 0} (front : List B) (y : B) (o : Option (List B))
+    → option_map (λ rest. front ++ rest) (option_map (λ bs. y ∷ bs) o) ≡ option_map (λ rest. (front ++ y ∷ []) ++ rest) o
+joined front y None = refl
+joined front y (Some rest) = ap Some (sym (append_assoc front (y ∷ []) rest))
+
+-- one step on
+pub row_more : {B : Type 0} (f : Value → Option B) (all : Values → Option (List B)) (each : ReadsEach f all) (items : List Term) (i : ℕ) (item : Term)
+    (old new : List B) (y : B) (whole : Option (List B)) → i < length items → item ≡ get_or items i item → Some y ≡ f (value_of item) → new ≡ old ++ y ∷ []
+    → option_map (λ rest. old ++ rest) (all (members_of (drop i items))) ≡ whole
+    → option_map (λ rest. new ++ rest) (all (members_of (drop (i + 1) items))) ≡ whole
+row_more {B} f all each items i item old new y whole within at read grown so_far =
+    let later : Values = members_of (drop (i + 1) items) in
+    let split : drop i items ≡ item ∷ drop (i + 1) items = drop_more items i item within ∙ ap (λ (t : Term). t ∷ drop (i + 1) items) (sym at) in
+    ap (λ (front : List B). option_map (λ (rest : List B). front ++ rest) (all later)) grown
+    ∙ (sym (joined old y (all later))
+    ∙ (ap (λ (o : Option B). option_map (λ (rest : List B). old ++ rest) (option_and_then (λ (b : B). option_map (λ (bs : List B). b ∷ bs) (all later)) o)) read
+    ∙ (ap (option_map (λ (rest : List B). old ++ rest)) (sym (each.more (value_of item) later))
+    ∙ (ap (λ (ts : List Term). option_map (λ (rest : List B). old ++ rest) (all (members_of ts))) (sym split) ∙ so_far))))
+
+-- no step is left
+pub row_all : {B : Type 0} (f : Value → Option B) (all : Values → Option (List B)) (each : ReadsEach f all) (items : List Term) (i : ℕ) (read : List B)
+    → length items ≤ i → option_map (λ rest. read ++ rest) (all (members_of (drop i items))) ≡ all (members_of items) → Some read ≡ all (members_of items)
+row_all {B} f all each items i read past so_far =
+    ap Some (sym (append-nil read))
+    ∙ (ap (option_map (λ (rest : List B). read ++ rest)) (sym each.none)
+    ∙ (ap (λ (ts : List Term). option_map (λ (rest : List B). read ++ rest) (all (members_of ts))) (sym (drop_all i items past)) ∙ so_far))
+
+-- what stands for one more item
+pub viewed : {A B : Type 0} (view : A → B) (old new : List A) (x : A) → new ≡ old ++ x ∷ [] → map view new ≡ map view old ++ view x ∷ []
+viewed view old new x grown = ap (map view) grown ∙ map-append view old (x ∷ [])

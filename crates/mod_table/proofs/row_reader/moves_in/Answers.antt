@@ -1,0 +1,15 @@
+use Rattle.std.proofs.Common.{refl}
+use Rattle.mod_table.specs.Rows.{move_in, moves_in}
+use Rattle.mod_table.proofs.RowLemmas.{ReadsEach, row_more, row_all}
+use Rattle.mod_table.proofs.row_reader.moves_in.Goals as goal
+
+each : ReadsEach move_in moves_in
+each = record { none = refl; more = λ v vs. refl }
+
+pub loop-term-preserved : goal.loop-term-preserved
+loop-term-preserved c =
+    row_more move_in moves_in each c.args.terms.now c.loop-term.term-index c.term-item.result c.loop-term.moves.items c.push.new.self.items c.in-Some.pair _
+    c.loop-term-test.true c.term-item.is (rw c.in-Some.is at c.move_in.ensures) c.in_ok-push.ensures.items c.loop-term.invariant
+
+pub returns : goal.returns
+returns c = row_all move_in moves_in each c.args.terms.now c.loop-term.term-index c.loop-term.moves.items c.loop-term-test.false c.loop-term.invariant
