@@ -18,4 +18,4 @@ pub mod WaitLemmas
 pub mod TwoClients
 pub mod ApartLemmas
 pub mod MeetLemmas
-pub mod Crossing
+pub mod ThreadLemmas

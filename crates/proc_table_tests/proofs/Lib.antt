@@ -1,1 +1,1 @@
-pub mod Crossing
+pub mod ThreadLemmas

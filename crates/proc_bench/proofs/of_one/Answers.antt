@@ -1,5 +1,5 @@
 use denote.Param.Send.{sendable}
-use Rattle.proc_bench.proofs.Crossing.{calls_send}
+use Rattle.proc_bench.proofs.ThreadLemmas.{calls_send}
 use Rattle.proc_bench.proofs.of_one.Goals as goal
 
 pub by_two-requires-send-A : goal.by_two-requires-send-A

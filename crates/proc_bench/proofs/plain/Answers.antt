@@ -1,5 +1,5 @@
 use denote.Param.Send.{sendable}
-use Rattle.proc_bench.proofs.Crossing.{steps_send}
+use Rattle.proc_bench.proofs.ThreadLemmas.{steps_send}
 use Rattle.proc_bench.proofs.plain.Goals as goal
 
 pub by_four-requires-send-A : goal.by_four-requires-send-A

@@ -1,5 +1,5 @@
 use denote.Param.Send.{sendable}
-use Rattle.proc_bench.proofs.Crossing.{locked_send}
+use Rattle.proc_bench.proofs.ThreadLemmas.{locked_send}
 use Rattle.proc_bench.proofs.under_a_lock.Goals as goal
 
 pub by_four-requires-send-A : goal.by_four-requires-send-A

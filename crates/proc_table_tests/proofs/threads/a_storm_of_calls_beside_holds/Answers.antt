@@ -1,5 +1,5 @@
 use denote.Param.Send.{sendable}
-use Rattle.proc_table_tests.proofs.Crossing.{calls_send, holds_send}
+use Rattle.proc_table_tests.proofs.ThreadLemmas.{calls_send, holds_send}
 use Rattle.proc_table_tests.proofs.threads.a_storm_of_calls_beside_holds.Goals as goal
 
 pub three_at_once-counts-requires-send-A : goal.three_at_once-counts-requires-send-A

@@ -1,5 +1,5 @@
 use denote.Param.Send.{sendable}
-use Rattle.proc_table_tests.proofs.Crossing.{call_and_wait_send}
+use Rattle.proc_table_tests.proofs.ThreadLemmas.{call_and_wait_send}
 use Rattle.proc_table_tests.proofs.threads.two_threads_call.Goals as goal
 
 pub two_at_once-replies-requires-send-A : goal.two_at_once-replies-requires-send-A

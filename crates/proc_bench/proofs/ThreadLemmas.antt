@@ -3,7 +3,7 @@ use denote.Ref.{NamedLft}
 use denote.Param.Send.{IsSend, sendable}
 use denote.Param.SendFields.{declared_send}
 use Rattle.std.proofs.Crossing.{crosses}
-use Rattle.proc_table.proofs.Crossing.{table_sync, pass_send, worker_send}
+use Rattle.proc_table.proofs.ThreadLemmas.{table_sync, pass_send, worker_send}
 use Rattle.proc_table.proofs.pid.Pid.TheSendSync as pid
 use Rattle.proc_bench.specs.contracts.works.Calls as Calls
 use Rattle.proc_bench.specs.contracts.works.Locked as Locked

@@ -2,7 +2,7 @@
 use denote.Ref.{NamedLft}
 use denote.Param.Send.{IsSend, sendable}
 use denote.Param.SendFields.{declared_send}
-use Rattle.proc_table.proofs.Crossing.{table_sync, pass_send, handler_send}
+use Rattle.proc_table.proofs.ThreadLemmas.{table_sync, pass_send, handler_send}
 use Rattle.proc_table.proofs.pid.Pid.TheSendSync as pid
 use Rattle.proc_table_tests.specs.contracts.jobs.CallAndWait as CallAndWait
 use Rattle.proc_table_tests.specs.contracts.jobs.Calls as Calls
