@@ -10,18 +10,29 @@ use Rattle.rel_session.specs.Feed.Feed.{over, cut, next}
 use Rattle.rel_session.specs.Files.{Files, files_behind}
 use Rattle.rel_session.specs.Node.{Place, Outcome, Reply}
 use Rattle.rel_session.specs.Node.Place.{raw, closed, running, dead}
-use Rattle.rel_session.specs.Run.{Starts, Holds, Moments, Executes, Replies, Ending, IsReached, events_of}
+use Rattle.rel_session.specs.Run.{Starts, Holds, Moments, Executes, MayLeave, IsReply, Replies, Ending, IsReached, events_of}
 use Rattle.rel_session.specs.Run.Ending.{ended, cut_off, early}
 use Rattle.rel_session.specs.RunLaws.{acknowledged_at, IsKnown, Finds, Keeps, place_after, HaveAll, StandsForAll, BecomesKnown, LosesNothing, IsOfAccepted, at_rest, BeginsWhereOneEnded, BeginsBehindACrash, IsNextDisk, Lasts, LosesNothingEver}
 use Rattle.rel_session.specs.Transition.{Transition}
 use Rattle.rel_session.proofs.Prefixes.{prefix_of}
 use Rattle.rel_session.proofs.DeviceLemmas.{IsDevice, weakened, joined, still}
-use Rattle.rel_session.proofs.Transitions.{each_keeps}
+use Rattle.rel_session.proofs.Transitions.{each_left_keeps}
+
+left_by : (files : Files) (p : Place) (c : Command) (ending : Ending) (a : Reply) (more : List Reply) → IsReply files p c ending more a → MayLeave files p c a
+left_by files p c ended a more is = inl is
+left_by files p c cut_off a more is = inl is
+left_by files p c early a [] is = is
+left_by files p c early a (b ∷ more) is = inl is
+
+whole : (files : Files) (p : Place) (c : Command) (ending : Ending) (a : Reply) (more : List Reply) → ending ≢ early → IsReply files p c ending more a → Transition files p c a
+whole files p c ended a more not_early is = is
+whole files p c cut_off a more not_early is = is
+whole files p c early a more not_early is = absurd (not_early refl)
 
 -- the first of some replies is that to the first command, and the others are those to the commands behind it
-pub next_answered : (files : Files) (p : Place) (c : Command) (rest : Feed Command) (ending : Ending) (a : Reply) (more : List Reply) → Replies files p (next c rest) ending (a ∷ more)
+pub next_answered : (files : Files) (p : Place) (c : Command) (rest : Feed Command) (ending : Ending) (a : Reply) (more : List Reply) → ending ≢ early → Replies files p (next c rest) ending (a ∷ more)
     → Transition files p c a × Replies (files_behind files c) a.after rest ending more
-next_answered files p c rest ending a more right = right
+next_answered files p c rest ending a more not_early right = (whole files p c ending a more not_early right.0, right.1)
 
 -- where no command is left there is none
 pub none_left : (files : Files) (p : Place) (commands : Feed Command) (ending : Ending) (a : Reply) (more : List Reply) → (commands ≡ over) ⊎ (commands ≡ cut) → Replies files p commands ending (a ∷ more) → ⊥
@@ -37,15 +48,14 @@ none_left files p (next c rest) ending a more (inr none) right = cc none
 pub record Answered (files : Files) (p : Place) (a : Reply) (ending : Ending) (more : List Reply) : Type 0 where
   pub command : Command
   pub rest : Feed Command
-  pub is : Transition files p command a
+  pub is : MayLeave files p command a
   pub right : Replies (files_behind files command) a.after rest ending more
 
 pub first_answered : (files : Files) (p : Place) (commands : Feed Command) (ending : Ending) (a : Reply) (more : List Reply) → Replies files p commands ending (a ∷ more) → Answered files p a ending more
 first_answered files p over ending a more right = absurd (none_left files p over ending a more (inl refl) right)
 first_answered files p cut ending a more right = absurd (none_left files p cut ending a more (inr refl) right)
 first_answered files p (next c rest) ending a more right =
-    let (is, behind) = next_answered files p c rest ending a more right in
-    record { command = c; rest = rest; is = is; right = behind }
+    record { command = c; rest = rest; is = left_by files p c ending a more right.0; right = right.1 }
 
 -- with the one in doubt or without, the events begin with the acknowledged ones
 doubt_more : (events : Events) (doubt : Option Event) (found : Events) → (found ≡ events) ⊎ (found ≡ with_doubt events doubt) → (more : Events) × (found ≡ events ++ more)
@@ -80,7 +90,7 @@ have_all : (files : Files) (p : Place) (commands : Feed Command) (ending : Endin
 have_all files p commands ending [] rest right = refl
 have_all files p commands ending (a ∷ first) rest right =
     let n = first_answered files p commands ending a (first ++ rest) right in
-    let (between, is) = keeps_more p a (each_keeps files p n.command a n.is) in
+    let (between, is) = keeps_more p a (each_left_keeps files p n.command a n.is) in
     (between, subst (λ events. HaveAll events first (acknowledged_at (place_after a.after first))) is (have_all (files_behind files n.command) a.after n.rest ending first rest n.right))
 
 known_first : (p : Place) (replies : List Reply) → IsKnown p → BecomesKnown p replies
@@ -93,7 +103,7 @@ becomes_known : (files : Files) (p : Place) (commands : Feed Command) (ending : 
 becomes_known files p commands ending [] rest right known = known
 becomes_known files p commands ending (a ∷ first) rest right known =
     let n = first_answered files p commands ending a (first ++ rest) right in
-    let keeps = each_keeps files p n.command a n.is in
+    let keeps = each_left_keeps files p n.command a n.is in
     becomes_known (files_behind files n.command) a.after n.rest ending first rest n.right (go keeps known)
   where
     go : Keeps p a → (IsKnown p ⊎ (a.outcome.acknowledged ≢ [])) ⊎ BecomesKnown a.after first → BecomesKnown a.after first
@@ -116,7 +126,7 @@ stays_known : (files : Files) (p : Place) (commands : Feed Command) (ending : En
 stays_known files p commands ending [] right known = (known, [], sym (append-nil (acknowledged_at p)))
 stays_known files p commands ending (a ∷ more) right known =
     let n = first_answered files p commands ending a more right in
-    let keeps = each_keeps files p n.command a n.is in
+    let keeps = each_left_keeps files p n.command a n.is in
     let (between, is) = keeps_more p a keeps in
     let (then, others, are) = stays_known (files_behind files n.command) a.after n.rest ending more n.right (keeps.known (inl known)) in (
       then,
@@ -163,7 +173,7 @@ module _ {D : Type 0} (v : Device D) (laws : IsDevice v) where
       weakened v old new (v.may_leave old) (StandsForAll (acknowledged_at p)) (held_images p old known holds) leaves
   session_images files p commands ending (a ∷ more) old new right known holds (mid, happens, leads) =
       let n = first_answered files p commands ending a more right in
-      let keeps = each_keeps files p n.command a n.is in
+      let keeps = each_left_keeps files p n.command a n.is in
       let (between, is) = keeps_more p a keeps in
       joined v old mid new (StandsForAll (acknowledged_at p)) (command_images p a.outcome old mid known happens.moments)
       (weakened v mid new (StandsForAll (acknowledged_at a.after)) (StandsForAll (acknowledged_at p))

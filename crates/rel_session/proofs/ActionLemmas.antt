@@ -15,7 +15,7 @@ use Rattle.rel_list.specs.Event.Event.{made, unpacked}
 use Rattle.rel_records.specs.Limits.{is_small}
 use Rattle.rel_session.specs.AnswerLaws.{is_one_line, HasLinePath}
 use Rattle.rel_session.specs.Commands.{Command, File}
-use Rattle.rel_session.specs.Commands.Command.{file, create, set_unpacked, install, permanent, remove, boot, start, releases, quit, bad}
+use Rattle.rel_session.specs.Commands.Command.{file, create, set_unpacked, install, permanent, remove, reboot_old, boot, start, releases, quit, bad}
 use Rattle.rel_session.specs.Commands.File.{bytes, too_large}
 use Rattle.rel_session.specs.Files.{Files, Found, Says, usable, IsFound}
 use Rattle.rel_session.specs.LawsBelow.{FileLaws}
@@ -24,7 +24,7 @@ use Rattle.rel_session.specs.Node.Place.{raw, closed, running, dead}
 use Rattle.rel_session.specs.Refusals.{Refusal}
 use Rattle.rel_session.specs.Refusals.Refusal.{too_many}
 use Rattle.rel_session.specs.Transition.{Action, ComesTo, OnNode, listed, creation, unpacking, version_of}
-use Rattle.rel_session.specs.Transition.Action.{answers, makes_node, changes_node, boots_node, tells_start}
+use Rattle.rel_session.specs.Transition.Action.{answers, makes_node, changes_node, reboots_node, boots_node, tells_start}
 use Rattle.rel_session.proofs.AnswerLines.{parts, joined, IsWhole, HasLine, refusal_whole, listing_whole, installed_plain}
 
 module _ (laws : FileLaws) where
@@ -84,6 +84,7 @@ one_action laws files p q (set_unpacked path) x y kinds is also =
 one_action laws files p q (install vsn) x y kinds is also = inl (is ∙ sym also)
 one_action laws files p q (permanent vsn) x y kinds is also = inl (is ∙ sym also)
 one_action laws files p q (remove vsn) x y kinds is also = inl (is ∙ sym also)
+one_action laws files p q (reboot_old vsn) x y kinds is also = inl (is ∙ sym also)
 one_action laws files p q boot x y kinds is also = inl (is ∙ sym also)
 one_action laws files p q start x y kinds is also = inl (is ∙ sym also)
 one_action laws files p q releases x y kinds is also = inr (is, also)
@@ -101,6 +102,7 @@ some_action laws files (dead s) (set_unpacked path) = inr (_, refl)
 some_action laws files p (install vsn) = inr (_, refl)
 some_action laws files p (permanent vsn) = inr (_, refl)
 some_action laws files p (remove vsn) = inr (_, refl)
+some_action laws files p (reboot_old vsn) = inr (_, refl)
 some_action laws files p boot = inr (_, refl)
 some_action laws files p start = inr (_, refl)
 some_action laws files p releases = inr (_, refl)
@@ -129,6 +131,7 @@ abbrev pub IsGoodAction : Action → Type 0
 IsGoodAction (answers text) = IsWhole text
 IsGoodAction (makes_node found) = HasVersions found.release
 IsGoodAction (changes_node c) = OfEvent c.event × ((list : Releases) → is_one_line (c.details list) ≡ true)
+IsGoodAction (reboots_node vsn) = Unit {0}
 IsGoodAction boots_node = Unit {0}
 IsGoodAction tells_start = Unit {0}
 
@@ -177,6 +180,7 @@ good_action files (dead s) (set_unpacked path) does line is = good_as does _ is 
 good_action files p (install vsn) does line is = good_as does _ is (tt, λ list. installed_plain (version_of (running_release list)))
 good_action files p (permanent vsn) does line is = good_as does _ is (tt, λ list. refl)
 good_action files p (remove vsn) does line is = good_as does _ is (tt, λ list. refl)
+good_action files p (reboot_old vsn) does line is = good_as does _ is tt
 good_action files p boot does line is = good_as does _ is tt
 good_action files p start does line is = good_as does _ is tt
 good_action files p releases does line is = good_as does _ is (whole_list p)

@@ -1,5 +1,5 @@
 -- What an answer tells of its command: with the command, its file and the kind of place it determines the events.
-use Rattle.std.proofs.Common.{◌≡◌, ◌⊎◌, inl, inr, ℕ, Bool, true, false, List, [], ◌∷◌, length, codes, Option, Some, None, Result, Ok, Err, refl, sym, ap, ◌∙◌, subst}
+use Rattle.std.proofs.Common.{◌≡◌, ◌⊎◌, inl, inr, ℕ, Bool, true, false, List, [], ◌∷◌, length, Option, Some, None, Result, Ok, Err, refl, sym, ap, ◌∙◌, subst}
 use Rattle.std.specs.Prelude.{if◌then◌else◌, ◌==◌, nat_le}
 use Rattle.std.specs.Str.{bytes_eq}
 use Rattle.rel_list.specs.Releases.{Releases}
@@ -21,25 +21,26 @@ use Rattle.rel_handler.specs.Taking.{list_refusal, refused_or, kept_short, comma
 use Rattle.rel_session.specs.Commands.{Command}
 use Rattle.rel_session.specs.Files.{Files, Found}
 use Rattle.rel_session.specs.LawsBelow.{FileLaws}
-use Rattle.rel_session.specs.Node.{Place, Outcome, Reply, reply, nothing, done, failed_with, releases_after}
+use Rattle.rel_session.specs.Node.{Place, Outcome, Reply, reply, nothing, done, failed_with, releases_after, behind}
 use Rattle.rel_session.specs.Node.Place.{raw, closed, running, dead}
 use Rattle.rel_session.specs.Refusals.{refusal_of, refusal_line, handler_refusal, boot_line}
 use Rattle.rel_session.specs.Refusals.Refusal.{device}
 use Rattle.rel_session.specs.Transition
-use Rattle.rel_session.specs.Transition.Action.{answers, makes_node, changes_node, boots_node, tells_start}
+use Rattle.rel_session.specs.Transition.Action.{answers, makes_node, changes_node, reboots_node, boots_node, tells_start}
 use Rattle.rel_session.proofs.ActionLemmas.{Kind, kind_of, one_action}
 use Rattle.rel_session.proofs.ActionLemmas.Kind.{of_bytes, at_rest, runs, fails}
 
--- what an answer tells: that the command was done, that the device failed, or that nothing was done
+-- what an answer tells: that the command was done, that the device failed, within a boot or not, or that nothing was done
 data Report : Type 0 where
   it_is_done : Report
   it_failed : Report
+  boot_failed : Report
   nothing_done : Report
 
 abbrev report_of : List ℕ → Report
 report_of [] = nothing_done
 report_of (x ∷ s) =
-    if x == 111 then it_is_done else if bytes_eq (x ∷ s) (refusal_line device) then it_failed else if bytes_eq (x ∷ s) (boot_line boot_error.Device) then it_failed else nothing_done
+    if x == 111 then it_is_done else if bytes_eq (x ∷ s) (refusal_line device) then it_failed else if bytes_eq (x ∷ s) (boot_line boot_error.Device) then boot_failed else nothing_done
 
 -- the outcome, and the kind of the place behind it
 pub record Effect : Type 0 where
@@ -55,7 +56,7 @@ effect_of a = effect a.outcome (kind_of a.after)
 abbrev created : Kind → Found → Report → Effect
 created k found it_is_done = effect (done (made found.release ∷ booting ∷ [])) runs
 created k found it_failed = effect (failed_with (Some (made found.release))) k
-created k found nothing_done = effect nothing k
+created k found t = effect nothing k
 
 -- a change is done on a node that runs, and refused on any other
 abbrev changed : Kind → Transition.Change → Report → Effect
@@ -70,8 +71,15 @@ left k = at_rest
 
 abbrev booted : Kind → Report → Effect
 booted k it_is_done = effect (done (booting ∷ [])) runs
-booted k it_failed = effect (failed_with None) (left k)
-booted k nothing_done = effect nothing k
+booted k boot_failed = effect (failed_with None) (left k)
+booted k t = effect nothing k
+
+-- A reboot is done with its boot on a node that runs, or without it, or the device failed in its commit.
+abbrev rebooted : Kind → List ℕ → Report → Effect
+rebooted runs vsn it_is_done = effect (done (reboot_old vsn ∷ booting ∷ [])) runs
+rebooted runs vsn it_failed = effect (failed_with (Some (reboot_old vsn))) fails
+rebooted runs vsn boot_failed = effect (record { acknowledged = reboot_old vsn ∷ []; in_doubt = None; failed = true }) at_rest
+rebooted k vsn t = effect nothing k
 
 -- the start is told where a node runs
 abbrev tells : Kind → Report → Effect
@@ -128,12 +136,26 @@ plain_list e es = by_event e
     by_event (removed v) = taken (refusal (removed v) es) (step (removed v) es)
     by_event (reboot_old v) = taken (refusal (reboot_old v) es) (step (reboot_old v) es)
 
--- a change
+-- a commit, by what its answers tell
+module _ (e : Event) (f : Report → Effect) (stays : f nothing_done ≡ effect nothing runs) (doubted : f it_failed ≡ effect (failed_with (Some e)) fails) where
+  commits : (events : Events) (end size : ℕ) (o : Result Releases HandlerError) (P : Reply → Type 0) → IsPlainList o → ((a : Reply) → P a → HasEffect f a) → (a : Reply)
+      → Transition.IsCommit events end e size o P a → HasEffect f a
+  commits events end size (Err why) P plain done a is = effect_as f a _ is (sym stays ∙ ap f (sym plain))
+  commits events end size (Ok list) P plain done a (inl (fits, inl is)) = done a is
+  commits events end size (Ok list) P plain done a (inl (fits, inr is)) = effect_as f a _ is (sym doubted)
+  commits events end size (Ok list) P plain done a (inr (over_it, is)) = effect_as f a _ is (sym stays)
+
 changes : (events : Events) (end : ℕ) (c : Transition.Change) (l : Releases) (o : Result Releases HandlerError) → IsPlainList o → (a : Reply) → Transition.Changes events end c l o a → HasEffect (changed runs c) a
-changes events end c l (Err why) plain a is = effect_as (changed runs c) a _ is (ap (changed runs c) (sym plain))
-changes events end c l (Ok list) plain a (inl (fits, inl is)) = effect_as (changed runs c) a _ is refl
-changes events end c l (Ok list) plain a (inl (fits, inr is)) = effect_as (changed runs c) a _ is refl
-changes events end c l (Ok list) plain a (inr (over_it, is)) = effect_as (changed runs c) a _ is refl
+changes events end c l o plain = commits c.event (changed runs c) refl refl events end (c.size l) o _ plain (λ a is. effect_as (changed runs c) a _ is refl)
+
+-- the boot behind a commit
+boots_behind : (vsn : List ℕ) (s : Stored) (a b : Reply) → Transition.BootsStore s b → a ≡ behind (reboot_old vsn) b → HasEffect (rebooted runs vsn) a
+boots_behind vsn s a b (inl (events, end, has, (list, after, is))) told = effect_as (rebooted runs vsn) a _ (told ∙ ap (behind (reboot_old vsn)) is) refl
+boots_behind vsn s a b (inr is) told = effect_as (rebooted runs vsn) a _ (told ∙ ap (behind (reboot_old vsn)) is) refl
+
+reboots : (events : Events) (end : ℕ) (vsn : List ℕ) (l : Releases) (o : Result Releases HandlerError) → IsPlainList o → (a : Reply) → Transition.Reboots events end vsn l o a → HasEffect (rebooted runs vsn) a
+reboots events end vsn l o plain =
+    commits (reboot_old vsn) (rebooted runs vsn) refl refl events end _ o _ plain (λ a (b, boot, is). boots_behind vsn (Transition.rebooted events end vsn l) a b boot is)
 
 -- create
 makes_on : (x : List ℕ) (found : Found) (size : ℕ) (b : Bool) (a : Reply) → Transition.MakesOn x found.release size b a → HasEffect (created of_bytes found) a
@@ -182,6 +204,7 @@ abbrev acted : Kind → Transition.Action → Report → Effect
 acted k (answers text) t = effect nothing k
 acted k (makes_node found) t = created k found t
 acted k (changes_node c) t = changed k c t
+acted k (reboots_node vsn) t = rebooted k vsn t
 acted k boots_node t = booted k t
 acted k tells_start t = tells k t
 
@@ -192,6 +215,10 @@ acts (running events end) (changes_node c) a is = changes events end c (releases
 acts (raw x) (changes_node c) a is = effect_as (changed of_bytes c) a _ is refl
 acts (closed s) (changes_node c) a is = effect_as (changed at_rest c) a _ is refl
 acts (dead s) (changes_node c) a is = effect_as (changed fails c) a _ is refl
+acts (running events end) (reboots_node vsn) a is = reboots events end vsn (releases_after events) (commanded (reboot_old vsn) (releases_after events)) (plain_list (reboot_old vsn) (releases_after events)) a is
+acts (raw x) (reboots_node vsn) a is = effect_as (rebooted of_bytes vsn) a _ is refl
+acts (closed s) (reboots_node vsn) a is = effect_as (rebooted at_rest vsn) a _ is refl
+acts (dead s) (reboots_node vsn) a is = effect_as (rebooted fails vsn) a _ is refl
 acts p boots_node a is = boots p a is
 acts (running events end) tells_start a (inl is) = effect_as (tells runs) a _ is refl
 acts (running events end) tells_start a (inr is) = effect_as (tells runs) a _ is refl

@@ -1,6 +1,7 @@
 -- What a crash may leave at each moment of a run of commands.
 use Rattle.std.proofs.Common.{inl, inr, ⊎_elim, ℕ, ◌≤◌, List, arith}
-use Rattle.rel_session.specs.Device.{Device, LeavesOnly}
+use Rattle.std.proofs.lemmas.Bool.{cases_lt}
+use Rattle.rel_session.specs.Device.{Device, LeavesOnly, HasFailed}
 
 -- What the laws of a device give, of those of the trait that are used here.
 pub record IsDevice {D : Type 0} (v : Device D) : Type 0 where
@@ -28,3 +29,12 @@ module _ {D : Type 0} (v : Device D) where
   -- no call at all
   pub still : IsDevice v → (disk : D) → LeavesOnly v disk disk (v.may_leave disk)
   still laws disk = record { later = omega arith; each = laws.only_now disk; before = λ t c le left. inl left }
+
+  -- a call failed in one of two runs
+  pub failed_first : (old mid new : D) → v.failures mid ≤ v.failures new → HasFailed v old mid → HasFailed v old new
+  failed_first old mid new counted (inl rose) = inl (omega arith)
+  failed_first old mid new counted (inr stood) = inr stood
+
+  pub failed_behind : (old mid new : D) → v.failures old ≤ v.failures mid → v.failures mid ≤ v.failures new → HasFailed v mid new → HasFailed v old new
+  failed_behind old mid new first behind (inl rose) = inl (omega arith)
+  failed_behind old mid new first behind (inr stood) = ⊎_elim (λ less. inl (omega arith)) (λ same. inr (omega arith)) (cases_lt (v.failures old) (v.failures mid))

@@ -1,10 +1,10 @@
 -- Each input has an answer in which the device does not fail.
-use Rattle.std.proofs.Common.{◌≡◌, ◌⊎◌, inl, inr, ℕ, ◌+◌, ◌<◌, ◌≤◌, Bool, true, false, List, [], ◌∷◌, ◌++◌, length, codes, Some, Result, Ok, Err, refl, sym, ap, ◌∙◌, subst, arith}
+use Rattle.std.proofs.Common.{◌≡◌, ◌⊎◌, inl, inr, ℕ, ◌+◌, ◌<◌, ◌≤◌, Bool, true, false, List, [], ◌∷◌, ◌++◌, length, Some, Result, Ok, Err, refl, sym, ap, ◌∙◌, subst, arith}
 use Rattle.std.proofs.lemmas.Bool.{cases_lt}
 use Rattle.rel_files.specs.Release.{Release}
 use Rattle.rel_list.specs.Releases.{Releases}
-use Rattle.rel_list.specs.Event.{list_after, booted}
-use Rattle.rel_list.specs.Event.Event.{made, boot as booting}
+use Rattle.rel_list.specs.Event.{Event, list_after, booted}
+use Rattle.rel_list.specs.Event.Event.{made, reboot_old as rebooting, boot as booting}
 use Rattle.rel_list.specs.Event.{entry}
 use Rattle.rel_list.specs.declared.status.Status.TheVariants.{Permanent}
 use Rattle.rel_handler.specs.declared.error.BootError.{BootError}
@@ -20,13 +20,13 @@ use Rattle.rel_session.specs.Feed.{Feed}
 use Rattle.rel_session.specs.Feed.Feed.{over, cut, next}
 use Rattle.rel_session.specs.Files.{Files, files_behind, Found}
 use Rattle.rel_session.specs.LawsBelow.{FileLaws, BootLaws}
-use Rattle.rel_session.specs.Node.{Place, Reply, reply, nothing, releases_after, list_or_none}
+use Rattle.rel_session.specs.Node.{Place, Reply, reply, nothing, releases_after, list_or_none, behind}
 use Rattle.rel_session.specs.Node.Place.{raw, closed, running, dead}
 use Rattle.rel_session.specs.Refusals.{boot_line}
 use Rattle.rel_session.specs.Run.Ending.{ended, cut_off}
 use Rattle.rel_session.specs.AnswerLaws.{IsCertain, HasList, HasAnswer, EachHasAnAnswer}
 use Rattle.rel_session.specs.Transition
-use Rattle.rel_session.specs.Transition.Action.{answers, makes_node, changes_node, boots_node, tells_start}
+use Rattle.rel_session.specs.Transition.Action.{answers, makes_node, changes_node, reboots_node, boots_node, tells_start}
 use Rattle.rel_handler.proofs.CommandLemmas.{commanded_step}
 use Rattle.rel_session.proofs.ActionLemmas.{some_action}
 use Rattle.rel_session.proofs.Histories.{events_of_image}
@@ -64,21 +64,25 @@ fair_reply P a is works fair = record { given = a; is = is; works = works; fair 
 mapped : (P Q : Reply → Type 0) → ((a : Reply) → P a → Q a) → Has P → Has Q
 mapped P Q f has = record { given = has.given; is = f has.given has.is; works = has.works; fair = has.fair }
 
-changes : (events : Events) (end : ℕ) (list : Releases) (c : Transition.Change) → list_after events ≡ Some list → Has (Transition.Changes events end c (releases_after events) (commanded c.event (releases_after events)))
-changes events end list c after = by_list (commanded c.event (releases_after events)) refl
+-- a commit has one where what is committed has one
+commits : (events : Events) (end : ℕ) (list : Releases) (c : Event) (size : ℕ) (P : Reply → Type 0) → list_after events ≡ Some list → ((grown : Releases) → list_after (events ++ c ∷ []) ≡ Some grown → Has P)
+    → Has (Transition.IsCommit events end c size (commanded c (releases_after events)) P)
+commits events end list c size P after done = by_list (commanded c (releases_after events)) refl
   where
-    size : ℕ
-    size = c.size (releases_after events)
-
-    by_room : (grown : Releases) → commanded c.event (releases_after events) ≡ Ok grown → HasSpace end size ⊎ (HasSpace end size → ⊥) → Has (Transition.Changes events end c (releases_after events) (Ok grown))
+    by_room : (grown : Releases) → commanded c (releases_after events) ≡ Ok grown → HasSpace end size ⊎ (HasSpace end size → ⊥) → Has (Transition.IsCommit events end c size (Ok grown) P)
     by_room grown e (inl fits) =
-        let allowed : commanded c.event list ≡ Ok grown = ap (λ o. commanded c.event (list_or_none o)) (sym after) ∙ e in
-        fair_reply _ _ (inl (fits, inl refl)) refl (runs (events ++ c.event ∷ []) (end_behind end size) grown (list_after-push events c.event list grown after (commanded_step c.event list grown allowed)))
+        let allowed : commanded c list ≡ Ok grown = ap (λ o. commanded c (list_or_none o)) (sym after) ∙ e in
+        mapped P (Transition.IsCommit events end c size (Ok grown) P) (λ a is. inl (fits, inl is)) (done grown (list_after-push events c list grown after (commanded_step c list grown allowed)))
     by_room grown e (inr over_it) = fair_reply _ _ (inr (over_it, refl)) refl (runs events end list after)
 
-    by_list : (o : Result Releases HandlerError) → commanded c.event (releases_after events) ≡ o → Has (Transition.Changes events end c (releases_after events) o)
+    by_list : (o : Result Releases HandlerError) → commanded c (releases_after events) ≡ o → Has (Transition.IsCommit events end c size o P)
     by_list (Err why) e = fair_reply _ _ refl refl (runs events end list after)
     by_list (Ok grown) e = by_room grown e (fits_or_not end size)
+
+changes : (events : Events) (end : ℕ) (list : Releases) (c : Transition.Change) → list_after events ≡ Some list → Has (Transition.Changes events end c (releases_after events) (commanded c.event (releases_after events)))
+changes events end list c after =
+    let size = c.size (releases_after events) in
+    commits events end list c.event size _ after (λ grown then. fair_reply _ _ refl refl (runs (events ++ c.event ∷ []) (end_behind end size) grown then))
 
 makes_on : (x : List ℕ) (r : Release) (size : ℕ) (b : Bool) → Has (Transition.MakesOn x r size b)
 makes_on x r size true = fair_reply _ _ refl refl (of_raw x)
@@ -115,6 +119,20 @@ boots laws p (of_raw x) = boots_bytes laws x
 boots laws p (rests events end list after) = mapped (Transition.IsBooted events end) (Transition.BootsStore (certain events end)) (λ a is. inl (events, end, inl (refl, refl), is)) (booted_there events end list after)
 boots laws p (runs events end list after) = mapped (Transition.IsBooted events end) (Transition.BootsStore (certain events end)) (λ a is. inl (events, end, inl (refl, refl), is)) (booted_there events end list after)
 
+reboots : (events : Events) (end : ℕ) (list : Releases) (vsn : List ℕ) → list_after events ≡ Some list
+    → Has (Transition.Reboots events end vsn (releases_after events) (commanded (rebooting vsn) (releases_after events)))
+reboots events end list vsn after =
+    let e = rebooting vsn in
+    let s = Transition.rebooted events end vsn (releases_after events) in
+    commits events end list e _ _ after (λ grown then.
+    let booted = booted_there (events ++ e ∷ []) s.end grown then in
+    fair_reply _ (behind e booted.given) (booted.given, inl (events ++ e ∷ [], s.end, inl (refl, refl), booted.is), refl) booted.works booted.fair)
+
+rebooted : (p : Place) (vsn : List ℕ) → IsFair p → Has (Transition.Acts p (reboots_node vsn))
+rebooted p vsn (of_raw x) = fair_reply _ _ refl refl (of_raw x)
+rebooted p vsn (rests events end list after) = fair_reply _ _ refl refl (rests events end list after)
+rebooted p vsn (runs events end list after) = reboots events end list vsn after
+
 changed : (p : Place) (c : Transition.Change) → IsFair p → Has (Transition.Acts p (changes_node c))
 changed p c (of_raw x) = fair_reply _ _ refl refl (of_raw x)
 changed p c (rests events end list after) = fair_reply _ _ refl refl (rests events end list after)
@@ -129,6 +147,7 @@ acts : BootLaws → (p : Place) (does : Transition.Action) → IsFair p → Has 
 acts laws p (answers text) fair = fair_reply _ (reply text nothing p) refl refl fair
 acts laws p (makes_node found) fair = makes p found fair
 acts laws p (changes_node c) fair = changed p c fair
+acts laws p (reboots_node vsn) fair = rebooted p vsn fair
 acts laws p boots_node fair = boots laws p fair
 acts laws p tells_start fair = told p fair
 

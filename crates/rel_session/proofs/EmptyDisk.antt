@@ -8,10 +8,10 @@ use Rattle.rel_session.specs.Feed.{Feed}
 use Rattle.rel_session.specs.Files.{Files, files_behind, Found}
 use Rattle.rel_session.specs.Node.{Place, Reply}
 use Rattle.rel_session.specs.Node.Place.{raw}
-use Rattle.rel_session.specs.Run.{Executes, Replies, Ending}
+use Rattle.rel_session.specs.Run.{Executes, MayLeave, Replies, Ending}
 use Rattle.rel_session.specs.RunLaws.{acknowledged_at, BecomesKnown, NoneFails, NoneAcknowledged, BeginsWithAMaking}
 use Rattle.rel_session.specs.Transition
-use Rattle.rel_session.specs.Transition.Action.{answers, makes_node, changes_node, boots_node, tells_start}
+use Rattle.rel_session.specs.Transition.Action.{answers, makes_node, changes_node, reboots_node, boots_node, tells_start}
 use Rattle.rel_session.proofs.AcknowledgedEvents.{first_answered, loses_nothing}
 use Rattle.rel_session.proofs.DeviceLemmas.{IsDevice}
 
@@ -41,8 +41,13 @@ on_empty : (files : Files) (c : Command) (a : Reply) → Transition.Transition f
 on_empty files c a (answers text, comes, is) = on_empty_as a _ is (inl (refl, inl refl))
 on_empty files c a (makes_node found, comes, is) = makes found a is
 on_empty files c a (changes_node change, comes, is) = on_empty_as a _ is (inl (refl, inl refl))
+on_empty files c a (reboots_node vsn, comes, is) = on_empty_as a _ is (inl (refl, inl refl))
 on_empty files c a (boots_node, comes, is) = boots a is
 on_empty files c a (tells_start, comes, is) = on_empty_as a _ is (inl (refl, inl refl))
+
+left_on_empty : (files : Files) (p : Place) (c : Command) (a : Reply) → p ≡ raw [] → MayLeave files p c a → OnEmpty a
+left_on_empty files p c a empty (inl is) = on_empty files c a (subst (λ q. Transition.Transition files q c a) empty is)
+left_on_empty files p c a empty (inr stopped) = let never = sym empty ∙ stopped.here in absurd cc
 
 -- where it was left empty
 still_empty : (a : Reply) → OnEmpty a → a.outcome.failed ≡ false → a.outcome.acknowledged ≡ [] → a.after ≡ raw []
@@ -56,10 +61,10 @@ first_event : (files : Files) (p : Place) (commands : Feed Command) (ending : En
 first_event files p commands ending [] a rest empty right works none some =
     let n = first_answered files p commands ending a rest right in
     ⊎_elim (λ (nothing : (a.outcome.acknowledged ≡ []) × ((a.after ≡ raw []) ⊎ (a.outcome.failed ≡ true))). absurd (some nothing.0)) (λ (of : IsMade a). of)
-    (on_empty files n.command a (subst (λ q. Transition.Transition files q n.command a) empty n.is))
+    (left_on_empty files p n.command a empty n.is)
 first_event files p commands ending (b ∷ first) a rest empty right (worked, works) (nothing, none) some =
     let n = first_answered files p commands ending b (first ++ a ∷ rest) right in
-    let there = still_empty b (on_empty files n.command b (subst (λ q. Transition.Transition files q n.command b) empty n.is)) worked nothing in
+    let there = still_empty b (left_on_empty files p n.command b empty n.is) worked nothing in
     first_event (files_behind files n.command) b.after n.rest ending first a rest there n.right works none some
 
 -- the store is known behind such a reply

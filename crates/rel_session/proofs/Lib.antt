@@ -9,7 +9,9 @@ pub mod DeviceLemmas
 pub mod ListLemmas
 pub mod Prefixes
 pub mod Replies
+pub mod CommitReplies
 pub mod StartReplies
+pub mod RebootReplies
 pub mod ReplyTexts
 pub mod LoopLemmas
 pub mod GivenFiles

@@ -10,8 +10,8 @@ use Rattle.rel_records.specs.Lists.{HaveVersions}
 use Rattle.rel_handler.specs.Image.{store_end}
 use Rattle.rel_handler.specs.Events.{Events, MayHave, IsStoredAs, certain}
 use Rattle.rel_handler.proofs.Commits.{have_versions}
-use Rattle.rel_session.specs.Commands.{Command, ParsedLine, parse_line, parse_words, parse_command, parse_change, with_word, without_words, path_in, version_in, is_blank, words_of, is_end, file_of, most_line, put_parsed, commands_of, commands_behind}
-use Rattle.rel_session.specs.Commands.Command.{file, create, set_unpacked, install, permanent, remove, boot, start, releases, quit, bad}
+use Rattle.rel_session.specs.Commands.{Command, ParsedLine, parse_line, parse_words, parse_command, parse_change, change_named, with_word, without_words, path_in, version_in, is_blank, words_of, is_end, file_of, most_line, put_parsed, commands_of, commands_behind}
+use Rattle.rel_session.specs.Commands.Command.{file, create, set_unpacked, install, permanent, remove, reboot_old, boot, start, releases, quit, bad}
 use Rattle.rel_session.specs.Commands.ParsedLine.{blank, file_begins, whole_command}
 use Rattle.rel_session.specs.Device.{Device}
 use Rattle.rel_session.specs.Feed.{Feed, bytes_within}
@@ -84,11 +84,19 @@ version_plain (vsn ∷ []) said each = go (is_text 0x21 vsn)
     go false = tt
 version_plain (vsn ∷ word ∷ words) said each = tt
 
+either_plain : (b : Bool) (x y : Command) → HasLinePath x → HasLinePath y → HasLinePath (if b then x else y)
+either_plain true x y p q = p
+either_plain false x y p q = q
+
+named_plain : (word vsn : List ℕ) → HasLinePath (change_named word vsn)
+named_plain word vsn =
+    either_plain (bytes_eq word (codes "install")) (install vsn) _ tt
+    (either_plain (bytes_eq word (codes "permanent")) (permanent vsn) _ tt
+    (either_plain (bytes_eq word (codes "remove")) (remove vsn) _ tt
+    (either_plain (bytes_eq word (codes "reboot_old")) (reboot_old vsn) bad tt tt)))
+
 change_plain : (word : List ℕ) (words : List (List ℕ)) → IsPlainLine (parse_change word words)
-change_plain word words =
-    either (bytes_eq word (codes "install")) (with_word (version_in words) (λ vsn. whole_command (install vsn))) _ (version_plain words (λ vsn. whole_command (install vsn)) (λ vsn. tt))
-    (either (bytes_eq word (codes "permanent")) (with_word (version_in words) (λ vsn. whole_command (permanent vsn))) _ (version_plain words (λ vsn. whole_command (permanent vsn)) (λ vsn. tt))
-    (either (bytes_eq word (codes "remove")) (with_word (version_in words) (λ vsn. whole_command (remove vsn))) (whole_command bad) (version_plain words (λ vsn. whole_command (remove vsn)) (λ vsn. tt)) tt))
+change_plain word words = version_plain words (λ vsn. whole_command (change_named word vsn)) (named_plain word)
 
 word_plain : (word : List ℕ) (words : List (List ℕ)) → ArePlain words → IsPlainLine (parse_command word words)
 word_plain word words plain =

@@ -16,14 +16,14 @@ use Rattle.rel_session.specs.Session.{AreCommands, IsSession}
 use Rattle.rel_session.specs.Feed.{Feed, Gives, EndsAs, IsNext, bytes_within}
 use Rattle.rel_session.specs.Feed.Feed.{over, cut, next}
 use Rattle.rel_session.specs.Files.{Files, no_files, files_of, files_behind}
-use Rattle.rel_session.specs.InMemory.{IsAt, Replied, NothingDone, FollowsCommand, disk_at, disk_of}
+use Rattle.rel_session.specs.InMemory.{IsAt, Leads, NothingDone, FollowsCommand, disk_at, disk_of}
 use Rattle.rel_session.specs.Input.{IsFresh, commands_left, most_bytes}
 use Rattle.rel_session.specs.Lines.{lines_of}
 use Rattle.rel_session.specs.Node.{Place, Reply}
 use Rattle.rel_session.specs.Node.Place.{raw, closed, running, dead}
 use Rattle.counted_io.specs.Prefixes.{AppendsPrefix}
 use Rattle.rel_session.specs.Output.{Writes}
-use Rattle.rel_session.specs.Run.{Starts, Executes, Replies, Ending, IsTextOf, IsRun, answers_of, commands_in}
+use Rattle.rel_session.specs.Run.{Starts, Executes, MayLeave, IsReply, Replies, Ending, IsTextOf, IsRun, answers_of, commands_in}
 use Rattle.rel_session.specs.Run.Ending.{ended, cut_off, early}
 use Rattle.rel_session.specs.Transition.{Transition}
 use Rattle.rel_session.proofs.DeviceLemmas.{IsDevice, still}
@@ -67,10 +67,16 @@ are_all : (known : Option (List ℕ)) (commands : Feed Command) → AreLeft (opt
 are_all None commands left = tt
 are_all (Some input) commands left = left
 
+is_reply : (files : Files) (p : Place) (c : Command) (ending : Ending) (a : Reply) (more : List Reply) → Transition files p c a → IsReply files p c ending more a
+is_reply files p c ended a more is = is
+is_reply files p c cut_off a more is = is
+is_reply files p c early a [] is = inl is
+is_reply files p c early a (b ∷ more) is = is
+
 -- a reply to the first of these commands
 pub replies_next : (files : Files) (p : Place) (c : Command) (rest : Feed Command) (ending : Ending) (a : Reply) (more : List Reply) → Transition files p c a
     → Replies (files_behind files c) a.after rest ending more → Replies files p (next c rest) ending (a ∷ more)
-replies_next files p c rest ending a more is right = (is, right)
+replies_next files p c rest ending a more is right = (is_reply files p c ending a more is, right)
 
 -- none of them has one
 replies_none : (files : Files) (p : Place) (commands : Feed Command) → Replies files p commands early []
@@ -206,12 +212,12 @@ module _ {D : Type 0} (v : Device D) (laws : IsDevice v) where
         r : Reached v start all now disk node old mid
         r = goes start starts
 
-        by_outcome : Replied v r.here (λ a. Transition (files_of node.files) r.here c a) node.place later.place ⊎ NothingDone v r.here node.place later.place
+        by_outcome : Leads v r.here (MayLeave (files_of node.files) r.here c) node.place later.place ⊎ NothingDone v r.here node.place later.place
             → (commands : Feed Command) × AreLeft all commands × Writes old mid (λ t. IsRun v no_files start commands early disk final t)
         by_outcome (inl a) =
             let whole = r.completes early (next c (some_left new)) (a.given ∷ []) (disk_of later) [] (are_next now new c (some_left new) gives (are_some new))
-            (replies_next (files_of node.files) r.here c (some_left new) early a.given [] a.right (replies_none (files_behind (files_of node.files) c) a.given.after (some_left new)))
-            (disk_of later, a.happens, nothing_more a.given.after later a.at) (inr ([], a.given, [], a.given.answer, refl, refl, refl)) in
+            (a.right, replies_none (files_behind (files_of node.files) c) a.given.after (some_left new))
+            (disk_of later, a.happens, (still v laws (disk_of later), a.happens.holds, omega arith)) (inr ([], a.given, [], a.given.answer, refl, refl, refl)) in
             (whole.0, whole.1, (r.written, r.appended, subst (λ t. IsRun v no_files start whole.0 early disk final t) (append-nil r.written) (subst (λ d. IsRun v no_files start whole.0 early disk d (r.written ++ [])) (sym is) whole.2)))
         by_outcome (inr lapsed) =
             let whole = r.completes early (some_left now) [] (disk_of later) [] (are_some now) (replies_none (files_of node.files) r.here (some_left now)) (lapsed.nothing_new, lapsed.holds, lapsed.counted) (inl refl) in

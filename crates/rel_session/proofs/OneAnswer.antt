@@ -1,9 +1,10 @@
 -- A device that does not fail leaves one answer to each command.
-use Rattle.std.proofs.Common.{◌≡◌, ◌≢◌, ◌⊎◌, inl, inr, ℕ, Bool, true, false, List, [], ◌∷◌, ◌++◌, length, codes, Some, Result, Ok, Err, refl, sym, ap, ◌∙◌, subst}
+use Rattle.std.proofs.Common.{◌≡◌, ◌≢◌, ◌⊎◌, inl, inr, ℕ, Bool, true, false, List, [], ◌∷◌, ◌++◌, length, Some, Result, Ok, Err, refl, sym, ap, ◌∙◌, subst}
 use Rattle.std.specs.Option.{option_and_then}
 use Rattle.rel_list.specs.Releases.{Releases, running as running_release, permanent}
 use Rattle.rel_list.specs.Event.{list_after, step, booted}
-use Rattle.rel_list.specs.Event.Event.{made, boot as booting}
+use Rattle.rel_list.specs.Event.{Event}
+use Rattle.rel_list.specs.Event.Event.{made, reboot_old as rebooting, boot as booting}
 use Rattle.rel_handler.specs.declared.error.BootError.{BootError}
 use Rattle.rel_handler.specs.declared.error.BootError.TheVariants as boot_error
 use Rattle.rel_handler.specs.declared.error.HandlerError.{HandlerError}
@@ -19,7 +20,7 @@ use Rattle.rel_session.specs.Feed.Feed.{over, cut, next}
 use Rattle.rel_session.specs.Files.{Files, files_behind, Found}
 use Rattle.rel_session.specs.Listing.{listing}
 use Rattle.rel_session.specs.LawsBelow.{FileLaws, BootLaws}
-use Rattle.rel_session.specs.Node.{Place, Reply, releases_after, list_or_none}
+use Rattle.rel_session.specs.Node.{Place, Outcome, Reply, releases_after, list_or_none, behind}
 use Rattle.rel_session.specs.Node.Place.{raw, closed, running, dead}
 use Rattle.rel_session.specs.Refusals.{boot_line}
 use Rattle.rel_session.specs.Run.{Replies, Ending}
@@ -27,7 +28,7 @@ use Rattle.rel_session.specs.Run.Ending.{ended, cut_off, early}
 use Rattle.rel_session.specs.AnswerLaws.{IsCertain, AreSame, HaveOneAnswer}
 use Rattle.rel_session.specs.RunLaws.{NoneFails}
 use Rattle.rel_session.specs.Transition
-use Rattle.rel_session.specs.Transition.Action.{answers, makes_node, changes_node, boots_node, tells_start}
+use Rattle.rel_session.specs.Transition.Action.{answers, makes_node, changes_node, reboots_node, boots_node, tells_start}
 use Rattle.rel_session.proofs.AcknowledgedEvents.{next_answered, none_left}
 use Rattle.rel_session.proofs.ActionLemmas.{kind_of, one_action}
 use Rattle.rel_session.proofs.ListLemmas.{list_after-more, same_list}
@@ -76,16 +77,22 @@ failure : {T : Type 0} (a x : Reply) → a ≡ x → x.outcome.failed ≡ true �
 failure a x is failed works = let lost : true ≡ false = sym failed ∙ ap (λ (r : Reply). r.outcome.failed) (sym is) ∙ works in absurd cc
 
 module _ (a b : Reply) (both : Both a b) where
+  -- a commit, where what is committed leaves one reply
+  commits : (events others : Events) (end : ℕ) (e : Event) (size : ℕ) (o : Result Releases HandlerError) (P Q : Reply → Type 0) → (P a → Q b → Same a b) → list_after events ≡ list_after others
+      → Transition.IsCommit events end e size o P a → Transition.IsCommit others end e size o Q b → Same a b
+  commits events others end e size (Err why) P Q one same is also = as_these a b _ _ is also (refl, refl, same_lists events others end same)
+  commits events others end e size (Ok list) P Q one same (inl (fits, inl is)) (inl (fits_too, inl also)) = one is also
+  commits events others end e size (Ok list) P Q one same (inl (fits, inl is)) (inl (fits_too, inr also)) = failure b _ also refl both.1
+  commits events others end e size (Ok list) P Q one same (inl (fits, inl is)) (inr (over_it, also)) = absurd (over_it fits)
+  commits events others end e size (Ok list) P Q one same (inl (fits, inr is)) other = failure a _ is refl both.0
+  commits events others end e size (Ok list) P Q one same (inr (over_it, is)) (inl (fits, also)) = absurd (over_it fits)
+  commits events others end e size (Ok list) P Q one same (inr (over_it, is)) (inr (over_too, also)) = as_these a b _ _ is also (refl, refl, same_lists events others end same)
+
   changes : (events others : Events) (end : ℕ) (c : Transition.Change) (l : Releases) (o : Result Releases HandlerError) → list_after events ≡ list_after others
       → Transition.Changes events end c l o a → Transition.Changes others end c l o b → Same a b
-  changes events others end c l (Err why) same is also = as_these a b _ _ is also (refl, refl, same_lists events others end same)
-  changes events others end c l (Ok list) same (inl (fits, inl is)) (inl (fits_too, inl also)) =
-      as_these a b _ _ is also (refl, refl, same_lists (events ++ c.event ∷ []) (others ++ c.event ∷ []) (end_behind end (c.size l)) (same_list events others c.event same))
-  changes events others end c l (Ok list) same (inl (fits, inl is)) (inl (fits_too, inr also)) = failure b _ also refl both.1
-  changes events others end c l (Ok list) same (inl (fits, inl is)) (inr (over_it, also)) = absurd (over_it fits)
-  changes events others end c l (Ok list) same (inl (fits, inr is)) other = failure a _ is refl both.0
-  changes events others end c l (Ok list) same (inr (over_it, is)) (inl (fits, also)) = absurd (over_it fits)
-  changes events others end c l (Ok list) same (inr (over_it, is)) (inr (over_too, also)) = as_these a b _ _ is also (refl, refl, same_lists events others end same)
+  changes events others end c l o same =
+      let behind_it = same_lists (events ++ c.event ∷ []) (others ++ c.event ∷ []) (end_behind end (c.size l)) (same_list events others c.event same) in
+      commits events others end c.event (c.size l) o _ _ (λ is also. as_these a b _ _ is also (refl, refl, behind_it)) same
 
   makes_on : (x : List ℕ) (found : Found) (size : ℕ) (m : Bool) → Transition.MakesOn x found.release size m a → Transition.MakesOn x found.release size m b → Same a b
   makes_on x found size true is also = as_these a b _ _ is also (refl, refl, same_bytes x)
@@ -156,12 +163,34 @@ module _ (a b : Reply) (both : Both a b) where
   boots laws p q (same_store events end) is also = boots_store events events end refl is also
   boots laws p q (same_lists events others end same) is also = boots_store events others end same is also
 
+-- replies behind an event
+behind_same : (e : Event) (x y : Reply) → Same x y → Same (behind e x) (behind e y)
+behind_same e x y (told, outcomes, then) = (told, ap (λ (o : Outcome). (behind e (record { answer = []; outcome = o; after = x.after })).outcome) outcomes, then)
+
+module _ (a b : Reply) (both : Both a b) where
+  reboots : (events others : Events) (end : ℕ) (vsn : List ℕ) (l : Releases) (o : Result Releases HandlerError) → list_after events ≡ list_after others
+      → Transition.Reboots events end vsn l o a → Transition.Reboots others end vsn l o b → Same a b
+  reboots events others end vsn l o same =
+      let e = rebooting vsn in
+      commits a b both events others end e _ o _ _ (λ (x, boot, is) (y, boot_too, also).
+      as_these a b _ _ is also (behind_same e x y (boots_store x y (works a x is both.0, works b y also both.1) (events ++ e ∷ []) (others ++ e ∷ []) _ (same_list events others e same) boot boot_too))) same
+    where
+      works : (r x : Reply) → r ≡ behind (rebooting vsn) x → r.outcome.failed ≡ false → x.outcome.failed ≡ false
+      works r x is fine = ap (λ (s : Reply). s.outcome.failed) (sym is) ∙ fine
+
   changed : (p q : Place) (c : Transition.Change) → Alike p q → Transition.Acts p (changes_node c) a → Transition.Acts q (changes_node c) b → Same a b
   changed p q c (same_bytes x) is also = as_these a b _ _ is also (refl, refl, same_bytes x)
   changed p q c (same_store events end) is also = as_these a b _ _ is also (refl, refl, same_store events end)
   changed p q c (same_lists events others end same) is also =
       let then : releases_after others ≡ releases_after events = ap list_or_none (sym same) in
-      changes events others end c (releases_after events) (commanded c.event (releases_after events)) same is (subst (λ l. Transition.Changes others end c l (commanded c.event l) b) then also)
+      changes a b both events others end c (releases_after events) (commanded c.event (releases_after events)) same is (subst (λ l. Transition.Changes others end c l (commanded c.event l) b) then also)
+
+  rebooted : (p q : Place) (vsn : List ℕ) → Alike p q → Transition.Acts p (reboots_node vsn) a → Transition.Acts q (reboots_node vsn) b → Same a b
+  rebooted p q vsn (same_bytes x) is also = as_these a b _ _ is also (refl, refl, same_bytes x)
+  rebooted p q vsn (same_store events end) is also = as_these a b _ _ is also (refl, refl, same_store events end)
+  rebooted p q vsn (same_lists events others end same) is also =
+      let then : releases_after others ≡ releases_after events = ap list_or_none (sym same) in
+      reboots events others end vsn (releases_after events) (commanded (rebooting vsn) (releases_after events)) same is (subst (λ l. Transition.Reboots others end vsn l (commanded (rebooting vsn) l) b) then also)
 
   told : (p q : Place) → Alike p q → Transition.Acts p tells_start a → Transition.Acts q tells_start b → Same a b
   told p q (same_bytes x) is also = as_these a b _ _ is also (refl, refl, same_bytes x)
@@ -173,9 +202,10 @@ module _ (a b : Reply) (both : Both a b) where
 
   acts : BootLaws → (p q : Place) (does : Transition.Action) → Alike p q → Transition.Acts p does a → Transition.Acts q does b → Same a b
   acts laws p q (answers text) alike is also = as_these a b _ _ is also (refl, refl, alike)
-  acts laws p q (makes_node found) alike is also = makes p q found alike is also
+  acts laws p q (makes_node found) alike is also = makes a b both p q found alike is also
   acts laws p q (changes_node c) alike is also = changed p q c alike is also
-  acts laws p q boots_node alike is also = boots laws p q alike is also
+  acts laws p q (reboots_node vsn) alike is also = rebooted p q vsn alike is also
+  acts laws p q boots_node alike is also = boots a b both laws p q alike is also
   acts laws p q tells_start alike is also = told p q alike is also
 
   one_reply : FileLaws → BootLaws → (files : Files) (p q : Place) (c : Command) → Alike p q → Transition.Transition files p c a → Transition.Transition files q c b → Same a b
@@ -204,22 +234,22 @@ one_end cut a b p q = p ∙ sym q
 one_end (next c rest) a b p q = p.1 ∙ sym q.1
 
 -- a session that ends does not go on
-pub never_goes_on : (files : Files) (p : Place) (commands : Feed Command) (a b : Ending) (r : Reply) (more : List Reply) → Ends commands a → Replies files p commands b (r ∷ more) → ⊥
-never_goes_on files p over a b r more end right = none_left files p over b r more (inl refl) right
-never_goes_on files p cut a b r more end right = none_left files p cut b r more (inr refl) right
-never_goes_on files p (next c rest) a b r more (quitting, end) right =
-    let (does, comes, is) = subst (λ d. Transition.Transition files p d r) quitting (next_answered files p c rest b r more right).0 in comes
+pub never_goes_on : (files : Files) (p : Place) (commands : Feed Command) (a b : Ending) (r : Reply) (more : List Reply) → b ≢ early → Ends commands a → Replies files p commands b (r ∷ more) → ⊥
+never_goes_on files p over a b r more not_early end right = none_left files p over b r more (inl refl) right
+never_goes_on files p cut a b r more not_early end right = none_left files p cut b r more (inr refl) right
+never_goes_on files p (next c rest) a b r more not_early (quitting, end) right =
+    let (does, comes, is) = subst (λ d. Transition.Transition files p d r) quitting (next_answered files p c rest b r more not_early right).0 in comes
 
 one_run : FileLaws → BootLaws → (files : Files) (p q : Place) (commands : Feed Command) (a b : Ending) (first second : List Reply) → Alike p q → a ≢ early → b ≢ early → NoneFails first → NoneFails second
     → Replies files p commands a first → Replies files q commands b second → (a ≡ b) × AreSame first second
 one_run texts laws files p q commands a b [] [] alike not_a not_b works works_too right right_too = (one_end commands a b (ends files p commands a not_a right) (ends files q commands b not_b right_too), tt)
-one_run texts laws files p q commands a b [] (s ∷ second) alike not_a not_b works works_too right right_too = absurd (never_goes_on files q commands a b s second (ends files p commands a not_a right) right_too)
-one_run texts laws files p q commands a b (r ∷ first) [] alike not_a not_b works works_too right right_too = absurd (never_goes_on files p commands b a r first (ends files q commands b not_b right_too) right)
+one_run texts laws files p q commands a b [] (s ∷ second) alike not_a not_b works works_too right right_too = absurd (never_goes_on files q commands a b s second not_b (ends files p commands a not_a right) right_too)
+one_run texts laws files p q commands a b (r ∷ first) [] alike not_a not_b works works_too right right_too = absurd (never_goes_on files p commands b a r first not_a (ends files q commands b not_b right_too) right)
 one_run texts laws files p q over a b (r ∷ first) (s ∷ second) alike not_a not_b works works_too right right_too = absurd (none_left files p over a r first (inl refl) right)
 one_run texts laws files p q cut a b (r ∷ first) (s ∷ second) alike not_a not_b works works_too right right_too = absurd (none_left files p cut a r first (inr refl) right)
 one_run texts laws files p q (next c rest) a b (r ∷ first) (s ∷ second) alike not_a not_b (works, all) (works_too, all_too) right right_too =
-    let (is, behind) = next_answered files p c rest a r first right in
-    let (also, behind_too) = next_answered files q c rest b s second right_too in
+    let (is, behind) = next_answered files p c rest a r first not_a right in
+    let (also, behind_too) = next_answered files q c rest b s second not_b right_too in
     let (told, outcomes, then) = one_reply r s (works, works_too) texts laws files p q c alike is also in
     let (end, same) = one_run texts laws (files_behind files c) r.after s.after rest a b first second then not_a not_b all all_too behind behind_too in
     (end, (told, outcomes, same))

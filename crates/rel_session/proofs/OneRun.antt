@@ -23,14 +23,14 @@ append_left (b ∷ s) x y is = append_left s x y (let same : s ++ x ≡ s ++ y =
 one_run : FileLaws → (files : Files) (p q : Place) (commands : Feed Command) (a b : Ending) (first second : List Reply) → kind_of p ≡ kind_of q → HasVersionsAt p → HasVersionsAt q → HaveLinePaths commands
     → a ≢ early → b ≢ early → Replies files p commands a first → Replies files q commands b second → answers_of first ≡ answers_of second → (a ≡ b) × AreSame first second
 one_run texts files p q commands a b [] [] kinds all all_too lines not_a not_b right right_too same = (one_end commands a b (ends files p commands a not_a right) (ends files q commands b not_b right_too), tt)
-one_run texts files p q commands a b [] (s ∷ second) kinds all all_too lines not_a not_b right right_too same = absurd (never_goes_on files q commands a b s second (ends files p commands a not_a right) right_too)
-one_run texts files p q commands a b (r ∷ first) [] kinds all all_too lines not_a not_b right right_too same = absurd (never_goes_on files p commands b a r first (ends files q commands b not_b right_too) right)
+one_run texts files p q commands a b [] (s ∷ second) kinds all all_too lines not_a not_b right right_too same = absurd (never_goes_on files q commands a b s second not_b (ends files p commands a not_a right) right_too)
+one_run texts files p q commands a b (r ∷ first) [] kinds all all_too lines not_a not_b right right_too same = absurd (never_goes_on files p commands b a r first not_a (ends files q commands b not_b right_too) right)
 one_run texts files p q over a b (r ∷ first) (s ∷ second) kinds all all_too lines not_a not_b right right_too same = absurd (none_left files p over a r first (inl refl) right)
 one_run texts files p q cut a b (r ∷ first) (s ∷ second) kinds all all_too lines not_a not_b right right_too same = absurd (none_left files p cut a r first (inr refl) right)
 one_run texts files p q (next c rest) a b (r ∷ first) (s ∷ second) kinds all all_too lines not_a not_b right right_too same =
     let (line, others) = lines in
-    let (is, behind) = next_answered files p c rest a r first right in
-    let (also, behind_too) = next_answered files q c rest b s second right_too in
+    let (is, behind) = next_answered files p c rest a r first not_a right in
+    let (also, behind_too) = next_answered files q c rest b s second not_b right_too in
     let (whole, versions) = each_good files p c line all r is in
     let (whole_too, versions_too) = each_good files q c line all_too s also in
     let answer = one_front r.answer s.answer whole whole_too (answers_of first) (answers_of second) same in

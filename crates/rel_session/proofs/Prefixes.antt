@@ -1,10 +1,10 @@
 -- What is known of a store, and the prefixes of its events.
 use Rattle.std.proofs.Common.{◌≡◌, ◌⊎◌, inl, inr, ℕ, Bool, true, false, List, [], ◌∷◌, ◌++◌, Option, Some, None, refl, sym, ap, ◌∙◌, subst}
 use Rattle.std.specs.Prelude.{is_some, if◌then◌else◌}
-use Rattle.std.proofs.lemmas.List.{append-nil}
+use Rattle.std.proofs.lemmas.List.{append-nil, append_assoc}
 use Rattle.rel_list.specs.Releases.{Releases}
 use Rattle.rel_list.specs.Event.{Event, list_after}
-use Rattle.rel_handler.specs.Events.{Events, settled, with_doubt, accepted, IsPrefix, Stored, certain, uncertain, MayHave, StartsBehind, HasStart, IsStoredAs}
+use Rattle.rel_handler.specs.Events.{Events, Known, settled, with_doubt, accepted, IsPrefix, Stored, certain, uncertain, MayHave, HasStart, IsStoredAs}
 use Rattle.rel_handler.specs.Image.{IsImageAt, IsStarted}
 use Rattle.rel_session.specs.Run.{IsReached}
 
@@ -59,17 +59,17 @@ reached s command c of = record {
   start = subst (λ l. HasStart l c) (sym (append-nil of.events)) of.start;
 }
 
+settled_accepted : (l : Events) → accepted (settled l) ≡ l ++ []
+settled_accepted l = go (is_some (list_after l))
+  where
+    go : (b : Bool) → (if b then l else l) ≡ l ++ []
+    go true = sym (append-nil l)
+    go false = sym (append-nil l)
+
 -- and with its event
 pub reached_with : (events : Events) (end : ℕ) (e : Event) (size : ℕ) (c : List ℕ) → IsStoredAs (uncertain events end e size) c → IsReached (settled events) (e ∷ []) c
 reached_with events end e size c of = by_events _ of.has
   where
-    settled-accepted : (l : Events) → accepted (settled l) ≡ l ++ []
-    settled-accepted l = go (is_some (list_after l))
-      where
-        go : (b : Bool) → (if b then l else l) ≡ l ++ []
-        go true = sym (append-nil l)
-        go false = sym (append-nil l)
-
     by_events : (n : ℕ) → MayHave (uncertain events end e size) of.events n → IsReached (settled events) (e ∷ []) c
     by_events n (inl (is, at)) = record {
       events = events;
@@ -84,7 +84,7 @@ reached_with events end e size c of = by_events _ of.has
     }
     by_events n (inr (is, at)) = record {
       events = events;
-      prefix = record { lacks = []; of_accepted = settled-accepted events; more = []; holds = sym (append-nil events) };
+      prefix = record { lacks = []; of_accepted = settled_accepted events; more = []; holds = sym (append-nil events) };
       more = e ∷ [];
       left = [];
       begins = refl;
@@ -92,6 +92,50 @@ reached_with events end e size c of = by_events _ of.has
       after = ap list_after (sym is) ∙ of.after;
       image_of = of.image_of;
       start = subst (λ l. HasStart l c) is of.start;
+    }
+
+nothing_behind : (l more : Events) → l ≡ l ++ more → more ≡ []
+nothing_behind [] more is = sym is
+nothing_behind (e ∷ l) more is = nothing_behind l more (let same : l ≡ l ++ more = cc in same)
+
+no_first : (first more : Events) → first ++ more ≡ [] → first ≡ []
+no_first [] more none = refl
+no_first (e ∷ first) more none = absurd cc
+
+-- where none is in doubt, there is one prefix
+only_prefix : (l events : Events) → IsPrefix (settled l) events → events ≡ l
+only_prefix l events of =
+    let all : l ≡ l ++ (of.more ++ of.lacks) = sym (append-nil l) ∙ sym (settled_accepted l) ∙ of.of_accepted ∙ ap (λ (es : Events). es ++ of.lacks) of.holds ∙ append_assoc l of.more of.lacks in
+    of.holds ∙ ap (λ (es : Events). l ++ es) (no_first of.more of.lacks (nothing_behind l _ all)) ∙ append-nil l
+
+-- what is reached with some events of a command is reached where further ones follow
+pub reached_sooner : (k : Known) (first more : Events) (c : List ℕ) → IsReached k first c → IsReached k (first ++ more) c
+reached_sooner k first more c of = record {
+  events = of.events;
+  prefix = of.prefix;
+  more = of.more;
+  left = of.left ++ more;
+  begins = sym (append_assoc of.more of.left more) ∙ ap (λ (es : Events). es ++ more) of.begins;
+  list = of.list;
+  after = of.after;
+  image_of = of.image_of;
+  start = of.start;
+}
+
+-- and what is reached behind an event is reached with it in front
+pub reached_behind : (events : Events) (e : Event) (command : Events) (c : List ℕ) → IsReached (settled (events ++ e ∷ [])) command c → IsReached (settled events) (e ∷ command) c
+reached_behind events e command c of =
+    let same : of.events ++ of.more ≡ events ++ (e ∷ of.more) = ap (λ (es : Events). es ++ of.more) (only_prefix (events ++ e ∷ []) of.events of.prefix) ∙ append_assoc events (e ∷ []) of.more in
+    record {
+      events = events;
+      prefix = record { lacks = []; of_accepted = settled_accepted events; more = []; holds = sym (append-nil events) };
+      more = e ∷ of.more;
+      left = of.left;
+      begins = ap (λ (es : Events). e ∷ es) of.begins;
+      list = of.list;
+      after = ap list_after (sym same) ∙ of.after;
+      image_of = of.image_of;
+      start = subst (λ l. HasStart l c) same of.start;
     }
 
 -- an image of a handler's list is a store of its events

@@ -1,5 +1,5 @@
 -- The release that a file has, case by case.
-use Rattle.std.proofs.Common.{◌≡◌, ℕ, Bool, true, false, List, sym, ap}
+use Rattle.std.proofs.Common.{◌≡◌, ℕ, true, false, List, sym, ap}
 use Rattle.std.specs.Prelude.{if◌then◌else◌, Ok, Err}
 use Rattle.erl_term.specs.Value.{value_of}
 use Rattle.erl_term.specs.Within.{IsWithin}

@@ -1,7 +1,7 @@
 -- What each command replies, wherever the disk stands, as the handler's clauses give it.
 use Rattle.std.proofs.Common.{◌≡◌, ◌≢◌, ◌⊎◌, inl, inr, ℕ, ◌≤◌, Bool, true, false, List, [], ◌∷◌, ◌++◌, Some, None, Result, Ok, Err, refl, sym, ap, ◌∙◌, subst, arith}
 use Rattle.std.specs.Result.{IsErrAnd}
-use Rattle.std.specs.Prelude.{IfOk, IsErr, String, string_bytes, codes, length}
+use Rattle.std.specs.Prelude.{IfOk, IsErr, String, string_bytes, length}
 use Rattle.std.specs.declared.alloc.Global.{Global}
 use Rattle.std.specs.declared.alloc.AllocError.{AllocError}
 use Rattle.rel_list.specs.Releases.{Releases, running as running_release}
@@ -13,14 +13,13 @@ use Rattle.rel_handler.specs.declared.error.HandlerError.TheVariants as handler_
 use Rattle.rel_handler.specs.declared.error.BootError.{BootError}
 use Rattle.rel_handler.specs.declared.error.BootError.TheVariants as boot_error
 use Rattle.rel_handler.specs.declared.handler.Handler.{Handler}
-use Rattle.rel_handler.specs.Events.{Events, Stored, MayHave, certain, uncertain, StartsBehind, IsStoredAs, settled, doubted}
+use Rattle.rel_handler.specs.Events.{Events, Stored, MayHave, certain, StartsBehind, IsStoredAs, doubted}
 use Rattle.rel_handler.specs.Image.{IsImageOf, IsImageAt, IsRepairOf, holds_a_store, first_end, end_behind, HasSpace}
 use Rattle.rel_records.specs.Limits.{is_small}
 use Rattle.rel_handler.specs.Moments.{Begins, BeginsAt, WritesNothing}
 use Rattle.rel_records.specs.Record.{makes as makes_record, body_of}
-use Rattle.rel_handler.specs.Refusals.{CommandRefused, CreateRefused, BootRefused, IsBootRefusal}
+use Rattle.rel_handler.specs.Refusals.{CreateRefused, BootRefused, IsBootRefusal}
 use Rattle.rel_handler.specs.State.{disk_in, list_in, is_dead, end_in, HasStarted, IsSame}
-use Rattle.rel_handler.specs.Taking.{commanded}
 use Rattle.rel_session.specs.declared.place.Place.{Place as PlaceInMemory}
 use Rattle.rel_session.specs.declared.place.Place.TheVariants as memory
 use Rattle.rel_session.specs.declared.refusal.Refusal.{Refusal as RefusalInMemory}
@@ -29,19 +28,17 @@ use Rattle.rel_session.specs.Commands.Command.{set_unpacked}
 use Rattle.rel_session.specs.Device.{Device, LeavesOnly, HasFailed}
 use Rattle.rel_session.specs.Files.{Files, Found}
 use Rattle.rel_session.specs.InMemory.{disk_at, IsAt, Replied, NothingDone, Answers, TellsReply}
-use Rattle.rel_session.specs.Node.{Place, Reply, reply, refused, failed, nothing, done, failed_with, releases_after, list_or_none}
+use Rattle.rel_session.specs.Node.{Place, Reply, reply, refused, failed, nothing, done, failed_with}
 use Rattle.rel_session.specs.Node.Place.{raw, closed, running, dead}
 use Rattle.rel_session.specs.Refusals.{Refusal, refusal_of, refusal_line, handler_refusal, boot_line}
 use Rattle.rel_session.specs.Refusals.Refusal.{full, exists, device, dead as dead_node}
 use Rattle.rel_session.specs.Run.{IsReached, Holds, Moments}
 use Rattle.rel_session.specs.Transition
-use Rattle.rel_session.specs.Transition.Action.{changes_node, tells_start}
-use Rattle.rel_handler.specs.Commits.{Commits, IsDone}
-use Rattle.rel_handler.proofs.CommandLemmas.{commanded_step}
+use Rattle.rel_session.specs.Transition.Action.{changes_node, reboots_node, tells_start}
 use Rattle.rel_session.proofs.DeviceLemmas.{IsDevice, weakened, still}
 use Rattle.rel_session.proofs.Histories.{events_of_image}
 use Rattle.rel_session.proofs.ListLemmas.{list_after-push}
-use Rattle.rel_session.proofs.Prefixes.{reached, reached_with, stored}
+use Rattle.rel_session.proofs.Prefixes.{reached, stored}
 
 -- what an error became is the refusal
 pub told_so : (r : Result (String Global) RefusalInMemory) (why : RefusalInMemory) → IsErrAnd r (λ e. e ≡ why) → r ≡ Err why
@@ -393,7 +390,7 @@ module _ {D : Type 0} (v : Device D) (laws : IsDevice v) where
   makes_again h found (dead s) at = stays (dead s) (refusal_line exists) _ (memory.Made h) (memory.Made h) at refl at (refl, refl)
 
   -- A refusal is told, unless memory was refused.
-  tells_refusal : (P : Place → Reply → Type 0) (why : RefusalInMemory) (old new : PlaceInMemory D)
+  pub tells_refusal : (P : Place → Reply → Type 0) (why : RefusalInMemory) (old new : PlaceInMemory D)
       → (why ≢ refusal.NoMemory → (p : Place) → IsAt v old p → Replied v p (λ a. P p a × (a.answer ≡ refusal_line (refusal_of why))) old new)
       → ((p : Place) → IsAt v old p → NothingDone v p old new) → Answers v P (Err why) old new
   tells_refusal P refusal.NoSuchRelease old new told lapsed = told (λ e. cc e)
@@ -411,7 +408,7 @@ module _ {D : Type 0} (v : Device D) (laws : IsDevice v) where
   tells_refusal P refusal.NoMemory old new told lapsed = λ p at. inr (lapsed p at)
   tells_refusal P refusal.Exists old new told lapsed = told (λ e. cc e)
 
-  -- A command changes the node that runs: P has what it replies there.
+  -- A command on the node that runs: P has what it replies there.
   module _ (P : Place → Reply → Type 0) (h : Handler D) (alive : is_dead h ≡ false) where
     -- it is refused before the node was asked
     pub refuses_running : (why : RefusalInMemory) → (why ≢ refusal.NoMemory → (events : Events) (end : ℕ) → P (running events end) (refused (refusal_of why) (running events end)))
@@ -423,102 +420,6 @@ module _ {D : Type 0} (v : Device D) (laws : IsDevice v) where
         stands known (closed s) at = absurd at
         stands known (running events end) at = stays (running events end) (refusal_line (refusal_of why)) _ (memory.Made h) (memory.Made h) at refl at (right known events end, refl)
         stands known (dead s) at = never (sym alive ∙ at.1)
-
-    module _ (change : Transition.Change) (right : (events : Events) (end : ℕ) (a : Reply) → Transition.Acts (running events end) (changes_node change) a → P (running events end) a)
-        (new : Handler D) (commits : Commits v change.event (change.size (list_in h)) h new) where
-      abbrev body_size : ℕ
-      body_size = change.size (list_in h)
-
-      -- what the list allows, said of the events
-      right_for : (events : Events) (end : ℕ) (o : Result Releases HandlerError) (a : Reply) → list_after events ≡ Some (list_in h) → commanded change.event (list_in h) ≡ o
-          → Transition.Changes events end change (list_in h) o a → P (running events end) a
-      right_for events end o a after is done_so =
-          let of_list : releases_after events ≡ list_in h = ap list_or_none after in
-          right events end a (subst (λ l. Transition.Changes events end change l (commanded change.event l) a) (sym of_list) (subst (λ r. Transition.Changes events end change (list_in h) r a) (sym is) done_so))
-
-      moments_at : (events : Events) → list_after events ≡ Some (list_in h) → LeavesOnly v (disk_in h) (disk_in new) (IsReached (settled events) (change.event ∷ []))
-      moments_at events after = weakened v (disk_in h) (disk_in new) _ _ (reached_with events (end_in h) change.event body_size) (commits.any_moment alive events after)
-
-      replies_done : is_dead new ≡ false → IsDone v change.event body_size h new → (p : Place) → IsAt v (memory.Made h) p
-          → Replied v p (λ a. P p a × (a.answer ≡ Transition.done_line (change.details (list_in h)))) (memory.Made h) (memory.Made new)
-      replies_done works is_done (raw bytes) at = absurd at
-      replies_done works is_done (closed s) at = absurd at
-      replies_done works is_done (dead s) at = never (sym alive ∙ at.1)
-      replies_done works is_done (running events end) (here, living, after, stop) =
-          let then = events ++ change.event ∷ [] in
-          let end_then = end_behind end body_size in
-          let place = runs_at new then end_then works (list_after-push events change.event (list_in h) (list_in new) after (commanded_step change.event (list_in h) (list_in new) is_done.accepted))
-          (is_done.end ∙ ap (λ n. end_behind n body_size) stop) is_done.acknowledged (commits.sound.started works) in
-          let a = reply (Transition.done_line (change.details (list_in h))) (done (change.event ∷ [])) (running then end_then) in
-          record {
-            given = a;
-            right = (right_for events end (Ok (list_in new)) a after is_done.accepted (inl (subst (λ n. HasSpace n body_size) stop is_done.fits, inl refl)), refl);
-            at = place;
-            happens = record { moments = moments_at events after; holds = place.0; cause = λ e. never e; counted = commits.counted };
-          }
-
-      -- it is done, and so answered
-      pub changes : is_dead new ≡ false → IsDone v change.event body_size h new → (text : String Global) → string_bytes text ≡ Transition.done_line (change.details (list_in h)) → Answers v P (Ok text) (memory.Made h) (memory.Made new)
-      changes works is_done text is p at =
-          let r = replies_done works is_done p at in
-          record { given = r.given; right = (r.right.0, r.right.1 ∙ sym is); at = r.at; happens = r.happens }
-
-      -- it is done, and memory is refused for its answer
-      pub changes_untold : is_dead new ≡ false → IsDone v change.event body_size h new → Answers v P (Err refusal.NoMemory) (memory.Made h) (memory.Made new)
-      changes_untold works is_done p at =
-          let r = replies_done works is_done p at in
-          inl (record { given = r.given; right = r.right.0; at = r.at; happens = r.happens })
-
-      -- It doesn't.
-      device_failed : (list : Releases) → commanded change.event (list_in h) ≡ Ok list → HasSpace (end_in h) body_size → HasFailed v (disk_in h) (disk_in new) → is_dead new ≡ true
-          → (p : Place) → IsAt v (memory.Made h) p → Replied v p (λ a. P p a × (a.answer ≡ refusal_line device)) (memory.Made h) (memory.Made new)
-      device_failed list allowed fits cause gone (raw bytes) at = absurd at
-      device_failed list allowed fits cause gone (closed s) at = absurd at
-      device_failed list allowed fits cause gone (dead s) at = never (sym alive ∙ at.1)
-      device_failed list allowed fits cause gone (running events end) (here, living, after, stop) =
-          let s = uncertain events end change.event body_size in
-          let leaves = subst (λ n. LeavesOnly v (disk_in h) (disk_in new) (IsStoredAs (uncertain events n change.event body_size))) stop (commits.any_moment alive events after) in
-          let holds : Holds v (dead s) (disk_in new) = λ c now. leaves.each c (laws.counts_now (disk_in new) (v.moment (disk_in h)) c leaves.later now) in
-          let a = failed (Some change.event) (dead s) in
-          record {
-            given = a;
-            right = (right_for events end (Ok list) a after allowed (inl (subst (λ n. HasSpace n body_size) stop fits, inr refl)), refl);
-            at = (holds, gone);
-            happens = record { moments = moments_at events after; holds = holds; cause = λ e. cause; counted = commits.counted };
-          }
-
-      same_reply : (why : Refusal) (o : Result Releases HandlerError) → commanded change.event (list_in h) ≡ o → IsSame h new
-          → ((events : Events) (end : ℕ) → end_in h ≡ end → Transition.Changes events end change (list_in h) o (refused why (running events end)))
-          → (p : Place) → IsAt v (memory.Made h) p → Replied v p (λ a. P p a × (a.answer ≡ refusal_line why)) (memory.Made h) (memory.Made new)
-      same_reply why o is same barred (raw bytes) at = absurd at
-      same_reply why o is same barred (closed s) at = absurd at
-      same_reply why o is same barred (dead s) at = never (sym alive ∙ at.1)
-      same_reply why o is same barred (running events end) at =
-          stays (running events end) (refusal_line why) _ (memory.Made h) (memory.Made new) at same.disk (same_at h new (running events end) same at)
-          (right_for events end o _ at.2 is (barred events end at.3), refl)
-
-      by_list : (e : HandlerError) → (is_dead h ≡ false) × (commanded change.event (list_in h) ≡ Err e) → IsSame h new
-          → (p : Place) → IsAt v (memory.Made h) p → Replied v p (λ a. P p a × (a.answer ≡ refusal_line (refusal_of (handler_refusal e)))) (memory.Made h) (memory.Made new)
-      by_list e (living, barred) same = same_reply (refusal_of (handler_refusal e)) (Err e) barred same (λ events end at. refl)
-
-      pub changes_none : (e : HandlerError) (told : RefusalInMemory) → CommandRefused v.failures change.event body_size h new e → told ≡ handler_refusal e
-          → Answers v P (Err told) (memory.Made h) (memory.Made new)
-      changes_none e told why is = subst (λ t. Answers v P (Err t) (memory.Made h) (memory.Made new)) (sym is) (by_error e why)
-        where
-          by_error : (e : HandlerError) → CommandRefused v.failures change.event body_size h new e → Answers v P (Err (handler_refusal e)) (memory.Made h) (memory.Made new)
-          by_error handler_error.Dead (gone, same) = never (sym alive ∙ gone)
-          by_error handler_error.NoSuchRelease (barred, same) = by_list handler_error.NoSuchRelease barred same
-          by_error handler_error.ExistingRelease (barred, same) = by_list handler_error.ExistingRelease barred same
-          by_error handler_error.AlreadyInstalled (barred, same) = by_list handler_error.AlreadyInstalled barred same
-          by_error (handler_error.BadStatus s) (barred, same) = by_list (handler_error.BadStatus s) barred same
-          by_error handler_error.Permanent (barred, same) = by_list handler_error.Permanent barred same
-          by_error handler_error.Running (barred, same) = by_list handler_error.Running barred same
-          by_error handler_error.TooMany (barred, same) = by_list handler_error.TooMany barred same
-          by_error handler_error.Full ((living, (list, allowed)), over, same) =
-              same_reply full (Ok list) allowed same (λ events end at. inr (subst (λ n. HasSpace n body_size → ⊥) at over, refl))
-          by_error handler_error.NoMemory (living, same) = λ p at. inr (leaves_all p (memory.Made h) (memory.Made new) same.disk (same_at h new p same at))
-          by_error handler_error.Device ((living, (list, allowed), fits), cause, gone) = device_failed list allowed fits cause gone
-          by_error handler_error.Exists gone = absurd gone
 
   -- Where no node runs, a command that would change one is refused.
   module _ (P : Place → Reply → Type 0) (right : (p : Place) → ((events : Events) (end : ℕ) → p ≡ running events end → ⊥) → P p (refused dead_node p)) where
@@ -551,12 +452,18 @@ module _ {D : Type 0} (v : Device D) (laws : IsDevice v) where
   idle_sets files path (running events end) idle = absurd (idle events end refl)
   idle_sets files path (dead s) idle = (Transition.refuses dead_node, refl, refl)
 
-  -- and so are a change and `start`
+  -- and so are a change, a reboot and `start`
   pub idle_changes : (c : Transition.Change) (p : Place) → ((events : Events) (end : ℕ) → p ≡ running events end → ⊥) → Transition.Acts p (changes_node c) (refused dead_node p)
   idle_changes c (raw bytes) idle = refl
   idle_changes c (closed s) idle = refl
   idle_changes c (running events end) idle = absurd (idle events end refl)
   idle_changes c (dead s) idle = refl
+
+  pub idle_reboots : (vsn : List ℕ) (p : Place) → ((events : Events) (end : ℕ) → p ≡ running events end → ⊥) → Transition.Acts p (reboots_node vsn) (refused dead_node p)
+  idle_reboots vsn (raw bytes) idle = refl
+  idle_reboots vsn (closed s) idle = refl
+  idle_reboots vsn (running events end) idle = absurd (idle events end refl)
+  idle_reboots vsn (dead s) idle = refl
 
   pub idle_tells : (p : Place) → ((events : Events) (end : ℕ) → p ≡ running events end → ⊥) → Transition.Acts p tells_start (refused dead_node p)
   idle_tells (raw bytes) idle = refl

@@ -1,5 +1,5 @@
 -- A command that was followed: its reply, told by its text.
-use Rattle.std.proofs.Common.{◌≡◌, ◌⊎◌, inl, inr, ℕ, List, Option, Some, None, Result, Ok, Err, refl, sym, ap, ◌∙◌, subst, ◌++◌, append_assoc}
+use Rattle.std.proofs.Common.{◌≡◌, ◌⊎◌, inl, inr, ⊎_elim, ℕ, List, Option, Some, None, Result, Ok, Err, refl, sym, ap, ◌∙◌, subst, ◌++◌, append_assoc}
 use Rattle.std.specs.Prelude.{IfOk, OnOk, MatchResult, String, string_bytes, codes}
 use Rattle.std.specs.declared.alloc.Global.{Global}
 use Rattle.std.specs.declared.alloc.AllocError.{AllocError}
@@ -15,10 +15,11 @@ use Rattle.erl_term.specs.Printing.{text_of}
 use Rattle.rel_session.specs.Device.{Device}
 use Rattle.rel_session.specs.Listing.{text_value}
 use Rattle.rel_session.specs.Files.{files_of, files_behind, give}
-use Rattle.rel_session.specs.InMemory.{disk_at, IsAt, Replied, NothingDone, Answers, TellsReply, FollowsCommand, IsLine, IsText}
+use Rattle.rel_session.specs.InMemory.{disk_at, IsAt, Replied, Leads, NothingDone, Answers, AnswersOrStops, TellsReply, FollowsCommand, IsLine, IsText}
 use Rattle.rel_session.specs.Node.{Place, Reply, reply, nothing}
 use Rattle.rel_session.specs.Refusals.{refusal_of, refusal_line}
-use Rattle.rel_session.specs.Transition.{Transition, ok_line, installed_line}
+use Rattle.rel_session.specs.Run.{MayLeave}
+use Rattle.rel_session.specs.Transition.{Transition, IsStopped, ok_line, installed_line}
 use Rattle.rel_session.specs.Transition.Action.{answers}
 use Rattle.rel_session.proofs.DeviceLemmas.{IsDevice}
 use Rattle.rel_session.proofs.Replies.{stays, leaves_all}
@@ -28,18 +29,25 @@ module _ {D : Type 0} (v : Device D) (old new : Node D) (command : Command) (sam
   replied_so : (p : Place) (P Q : Reply → Type 0) → ((a : Reply) → P a → Q a) → Replied v p P old.place new.place → Replied v p Q old.place new.place
   replied_so p P Q implies r = record { given = r.given; right = implies r.given r.right; at = r.at; happens = r.happens }
 
+  leads_so : (p : Place) (P : Reply → Type 0) → ((a : Reply) → P a → MayLeave (files_of old.files) p command a) → Replied v p P old.place new.place → Leads v p (MayLeave (files_of old.files) p command) old.place new.place
+  leads_so p P implies r = record { given = r.given; right = implies r.given r.right; happens = r.happens }
+
   module _ (P : Place → Reply → Type 0) (right : (p : Place) (a : Reply) → P p a → Transition (files_of old.files) p command a) where
     abbrev RepliesWith : List ℕ → Type 0
     RepliesWith answer = (p : Place) → IsAt v old.place p → Replied v p (λ a. P p a × (a.answer ≡ answer)) old.place new.place
 
     abbrev IsDone : Type 0
-    IsDone = (p : Place) → IsAt v old.place p → Replied v p (λ a. Transition (files_of old.files) p command a) old.place new.place ⊎ NothingDone v p old.place new.place
+    IsDone = (p : Place) → IsAt v old.place p → Leads v p (MayLeave (files_of old.files) p command) old.place new.place ⊎ NothingDone v p old.place new.place
+
+    by_reply : (p : Place) → Replied v p (P p) old.place new.place ⊎ NothingDone v p old.place new.place → Leads v p (MayLeave (files_of old.files) p command) old.place new.place ⊎ NothingDone v p old.place new.place
+    by_reply p (inl r) = inl (leads_so p (P p) (λ a is. inl (right p a is)) r)
+    by_reply p (inr lapsed) = inr lapsed
 
     with_text : (answer : List ℕ) (text : String Global) → string_bytes text ≡ answer → RepliesWith answer → FollowsCommand v command (Ok (Some text)) old new
     with_text answer text is told = (same, λ p at. replied_so p _ _ (λ a r. (right p a r.0, r.1 ∙ sym is)) (told p at))
 
     without : (answer : List ℕ) → RepliesWith answer → IsDone
-    without answer told p at = inl (replied_so p _ _ (λ a r. right p a r.0) (told p at))
+    without answer told p at = inl (leads_so p _ (λ a r. inl (right p a r.0)) (told p at))
 
     -- a command that was done, or refused
     pub follows : (r : Result (String Global) RefusalInMemory) (line : Result (Option (String Global)) SessionError) → IfOk line (λ text. IsLine r text) → Answers v P r old.place new.place → FollowsCommand v command line old new
@@ -48,11 +56,6 @@ module _ {D : Type 0} (v : Device D) (old new : Node D) (command : Command) (sam
     follows (Ok answer) (Err e) is given = without (string_bytes answer) given
     follows (Err refusal.NoMemory) (Ok (Some text)) is given = absurd is
     follows (Err refusal.NoMemory) (Err e) is given = λ p at. by_reply p (given p at)
-      where
-        by_reply : (p : Place) → Replied v p (P p) old.place new.place ⊎ NothingDone v p old.place new.place
-            → Replied v p (λ a. Transition (files_of old.files) p command a) old.place new.place ⊎ NothingDone v p old.place new.place
-        by_reply p (inl r) = inl (replied_so p _ _ (λ a r. right p a r) r)
-        by_reply p (inr lapsed) = inr lapsed
     follows (Err refusal.NoSuchRelease) (Ok (Some text)) is given = with_text (refusal_line (refusal_of refusal.NoSuchRelease)) text is given
     follows (Err refusal.NoSuchRelease) (Err e) is given = without (refusal_line (refusal_of refusal.NoSuchRelease)) given
     follows (Err refusal.AlreadyInstalled) (Ok (Some text)) is given = with_text (refusal_line (refusal_of refusal.AlreadyInstalled)) text is given
@@ -84,12 +87,17 @@ module _ {D : Type 0} (v : Device D) (old new : Node D) (command : Command) (sam
     pub follows_line : (line : Result (String Global) AllocError) (text : Result (Option (String Global)) SessionError) → MatchResult line (λ s. text ≡ Ok (Some s)) (λ _. text ≡ Err NoMemory)
         → TellsReply v P line old.place new.place → FollowsCommand v command text old new
     follows_line (Ok s) text is tells = subst (λ t. FollowsCommand v command t old new) (sym is) ((same, λ p at. replied_so p _ _ (λ a r. (right p a r.0, r.1)) (tells p at)))
-    follows_line (Err e) text is tells = subst (λ t. FollowsCommand v command t old new) (sym is) (λ p at. go p (tells p at))
-      where
-        go : (p : Place) → Replied v p (P p) old.place new.place ⊎ NothingDone v p old.place new.place
-            → Replied v p (λ a. Transition (files_of old.files) p command a) old.place new.place ⊎ NothingDone v p old.place new.place
-        go p (inl r) = inl (replied_so p _ _ (λ a r. right p a r) r)
-        go p (inr lapsed) = inr lapsed
+    follows_line (Err e) text is tells = subst (λ t. FollowsCommand v command t old new) (sym is) (λ p at. by_reply p (tells p at))
+
+    -- one that may have been stopped within
+    pub follows_or_stops : (Q : Place → Reply → Type 0) → ((p : Place) (a : Reply) → Q p a → IsStopped p command a) → (r : Result (String Global) RefusalInMemory) (line : Result (Option (String Global)) SessionError)
+        → IfOk line (λ text. IsLine r text) → AnswersOrStops v P Q r old.place new.place → FollowsCommand v command line old new
+    follows_or_stops Q stops r line is (inl given) = follows r line is given
+    follows_or_stops Q stops r (Ok None) is (inr (none, leads)) = absurd is
+    follows_or_stops Q stops r (Ok (Some text)) is (inr (none, leads)) = absurd (subst (λ q. IsLine q (Some text)) none is)
+    follows_or_stops Q stops r (Err e) is (inr (none, leads)) = λ p at.
+        let l = leads p at in
+        inl (record { given = l.given; right = ⊎_elim (λ of. inl (right p l.given of)) (λ of. inr (stops p l.given of)) l.right; happens = l.happens })
 
   -- one that left the place as it was
   module _ (laws : IsDevice v) (stays_there : new.place ≡ old.place) (answer : Place → List ℕ) (right : (p : Place) → Transition (files_of old.files) p command (reply (answer p) nothing p)) where

@@ -1,10 +1,9 @@
 -- What `start` replies: the start record is read, and it is that of the permanent release.
-use Rattle.std.proofs.Common.{◌≡◌, inl, inr, ℕ, true, false, List, Some, None, Result, Ok, Err, Option, refl, sym, ap, ◌∙◌, subst, codes, ◌++◌}
+use Rattle.std.proofs.Common.{◌≡◌, inl, inr, ℕ, true, false, List, Some, None, Ok, Err, refl, sym, ap, ◌∙◌, codes, ◌++◌}
 use Rattle.std.specs.Prelude.{String, string_bytes}
 use Rattle.std.specs.declared.alloc.Global.{Global}
 use Rattle.rel_files.specs.Release.{Release}
 use Rattle.rel_list.specs.Releases.{permanent}
-use Rattle.rel_list.specs.Event.{list_after}
 use Rattle.rel_handler.specs.Commits.{HasRead}
 use Rattle.rel_handler.specs.Events.{Events, certain, IsStoredAs}
 use Rattle.rel_handler.specs.Refusals.{StartRefused}
@@ -22,7 +21,6 @@ use Rattle.rel_session.specs.Run.{Holds}
 use Rattle.rel_session.specs.Transition.{Acts, ok_line, start_versions}
 use Rattle.rel_session.specs.Transition.Action.{tells_start}
 use Rattle.rel_session.specs.declared.place.Place.TheVariants as memory
-use Rattle.rel_session.specs.declared.refusal.Refusal.{Refusal as RefusalInMemory}
 use Rattle.rel_session.specs.declared.refusal.Refusal.TheVariants as refusal
 use Rattle.rel_session.proofs.DeviceLemmas.{IsDevice}
 use Rattle.rel_session.proofs.Replies.{held, kept, quiet, moments_of_nothing, holds_still}

@@ -1,7 +1,8 @@
 -- What each reply does to the acknowledged events.
-use Rattle.std.proofs.Common.{◌≡◌, ◌≢◌, ◌⊎◌, inl, inr, ⊎_elim, ℕ, Bool, true, false, List, [], ◌++◌, length, codes, Option, None, Result, Ok, Err, refl, sym, ap, ◌∙◌, subst, append-nil}
+use Rattle.std.proofs.Common.{◌≡◌, ◌≢◌, ◌⊎◌, inl, inr, ⊎_elim, ℕ, Bool, true, false, List, [], ◌∷◌, ◌++◌, length, Option, None, Result, Ok, Err, refl, sym, ap, ◌∙◌, subst, append-nil, append_assoc}
 use Rattle.rel_list.specs.Releases.{Releases}
 use Rattle.rel_list.specs.Event.{Event}
+use Rattle.rel_list.specs.Event.Event.{reboot_old as rebooting}
 use Rattle.rel_handler.specs.declared.error.HandlerError.{HandlerError}
 use Rattle.rel_handler.specs.Events.{Events, Stored, MayHave, certain}
 use Rattle.rel_handler.specs.Image.{holds_a_store}
@@ -9,11 +10,12 @@ use Rattle.rel_records.specs.Record.{makes as makes_record, body_of}
 use Rattle.rel_handler.specs.Taking.{commanded}
 use Rattle.rel_session.specs.Commands.{Command}
 use Rattle.rel_session.specs.Files.{Files, Found}
-use Rattle.rel_session.specs.Node.{Place, Reply, reply, nothing, releases_after}
+use Rattle.rel_session.specs.Node.{Place, Reply, reply, nothing, releases_after, behind}
 use Rattle.rel_session.specs.Node.Place.{raw, closed, running, dead}
+use Rattle.rel_session.specs.Run.{MayLeave}
 use Rattle.rel_session.specs.RunLaws.{MayBe, acknowledged_at, IsKnown, Finds, Keeps}
 use Rattle.rel_session.specs.Transition
-use Rattle.rel_session.specs.Transition.Action.{answers, makes_node, changes_node, boots_node, tells_start}
+use Rattle.rel_session.specs.Transition.Action.{answers, makes_node, changes_node, reboots_node, boots_node, tells_start}
 
 same_known : (p : Place) (es : Events) → es ≡ [] → IsKnown p ⊎ (es ≢ []) → IsKnown p
 same_known p es none (inl known) = known
@@ -45,11 +47,16 @@ still_as p answer a is = keeps_as p a (reply answer nothing p) is (keeps_still p
 keeps_known : (p : Place) (a : Reply) (found : Events) → Finds p found → acknowledged_at a.after ≡ found ++ a.outcome.acknowledged → IsKnown a.after → Keeps p a
 keeps_known p a found finds are known = record { found = found; finds = finds; are = are; known = λ k. known }
 
+-- a commit, where the replies to what is committed keep them
+commits : (events : Events) (end : ℕ) (e : Event) (size : ℕ) (o : Result Releases HandlerError) (P : Reply → Type 0) → ((a : Reply) → P a → Keeps (running events end) a)
+    → (a : Reply) → Transition.IsCommit events end e size o P a → Keeps (running events end) a
+commits events end e size (Err why) P keeps a is = still_as (running events end) _ a is
+commits events end e size (Ok list) P keeps a (inl (fits, inl is)) = keeps a is
+commits events end e size (Ok list) P keeps a (inl (fits, inr is)) = keeps_as (running events end) a _ is (keeps_known (running events end) _ events refl (sym (append-nil events)) tt)
+commits events end e size (Ok list) P keeps a (inr (over, is)) = still_as (running events end) _ a is
+
 changes : (events : Events) (end : ℕ) (c : Transition.Change) (l : Releases) (o : Result Releases HandlerError) (a : Reply) → Transition.Changes events end c l o a → Keeps (running events end) a
-changes events end c l (Err why) a is = still_as (running events end) _ a is
-changes events end c l (Ok list) a (inl (fits, inl is)) = keeps_as (running events end) a _ is (keeps_known (running events end) _ events refl refl tt)
-changes events end c l (Ok list) a (inl (fits, inr is)) = keeps_as (running events end) a _ is (keeps_known (running events end) _ events refl (sym (append-nil events)) tt)
-changes events end c l (Ok list) a (inr (over, is)) = still_as (running events end) _ a is
+changes events end c l o = commits events end c.event (c.size l) o _ (λ a is. keeps_as (running events end) a _ is (keeps_known (running events end) _ events refl refl tt))
 
 makes_on : (bytes : List ℕ) (found : Found) (size : ℕ) (b : Bool) (a : Reply) → Transition.MakesOn bytes found.release size b a → Keeps (raw bytes) a
 makes_on bytes found size true a is = still_as (raw bytes) _ a is
@@ -83,6 +90,18 @@ boots_store : (p : Place) (s : Stored) (a : Reply) → ((events : Events) (end :
 boots_store p s a finds here (inl (events, end, has, is)) = booted p events end a (finds events end has) is
 boots_store p s a finds here (inr is) = failed_as s _ None p a here is
 
+-- behind an event that was committed
+keeps_behind : (events : Events) (end then : ℕ) (e : Event) (b : Reply) → Keeps (closed (certain (events ++ e ∷ []) then)) b → Keeps (running events end) (behind e b)
+keeps_behind events end then e b keeps =
+    let found : keeps.found ≡ events ++ e ∷ [] = ⊎_elim (λ is. is) (λ is. is) keeps.finds in
+    keeps_known (running events end) (behind e b) events refl
+    (keeps.are ∙ ap (λ (l : Events). l ++ b.outcome.acknowledged) found ∙ append_assoc events (e ∷ []) b.outcome.acknowledged) (keeps.known (inl tt))
+
+reboots : (events : Events) (end : ℕ) (vsn : List ℕ) (l : Releases) (o : Result Releases HandlerError) (a : Reply) → Transition.Reboots events end vsn l o a → Keeps (running events end) a
+reboots events end vsn l o =
+    let s = Transition.rebooted events end vsn l in
+    commits events end (rebooting vsn) _ o _ (λ a (b, boot, is). keeps_as (running events end) a _ is (keeps_behind events end s.end (rebooting vsn) b (boots_store (closed s) s b (may_have s) (inl refl) boot)))
+
 boots : (p : Place) (a : Reply) → Transition.Boots p a → Keeps p a
 boots (raw bytes) a (inl (events, list, end, after, image, is)) = booted (raw bytes) events end a (inr (list, after, image.image_of)) is
 boots (raw bytes) a (inr (inl (why, told, is))) = still_as (raw bytes) _ a is
@@ -98,6 +117,10 @@ acts (raw bytes) (changes_node c) a is = still_as (raw bytes) _ a is
 acts (closed s) (changes_node c) a is = still_as (closed s) _ a is
 acts (running events end) (changes_node c) a is = changes events end c (releases_after events) (commanded c.event (releases_after events)) a is
 acts (dead s) (changes_node c) a is = still_as (dead s) _ a is
+acts (running events end) (reboots_node vsn) a is = reboots events end vsn (releases_after events) (commanded (rebooting vsn) (releases_after events)) a is
+acts (raw bytes) (reboots_node vsn) a is = still_as (raw bytes) _ a is
+acts (closed s) (reboots_node vsn) a is = still_as (closed s) _ a is
+acts (dead s) (reboots_node vsn) a is = still_as (dead s) _ a is
 acts p boots_node a is = boots p a is
 acts (running events end) tells_start a (inl is) = still_as (running events end) _ a is
 acts (running events end) tells_start a (inr is) = keeps_as (running events end) a _ is (keeps_known (running events end) _ events refl (sym (append-nil events)) tt)
@@ -107,3 +130,10 @@ acts (dead s) tells_start a is = still_as (dead s) _ a is
 
 pub each_keeps : (files : Files) (p : Place) (c : Command) (a : Reply) → Transition.Transition files p c a → Keeps p a
 each_keeps files p c a (does, comes, is) = acts p does a is
+
+-- and so it does where memory is refused within a command
+pub each_left_keeps : (files : Files) (p : Place) (c : Command) (a : Reply) → MayLeave files p c a → Keeps p a
+each_left_keeps files p c a (inl is) = each_keeps files p c a is
+each_left_keeps files p c a (inr stopped) =
+    let here = running stopped.events stopped.end in
+    subst (λ q. Keeps q a) (sym stopped.here) (keeps_as here a _ stopped.is (keeps_known here _ stopped.events refl refl tt))

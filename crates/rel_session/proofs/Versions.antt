@@ -28,7 +28,7 @@ use Rattle.rel_session.specs.Refusals.Refusal.{device, bad_status}
 use Rattle.rel_session.specs.AnswerLaws.{is_one_line, HasLinePath, HasVersionsAt}
 use Rattle.rel_session.specs.RunLaws.{MayBe}
 use Rattle.rel_session.specs.Transition
-use Rattle.rel_session.specs.Transition.Action.{answers, makes_node, changes_node, boots_node, tells_start}
+use Rattle.rel_session.specs.Transition.Action.{answers, makes_node, changes_node, reboots_node, boots_node, tells_start}
 use Rattle.rel_session.proofs.ActionLemmas.{OfEvent, one_line, IsGoodAction, good_action}
 use Rattle.rel_session.proofs.ListLemmas.{list_after-more}
 use Rattle.rel_session.proofs.Transitions.{may_have}
@@ -131,16 +131,21 @@ handler_line handler_error.Exists behind = refl
 device_line : IsWhole (refusal_line device)
 device_line behind = refl
 
+commits : (events : Events) (end : ℕ) (e : Event) (size : ℕ) (o : Result Releases HandlerError) (P : Reply → Type 0) → ((a : Reply) → P a → IsGood a) → OfEvent e → OfList events → (a : Reply)
+    → Transition.IsCommit events end e size o P a → IsGood a
+commits events end e size (Err why) P done of all a is = good_as a _ is (handler_line why, all)
+commits events end e size (Ok next) P done of all a (inl (fits, inl is)) = done a is
+commits events end e size (Ok next) P done of all a (inl (fits, inr is)) = good_as a _ is (device_line, either_way)
+  where
+    either_way : (es : Events) (l : Releases) → MayBe (uncertain events end e size) es → list_after es ≡ Some l → HaveVersions l
+    either_way es l (inl same) after = all l (ap list_after (sym same) ∙ after)
+    either_way es l (inr same) after = list_versions events e of all l (ap list_after (sym same) ∙ after)
+commits events end e size (Ok next) P done of all a (inr (over_it, is)) = good_as a _ is ((λ behind. refl), all)
+
 changes : (events : Events) (end : ℕ) (c : Transition.Change) (list : Releases) (o : Result Releases HandlerError) → OfEvent c.event → is_one_line (c.details list) ≡ true → OfList events → (a : Reply)
     → Transition.Changes events end c list o a → IsGood a
-changes events end c list (Err why) of line all a is = good_as a _ is (handler_line why, all)
-changes events end c list (Ok next) of line all a (inl (fits, inl is)) = good_as a _ is (done_whole (c.details list) line, list_versions events c.event of all)
-changes events end c list (Ok next) of line all a (inl (fits, inr is)) = good_as a _ is (device_line, either_way)
-  where
-    either_way : (es : Events) (l : Releases) → MayBe (uncertain events end c.event (c.size list)) es → list_after es ≡ Some l → HaveVersions l
-    either_way es l (inl same) after = all l (ap list_after (sym same) ∙ after)
-    either_way es l (inr same) after = list_versions events c.event of all l (ap list_after (sym same) ∙ after)
-changes events end c list (Ok next) of line all a (inr (over_it, is)) = good_as a _ is ((λ behind. refl), all)
+changes events end c list o of line all =
+    commits events end c.event (c.size list) o _ (λ a is. good_as a _ is (done_whole (c.details list) line, list_versions events c.event of all)) of all
 
 makes_on : (x : List ℕ) (r : Release) (size : ℕ) (b : Bool) → HasVersions r → (a : Reply) → Transition.MakesOn x r size b a → IsGood a
 makes_on x r size true of a is = good_as a _ is ((λ behind. refl), tt)
@@ -164,6 +169,18 @@ boots_store : (s : Stored) → HasVersionsAt (closed s) → (a : Reply) → Tran
 boots_store s all a (inl (events, end, has, is)) = boots_to events end (stored_versions s all events end has) a is
 boots_store s all a (inr is) = good_as a _ is ((λ behind. refl), all)
 
+-- a store with nothing in doubt
+certain_versions : (events : Events) (end : ℕ) → OfList events → HasVersionsAt (closed (certain events end))
+certain_versions events end all es l (inl same) after = all l (ap list_after (sym same) ∙ after)
+certain_versions events end all es l (inr same) after = all l (ap list_after (sym same) ∙ after)
+
+reboots : (events : Events) (end : ℕ) (vsn : List ℕ) (list : Releases) (o : Result Releases HandlerError) → OfList events → (a : Reply) → Transition.Reboots events end vsn list o a → IsGood a
+reboots events end vsn list o all =
+    let e = reboot_old vsn in
+    let s = Transition.rebooted events end vsn list in
+    let behind_it = certain_versions (events ++ e ∷ []) s.end (list_versions events e tt all) in
+    commits events end e _ o _ (λ a (b, boot, is). good_as a _ is (boots_store s behind_it b boot)) tt all
+
 boots : (p : Place) → HasVersionsAt p → (a : Reply) → Transition.Boots p a → IsGood a
 boots (raw x) all a (inl (events, list, end, after, image, is)) =
     let versions = have_versions image.image_of.bodies list image.image_of.list in
@@ -171,11 +188,7 @@ boots (raw x) all a (inl (events, list, end, after, image, is)) =
 boots (raw x) all a (inr (inl (why, refusal, is))) = good_as a _ is (boot_line_whole why, tt)
 boots (raw x) all a (inr (inr (torn, is))) = good_as a _ is ((λ behind. refl), tt)
 boots (closed s) all a is = boots_store s all a is
-boots (running events end) all a is = boots_store (certain events end) only a is
-  where
-    only : (es : Events) (l : Releases) → MayBe (certain events end) es → list_after es ≡ Some l → HaveVersions l
-    only es l (inl same) after = all l (ap list_after (sym same) ∙ after)
-    only es l (inr same) after = all l (ap list_after (sym same) ∙ after)
+boots (running events end) all a is = boots_store (certain events end) (certain_versions events end all) a is
 boots (dead s) all a is = boots_store s all a is
 
 -- the versions of the permanent release
@@ -203,13 +216,13 @@ acts (running events end) (changes_node c) good all a is = changes events end c 
 acts (raw x) (changes_node c) good all a is = good_as a _ is ((λ behind. refl), all)
 acts (closed s) (changes_node c) good all a is = good_as a _ is ((λ behind. refl), all)
 acts (dead s) (changes_node c) good all a is = good_as a _ is ((λ behind. refl), all)
+acts (running events end) (reboots_node vsn) good all a is = reboots events end vsn (releases_after events) (commanded (reboot_old vsn) (releases_after events)) all a is
+acts (raw x) (reboots_node vsn) good all a is = good_as a _ is ((λ behind. refl), all)
+acts (closed s) (reboots_node vsn) good all a is = good_as a _ is ((λ behind. refl), all)
+acts (dead s) (reboots_node vsn) good all a is = good_as a _ is ((λ behind. refl), all)
 acts p boots_node good all a is = boots p all a is
 acts (running events end) tells_start good all a (inl is) = good_as a _ is (ok_whole _ (start_plain (releases_after events) (listed_versions events all)), all)
-acts (running events end) tells_start good all a (inr is) = good_as a _ is (device_line, only)
-  where
-    only : (es : Events) (l : Releases) → MayBe (certain events end) es → list_after es ≡ Some l → HaveVersions l
-    only es l (inl same) after = all l (ap list_after (sym same) ∙ after)
-    only es l (inr same) after = all l (ap list_after (sym same) ∙ after)
+acts (running events end) tells_start good all a (inr is) = good_as a _ is (device_line, certain_versions events end all)
 acts (raw x) tells_start good all a is = good_as a _ is ((λ behind. refl), all)
 acts (closed s) tells_start good all a is = good_as a _ is ((λ behind. refl), all)
 acts (dead s) tells_start good all a is = good_as a _ is ((λ behind. refl), all)

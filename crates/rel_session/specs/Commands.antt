@@ -33,6 +33,7 @@ pub data Command : Type 0 where
   install : List ℕ → Command
   permanent : List ℕ → Command
   remove : List ℕ → Command
+  reboot_old : List ℕ → Command
   boot : Command
   start : Command
   releases : Command
@@ -63,13 +64,18 @@ abbrev pub with_word : Option (List ℕ) → (List ℕ → ParsedLine) → Parse
 with_word None parsed = whole_command bad
 with_word (Some word) parsed = parsed word
 
--- what the word of a command on a listed release says with the words behind it
+-- the command on the release of a version that a word names
+abbrev pub change_named : List ℕ → List ℕ → Command
+change_named word vsn =
+    if bytes_eq word (codes "install") then install vsn
+    else if bytes_eq word (codes "permanent") then permanent vsn
+    else if bytes_eq word (codes "remove") then remove vsn
+    else if bytes_eq word (codes "reboot_old") then reboot_old vsn
+    else bad
+
+-- what such a word says with the words behind it
 abbrev pub parse_change : List ℕ → List (List ℕ) → ParsedLine
-parse_change word words =
-    if bytes_eq word (codes "install") then with_word (version_in words) (λ vsn. whole_command (install vsn))
-    else if bytes_eq word (codes "permanent") then with_word (version_in words) (λ vsn. whole_command (permanent vsn))
-    else if bytes_eq word (codes "remove") then with_word (version_in words) (λ vsn. whole_command (remove vsn))
-    else whole_command bad
+parse_change word words = with_word (version_in words) (λ vsn. whole_command (change_named word vsn))
 
 -- what the word of a command on a file says with the words behind it
 abbrev pub parse_path_command : List ℕ → List (List ℕ) → ParsedLine
@@ -144,6 +150,7 @@ command_of (memory.SetUnpacked p) = set_unpacked (string_bytes p)
 command_of (memory.Install v) = install (string_bytes v)
 command_of (memory.Permanent v) = permanent (string_bytes v)
 command_of (memory.Remove v) = remove (string_bytes v)
+command_of (memory.RebootOld v) = reboot_old (string_bytes v)
 command_of memory.Boot = boot
 command_of memory.Start = start
 command_of memory.Releases = releases

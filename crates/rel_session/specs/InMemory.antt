@@ -20,7 +20,7 @@ use Rattle.rel_session.specs.Files.{Found, files_of, files_behind}
 use Rattle.rel_session.specs.Node.{Place, Reply}
 use Rattle.rel_session.specs.Node.Place.{raw, closed, running, dead}
 use Rattle.rel_session.specs.Refusals.{refusal_of, refusal_line}
-use Rattle.rel_session.specs.Run.{Holds, Happens}
+use Rattle.rel_session.specs.Run.{Holds, Happens, MayLeave}
 use Rattle.rel_session.specs.Transition.{Transition}
 
 abbrev pub disk_at : {D : Type 0} → PlaceInMemory D → D
@@ -54,6 +54,12 @@ pub record Replied {D : Type 0} (v : Device D) (p : Place) (P : Reply → Type 0
   pub at : IsAt v new given.after
   pub happens : Happens v p given (disk_at old) (disk_at new)
 
+-- So did the last command of a session, behind which no place in memory matters.
+pub record Leads {D : Type 0} (v : Device D) (p : Place) (P : Reply → Type 0) (old new : PlaceInMemory D) : Type 0 where
+  pub given : Reply
+  pub right : P given
+  pub happens : Happens v p given (disk_at old) (disk_at new)
+
 -- Memory was refused, and nothing was done.
 pub record NothingDone {D : Type 0} (v : Device D) (p : Place) (old new : PlaceInMemory D) : Type 0 where
   pub nothing_new : LeavesOnly v (disk_at old) (disk_at new) (v.may_leave (disk_at old))
@@ -78,6 +84,13 @@ TellsReply v P (Ok text) old new =
     (p : Place) → IsAt v old p → Replied v p (λ a. P p a × (a.answer ≡ string_bytes text)) old new
 TellsReply v P (Err e) old new = (p : Place) → IsAt v old p → Replied v p (P p) old new ⊎ NothingDone v p old new
 
+-- It gave this result, or memory was refused within it. Q says what stands in place of the reply then.
+abbrev pub AnswersOrStops : {D : Type 0} → Device D → (P Q : Place → Reply → Type 0)
+    → Result (String Global) RefusalInMemory → PlaceInMemory D → PlaceInMemory D → Type 0
+AnswersOrStops v P Q result old new =
+    Answers v P result old new
+    ⊎ ((result ≡ Err refusal.NoMemory) × ((p : Place) → IsAt v old p → Leads v p (λ a. P p a ⊎ Q p a) old new))
+
 -- A command was followed. Its text is its answer; there is none where the session ends.
 abbrev pub FollowsCommand : {D : Type 0} → Device D → Command → Result (Option (String Global)) SessionError
     → Node D → Node D → Type 0
@@ -88,7 +101,7 @@ FollowsCommand v command (Ok (Some text)) old new =
 FollowsCommand v command (Ok None) old new = (command ≡ quit) × (new.place ≡ old.place)
 FollowsCommand v command (Err e) old new =
     (p : Place) → IsAt v old.place p
-    → Replied v p (λ a. Transition (files_of old.files) p command a) old.place new.place ⊎ NothingDone v p old.place new.place
+    → Leads v p (MayLeave (files_of old.files) p command) old.place new.place ⊎ NothingDone v p old.place new.place
 
 abbrev pub disk_of : {D : Type 0} → Node D → D
 disk_of n = disk_at n.place

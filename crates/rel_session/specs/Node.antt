@@ -1,5 +1,5 @@
 -- Where the disk of a node stands, and what a command's reply says.
-use Rattle.std.specs.Prelude.{ℕ, Bool, true, false, List, [], Option, None, Some}
+use Rattle.std.specs.Prelude.{ℕ, Bool, true, false, List, [], ◌∷◌, Option, None, Some}
 use Rattle.rel_list.specs.Releases.{Releases}
 use Rattle.rel_list.specs.Event.{Event, list_after}
 use Rattle.rel_handler.specs.Events.{Events, Stored}
@@ -49,6 +49,16 @@ pub record Reply : Type 0 where
 
 abbrev pub reply : List ℕ → Outcome → Place → Reply
 reply answer outcome after = record { answer = answer; outcome = outcome; after = after }
+
+-- the reply where this event was committed before it
+abbrev pub behind : Event → Reply → Reply
+behind e a =
+    let outcome : Outcome = record {
+      acknowledged = e ∷ a.outcome.acknowledged;
+      in_doubt = a.outcome.in_doubt;
+      failed = a.outcome.failed;
+    } in
+    reply a.answer outcome a.after
 
 -- a refusal: nothing was done
 abbrev pub refused : Refusal → Place → Reply

@@ -17,7 +17,7 @@ use Rattle.rel_session.specs.Input.{most_bytes}
 use Rattle.rel_session.specs.Lines.{lines_of}
 use Rattle.rel_session.specs.Node.{Place, Outcome, Reply}
 use Rattle.rel_session.specs.Node.Place.{raw, closed, running, dead}
-use Rattle.rel_session.specs.Transition.{Transition}
+use Rattle.rel_session.specs.Transition.{Transition, IsStopped}
 
 -- This is so of the disk of a node between two commands: whatever a crash leaves of it is the store that the place tells.
 -- Where a node runs, the start record is that of its permanent release.
@@ -88,10 +88,19 @@ pub data Ending : Type 0 where
   cut_off : Ending
   early : Ending
 
+-- A command was followed with this reply, or stopped within.
+abbrev pub MayLeave : Files → Place → Command → Reply → Type 0
+MayLeave files p c a = Transition files p c a ⊎ IsStopped p c a
+
+-- This is the reply to a command, which these follow. The last one before an early end may be stopped within.
+abbrev pub IsReply : Files → Place → Command → Ending → List Reply → Reply → Type 0
+IsReply files p c early [] a = MayLeave files p c a
+IsReply files p c ending more a = Transition files p c a
+
 -- These are the replies to the commands, in order: to each up to the end or `quit`, or to the first of them.
 abbrev pub Replies : Files → Place → Feed Command → Ending → List Reply → Type 0
 Replies files p (next c commands) ending (a ∷ more) =
-    Transition files p c a × Replies (files_behind files c) a.after commands ending more
+    IsReply files p c ending more a × Replies (files_behind files c) a.after commands ending more
 Replies files p commands early [] = Unit {0}
 Replies files p over ending [] = ending ≡ ended
 Replies files p cut ending [] = ending ≡ cut_off

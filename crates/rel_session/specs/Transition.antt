@@ -4,7 +4,7 @@ use Rattle.erl_term.specs.Printing.{text_of}
 use Rattle.rel_files.specs.Release.{Release}
 use Rattle.rel_list.specs.Releases.{Releases, running as running_release, permanent as permanent_release}
 use Rattle.rel_list.specs.Event.{Event, list_after}
-use Rattle.rel_list.specs.Event.Event.{made, unpacked, installed, made_permanent, removed, boot as booting}
+use Rattle.rel_list.specs.Event.Event.{made, unpacked, installed, made_permanent, removed, reboot_old as rebooting, boot as booting}
 use Rattle.rel_records.specs.Record.{makes, adds, body_of}
 use Rattle.rel_handler.specs.declared.error.BootError.{BootError}
 use Rattle.rel_handler.specs.declared.error.BootError.TheVariants as boot_error
@@ -15,10 +15,10 @@ use Rattle.rel_handler.specs.Refusals.{IsBootRefusal}
 use Rattle.rel_handler.specs.Taking.{commanded, change_size}
 pub use Rattle.rel_handler.specs.State.{version_of}
 use Rattle.rel_session.specs.Commands.{Command}
-use Rattle.rel_session.specs.Commands.Command.{file, create, set_unpacked, install, permanent, remove, boot, start, releases, quit, bad}
+use Rattle.rel_session.specs.Commands.Command.{file, create, set_unpacked, install, permanent, remove, reboot_old, boot, start, releases, quit, bad}
 use Rattle.rel_session.specs.Files.{Files, Found, IsFound}
 use Rattle.rel_session.specs.Listing.{listing, text_value}
-use Rattle.rel_session.specs.Node.{Place, releases_after, Reply, reply, refused, failed, nothing, done, failed_with}
+use Rattle.rel_session.specs.Node.{Place, releases_after, Reply, reply, refused, failed, nothing, done, failed_with, behind}
 use Rattle.rel_session.specs.Node.Place.{raw, closed, running, dead}
 use Rattle.rel_session.specs.Refusals.{Refusal, refusal_of, refusal_line, handler_refusal, boot_line}
 use Rattle.rel_session.specs.Refusals.Refusal.{full, exists, dead as dead_node}
@@ -42,11 +42,12 @@ pub record Change : Type 0 where
   pub size : Releases → ℕ
   pub details : Releases → List ℕ
 
--- What a command comes to, once its words and its file are known: an answer alone, or one of four things that a node does.
+-- What a command comes to, once its words and its file are known: an answer alone, or one of five things that a node does.
 pub data Action : Type 0 where
   answers : List ℕ → Action
   makes_node : Found → Action
   changes_node : Change → Action
+  reboots_node : List ℕ → Action
   boots_node : Action
   tells_start : Action
 
@@ -108,21 +109,30 @@ ComesTo files p (set_unpacked path) does =
 ComesTo files p (install vsn) does = does ≡ changes_node (installation vsn)
 ComesTo files p (permanent vsn) does = does ≡ changes_node (permanence vsn)
 ComesTo files p (remove vsn) does = does ≡ changes_node (removal vsn)
+ComesTo files p (reboot_old vsn) does = does ≡ reboots_node vsn
 ComesTo files p boot does = does ≡ boots_node
 ComesTo files p start does = does ≡ tells_start
 ComesTo files p releases does = does ≡ answers (listed p)
 ComesTo files p bad does = does ≡ answers (codes "error session 1 BadCommand\n")
 ComesTo files p quit does = ⊥
 
--- This list takes a change, or refuses it. It is done where its record fits and the device does not fail.
+-- An event, whose record has a body of so many bytes, is committed where the list takes it, its record fits, and the device
+-- does not fail. P says what is replied then.
+abbrev pub IsCommit : Events → ℕ → Event → ℕ → Result Releases HandlerError → (Reply → Type 0) → Reply → Type 0
+IsCommit events end e size (Err why) P a = a ≡ refused (refusal_of (handler_refusal why)) (running events end)
+IsCommit events end e size (Ok next) P a =
+    (HasSpace end size × (P a ⊎ (a ≡ failed (Some e) (dead (uncertain events end e size)))))
+    ⊎ ((HasSpace end size → ⊥) × (a ≡ refused full (running events end)))
+
+-- what is replied to a change of this list that was committed
+abbrev pub changed : Events → ℕ → Change → Releases → Reply
+changed events end c list =
+    reply (done_line (c.details list)) (done (c.event ∷ [])) (running (events ++ c.event ∷ []) (end_behind end (c.size list)))
+
+-- This list takes a change, or refuses it.
 abbrev pub Changes : Events → ℕ → Change → Releases → Result Releases HandlerError → Reply → Type 0
-Changes events end c list (Err why) a = a ≡ refused (refusal_of (handler_refusal why)) (running events end)
-Changes events end c list (Ok next) a =
-    (HasSpace end (c.size list)
-    × ((a ≡ reply (done_line (c.details list)) (done (c.event ∷ []))
-    (running (events ++ c.event ∷ []) (end_behind end (c.size list))))
-    ⊎ (a ≡ failed (Some c.event) (dead (uncertain events end c.event (c.size list))))))
-    ⊎ ((HasSpace end (c.size list) → ⊥) × (a ≡ refused full (running events end)))
+Changes events end c list taken a =
+    IsCommit events end c.event (c.size list) taken (λ a. a ≡ changed events end c list) a
 
 -- A node is made on a disk with these bytes, and booted, unless they hold a store or the record does not fit.
 abbrev pub MakesOn : List ℕ → Release → ℕ → Bool → Reply → Type 0
@@ -170,6 +180,16 @@ Boots (closed s) a = BootsStore s a
 Boots (running events end) a = BootsStore (certain events end) a
 Boots (dead s) a = BootsStore s a
 
+-- the store of a node with these events and this list behind a reboot to the release of this version
+abbrev pub rebooted : Events → ℕ → List ℕ → Releases → Stored
+rebooted events end vsn list = certain (events ++ rebooting vsn ∷ []) (end_behind end (change_size (rebooting vsn) list))
+
+-- This list takes a reboot to an old release, or refuses it. Behind the commit the node boots, and that is the answer.
+abbrev pub Reboots : Events → ℕ → List ℕ → Releases → Result Releases HandlerError → Reply → Type 0
+Reboots events end vsn list taken a =
+    IsCommit events end (rebooting vsn) (change_size (rebooting vsn) list) taken
+    (λ a. (b : Reply) × BootsStore (rebooted events end vsn list) b × (a ≡ behind (rebooting vsn) b)) a
+
 -- what a node starts whose permanent release is this: the version of the runtime system, and its own
 abbrev pub start_versions : Option Release → List ℕ
 start_versions None = []
@@ -188,6 +208,9 @@ Acts p (makes_node found) a = MakesNode p found a
 Acts (running events end) (changes_node c) a =
     Changes events end c (releases_after events) (commanded c.event (releases_after events)) a
 Acts p (changes_node c) a = a ≡ refused dead_node p
+Acts (running events end) (reboots_node vsn) a =
+    Reboots events end vsn (releases_after events) (commanded (rebooting vsn) (releases_after events)) a
+Acts p (reboots_node vsn) a = a ≡ refused dead_node p
 Acts p boots_node a = Boots p a
 Acts (running events end) tells_start a = TellsStart events end a
 Acts p tells_start a = a ≡ refused dead_node p
@@ -195,3 +218,16 @@ Acts p tells_start a = a ≡ refused dead_node p
 -- The reply to a command.
 abbrev pub Transition : Files → Place → Command → Reply → Type 0
 Transition files p c a = (does : Action) × ComesTo files p c does × Acts p does a
+
+-- What stands in place of a reply where memory was refused within a command, and the session ends: a reboot was committed
+-- on a node that runs, and its boot had no memory. Nothing is answered.
+pub record IsStopped (p : Place) (c : Command) (a : Reply) : Type 0 where
+  pub events : Events
+  pub end : ℕ
+  pub vsn : List ℕ
+  pub here : p ≡ running events end
+  pub command : c ≡ reboot_old vsn
+  pub list : Releases
+  pub taken : commanded (rebooting vsn) (releases_after events) ≡ Ok list
+  pub fits : HasSpace end (change_size (rebooting vsn) (releases_after events))
+  pub is : a ≡ reply [] (done (rebooting vsn ∷ [])) (closed (rebooted events end vsn (releases_after events)))

@@ -16,6 +16,8 @@ pub enum Command {
     Permanent(String),
     /// Takes the release of this version out of the list.
     Remove(String),
+    /// Makes the old release of this version the permanent one, and boots the node.
+    RebootOld(String),
     /// Boots the node on the disk.
     Boot,
     /// Tells what the node starts.

@@ -32,6 +32,7 @@ mod listing;
 mod node;
 mod parsed_line;
 mod place;
+mod reboot;
 mod refusal;
 mod start;
 mod words;

@@ -1,7 +1,7 @@
 //! The node of a session.
 ghost use Rattle.std.specs.Prelude.{◌≡◌, codes, None, Some, Ok, Err, string_bytes, IfOk, IfErr, OnOk, MatchResult};
 ghost use Rattle.rel_session.specs.Commands.{command_of, given_of};
-ghost use Rattle.rel_session.specs.Commands.Command.{file as file_given, create, set_unpacked, install, permanent, remove, boot, start};
+ghost use Rattle.rel_session.specs.Commands.Command.{file as file_given, create, set_unpacked, install, permanent, remove, reboot_old, boot, start};
 ghost use Rattle.rel_session.specs.Files.{files_of, no_files, give};
 ghost use Rattle.rel_session.specs.InMemory.{Answers, IsLine, IsText};
 ghost use Rattle.rel_session.specs.Transition.{Transition};
@@ -64,6 +64,7 @@ impl<D: Disk> Node<D> {
             Command::Install(vsn) => self.install(alloc, vsn.as_str()),
             Command::Permanent(vsn) => self.make_permanent(alloc, vsn.as_str()),
             Command::Remove(vsn) => self.remove(alloc, vsn.as_str()),
+            Command::RebootOld(vsn) => self.reboot_old(alloc, vsn.as_str()),
             Command::Boot => self.boot(alloc),
             Command::Start => self.start(alloc),
             Command::Releases => {
@@ -183,6 +184,18 @@ impl<D: Disk> Node<D> {
         let Node { place, files } = self;
         let (place, removed) = place.remove(alloc, vsn);
         (Node { place, files }, line_of(alloc, removed))
+    }
+
+    /// Makes the old release of this version the permanent one, and boots the node.
+    fn reboot_old(self, alloc: Global, vsn: &str) -> (Node<D>, Result<Option<String>, SessionError>)
+        requires { IsSoundPlace D.seen D.may_leave self.place }
+        ensures sound { IsSoundPlace D.seen D.may_leave result.0.place }
+        ensures followed { FollowsCommand D.Disk (reboot_old vsn.now) result.1 self result.0 }
+        ensures memory { IfErr result.1 (λ e. e ≡ SessionError.NoMemory) }
+    {
+        let Node { place, files } = self;
+        let (place, rebooted) = place.reboot_old(alloc, vsn);
+        (Node { place, files }, line_of(alloc, rebooted))
     }
 
     /// Boots the node.

@@ -1,7 +1,7 @@
 //! What a line says where a command may stand.
 ghost use Rattle.std.specs.Prelude.{◌≡◌, ℕ, List, map, string_bytes, IfOk, MatchOption};
 ghost use Rattle.std.specs.Option.{option_map};
-ghost use Rattle.rel_session.specs.Commands.{is_blank as blank, path_in as path_of, version_in as version_of};
+ghost use Rattle.rel_session.specs.Commands.{command_of, is_blank as blank, path_in as path_of, version_in as version_of, change_named as named_change};
 
 use crate::command::Command;
 use crate::line::Line;
@@ -101,12 +101,10 @@ impl ParsedLine {
         ensures { IfOk result (λ parsed.
             parsed_line_of parsed ≡ parse_change word.now (map (λ word. word.now) words.now)) }
     {
-        Ok(match word {
-            "install" => ParsedLine::of_option(version_in(alloc, words)?.map(Command::Install)),
-            "permanent" => ParsedLine::of_option(version_in(alloc, words)?.map(Command::Permanent)),
-            "remove" => ParsedLine::of_option(version_in(alloc, words)?.map(Command::Remove)),
-            _ => ParsedLine::Command(Command::Bad),
-        })
+        Ok(ParsedLine::Command(match version_in(alloc, words)? {
+            Some(vsn) => change_named(word, vsn),
+            None => Command::Bad,
+        }))
     }
 
     // A command that takes no words.
@@ -130,6 +128,19 @@ impl ParsedLine {
             Some(command) => ParsedLine::Command(command),
             None => ParsedLine::Command(Command::Bad),
         }
+    }
+}
+
+// The command on the release of this version that a word names.
+fn change_named(word: &str, vsn: String) -> Command
+    ensures { command_of result ≡ named_change word.now (string_bytes vsn) }
+{
+    match word {
+        "install" => Command::Install(vsn),
+        "permanent" => Command::Permanent(vsn),
+        "remove" => Command::Remove(vsn),
+        "reboot_old" => Command::RebootOld(vsn),
+        _ => Command::Bad,
     }
 }
 

@@ -274,6 +274,39 @@ fn each_device_call_of_a_permanence_fails(rt: HostRuntime) -> Result<(), Fail> {
     Ok(())
 }
 
+/// The release behind is made permanent, and the node goes back to the first one.
+const TO_OLD: &str = "install B\npermanent B\nreboot_old A\n";
+
+/// What a session answers to it up to the last command.
+const BEFORE: &str = "ok\nok\nok A\nok B\nok \"A\" [] []\nok\n";
+
+/// What that session and the next one answer from the last command on, where this call of it fails, from 1: four calls are of
+/// the list, four of the start record, and the others of the boot behind.
+fn reboot_answers(call: u64) -> [&'static str; 2] {
+    match call {
+        1..=3 => ["error handler 16 Device\n", WITH_NEW],
+        4..=8 => ["error handler 16 Device\n", WITH_OLD],
+        9..=23 => ["error boot 3 Device\n", WITH_OLD],
+        _ => ["ok A\n", WITH_OLD],
+    }
+}
+
+/// A reboot that was committed stays, whether its boot is done or not.
+#[test]
+fn each_device_call_of_a_reboot_fails(rt: HostRuntime) -> Result<(), Fail> {
+    let alloc = rt.alloc();
+    for call in 1..26 {
+        let input = joined(alloc, [TWO_RELEASES, TO_OLD, ""])?;
+        let disk = FailDisk::new(empty_disk(alloc)?, 23 + call);
+        let ran = session_on(alloc, disk, input.as_slice())?;
+        let written = with_next(alloc, ran.written, ran.disk.disk)?;
+        let [answer, found] = reboot_answers(call);
+        let wanted = joined(alloc, [BEFORE, answer, found])?;
+        same(&rt, written.as_slice(), wanted.as_slice());
+    }
+    Ok(())
+}
+
 /// What a session answers in which the call behind those of the two releases fails, and what a next one finds.
 const START_FAILED: &str =
     "ok\nok\nok A\nok B\nerror handler 16 Device\nerror handler 18 Dead\nok A\nok 14.2 A\n";

@@ -26,7 +26,7 @@ releases
 permanent C
 start
 releases
-boot
+reboot_old A
 releases
 =>ok
 ok
@@ -50,9 +50,9 @@ ok 14.2 C
 {"ch_rel","A",["ch_app-1"],old}
 {"ch_rel","C",["ch_app-2"],permanent}
 ok 2
-ok C
-{"ch_rel","A",["ch_app-1"],old}
-{"ch_rel","C",["ch_app-2"],permanent}
+ok A
+{"ch_rel","A",["ch_app-1"],permanent}
+{"ch_rel","C",["ch_app-2"],old}
 ok 2
 "#;
 
@@ -157,6 +157,60 @@ fn permanent_twice(rt: HostRuntime) -> Result<(), Fail> {
     all_answer(&rt, rt.alloc(), PERMANENT)
 }
 
+// A node goes back to an old release, which it boots. No other release may be gone back to.
+const REBOOTED: &str = r#"file a.rel
+{release,{"ch_rel","A"},{erts,"14.2"},[{ch_app,"1"}]}.
+.end
+file b.rel
+{release,{"ch_rel","B"},{erts,"15"},[{ch_app,"2"}]}.
+.end
+create a.rel
+set_unpacked b.rel
+reboot_old A
+reboot_old B
+reboot_old D
+install B
+reboot_old A
+reboot_old B
+permanent B
+reboot_old A
+start
+releases
+install B
+reboot_old A
+boot
+reboot_old B
+reboot_old
+reboot_old A B
+=>ok
+ok
+ok A
+ok B
+error handler 4 BadStatus permanent
+error handler 4 BadStatus unpacked
+error handler 1 NoSuchRelease
+ok "A" [] []
+error handler 4 BadStatus permanent
+error handler 4 BadStatus current
+ok
+ok A
+ok 14.2 A
+{"ch_rel","A",["ch_app-1"],permanent}
+{"ch_rel","B",["ch_app-2"],old}
+ok 2
+ok "A" [] []
+error handler 4 BadStatus permanent
+ok A
+error handler 4 BadStatus unpacked
+error session 1 BadCommand
+error session 1 BadCommand
+"#;
+
+#[test]
+fn rebooted_to_an_old_release(rt: HostRuntime) -> Result<(), Fail> {
+    all_answer(&rt, rt.alloc(), REBOOTED)
+}
+
 const BOOT_BETWEEN: &str = r#"file a.rel
 {release,{"ch_rel","A"},{erts,"14.2"},[{ch_app,"1"}]}.
 .end
@@ -229,7 +283,7 @@ remove \n=>error session 1 BadCommand\n|\
 start B\n=>error session 1 BadCommand\n";
 
 const NO_NODE: &str = "\
-install B\nremove B\nstart\n=>error handler 18 Dead\nerror handler 18 Dead\nerror handler 18 Dead\n";
+install B\nremove B\nreboot_old B\nstart\n=>error handler 18 Dead\nerror handler 18 Dead\nerror handler 18 Dead\nerror handler 18 Dead\n";
 
 #[test]
 fn words_and_no_node(rt: HostRuntime) -> Result<(), Fail> {

@@ -1,5 +1,4 @@
-use Rattle.std.proofs.Common.{◌≡◌, ◌++◌, codes, string_bytes, rules}
-use Rattle.std.specs.Prelude.{IfOk}
+use Rattle.std.proofs.Common.{string_bytes, rules}
 use Rattle.rel_session.proofs.ReplyTexts.{tells_installed}
 use Rattle.rel_session.proofs.change.installed_line.Goals as goal
 

@@ -1,4 +1,4 @@
-use Rattle.std.proofs.Common.{◌≡◌, rules, refl, sym, ap, ◌∙◌, subst, Ok, Err}
+use Rattle.std.proofs.Common.{rules, refl, sym, subst}
 use Rattle.rel_session.specs.InMemory.{Answers}
 use Rattle.rel_session.specs.Node.{Place, Reply}
 use Rattle.rel_session.specs.Refusals.{handler_refusal}
@@ -7,7 +7,8 @@ use Rattle.rel_session.specs.Transition.Action.{changes_node}
 use Rattle.rel_session.specs.declared.place.Place.TheVariants as memory
 use Rattle.rel_session.specs.declared.refusal.Refusal.TheVariants as refusal
 use Rattle.rel_session.proofs.DeviceLemmas.{IsDevice}
-use Rattle.rel_session.proofs.Replies.{told_so, changes, changes_no_memory, changes_dead, changes_none, idle_changes}
+use Rattle.rel_session.proofs.CommitReplies.{changes, changes_none}
+use Rattle.rel_session.proofs.Replies.{told_so, changes_no_memory, changes_dead, idle_changes}
 use Rattle.rel_session.proofs.change.remove.Goals as goal
 
 pub returns-then-is_dead-clause-removed : goal.returns-then-is_dead-clause-removed

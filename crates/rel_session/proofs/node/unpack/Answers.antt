@@ -9,7 +9,8 @@ use Rattle.rel_session.specs.Transition.Action.{changes_node}
 use Rattle.rel_session.specs.declared.place.Place.TheVariants as memory
 use Rattle.rel_session.specs.declared.refusal.Refusal.TheVariants as refusal
 use Rattle.rel_session.proofs.DeviceLemmas.{IsDevice}
-use Rattle.rel_session.proofs.Replies.{told_so, changes, changes_dead, changes_no_memory, refuses_running, changes_none, idle_sets}
+use Rattle.rel_session.proofs.CommitReplies.{changes, changes_none}
+use Rattle.rel_session.proofs.Replies.{told_so, changes_dead, changes_no_memory, refuses_running, idle_sets}
 use Rattle.rel_session.proofs.node.unpack.Goals as goal
 
 pub returns-then-is_dead-clause-unpacked : goal.returns-then-is_dead-clause-unpacked

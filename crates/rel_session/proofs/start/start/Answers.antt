@@ -1,4 +1,4 @@
-use Rattle.std.proofs.Common.{◌≡◌, ◌++◌, rules, sym, ap, ◌∙◌, subst, codes, Ok, Err}
+use Rattle.std.proofs.Common.{◌++◌, rules, sym, ap, ◌∙◌, subst, codes}
 use Rattle.rel_session.specs.InMemory.{Answers}
 use Rattle.rel_session.specs.Node.{Place, Reply}
 use Rattle.rel_session.specs.Refusals.{handler_refusal}

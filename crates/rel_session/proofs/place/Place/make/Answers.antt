@@ -1,4 +1,4 @@
-use Rattle.std.proofs.Common.{rules, refl, Ok, Err}
+use Rattle.std.proofs.Common.{rules, Ok, Err}
 use Rattle.rel_session.specs.InMemory.{found_of}
 use Rattle.rel_session.specs.Transition.{MakesNode}
 use Rattle.rel_session.specs.declared.place.Place.TheVariants as memory

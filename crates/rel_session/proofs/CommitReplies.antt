@@ -1,0 +1,145 @@
+-- What a command with an event replies on a node that runs: the event is committed, or refused.
+use Rattle.std.proofs.Common.{◌≡◌, inl, inr, ℕ, true, false, [], ◌∷◌, ◌++◌, Some, Result, Ok, Err, refl, sym, ap, ◌∙◌, subst}
+use Rattle.std.specs.Prelude.{String, string_bytes}
+use Rattle.std.specs.declared.alloc.Global.{Global}
+use Rattle.rel_list.specs.Releases.{Releases}
+use Rattle.rel_list.specs.Event.{Event, list_after}
+use Rattle.rel_handler.specs.declared.error.HandlerError.{HandlerError}
+use Rattle.rel_handler.specs.declared.error.HandlerError.TheVariants as handler_error
+use Rattle.rel_handler.specs.declared.handler.Handler.{Handler}
+use Rattle.rel_handler.specs.Commits.{Commits, IsDone}
+use Rattle.rel_handler.specs.Events.{Events, uncertain, IsStoredAs, settled}
+use Rattle.rel_handler.specs.Image.{end_behind, HasSpace}
+use Rattle.rel_handler.specs.Refusals.{CommandRefused}
+use Rattle.rel_handler.specs.State.{disk_in, list_in, is_dead, end_in, IsSame}
+use Rattle.rel_handler.specs.Taking.{commanded}
+use Rattle.rel_session.specs.declared.place.Place.TheVariants as memory
+use Rattle.rel_session.specs.declared.refusal.Refusal.{Refusal as RefusalInMemory}
+use Rattle.rel_session.specs.declared.refusal.Refusal.TheVariants as refusal
+use Rattle.rel_session.specs.Device.{Device, LeavesOnly, HasFailed}
+use Rattle.rel_session.specs.InMemory.{IsAt, Replied, Answers}
+use Rattle.rel_session.specs.Node.{Place, Reply, refused, failed, releases_after, list_or_none}
+use Rattle.rel_session.specs.Node.Place.{raw, closed, running, dead}
+use Rattle.rel_session.specs.Refusals.{Refusal, refusal_of, refusal_line, handler_refusal}
+use Rattle.rel_session.specs.Refusals.Refusal.{full, device}
+use Rattle.rel_session.specs.Run.{IsReached, Holds}
+use Rattle.rel_session.specs.Transition
+use Rattle.rel_session.specs.Transition.Action.{changes_node}
+use Rattle.rel_handler.proofs.CommandLemmas.{commanded_step}
+use Rattle.rel_session.proofs.DeviceLemmas.{IsDevice, weakened}
+use Rattle.rel_session.proofs.ListLemmas.{list_after-push}
+use Rattle.rel_session.proofs.Prefixes.{reached_with}
+use Rattle.rel_session.proofs.Replies.{stays, leaves_all, same_at, runs_at}
+
+never : {A : Type 0} → false ≡ true → A
+never e = absurd cc
+
+module _ {D : Type 0} (v : Device D) (laws : IsDevice v) (P : Place → Reply → Type 0) (h : Handler D) (alive : is_dead h ≡ false) where
+  -- An event comes to the node. Done says what is replied where it was committed.
+  module _ (e : Event) (size : Releases → ℕ) (Done : Events → ℕ → Releases → Reply → Type 0)
+      (right : (events : Events) (end : ℕ) (a : Reply) → Transition.IsCommit events end e (size (releases_after events)) (commanded e (releases_after events)) (Done events end (releases_after events)) a → P (running events end) a)
+      (new : Handler D) (commits : Commits v e (size (list_in h)) h new) where
+    abbrev body_size : ℕ
+    body_size = size (list_in h)
+
+    -- what the list allows, said of the events
+    pub right_for : (events : Events) (end : ℕ) (o : Result Releases HandlerError) (a : Reply) → list_after events ≡ Some (list_in h) → commanded e (list_in h) ≡ o
+        → Transition.IsCommit events end e body_size o (Done events end (list_in h)) a → P (running events end) a
+    right_for events end o a after is so =
+        let of_list : releases_after events ≡ list_in h = ap list_or_none after in
+        right events end a (subst (λ l. Transition.IsCommit events end e (size l) (commanded e l) (Done events end l) a) (sym of_list) (subst (λ r. Transition.IsCommit events end e body_size r (Done events end (list_in h)) a) (sym is) so))
+
+    pub moments_at : (events : Events) → list_after events ≡ Some (list_in h) → LeavesOnly v (disk_in h) (disk_in new) (IsReached (settled events) (e ∷ []))
+    moments_at events after = weakened v (disk_in h) (disk_in new) _ _ (reached_with events (end_in h) e body_size) (commits.any_moment alive events after)
+
+    device_failed : (list : Releases) → commanded e (list_in h) ≡ Ok list → HasSpace (end_in h) body_size → HasFailed v (disk_in h) (disk_in new) → is_dead new ≡ true
+        → (p : Place) → IsAt v (memory.Made h) p → Replied v p (λ a. P p a × (a.answer ≡ refusal_line device)) (memory.Made h) (memory.Made new)
+    device_failed list allowed fits cause gone (raw bytes) at = absurd at
+    device_failed list allowed fits cause gone (closed s) at = absurd at
+    device_failed list allowed fits cause gone (dead s) at = never (sym alive ∙ at.1)
+    device_failed list allowed fits cause gone (running events end) (here, living, after, stop) =
+        let s = uncertain events end e body_size in
+        let leaves = subst (λ n. LeavesOnly v (disk_in h) (disk_in new) (IsStoredAs (uncertain events n e body_size))) stop (commits.any_moment alive events after) in
+        let holds : Holds v (dead s) (disk_in new) = λ c now. leaves.each c (laws.counts_now (disk_in new) (v.moment (disk_in h)) c leaves.later now) in
+        let a = failed (Some e) (dead s) in
+        record {
+          given = a;
+          right = (right_for events end (Ok list) a after allowed (inl (subst (λ n. HasSpace n body_size) stop fits, inr refl)), refl);
+          at = (holds, gone);
+          happens = record { moments = moments_at events after; holds = holds; cause = λ f. cause; counted = commits.counted };
+        }
+
+    same_reply : (why : Refusal) (o : Result Releases HandlerError) → commanded e (list_in h) ≡ o → IsSame h new
+        → ((events : Events) (end : ℕ) → end_in h ≡ end → Transition.IsCommit events end e body_size o (Done events end (list_in h)) (refused why (running events end)))
+        → (p : Place) → IsAt v (memory.Made h) p → Replied v p (λ a. P p a × (a.answer ≡ refusal_line why)) (memory.Made h) (memory.Made new)
+    same_reply why o is same barred (raw bytes) at = absurd at
+    same_reply why o is same barred (closed s) at = absurd at
+    same_reply why o is same barred (dead s) at = never (sym alive ∙ at.1)
+    same_reply why o is same barred (running events end) at =
+        stays v laws (running events end) (refusal_line why) _ (memory.Made h) (memory.Made new) at same.disk (same_at v laws h new (running events end) same at)
+        (right_for events end o _ at.2 is (barred events end at.3), refl)
+
+    by_list : (why : HandlerError) → (is_dead h ≡ false) × (commanded e (list_in h) ≡ Err why) → IsSame h new
+        → (p : Place) → IsAt v (memory.Made h) p → Replied v p (λ a. P p a × (a.answer ≡ refusal_line (refusal_of (handler_refusal why)))) (memory.Made h) (memory.Made new)
+    by_list why (living, barred) same = same_reply (refusal_of (handler_refusal why)) (Err why) barred same (λ events end at. refl)
+
+    -- It was not committed.
+    pub commits_none : (why : HandlerError) (told : RefusalInMemory) → CommandRefused v.failures e body_size h new why → told ≡ handler_refusal why
+        → Answers v P (Err told) (memory.Made h) (memory.Made new)
+    commits_none why told so is = subst (λ t. Answers v P (Err t) (memory.Made h) (memory.Made new)) (sym is) (by_error why so)
+      where
+        by_error : (why : HandlerError) → CommandRefused v.failures e body_size h new why → Answers v P (Err (handler_refusal why)) (memory.Made h) (memory.Made new)
+        by_error handler_error.Dead (gone, same) = never (sym alive ∙ gone)
+        by_error handler_error.NoSuchRelease (barred, same) = by_list handler_error.NoSuchRelease barred same
+        by_error handler_error.ExistingRelease (barred, same) = by_list handler_error.ExistingRelease barred same
+        by_error handler_error.AlreadyInstalled (barred, same) = by_list handler_error.AlreadyInstalled barred same
+        by_error (handler_error.BadStatus s) (barred, same) = by_list (handler_error.BadStatus s) barred same
+        by_error handler_error.Permanent (barred, same) = by_list handler_error.Permanent barred same
+        by_error handler_error.Running (barred, same) = by_list handler_error.Running barred same
+        by_error handler_error.TooMany (barred, same) = by_list handler_error.TooMany barred same
+        by_error handler_error.Full ((living, (list, allowed)), over, same) =
+            same_reply full (Ok list) allowed same (λ events end at. inr (subst (λ n. HasSpace n body_size → ⊥) at over, refl))
+        by_error handler_error.NoMemory (living, same) = λ p at. inr (leaves_all v laws p (memory.Made h) (memory.Made new) same.disk (same_at v laws h new p same at))
+        by_error handler_error.Device ((living, (list, allowed), fits), cause, gone) = device_failed list allowed fits cause gone
+        by_error handler_error.Exists gone = absurd gone
+
+  -- A command changes the node.
+  module _ (change : Transition.Change) (right : (events : Events) (end : ℕ) (a : Reply) → Transition.Acts (running events end) (changes_node change) a → P (running events end) a)
+      (new : Handler D) (commits : Commits v change.event (change.size (list_in h)) h new) where
+    abbrev IsChanged : Events → ℕ → Releases → Reply → Type 0
+    IsChanged events end list a = a ≡ Transition.changed events end change list
+
+    replies_done : is_dead new ≡ false → IsDone v change.event (change.size (list_in h)) h new → (p : Place) → IsAt v (memory.Made h) p
+        → Replied v p (λ a. P p a × (a.answer ≡ Transition.done_line (change.details (list_in h)))) (memory.Made h) (memory.Made new)
+    replies_done works is_done (raw bytes) at = absurd at
+    replies_done works is_done (closed s) at = absurd at
+    replies_done works is_done (dead s) at = never (sym alive ∙ at.1)
+    replies_done works is_done (running events end) (here, living, after, stop) =
+        let size = change.size (list_in h) in
+        let then = events ++ change.event ∷ [] in
+        let place = runs_at v laws new then (end_behind end size) works (list_after-push events change.event (list_in h) (list_in new) after (commanded_step change.event (list_in h) (list_in new) is_done.accepted))
+        (is_done.end ∙ ap (λ n. end_behind n size) stop) is_done.acknowledged (commits.sound.started works) in
+        let a = Transition.changed events end change (list_in h) in
+        record {
+          given = a;
+          right = (right_for change.event change.size IsChanged right new commits events end (Ok (list_in new)) a after is_done.accepted (inl (subst (λ n. HasSpace n size) stop is_done.fits, inl refl)), refl);
+          at = place;
+          happens = record { moments = moments_at change.event change.size IsChanged right new commits events after; holds = place.0; cause = λ f. never f; counted = commits.counted };
+        }
+
+    -- it is done, and so answered
+    pub changes : is_dead new ≡ false → IsDone v change.event (change.size (list_in h)) h new → (text : String Global) → string_bytes text ≡ Transition.done_line (change.details (list_in h)) → Answers v P (Ok text) (memory.Made h) (memory.Made new)
+    changes works is_done text is p at =
+        let r = replies_done works is_done p at in
+        record { given = r.given; right = (r.right.0, r.right.1 ∙ sym is); at = r.at; happens = r.happens }
+
+    -- it is done, and memory is refused for its answer
+    pub changes_untold : is_dead new ≡ false → IsDone v change.event (change.size (list_in h)) h new → Answers v P (Err refusal.NoMemory) (memory.Made h) (memory.Made new)
+    changes_untold works is_done p at =
+        let r = replies_done works is_done p at in
+        inl (record { given = r.given; right = r.right.0; at = r.at; happens = r.happens })
+
+    -- it isn't
+    pub changes_none : (e : HandlerError) (told : RefusalInMemory) → CommandRefused v.failures change.event (change.size (list_in h)) h new e → told ≡ handler_refusal e
+        → Answers v P (Err told) (memory.Made h) (memory.Made new)
+    changes_none = commits_none change.event change.size IsChanged right new commits
