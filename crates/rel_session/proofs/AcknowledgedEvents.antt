@@ -3,10 +3,10 @@ use Rattle.std.proofs.Common.{◌≡◌, ◌≢◌, ◌⊎◌, inl, inr, ℕ, ze
 use Rattle.rel_list.specs.Event.{Event, list_after}
 use Rattle.rel_handler.specs.Image.{store_end}
 use Rattle.rel_handler.specs.Events.{Known, Events, Stored, settled, certain, with_doubt, HasStart, IsStoredAs}
-use Rattle.rel_session.specs.Commands.{Command}
+use Rattle.session_input.specs.Commands.{Command}
 use Rattle.rel_session.specs.Device.{Device, LeavesOnly}
-use Rattle.rel_session.specs.Feed.{Feed}
-use Rattle.rel_session.specs.Feed.Feed.{over, cut, next}
+use Rattle.session_input.specs.Feed.{Feed}
+use Rattle.session_input.specs.Feed.Feed.{over, cut, next}
 use Rattle.rel_session.specs.Files.{Files, files_behind}
 use Rattle.rel_session.specs.Node.{Place, Outcome, Reply}
 use Rattle.rel_session.specs.Node.Place.{raw, closed, running, dead}

@@ -14,9 +14,9 @@ use Rattle.rel_list.specs.Event.{Event}
 use Rattle.rel_list.specs.Event.Event.{made, unpacked}
 use Rattle.rel_records.specs.Limits.{is_small}
 use Rattle.rel_session.specs.AnswerLaws.{is_one_line, HasLinePath}
-use Rattle.rel_session.specs.Commands.{Command, File}
-use Rattle.rel_session.specs.Commands.Command.{file, create, set_unpacked, install, permanent, remove, reboot_old, boot, start, releases, quit, bad}
-use Rattle.rel_session.specs.Commands.File.{bytes, too_large}
+use Rattle.session_input.specs.Commands.{Command, File}
+use Rattle.session_input.specs.Commands.Command.{file, create, set_unpacked, install, permanent, remove, reboot_old, boot, start, releases, quit, bad}
+use Rattle.session_input.specs.Commands.File.{bytes, too_large}
 use Rattle.rel_session.specs.Files.{Files, Found, Says, usable, IsFound}
 use Rattle.rel_session.specs.LawsBelow.{FileLaws}
 use Rattle.rel_session.specs.Node.{Place, releases_after}

@@ -18,7 +18,7 @@ use Rattle.rel_handler.specs.Image.{holds_a_store}
 use Rattle.rel_records.specs.Record.{makes as makes_record, body_of}
 use Rattle.rel_handler.specs.Refusals.{IsBootRefusal}
 use Rattle.rel_handler.specs.Taking.{list_refusal, refused_or, kept_short, commanded}
-use Rattle.rel_session.specs.Commands.{Command}
+use Rattle.session_input.specs.Commands.{Command}
 use Rattle.rel_session.specs.Files.{Files, Found}
 use Rattle.rel_session.specs.LawsBelow.{FileLaws}
 use Rattle.rel_session.specs.Node.{Place, Outcome, Reply, reply, nothing, done, failed_with, releases_after, behind}

@@ -14,10 +14,10 @@ use Rattle.rel_handler.specs.Image.{IsImageOf, holds_a_store, store_end, first_e
 use Rattle.rel_records.specs.Record.{makes as makes_record, body_of}
 use Rattle.rel_handler.specs.Refusals.{IsBootRefusal}
 use Rattle.rel_handler.specs.Taking.{commanded}
-use Rattle.rel_session.specs.Commands.{Command}
-use Rattle.rel_session.specs.Commands.Command.{quit}
-use Rattle.rel_session.specs.Feed.{Feed}
-use Rattle.rel_session.specs.Feed.Feed.{over, cut, next}
+use Rattle.session_input.specs.Commands.{Command}
+use Rattle.session_input.specs.Commands.Command.{quit}
+use Rattle.session_input.specs.Feed.{Feed}
+use Rattle.session_input.specs.Feed.Feed.{over, cut, next}
 use Rattle.rel_session.specs.Files.{Files, files_behind, Found}
 use Rattle.rel_session.specs.LawsBelow.{FileLaws, BootLaws}
 use Rattle.rel_session.specs.Node.{Place, Reply, reply, nothing, releases_after, list_or_none, behind}

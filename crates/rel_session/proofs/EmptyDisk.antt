@@ -2,9 +2,9 @@
 use Rattle.std.proofs.Common.{◌≡◌, ◌≢◌, ◌⊎◌, inl, inr, ⊎_elim, true, false, List, [], ◌∷◌, ◌++◌, refl, sym, ◌∙◌, subst, append_assoc}
 use Rattle.rel_files.specs.Release.{Release}
 use Rattle.rel_list.specs.Event.Event.{made, boot as booting}
-use Rattle.rel_session.specs.Commands.{Command}
+use Rattle.session_input.specs.Commands.{Command}
 use Rattle.rel_session.specs.Device.{Device}
-use Rattle.rel_session.specs.Feed.{Feed}
+use Rattle.session_input.specs.Feed.{Feed}
 use Rattle.rel_session.specs.Files.{Files, files_behind, Found}
 use Rattle.rel_session.specs.Node.{Place, Reply}
 use Rattle.rel_session.specs.Node.Place.{raw}

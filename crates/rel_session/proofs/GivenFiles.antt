@@ -6,8 +6,8 @@ use Rattle.std.specs.String.{string_eq}
 use Rattle.std.specs.declared.alloc.Global.{Global}
 use Rattle.std.specs.HashMap.{HashMap, UpdatesBy, get_by_text}
 use Rattle.std.proofs.lemmas.Map.Text.{hash_map_updates_text}
-use Rattle.rel_session.specs.declared.given.GivenFile.{GivenFile}
-use Rattle.rel_session.specs.Commands.{given_of}
+use Rattle.session_input.specs.declared.given.GivenFile.{GivenFile}
+use Rattle.session_input.specs.Commands.{given_of}
 use Rattle.rel_session.specs.Files.{give}
 
 option_map-cond : (b : Bool) (g : GivenFile) (o : Option GivenFile) → option_map given_of (cond b (Some g) o) ≡ cond b (Some (given_of g)) (option_map given_of o)

@@ -1,8 +1,3 @@
-pub mod Bytes
-pub mod LineLemmas
-pub mod WordLemmas
-pub mod ParsedLines
-pub mod CommandLemmas
 pub mod ListingLemmas
 pub mod ReleaseLemmas
 pub mod DeviceLemmas

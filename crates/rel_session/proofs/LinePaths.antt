@@ -10,14 +10,14 @@ use Rattle.rel_records.specs.Lists.{HaveVersions}
 use Rattle.rel_handler.specs.Image.{store_end}
 use Rattle.rel_handler.specs.Events.{Events, MayHave, IsStoredAs, certain}
 use Rattle.rel_handler.proofs.Commits.{have_versions}
-use Rattle.rel_session.specs.Commands.{Command, ParsedLine, parse_line, parse_words, parse_command, parse_change, change_named, with_word, without_words, path_in, version_in, is_blank, words_of, is_end, file_of, most_line, put_parsed, commands_of, commands_behind}
-use Rattle.rel_session.specs.Commands.Command.{file, create, set_unpacked, install, permanent, remove, reboot_old, boot, start, releases, quit, bad}
-use Rattle.rel_session.specs.Commands.ParsedLine.{blank, file_begins, whole_command}
+use Rattle.session_input.specs.Commands.{Command, ParsedLine, parse_line, parse_words, parse_command, parse_change, change_named, with_word, without_words, path_in, version_in, is_blank, words_of, is_end, file_of, most_line, put_parsed, commands_of, commands_behind}
+use Rattle.session_input.specs.Commands.Command.{file, create, set_unpacked, install, permanent, remove, reboot_old, boot, start, releases, quit, bad}
+use Rattle.session_input.specs.Commands.ParsedLine.{blank, file_begins, whole_command}
 use Rattle.rel_session.specs.Device.{Device}
-use Rattle.rel_session.specs.Feed.{Feed, bytes_within}
-use Rattle.rel_session.specs.Feed.Feed.{over, cut, next}
-use Rattle.rel_session.specs.Input.{most_bytes}
-use Rattle.rel_session.specs.Lines.{onto, lines_of}
+use Rattle.session_input.specs.Feed.{Feed, bytes_within}
+use Rattle.session_input.specs.Feed.Feed.{over, cut, next}
+use Rattle.session_input.specs.Input.{most_bytes}
+use Rattle.session_input.specs.Lines.{onto, lines_of}
 use Rattle.rel_session.specs.Node.Place.{raw, closed, running, dead}
 use Rattle.rel_session.specs.AnswerLaws.{is_one_line, HasLinePath, HaveLinePaths, ReadsLinePaths, HasVersionsAt, KeepsVersions}
 use Rattle.rel_session.specs.RunLaws.{MayBe}

@@ -4,21 +4,21 @@ use Rattle.std.specs.Prelude.{IsErrOf, String, string_bytes}
 use Rattle.std.specs.Option.{option_map}
 use Rattle.std.specs.Io.KnownBytes.{Appends, prepend_known}
 use Rattle.std.specs.declared.alloc.Global.{Global}
-use Rattle.rel_session.specs.declared.error.SessionError.{SessionError}
-use Rattle.rel_session.specs.declared.error.SessionError.TheVariants.{Limit}
-use Rattle.rel_session.specs.declared.input.Input.{Input}
+use Rattle.session_input.specs.declared.error.SessionError.{SessionError}
+use Rattle.session_input.specs.declared.error.SessionError.TheVariants.{Limit}
+use Rattle.session_input.specs.declared.input.Input.{Input}
 use Rattle.rel_session.specs.declared.node.Node.{Node}
 use Rattle.rel_session.specs.declared.place.Place.TheVariants as memory
-use Rattle.rel_session.specs.Commands.{Command, commands_of}
-use Rattle.rel_session.specs.Commands.Command.{quit}
+use Rattle.session_input.specs.Commands.{Command, commands_of}
+use Rattle.session_input.specs.Commands.Command.{quit}
 use Rattle.rel_session.specs.Device.{Device}
 use Rattle.rel_session.specs.Session.{AreCommands, IsSession}
-use Rattle.rel_session.specs.Feed.{Feed, Gives, EndsAs, IsNext, bytes_within}
-use Rattle.rel_session.specs.Feed.Feed.{over, cut, next}
+use Rattle.session_input.specs.Feed.{Feed, Gives, EndsAs, IsNext, bytes_within}
+use Rattle.session_input.specs.Feed.Feed.{over, cut, next}
 use Rattle.rel_session.specs.Files.{Files, no_files, files_of, files_behind}
 use Rattle.rel_session.specs.InMemory.{IsAt, Leads, NothingDone, FollowsCommand, disk_at, disk_of}
-use Rattle.rel_session.specs.Input.{IsFresh, commands_left, most_bytes}
-use Rattle.rel_session.specs.Lines.{lines_of}
+use Rattle.session_input.specs.Input.{IsFresh, commands_left, most_bytes}
+use Rattle.session_input.specs.Lines.{lines_of}
 use Rattle.rel_session.specs.Node.{Place, Reply}
 use Rattle.rel_session.specs.Node.Place.{raw, closed, running, dead}
 use Rattle.counted_io.specs.Prefixes.{AppendsPrefix}

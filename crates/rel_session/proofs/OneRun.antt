@@ -1,8 +1,8 @@
 -- A text tells one run.
 use Rattle.std.proofs.Common.{◌≡◌, ◌≢◌, inl, inr, ℕ, List, [], ◌∷◌, ◌++◌, refl, sym, ap, ◌∙◌}
-use Rattle.rel_session.specs.Commands.{Command}
-use Rattle.rel_session.specs.Feed.{Feed}
-use Rattle.rel_session.specs.Feed.Feed.{over, cut, next}
+use Rattle.session_input.specs.Commands.{Command}
+use Rattle.session_input.specs.Feed.{Feed}
+use Rattle.session_input.specs.Feed.Feed.{over, cut, next}
 use Rattle.rel_session.specs.Files.{Files, files_behind}
 use Rattle.rel_session.specs.LawsBelow.{FileLaws}
 use Rattle.rel_session.specs.Node.{Place, Reply}

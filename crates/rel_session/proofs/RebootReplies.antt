@@ -16,7 +16,7 @@ use Rattle.rel_session.specs.declared.place.Place.{Place as PlaceInMemory}
 use Rattle.rel_session.specs.declared.place.Place.TheVariants as memory
 use Rattle.rel_session.specs.declared.refusal.Refusal.{Refusal as RefusalInMemory}
 use Rattle.rel_session.specs.declared.refusal.Refusal.TheVariants as refusal
-use Rattle.rel_session.specs.Commands.Command.{reboot_old}
+use Rattle.session_input.specs.Commands.Command.{reboot_old}
 use Rattle.rel_session.specs.Device.{Device, LeavesOnly}
 use Rattle.rel_session.specs.InMemory.{disk_at, IsAt, Replied, Leads, NothingDone, Answers, TellsReply, AnswersOrStops}
 use Rattle.rel_session.specs.Node.{Place, Outcome, Reply, reply, done, behind, releases_after, list_or_none}

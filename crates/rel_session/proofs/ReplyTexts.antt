@@ -3,14 +3,14 @@ use Rattle.std.proofs.Common.{◌≡◌, ◌⊎◌, inl, inr, ⊎_elim, ℕ, Lis
 use Rattle.std.specs.Prelude.{IfOk, OnOk, MatchResult, String, string_bytes, codes}
 use Rattle.std.specs.declared.alloc.Global.{Global}
 use Rattle.std.specs.declared.alloc.AllocError.{AllocError}
-use Rattle.rel_session.specs.declared.error.SessionError.{SessionError}
-use Rattle.rel_session.specs.declared.error.SessionError.TheVariants.{NoMemory}
+use Rattle.session_input.specs.declared.error.SessionError.{SessionError}
+use Rattle.session_input.specs.declared.error.SessionError.TheVariants.{NoMemory}
 use Rattle.rel_session.specs.declared.files.Files.{Files as FilesInMemory}
 use Rattle.rel_session.specs.declared.node.Node.{Node}
 use Rattle.rel_session.specs.declared.refusal.Refusal.{Refusal as RefusalInMemory}
 use Rattle.rel_session.specs.declared.refusal.Refusal.TheVariants as refusal
-use Rattle.rel_session.specs.Commands.{Command, File}
-use Rattle.rel_session.specs.Commands.Command.{file}
+use Rattle.session_input.specs.Commands.{Command, File}
+use Rattle.session_input.specs.Commands.Command.{file}
 use Rattle.erl_term.specs.Printing.{text_of}
 use Rattle.rel_session.specs.Device.{Device}
 use Rattle.rel_session.specs.Listing.{text_value}

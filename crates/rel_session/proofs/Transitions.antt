@@ -8,7 +8,7 @@ use Rattle.rel_handler.specs.Events.{Events, Stored, MayHave, certain}
 use Rattle.rel_handler.specs.Image.{holds_a_store}
 use Rattle.rel_records.specs.Record.{makes as makes_record, body_of}
 use Rattle.rel_handler.specs.Taking.{commanded}
-use Rattle.rel_session.specs.Commands.{Command}
+use Rattle.session_input.specs.Commands.{Command}
 use Rattle.rel_session.specs.Files.{Files, Found}
 use Rattle.rel_session.specs.Node.{Place, Reply, reply, nothing, releases_after, behind}
 use Rattle.rel_session.specs.Node.Place.{raw, closed, running, dead}

@@ -19,7 +19,7 @@ use Rattle.rel_handler.specs.declared.error.HandlerError.TheVariants as handler_
 use Rattle.rel_handler.specs.Events.{Events, Stored, MayHave, certain, uncertain}
 use Rattle.rel_handler.specs.Image.{holds_a_store}
 use Rattle.rel_handler.specs.Taking.{commanded}
-use Rattle.rel_session.specs.Commands.{Command}
+use Rattle.session_input.specs.Commands.{Command}
 use Rattle.rel_session.specs.Files.{Files, Found}
 use Rattle.rel_session.specs.Node.{Place, Reply, releases_after, list_or_none}
 use Rattle.rel_session.specs.Node.Place.{raw, closed, running, dead}

@@ -5,11 +5,11 @@ use Rattle.rel_list.specs.Releases.{Releases}
 use Rattle.rel_list.specs.Event.{Event, list_after}
 use Rattle.rel_records.specs.Lists.{HaveVersions}
 use Rattle.rel_handler.specs.Events.{Events, certain}
-use Rattle.rel_session.specs.Commands.{Command}
-use Rattle.rel_session.specs.Commands.Command.{create, set_unpacked}
+use Rattle.session_input.specs.Commands.{Command}
+use Rattle.session_input.specs.Commands.Command.{create, set_unpacked}
 use Rattle.rel_session.specs.Device.{Device, HasFailed}
-use Rattle.rel_session.specs.Feed.{Feed}
-use Rattle.rel_session.specs.Feed.Feed.{next}
+use Rattle.session_input.specs.Feed.{Feed}
+use Rattle.session_input.specs.Feed.Feed.{next}
 use Rattle.rel_session.specs.Files.{Files}
 use Rattle.rel_session.specs.Node.{Place, Reply}
 use Rattle.rel_session.specs.Node.Place.{raw, closed, running, dead}

@@ -9,9 +9,9 @@ use Rattle.rel_files.specs.File.{HasFileTerm, IsReleaseTerm, HasFault}
 use Rattle.rel_files.specs.Release.{Release}
 use Rattle.rel_records.specs.Limits.{is_small}
 use Rattle.rel_session.specs.declared.files.Files.{Files as FilesInMemory}
-use Rattle.rel_session.specs.Commands.{Command, File, given_of}
-use Rattle.rel_session.specs.Commands.Command.{file}
-use Rattle.rel_session.specs.Commands.File.{bytes, too_large}
+use Rattle.session_input.specs.Commands.{Command, File, given_of}
+use Rattle.session_input.specs.Commands.Command.{file}
+use Rattle.session_input.specs.Commands.File.{bytes, too_large}
 use Rattle.rel_session.specs.Refusals.{Refusal}
 use Rattle.rel_session.specs.Refusals.Refusal.{bad_file, missing_file, too_many}
 

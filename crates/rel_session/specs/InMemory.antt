@@ -7,14 +7,14 @@ use Rattle.rel_files.specs.Release.{release_of}
 use Rattle.rel_files.specs.declared.reader.RelFile.{RelFile}
 use Rattle.rel_list.specs.Event.{list_after}
 use Rattle.rel_handler.specs.State.{disk_in, list_in, is_dead, end_in, IsSound}
-use Rattle.rel_session.specs.declared.error.SessionError.{SessionError}
+use Rattle.session_input.specs.declared.error.SessionError.{SessionError}
 use Rattle.rel_session.specs.declared.node.Node.{Node}
 use Rattle.rel_session.specs.declared.place.Place.{Place as PlaceInMemory}
 use Rattle.rel_session.specs.declared.place.Place.TheVariants as memory
 use Rattle.rel_session.specs.declared.refusal.Refusal.{Refusal as RefusalInMemory}
 use Rattle.rel_session.specs.declared.refusal.Refusal.TheVariants as refusal
-use Rattle.rel_session.specs.Commands.{Command}
-use Rattle.rel_session.specs.Commands.Command.{quit}
+use Rattle.session_input.specs.Commands.{Command}
+use Rattle.session_input.specs.Commands.Command.{quit}
 use Rattle.rel_session.specs.Device.{Device, LeavesOnly}
 use Rattle.rel_session.specs.Files.{Found, files_of, files_behind}
 use Rattle.rel_session.specs.Node.{Place, Reply}

@@ -7,14 +7,14 @@ use Rattle.rel_handler.specs.Events.{Known, Events, settled, IsPrefix, with_doub
 use Rattle.rel_handler.specs.Image.{IsImageOf, IsRepairOf}
 use Rattle.rel_handler.specs.Moments.{Begins, BeginsAt}
 use Rattle.rel_handler.specs.Events.{doubted}
-use Rattle.rel_session.specs.Commands.{Command, commands_of}
-use Rattle.rel_session.specs.Commands.Command.{quit}
+use Rattle.session_input.specs.Commands.{Command, commands_of}
+use Rattle.session_input.specs.Commands.Command.{quit}
 use Rattle.rel_session.specs.Device.{Device, LeavesOnly, HasFailed}
-use Rattle.rel_session.specs.Feed.{Feed, bytes_within}
-use Rattle.rel_session.specs.Feed.Feed.{over, cut, next}
+use Rattle.session_input.specs.Feed.{Feed, bytes_within}
+use Rattle.session_input.specs.Feed.Feed.{over, cut, next}
 use Rattle.rel_session.specs.Files.{Files, files_behind}
-use Rattle.rel_session.specs.Input.{most_bytes}
-use Rattle.rel_session.specs.Lines.{lines_of}
+use Rattle.session_input.specs.Input.{most_bytes}
+use Rattle.session_input.specs.Lines.{lines_of}
 use Rattle.rel_session.specs.Node.{Place, Outcome, Reply}
 use Rattle.rel_session.specs.Node.Place.{raw, closed, running, dead}
 use Rattle.rel_session.specs.Transition.{Transition, IsStopped}

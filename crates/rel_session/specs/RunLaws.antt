@@ -7,9 +7,9 @@ use Rattle.rel_list.specs.Event.{list_after}
 use Rattle.rel_list.specs.Event.Event.{made, boot as booting}
 use Rattle.rel_handler.specs.Events.{Events, Stored, with_doubt, certain, HasStart, IsStoredAs, IsOfPrefix}
 use Rattle.rel_handler.specs.Image.{IsImageOf, store_end}
-use Rattle.rel_session.specs.Commands.{Command}
+use Rattle.session_input.specs.Commands.{Command}
 use Rattle.rel_session.specs.Device.{Device, LeavesOnly}
-use Rattle.rel_session.specs.Feed.{Feed}
+use Rattle.session_input.specs.Feed.{Feed}
 use Rattle.rel_session.specs.Files.{Files}
 use Rattle.rel_session.specs.Node.{Place, Reply}
 use Rattle.rel_session.specs.Node.Place.{raw, closed, running, dead}

@@ -1,8 +1,8 @@
 -- What a session has done once it has ended.
 use Rattle.std.specs.Prelude.{◌≡◌, ℕ, List, Option, None, Some}
-use Rattle.rel_session.specs.Commands.{Command}
+use Rattle.session_input.specs.Commands.{Command}
 use Rattle.rel_session.specs.Device.{Device}
-use Rattle.rel_session.specs.Feed.{Feed}
+use Rattle.session_input.specs.Feed.{Feed}
 use Rattle.rel_session.specs.Files.{Files}
 use Rattle.rel_session.specs.Node.{Place}
 use Rattle.rel_session.specs.Output.{Writes}

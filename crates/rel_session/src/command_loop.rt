@@ -4,14 +4,13 @@ ghost use Rattle.counted_io.specs.Counted.{held_by, failed_writes};
 ghost use Rattle.counted_io.specs.Failures.{HasRisen};
 ghost use Rattle.rel_session.specs.Session.{IsSession};
 ghost use Rattle.rel_session.specs.Files.{no_files};
-ghost use Rattle.rel_session.specs.Input.{IsFresh, left_in, taken, failed_reads, most_bytes};
+ghost use Rattle.session_input.specs.Input.{IsFresh, left_in, taken, failed_reads, most_bytes};
 ghost use Rattle.rel_session.specs.Run.Ending.{ended, cut_off, early};
 
-use crate::error::SessionError;
-use crate::input::Input;
 use crate::node::Node;
 use counted_io::CountedWriter;
 use rel_disk::Disk;
+use session_input::{Input, SessionError};
 use std::alloc::Global;
 use std::io::{Read, Write};
 

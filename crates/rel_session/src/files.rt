@@ -1,7 +1,7 @@
 //! The files of a session.
 ghost use Rattle.std.specs.Prelude.{◌≡◌, ◌≢◌, true, None, Some, Ok, Err, string_bytes, IfOk, IfErr, OnOk};
-ghost use Rattle.rel_session.specs.Commands.{given_of};
-ghost use Rattle.rel_session.specs.Commands.File.{bytes as kept};
+ghost use Rattle.session_input.specs.Commands.{given_of};
+ghost use Rattle.session_input.specs.Commands.File.{bytes as kept};
 ghost use Rattle.rel_session.specs.Files.{give, no_files, IsFound};
 ghost use Rattle.rel_session.specs.InMemory.{found_of};
 ghost use Rattle.rel_session.specs.Refusals.{refusal_of};
@@ -11,11 +11,11 @@ ghost use Rattle.rel_files.specs.Release.{release_of};
 ghost use Rattle.rel_handler.specs.Files.{IsRelFile};
 ghost use Rattle.rel_records.specs.Limits.{is_small};
 
-use crate::given::GivenFile;
 use crate::refusal::Refusal;
 use indexmap::IndexMap;
 use rel_files::{FileFault, RelFile, read_rel_file};
 use rel_records::is_small;
+use session_input::GivenFile;
 use std::alloc::{AllocFailed, Global};
 
 /// The files that were given, by their paths.

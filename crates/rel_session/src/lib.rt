@@ -9,8 +9,8 @@
 //!   of the events so far that holds every acknowledged one;
 //! - specs/Session: what is written, and how a session ends.
 //!
-//! A failed read, a failed write and an input that is too long are reported only where one was. At most 16,777,216 bytes
-//! of the input are taken, and each answer is written once its command was read.
+//! The commands come from `session_input`. A failed read, a failed write and an input that is too long are reported only
+//! where one was. At most 16,777,216 bytes of the input are taken, and each answer is written once its command was read.
 //!
 //! The functions of [`laws`] say what follows for whole runs. docs/ARCHITECTURE.md tells what a further command takes.
 //!
@@ -18,25 +18,15 @@
 //! Trusted: the toolchain, `indexmap` and `thiserror`.
 #![tactic(auto)]
 
-mod ahead;
 mod change;
-mod command;
 mod command_loop;
-mod error;
 mod files;
-mod given;
-mod input;
 pub mod laws;
-mod line;
 mod listing;
 mod node;
-mod parsed_line;
 mod place;
 mod reboot;
 mod refusal;
 mod start;
-mod words;
 
 pub use command_loop::session;
-pub use error::SessionError;
-pub use input::Input;

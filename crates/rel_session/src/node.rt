@@ -1,21 +1,19 @@
 //! The node of a session.
 ghost use Rattle.std.specs.Prelude.{◌≡◌, codes, None, Some, Ok, Err, string_bytes, IfOk, IfErr, OnOk, MatchResult};
-ghost use Rattle.rel_session.specs.Commands.{command_of, given_of};
-ghost use Rattle.rel_session.specs.Commands.Command.{file as file_given, create, set_unpacked, install, permanent, remove, reboot_old, boot, start};
+ghost use Rattle.session_input.specs.Commands.{command_of, given_of};
+ghost use Rattle.session_input.specs.Commands.Command.{file as file_given, create, set_unpacked, install, permanent, remove, reboot_old, boot, start};
 ghost use Rattle.rel_session.specs.Files.{files_of, no_files, give};
 ghost use Rattle.rel_session.specs.InMemory.{Answers, IsLine, IsText};
 ghost use Rattle.rel_session.specs.Transition.{Transition};
 ghost use Rattle.rel_session.specs.declared.place.Place.TheVariants.{Idle, Made};
 ghost use Rattle.rel_handler.specs.State.{IsSound};
 
-use crate::command::Command;
-use crate::error::SessionError;
 use crate::files::Files;
-use crate::given::GivenFile;
 use crate::place::{Place, ok_line};
 use crate::refusal::Refusal;
 use rel_disk::Disk;
 use rel_handler::Handler;
+use session_input::{Command, GivenFile, SessionError};
 use std::alloc::{AllocError, Global};
 
 /// The node of a session: the disk that it is on, and the files that were given.

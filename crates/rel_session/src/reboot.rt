@@ -1,6 +1,6 @@
 //! A reboot to an old release.
 ghost use Rattle.std.specs.Prelude.{◌≡◌, Ok, Err, MatchResult};
-ghost use Rattle.rel_session.specs.Commands.Command.{reboot_old};
+ghost use Rattle.session_input.specs.Commands.Command.{reboot_old};
 ghost use Rattle.rel_session.specs.InMemory.{IsSoundPlace, AnswersOrStops};
 ghost use Rattle.rel_session.specs.Transition.{Acts, IsStopped};
 ghost use Rattle.rel_session.specs.Transition.Action.{reboots_node};

@@ -3,7 +3,7 @@ use crate::sessions::{
     BOTH, FIRST, NO_NODE, TWO_RELEASES, empty_disk, joined, same, session_on, with_next,
 };
 use rel_disk::{FailDisk, MemDisk};
-use rel_session::SessionError;
+use session_input::SessionError;
 use std::alloc::{AllocError, Global};
 use std::cmp::Ordering;
 use std::process::Abort;

@@ -5,7 +5,8 @@ use crate::sessions::{
 };
 use counted_io::CountedWriter;
 use rel_disk::MemDisk;
-use rel_session::{Input, SessionError, session};
+use rel_session::session;
+use session_input::{Input, SessionError};
 use std::alloc::Global;
 use std::io;
 use std::io::{Read, Write};

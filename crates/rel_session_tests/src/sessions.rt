@@ -1,7 +1,8 @@
 //! Sessions on disks in memory.
 use counted_io::CountedWriter;
 use rel_disk::{Disk, MemDisk};
-use rel_session::{Input, SessionError, session};
+use rel_session::session;
+use session_input::{Input, SessionError};
 use std::alloc::{AllocError, Global};
 use std::io::Read;
 use std::process::Abort;

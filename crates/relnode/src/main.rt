@@ -11,7 +11,8 @@
 use counted_io::CountedWriter;
 use rel_disk::{Disk, MemDisk};
 use rel_host::{FileDisk, OpenError, Options, OptionsError, read_options};
-use rel_session::{Input, SessionError, session};
+use rel_session::session;
+use session_input::{Input, SessionError};
 use std::alloc::Global;
 use std::process::ExitCode;
 use std::{env, io};

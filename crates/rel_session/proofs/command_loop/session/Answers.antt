@@ -1,8 +1,8 @@
 use Rattle.std.proofs.Common.{◌≡◌, ◌∙◌, refl}
 use Rattle.std.specs.Option.{option_map}
-use Rattle.rel_session.specs.declared.command.Command.{Command as CommandInMemory}
-use Rattle.rel_session.specs.Commands.{command_of}
-use Rattle.rel_session.specs.Input.{commands_left}
+use Rattle.session_input.specs.declared.command.Command.{Command as CommandInMemory}
+use Rattle.session_input.specs.Commands.{command_of}
+use Rattle.session_input.specs.Input.{commands_left}
 use Rattle.rel_session.specs.Run.{commands_in}
 use Rattle.rel_session.specs.Run.Ending.{ended, cut_off, early}
 use Rattle.rel_session.proofs.LoopLemmas.{fresh_left, begins, goes_on, ends, ends_cut, ends_early, quits, stops_within, stops_before, sessions, cut_told}

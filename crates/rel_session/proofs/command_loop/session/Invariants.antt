@@ -1,7 +1,7 @@
 use Rattle.std.proofs.Common.{◌≡◌}
 use Rattle.std.specs.Option.{option_map}
 use Rattle.rel_session.specs.InMemory.{IsSoundPlace}
-use Rattle.rel_session.specs.Input.{left, commands_left}
+use Rattle.session_input.specs.Input.{left, commands_left}
 use Rattle.rel_session.specs.Run.{commands_in}
 use Rattle.rel_session.proofs.LoopLemmas.{Goes}
 use Rattle.rel_session.proofs.command_loop.session.Given as goal

@@ -1,5 +1,5 @@
 use Rattle.std.proofs.Common.{rules, refl, sym, subst, Ok, Err}
-use Rattle.rel_session.specs.Commands.Command.{set_unpacked}
+use Rattle.session_input.specs.Commands.Command.{set_unpacked}
 use Rattle.rel_session.specs.Files.{files_of}
 use Rattle.rel_session.specs.InMemory.{Answers, found_of}
 use Rattle.rel_session.specs.Node.{Place, Reply}

@@ -1,5 +1,5 @@
 use Rattle.std.proofs.Common.{refl}
-use Rattle.rel_session.specs.Commands.Command.{boot}
+use Rattle.session_input.specs.Commands.Command.{boot}
 use Rattle.rel_session.specs.Transition.{Boots}
 use Rattle.rel_session.specs.Transition.Action.{boots_node}
 use Rattle.rel_session.proofs.ReplyTexts.{follows_line}

@@ -1,5 +1,5 @@
 use Rattle.std.proofs.Common.{refl, Ok, Err}
-use Rattle.rel_session.specs.Commands.Command.{create}
+use Rattle.session_input.specs.Commands.Command.{create}
 use Rattle.rel_session.specs.Files.{files_of}
 use Rattle.rel_session.specs.InMemory.{found_of}
 use Rattle.rel_session.specs.Refusals.{refusal_of}

@@ -1,7 +1,7 @@
 use Rattle.std.proofs.Common.{rules, refl, sym, subst}
 use Rattle.std.specs.Prelude.{codes}
-use Rattle.rel_session.specs.Commands.{command_of}
-use Rattle.rel_session.specs.Commands.Command.{releases, bad}
+use Rattle.session_input.specs.Commands.{command_of}
+use Rattle.session_input.specs.Commands.Command.{releases, bad}
 use Rattle.rel_session.specs.InMemory.{FollowsCommand}
 use Rattle.rel_session.specs.Transition.{listed}
 use Rattle.rel_session.specs.Transition.Action.{answers}

@@ -1,5 +1,5 @@
 use Rattle.std.specs.Prelude.{string_bytes}
-use Rattle.rel_session.specs.Commands.{given_of}
+use Rattle.session_input.specs.Commands.{given_of}
 use Rattle.rel_session.proofs.ReplyTexts.{gives}
 use Rattle.rel_session.proofs.DeviceLemmas.{IsDevice}
 use Rattle.rel_session.proofs.node.Node.give.Goals as goal

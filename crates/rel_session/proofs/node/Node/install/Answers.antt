@@ -1,5 +1,5 @@
 use Rattle.std.proofs.Common.{refl}
-use Rattle.rel_session.specs.Commands.Command.{install}
+use Rattle.session_input.specs.Commands.Command.{install}
 use Rattle.rel_session.specs.Transition.{Acts, installation}
 use Rattle.rel_session.specs.Transition.Action.{changes_node}
 use Rattle.rel_session.proofs.ReplyTexts.{follows}

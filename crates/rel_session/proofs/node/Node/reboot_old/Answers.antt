@@ -1,5 +1,5 @@
 use Rattle.std.proofs.Common.{refl}
-use Rattle.rel_session.specs.Commands.Command.{reboot_old}
+use Rattle.session_input.specs.Commands.Command.{reboot_old}
 use Rattle.rel_session.specs.Transition.{Acts, IsStopped}
 use Rattle.rel_session.specs.Transition.Action.{reboots_node}
 use Rattle.rel_session.proofs.ReplyTexts.{follows_or_stops}

@@ -1,5 +1,5 @@
 use Rattle.std.proofs.Common.{refl, Err}
-use Rattle.rel_session.specs.Commands.Command.{set_unpacked}
+use Rattle.session_input.specs.Commands.Command.{set_unpacked}
 use Rattle.rel_session.specs.Files.{files_of}
 use Rattle.rel_session.specs.Node.{Place, Reply}
 use Rattle.rel_session.specs.Transition.{Transition}

@@ -1,5 +1,5 @@
 use Rattle.std.proofs.Common.{refl}
-use Rattle.rel_session.specs.Commands.Command.{start}
+use Rattle.session_input.specs.Commands.Command.{start}
 use Rattle.rel_session.specs.Transition.{Acts}
 use Rattle.rel_session.specs.Transition.Action.{tells_start}
 use Rattle.rel_session.proofs.ReplyTexts.{follows}

@@ -1,5 +1,5 @@
 use Rattle.std.proofs.Common.{rules, inl, sym, subst, Err}
-use Rattle.rel_session.specs.Commands.Command.{reboot_old}
+use Rattle.session_input.specs.Commands.Command.{reboot_old}
 use Rattle.rel_session.specs.InMemory.{AnswersOrStops}
 use Rattle.rel_session.specs.Node.{Place, Reply}
 use Rattle.rel_session.specs.Transition.{Acts, IsStopped}

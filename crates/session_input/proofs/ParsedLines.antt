@@ -1,0 +1,49 @@
+-- What a line says, case by case.
+use Rattle.std.proofs.Common.{◌≡◌, ℕ, ◌≤◌, Bool, true, false, List, length, refl, sym, subst, ap, ◌∙◌, arith}
+use Rattle.std.specs.Prelude.{nat_lt, Result, Ok, Err}
+use Rattle.std.specs.Result.{IfOk}
+use Rattle.std.specs.Str.{IsUtf8, is_utf8}
+use Rattle.std.proofs.lemmas.Bool.Decides.{nat_tests}
+use Rattle.std.proofs.lemmas.Str.{is_utf8-from_IsUtf8, IsUtf8-from_is_utf8}
+use Rattle.std.specs.declared.alloc.AllocError.{AllocError}
+use Rattle.session_input.specs.declared.line.Line.{Line}
+use Rattle.session_input.specs.declared.parsed_line.ParsedLine.{ParsedLine as ParsedLineInMemory}
+use Rattle.session_input.specs.Lines.{IsKept}
+use Rattle.session_input.specs.ParsedLine.{parsed_line_of}
+use Rattle.session_input.specs.Commands.{ParsedLine, parse_line, parse_words, words_of, is_blank, most_line}
+use Rattle.session_input.specs.Commands.ParsedLine.{blank, whole_command}
+use Rattle.session_input.specs.Commands.Command.{bad}
+
+is_short : (n : ℕ) → n ≤ 4096 → nat_lt 4096 n ≡ false
+is_short n h = grind (arith, nat_tests)
+
+not_utf8 : (l : List ℕ) → (IsUtf8 l → ⊥) → is_utf8 l ≡ false
+not_utf8 l no_text = go (is_utf8 l) refl
+  where
+    go : (b : Bool) → is_utf8 l ≡ b → is_utf8 l ≡ false
+    go true e = absurd (no_text (IsUtf8-from_is_utf8 l e))
+    go false e = e
+
+-- these are the line, and it isn't too long
+abbrev pub IsLine : List ℕ → List ℕ → Type 0
+IsLine xs l = (xs ≡ l) × (length l ≤ most_line)
+
+along : (P : List ℕ → Type 0) (xs l : List ℕ) → IsLine xs l → (length xs ≤ most_line → P xs) → P l
+along P xs l kept p = subst P kept.0 (p (subst (λ ys. length ys ≤ most_line) (sym kept.0) kept.1))
+
+pub parsed_blank : (xs l : List ℕ) → IsLine xs l → is_blank xs ≡ true → blank ≡ parse_line l
+parsed_blank xs l kept is_empty = along (λ ys. blank ≡ parse_line ys) xs l kept (λ short. sym (rw (is_short (length xs) short, is_empty) refl))
+
+says_text : (xs l : List ℕ) (said : ParsedLine) → IsLine xs l → is_blank xs ≡ false → IsUtf8 xs → said ≡ parse_words (words_of xs) → said ≡ parse_line l
+says_text xs l said kept is_empty text says =
+    along (λ ys. said ≡ parse_line ys) xs l kept (λ short. says ∙ sym (rw (is_short (length xs) short, is_empty, is_utf8-from_IsUtf8 xs text) refl))
+
+pub parsed_text : (r : Result ParsedLineInMemory AllocError) (line : Line) (xs text : List ℕ) → ((l : List ℕ) → IsKept most_line line l → IsLine xs l)
+    → is_blank xs ≡ false → IsUtf8 xs → text ≡ xs → IfOk r (λ said. parsed_line_of said ≡ parse_words (words_of text))
+    → IfOk r (λ said. (l : List ℕ) → IsKept most_line line l → parsed_line_of said ≡ parse_line l)
+parsed_text (Err e) line xs text kept is_empty utf8 same says = tt
+parsed_text (Ok said) line xs text kept is_empty utf8 same says = λ l k. says_text xs l (parsed_line_of said) (kept l k) is_empty utf8 (says ∙ ap (λ ys. parse_words (words_of ys)) same)
+
+pub parsed_no_text : (xs l : List ℕ) → IsLine xs l → is_blank xs ≡ false → (IsUtf8 xs → ⊥) → whole_command bad ≡ parse_line l
+parsed_no_text xs l kept is_empty no_text =
+    along (λ ys. whole_command bad ≡ parse_line ys) xs l kept (λ short. sym (rw (is_short (length xs) short, is_empty, not_utf8 xs no_text) refl))

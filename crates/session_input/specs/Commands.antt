@@ -1,0 +1,163 @@
+-- The commands of an input.
+use Rattle.std.specs.Prelude.{◌≡◌, ℕ, ◌<◌, ◌≤◌, Bool, List, [], ◌∷◌, ◌++◌, Option, None, Some, length, nat_lt, nat_le, ◌==◌, if◌then◌else◌, codes, string_bytes}
+use Rattle.std.specs.List.{list_all, slice_split}
+use Rattle.std.specs.Str.{bytes_eq, is_utf8}
+use Rattle.rel_files.specs.Name.{is_text}
+use Rattle.session_input.specs.declared.given.GivenFile.{GivenFile}
+use Rattle.session_input.specs.declared.given.GivenFile.TheVariants as kept
+use Rattle.session_input.specs.declared.command.Command.{Command as CommandInMemory}
+use Rattle.session_input.specs.declared.command.Command.TheVariants as memory
+use Rattle.session_input.specs.Feed.{Feed}
+use Rattle.session_input.specs.Feed.Feed.{over, cut, next}
+
+-- how long a line of a command and a file are at most
+abbrev pub most_line : ℕ
+most_line = 4096
+
+abbrev pub most_file : ℕ
+most_file = 1048576
+
+-- a given file: its bytes, or that there are too many
+pub data File : Type 0 where
+  bytes : List ℕ → File
+  too_large : File
+
+abbrev pub file_of : List ℕ → File
+file_of bs = if nat_lt most_file (length bs) then too_large else bytes bs
+
+-- A command. Paths and versions are texts.
+pub data Command : Type 0 where
+  file : List ℕ → File → Command
+  create : List ℕ → Command
+  set_unpacked : List ℕ → Command
+  install : List ℕ → Command
+  permanent : List ℕ → Command
+  remove : List ℕ → Command
+  reboot_old : List ℕ → Command
+  boot : Command
+  start : Command
+  releases : Command
+  quit : Command
+  bad : Command
+
+-- what a line says where a command may stand: blank, that a file begins, or a whole command
+pub data ParsedLine : Type 0 where
+  blank : ParsedLine
+  file_begins : List ℕ → ParsedLine
+  whole_command : Command → ParsedLine
+
+-- The words behind a command's own, by their kind: none, one path, or one version. A path is not empty.
+abbrev pub without_words : List (List ℕ) → ParsedLine → ParsedLine
+without_words [] parsed = parsed
+without_words words parsed = whole_command bad
+
+abbrev pub path_in : List (List ℕ) → Option (List ℕ)
+path_in ((b ∷ path) ∷ []) = Some (b ∷ path)
+path_in words = None
+
+abbrev pub version_in : List (List ℕ) → Option (List ℕ)
+version_in (vsn ∷ []) = if is_text 0x21 vsn then Some vsn else None
+version_in words = None
+
+-- a line with a word of some kind, where there is one
+abbrev pub with_word : Option (List ℕ) → (List ℕ → ParsedLine) → ParsedLine
+with_word None parsed = whole_command bad
+with_word (Some word) parsed = parsed word
+
+-- the command on the release of a version that a word names
+abbrev pub change_named : List ℕ → List ℕ → Command
+change_named word vsn =
+    if bytes_eq word (codes "install") then install vsn
+    else if bytes_eq word (codes "permanent") then permanent vsn
+    else if bytes_eq word (codes "remove") then remove vsn
+    else if bytes_eq word (codes "reboot_old") then reboot_old vsn
+    else bad
+
+-- what such a word says with the words behind it
+abbrev pub parse_change : List ℕ → List (List ℕ) → ParsedLine
+parse_change word words = with_word (version_in words) (λ vsn. whole_command (change_named word vsn))
+
+-- what the word of a command on a file says with the words behind it
+abbrev pub parse_path_command : List ℕ → List (List ℕ) → ParsedLine
+parse_path_command word words =
+    if bytes_eq word (codes "file") then with_word (path_in words) file_begins
+    else if bytes_eq word (codes "create") then with_word (path_in words) (λ path. whole_command (create path))
+    else if bytes_eq word (codes "set_unpacked") then with_word (path_in words) (λ path. whole_command (set_unpacked path))
+    else parse_change word words
+
+-- what a command's word says with the words behind it
+abbrev pub parse_command : List ℕ → List (List ℕ) → ParsedLine
+parse_command word words =
+    if bytes_eq word (codes "boot") then without_words words (whole_command boot)
+    else if bytes_eq word (codes "start") then without_words words (whole_command start)
+    else if bytes_eq word (codes "releases") then without_words words (whole_command releases)
+    else if bytes_eq word (codes "quit") then without_words words (whole_command quit)
+    else parse_path_command word words
+
+-- what words say
+abbrev pub parse_words : List (List ℕ) → ParsedLine
+parse_words [] = whole_command bad
+parse_words (word ∷ words) = parse_command word words
+
+-- what stands between single spaces
+abbrev pub words_of : List ℕ → List (List ℕ)
+words_of line = slice_split (λ b. b == 32) line
+
+abbrev pub is_blank : List ℕ → Bool
+is_blank line = list_all (λ b. nat_le b 32) line
+
+-- what a line says
+abbrev pub parse_line : List ℕ → ParsedLine
+parse_line line =
+    if nat_lt most_line (length line) then whole_command bad
+    else if is_blank line then blank
+    else if is_utf8 line then parse_words (words_of line)
+    else whole_command bad
+
+-- the line behind the last line of a file
+abbrev pub is_end : List ℕ → Bool
+is_end line = bytes_eq line (codes ".end")
+
+-- what a line that says this makes of the commands after it, or of the file that begins behind it
+abbrev pub put_parsed : ParsedLine → Feed Command → (List ℕ → Feed Command) → Feed Command
+put_parsed blank rest file_at = rest
+put_parsed (file_begins path) rest file_at = file_at path
+put_parsed (whole_command c) rest file_at = next c rest
+
+abbrev mutual
+  -- The commands that lines say. A file that has no end is a bad command.
+  pub commands_of : Feed (List ℕ) → Feed Command
+  commands_of over = over
+  commands_of cut = cut
+  commands_of (next l ls) = put_parsed (parse_line l) (commands_of ls) (λ path. commands_behind path [] ls)
+
+  -- those behind a file of which these bytes are there already
+  pub commands_behind : List ℕ → List ℕ → Feed (List ℕ) → Feed Command
+  commands_behind path bs over = next bad over
+  commands_behind path bs cut = cut
+  commands_behind path bs (next l ls) =
+      if is_end l then next (file path (file_of bs)) (commands_of ls) else commands_behind path (bs ++ (l ++ 10 ∷ [])) ls
+
+-- a file and a command without where they lie in memory
+abbrev pub given_of : GivenFile → File
+given_of (kept.Bytes v) = bytes v.items
+given_of kept.TooLarge = too_large
+
+abbrev pub command_of : CommandInMemory → Command
+command_of (memory.File p g) = file (string_bytes p) (given_of g)
+command_of (memory.Create p) = create (string_bytes p)
+command_of (memory.SetUnpacked p) = set_unpacked (string_bytes p)
+command_of (memory.Install v) = install (string_bytes v)
+command_of (memory.Permanent v) = permanent (string_bytes v)
+command_of (memory.Remove v) = remove (string_bytes v)
+command_of (memory.RebootOld v) = reboot_old (string_bytes v)
+command_of memory.Boot = boot
+command_of memory.Start = start
+command_of memory.Releases = releases
+command_of memory.Quit = quit
+command_of memory.Bad = bad
+
+-- a file as it is kept while its lines come
+abbrev pub IsGiven : GivenFile → List ℕ → Type 0
+IsGiven (kept.Bytes v) bs = (v.items ≡ bs) × (length bs ≤ most_file)
+IsGiven kept.TooLarge bs = most_file < length bs

@@ -1,0 +1,63 @@
+-- What an input has taken from its reader and is still to give.
+use Rattle.std.specs.Prelude.{◌≡◌, ℕ, ◌+◌, ◌-◌, List, [], length, Option, option_map, Result, Ok, Err}
+use Rattle.std.specs.Io.KnownBytes.{prepend_known}
+use Rattle.counted_io.specs.Counted as counted
+use Rattle.counted_io.specs.Failures.{HasRisen}
+use Rattle.session_input.specs.declared.error.SessionError.{SessionError}
+use Rattle.session_input.specs.declared.error.SessionError.TheVariants.{Read, Write, Limit}
+use Rattle.session_input.specs.declared.input.Input.{Input}
+use Rattle.session_input.specs.Feed.{Feed, bytes_within}
+use Rattle.session_input.specs.Lines.{lines_of}
+use Rattle.session_input.specs.Commands.{Command, commands_of, commands_behind}
+
+-- how many bytes of an input are read at most
+abbrev pub most_bytes : ℕ
+most_bytes = 16777216
+
+-- how many bytes were taken from the reader
+abbrev pub taken : {R : Type 0} → Input R → ℕ
+taken i = i.ahead.taken
+
+-- the bytes that the reader has left, where they are known
+abbrev pub left_in : {R : Type 0} → (R → Option (List ℕ)) → Input R → Option (List ℕ)
+left_in remaining i = counted.left_in remaining i.reader
+
+-- how many reads have failed; the count stays once it is 2 ^ 64 - 1
+abbrev pub failed_reads : {R : Type 0} → Input R → ℕ
+failed_reads i = counted.failed_reads i.reader
+
+abbrev pub reader_of : {R : Type 0} → Input R → R
+reader_of i = counted.reader_of i.reader
+
+-- nothing was taken yet
+abbrev pub IsFresh : {R : Type 0} → Input R → Type 0
+IsFresh i = (i.ahead.taken ≡ 0) × (i.ahead.bytes ≡ [])
+
+-- how many bytes may still be used
+abbrev pub left : {R : Type 0} → Input R → ℕ
+left i = length i.ahead.bytes + (most_bytes - i.ahead.taken)
+
+-- the bytes still to come, where those that the reader has left are known
+abbrev pub bytes_left : {R : Type 0} → (R → Option (List ℕ)) → Input R → Option (Feed ℕ)
+bytes_left remaining i = option_map (bytes_within (left i)) (prepend_known i.ahead.bytes (left_in remaining i))
+
+-- the lines still to come
+abbrev pub lines_left : {R : Type 0} → (R → Option (List ℕ)) → Input R → Option (Feed (List ℕ))
+lines_left remaining i = option_map lines_of (bytes_left remaining i)
+
+-- the commands still to come
+abbrev pub commands_left : {R : Type 0} → (R → Option (List ℕ)) → Input R → Option (Feed Command)
+commands_left remaining i = option_map commands_of (lines_left remaining i)
+
+-- those still to come where the lines of a file come first
+abbrev pub file_left : {R : Type 0} → (R → Option (List ℕ)) → List ℕ → Input R → Option (Feed Command)
+file_left remaining path i = option_map (commands_behind path []) (lines_left remaining i)
+
+-- Why a call gave up: a read failed in it, or all bytes were taken that may be; it writes nothing. Where it didn't, no
+-- read has failed.
+abbrev pub HasCause : {R V : Type 0} → Result V SessionError → Input R → Input R → Type 0
+HasCause (Err Read) old new = HasRisen (failed_reads old) (failed_reads new)
+HasCause (Err Limit) old new = taken new ≡ most_bytes
+HasCause (Err Write) old new = ⊥
+HasCause (Err e) old new = Unit {0}
+HasCause (Ok v) old new = failed_reads new ≡ failed_reads old

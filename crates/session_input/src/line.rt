@@ -1,0 +1,41 @@
+//! A line as it is kept.
+ghost use Rattle.std.specs.Prelude.{◌≡◌, ◌≤◌, ℕ, List, [], ◌∷◌, ◌++◌, OnOk, IfErr};
+
+use crate::error::SessionError;
+
+/// A line of the input, without its newline.
+#[derive(Debug, Drop)]
+pub enum Line {
+    /// All its bytes.
+    Text(Vec<u8>),
+    /// It was longer than what was asked for, and isn't kept.
+    Long,
+}
+
+impl Line {
+    ghost use Rattle.session_input.specs.Lines.{IsKept};
+    ghost use Rattle.session_input.specs.Commands.{is_end};
+
+    /// Puts a byte at its end, unless it gets longer than `most` by that: then it isn't kept.
+    pub fn push(&mut self, byte: u8, most: usize) -> Result<(), SessionError>
+        ensures pushed { OnOk result ((l : List ℕ) → IsKept most self.old l
+            → IsKept most self.new (l ++ byte ∷ [])) }
+        ensures memory { IfErr result (λ e. e ≡ SessionError.NoMemory) }
+    {
+        match self {
+            Line::Text(bytes) if bytes.len() < most => bytes.push(byte)?,
+            _ => *self = Line::Long,
+        }
+        Ok(())
+    }
+
+    /// Whether it stands behind the last line of a file.
+    pub fn is_end(&self) -> bool
+        ensures { (most : ℕ) (l : List ℕ) → 4 ≤ most → IsKept most self.now l → result ≡ is_end l }
+    {
+        match self {
+            Line::Text(bytes) => bytes.as_slice() == b".end".as_slice(),
+            Line::Long => false,
+        }
+    }
+}

@@ -1,0 +1,175 @@
+//! What a line says where a command may stand.
+ghost use Rattle.std.specs.Prelude.{◌≡◌, ℕ, List, map, string_bytes, IfOk, MatchOption};
+ghost use Rattle.std.specs.Option.{option_map};
+ghost use Rattle.session_input.specs.Commands.{command_of, is_blank as blank, path_in as path_of, version_in as version_of, change_named as named_change};
+
+use crate::command::Command;
+use crate::line::Line;
+use crate::words::words_in;
+use rel_files::text::is_version;
+use std::alloc::{AllocError, Global};
+
+/// How many bytes the line of a command has at most.
+pub const MOST_LINE: usize = 4_096;
+
+/// What a line says where a command may stand.
+#[derive(Debug, Drop)]
+pub enum ParsedLine {
+    /// It is blank.
+    Blank,
+    /// The file of this path follows, up to its end.
+    FileBegins(String),
+    /// A whole command, or a bad one.
+    Command(Command),
+}
+
+impl ParsedLine {
+    ghost use Rattle.session_input.specs.ParsedLine.{parsed_line_of};
+    ghost use Rattle.session_input.specs.Commands.{parse_line, parse_words, parse_command, parse_path_command, parse_change, without_words, command_of, words_of, most_line};
+    ghost use Rattle.session_input.specs.Commands.Command.{bad};
+    ghost use Rattle.session_input.specs.Commands.ParsedLine.{whole_command};
+    ghost use Rattle.session_input.specs.Lines.{IsKept};
+
+    /// What the line says. One that is too long says no command.
+    pub fn of(alloc: Global, line: &Line) -> Result<ParsedLine, AllocError>
+        ensures { IfOk result (λ parsed. (l : List ℕ) → IsKept most_line line.now l
+            → parsed_line_of parsed ≡ parse_line l) }
+    {
+        let Line::Text(bytes) = line else {
+            return Ok(ParsedLine::Command(Command::Bad));
+        };
+        if is_blank(bytes) {
+            return Ok(ParsedLine::Blank);
+        }
+        match str::from_utf8(bytes) {
+            Ok(text) => ParsedLine::of_text(alloc, text),
+            Err(_) => Ok(ParsedLine::Command(Command::Bad)),
+        }
+    }
+
+    fn of_text(alloc: Global, text: &str) -> Result<ParsedLine, AllocError>
+        ensures { IfOk result (λ parsed. parsed_line_of parsed ≡ parse_words (words_of text.now)) }
+    {
+        let words = words_in(alloc, text)?;
+        ParsedLine::of_words(alloc, words.as_slice())
+    }
+
+    fn of_words(alloc: Global, words: &[&str]) -> Result<ParsedLine, AllocError>
+        ensures { IfOk result (λ parsed.
+            parsed_line_of parsed ≡ parse_words (map (λ word. word.now) words.now)) }
+    {
+        match words {
+            [] => Ok(ParsedLine::Command(Command::Bad)),
+            [word, words @ ..] => ParsedLine::of_command(alloc, word, words),
+        }
+    }
+
+    // What a command's word says with the words behind it, each by its kind.
+    fn of_command(alloc: Global, word: &str, words: &[&str]) -> Result<ParsedLine, AllocError>
+        ensures { IfOk result (λ parsed.
+            parsed_line_of parsed ≡ parse_command word.now (map (λ word. word.now) words.now)) }
+    {
+        match word {
+            "boot" => Ok(ParsedLine::without_words(words, Command::Boot)),
+            "start" => Ok(ParsedLine::without_words(words, Command::Start)),
+            "releases" => Ok(ParsedLine::without_words(words, Command::Releases)),
+            "quit" => Ok(ParsedLine::without_words(words, Command::Quit)),
+            _ => ParsedLine::of_path_command(alloc, word, words),
+        }
+    }
+
+    // What the word of a command on a file says with the words behind it.
+    fn of_path_command(alloc: Global, word: &str, words: &[&str]) -> Result<ParsedLine, AllocError>
+        ensures { IfOk result (λ parsed. parsed_line_of parsed
+            ≡ parse_path_command word.now (map (λ word. word.now) words.now)) }
+    {
+        match word {
+            "file" => match path_in(alloc, words)? {
+                Some(path) => Ok(ParsedLine::FileBegins(path)),
+                None => Ok(ParsedLine::Command(Command::Bad)),
+            },
+            "create" => Ok(ParsedLine::of_option(path_in(alloc, words)?.map(Command::Create))),
+            "set_unpacked" => Ok(ParsedLine::of_option(path_in(alloc, words)?.map(
+                Command::SetUnpacked,
+            ))),
+            _ => ParsedLine::of_change(alloc, word, words),
+        }
+    }
+
+    // What the word of a command on a listed release says with the words behind it.
+    fn of_change(alloc: Global, word: &str, words: &[&str]) -> Result<ParsedLine, AllocError>
+        ensures { IfOk result (λ parsed.
+            parsed_line_of parsed ≡ parse_change word.now (map (λ word. word.now) words.now)) }
+    {
+        Ok(ParsedLine::Command(match version_in(alloc, words)? {
+            Some(vsn) => change_named(word, vsn),
+            None => Command::Bad,
+        }))
+    }
+
+    // A command that takes no words.
+    fn without_words(words: &[&str], command: Command) -> ParsedLine
+        ensures { parsed_line_of result
+            ≡ without_words (map (λ word. word.now) words.now)
+            (whole_command (command_of command)) }
+    {
+        match words {
+            [] => ParsedLine::Command(command),
+            _ => ParsedLine::Command(Command::Bad),
+        }
+    }
+
+    // A command whose words were of their kinds, or a bad one.
+    fn of_option(command: Option<Command>) -> ParsedLine
+        ensures { MatchOption command (parsed_line_of result ≡ whole_command bad)
+            (λ command. parsed_line_of result ≡ whole_command (command_of command)) }
+    {
+        match command {
+            Some(command) => ParsedLine::Command(command),
+            None => ParsedLine::Command(Command::Bad),
+        }
+    }
+}
+
+// The command on the release of this version that a word names.
+fn change_named(word: &str, vsn: String) -> Command
+    ensures { command_of result ≡ named_change word.now (string_bytes vsn) }
+{
+    match word {
+        "install" => Command::Install(vsn),
+        "permanent" => Command::Permanent(vsn),
+        "remove" => Command::Remove(vsn),
+        "reboot_old" => Command::RebootOld(vsn),
+        _ => Command::Bad,
+    }
+}
+
+// The path that these words are: one word, and not an empty one.
+fn path_in(alloc: Global, words: &[&str]) -> Result<Option<String>, AllocError>
+    ensures { IfOk result (λ path.
+        option_map string_bytes path ≡ path_of (map (λ word. word.now) words.now)) }
+{
+    match words {
+        [""] => Ok(None),
+        [path] => Ok(Some(String::from_str(alloc, path)?)),
+        _ => Ok(None),
+    }
+}
+
+// The version that these words are: one word that is the text of a version.
+fn version_in(alloc: Global, words: &[&str]) -> Result<Option<String>, AllocError>
+    ensures { IfOk result (λ vsn.
+        option_map string_bytes vsn ≡ version_of (map (λ word. word.now) words.now)) }
+{
+    match words {
+        [vsn] if is_version(vsn) => Ok(Some(String::from_str(alloc, vsn)?)),
+        _ => Ok(None),
+    }
+}
+
+// Whether there is nothing to see in it.
+fn is_blank(line: &[u8]) -> bool
+    ensures { result ≡ blank line.now }
+{
+    line.iter().all(|byte| *byte <= b' ')
+}
