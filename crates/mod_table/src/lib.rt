@@ -29,6 +29,7 @@ mod worker;
 pub use child::{Child, ChildKind, Restart};
 pub use old::Old;
 pub use reader::{ModFile, read_mod, read_mod_file, table_of_term};
+pub use same::is_same;
 pub use step::Step;
 pub use supervisor::Super;
 pub use table::Table;

@@ -5,8 +5,9 @@ ghost use Rattle.mod_table.specs.Same.{is_same, are_same};
 
 use erl_term::Term;
 
+/// Whether two terms are equal. It takes no memory.
 #[cycle(comparing)]
-pub(crate) fn is_same(left: &Term, right: &Term) -> bool
+pub fn is_same(left: &Term, right: &Term) -> bool
     ensures { result ≡ is_same (value_of left.now) (value_of right.now) }
 {
     match (left, right) {

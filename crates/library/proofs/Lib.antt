@@ -1,0 +1,3 @@
+pub mod TableRows
+pub mod Placing
+pub mod Terms

@@ -1,0 +1,4 @@
+pub mod Library
+pub mod InMemory
+pub mod Reading
+pub mod Laws

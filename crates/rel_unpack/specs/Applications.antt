@@ -1,0 +1,71 @@
+-- The libraries of a release's applications, from their files.
+use Rattle.std.specs.Prelude.{◌≡◌, ℕ, Bool, true, false, ◌&&◌, List, Option, None, Some, if◌then◌else◌, Ok, Err}
+use Rattle.std.specs.Str.{bytes_eq}
+use Rattle.file_source.specs.declared.files.FilesError.TheVariants.{Missing}
+use Rattle.rel_files.specs.Kind.{HasFault}
+use Rattle.rel_files.specs.Release.{Application}
+use Rattle.app_file.specs.File.{Specification, SaysApp, app_files}
+use Rattle.mod_table.specs.File.{SaysWith, name_of, mod_files}
+use Rattle.library.specs.Library.{Library, TableTerm, is_same_library}
+use Rattle.rel_unpack.specs.Refusal.{Refusal}
+use Rattle.rel_unpack.specs.Refusal.Refusal.{missing_file, vsn_mismatch, lib_differs}
+use Rattle.rel_unpack.specs.Order.{Outcome, Then, Each}
+use Rattle.rel_unpack.specs.Paths.{app_path, mod_path}
+use Rattle.rel_unpack.specs.Source.{Source, Form, FileSays}
+
+abbrev pub app_form : Form Specification
+app_form = record { says = λ bytes s. SaysApp bytes s; fails = λ bytes f. HasFault app_files bytes f }
+
+abbrev pub mod_form : Form TableTerm
+mod_form = record { says = λ bytes t. SaysWith bytes t.term t.table; fails = λ bytes f. HasFault mod_files bytes f }
+
+-- it is of the name and the version that the release says
+abbrev pub is_named : Application → Specification → Bool
+is_named a s = bytes_eq s.name a.name && bytes_eq s.vsn a.vsn
+
+-- what the `.app` file of an application says
+abbrev pub AppAt : Source → Application → Outcome Specification
+AppAt source a = Then (FileSays app_form source (app_path a)) (λ s r. r ≡ (if is_named a s then Ok s else Err (vsn_mismatch (app_path a))))
+
+-- it is of the module that its path says
+abbrev pub is_of : List ℕ → TableTerm → Bool
+is_of m t = bytes_eq (name_of t.table) m
+
+-- what the `.mod` file of a module says
+abbrev pub TableAt : Source → Application → List ℕ → Outcome TableTerm
+TableAt source a m =
+    Then (FileSays mod_form source (mod_path a m)) (λ t r. r ≡ (if is_of m t then Ok t else Err (vsn_mismatch (mod_path a m))))
+
+-- there is no file
+abbrev pub is_missing : Refusal → Bool
+is_missing (missing_file p) = true
+is_missing e = false
+
+-- what a module has: without a file it has no table
+abbrev pub ModuleAt : Source → Application → List ℕ → Outcome (Option TableTerm)
+ModuleAt source a m (Ok (Some t)) = TableAt source a m (Ok t)
+ModuleAt source a m (Ok None) = source (mod_path a m) (Err Missing)
+ModuleAt source a m (Err (missing_file p)) = ⊥
+ModuleAt source a m (Err e) = TableAt source a m (Err e)
+
+-- the library of an application, from its files
+abbrev pub LibraryAt : Source → Application → Outcome Library
+LibraryAt source a = Then (AppAt source a) (λ s. Then (Each (ModuleAt source a) s.modules) (λ ts r. r ≡ Ok (record { app = s; tables = ts })))
+
+-- the libraries that are there, by name and version
+abbrev pub Shelf : Type 0
+Shelf = List ℕ → List ℕ → Option Library
+
+-- it is the same as what is there of its name and version, if there is something
+abbrev pub agrees : Option Library → Library → Bool
+agrees None l = true
+agrees (Some k) l = is_same_library k l
+
+-- the library of an application, which has to be the one that is there
+abbrev pub LibraryBeside : Source → Shelf → Application → Outcome Library
+LibraryBeside source there a =
+    Then (LibraryAt source a) (λ l r. r ≡ (if agrees (there a.name a.vsn) l then Ok l else Err (lib_differs a.name)))
+
+-- the libraries of applications, in their order
+abbrev pub LibrariesBeside : Source → Shelf → List Application → Outcome (List Library)
+LibrariesBeside source there apps = Each (LibraryBeside source there) apps

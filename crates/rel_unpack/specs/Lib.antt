@@ -1,0 +1,6 @@
+pub mod Refusal
+pub mod Order
+pub mod Paths
+pub mod Source
+pub mod Release
+pub mod Applications

@@ -1,0 +1,34 @@
+-- Why a release isn't taken.
+use Rattle.std.specs.Prelude.{ℕ, List, string_bytes}
+use Rattle.rel_files.specs.Fault.{Fault, fault_of}
+use Rattle.rel_unpack.specs.declared.error.FileTrouble.{FileTrouble}
+use Rattle.rel_unpack.specs.declared.error.FileTrouble.TheVariants as trouble
+use Rattle.rel_unpack.specs.declared.error.UnpackError.{UnpackError}
+use Rattle.rel_unpack.specs.declared.error.UnpackError.TheVariants as memory
+
+-- what is wrong with a file that is there
+pub data Trouble : Type 0 where
+  unreadable : Trouble
+  faulty : Fault → Trouble
+
+-- why a release isn't taken
+pub data Refusal : Type 0 where
+  missing_file : List ℕ → Refusal
+  bad_file : List ℕ → Trouble → Refusal
+  vsn_mismatch : List ℕ → Refusal
+  lib_differs : List ℕ → Refusal
+  too_many : Refusal
+  no_memory : Refusal
+
+abbrev pub trouble_of : FileTrouble → Trouble
+trouble_of trouble.Unreadable = unreadable
+trouble_of (trouble.Fault f) = faulty (fault_of f)
+
+-- a refusal without where it lies in memory
+abbrev pub refusal_of : UnpackError → Refusal
+refusal_of (memory.MissingFile path) = missing_file (string_bytes path)
+refusal_of (memory.BadFile path t) = bad_file (string_bytes path) (trouble_of t)
+refusal_of (memory.VsnMismatch path) = vsn_mismatch (string_bytes path)
+refusal_of (memory.LibDiffers name) = lib_differs (string_bytes name)
+refusal_of memory.TooMany = too_many
+refusal_of memory.NoMemory = no_memory

@@ -1,0 +1,35 @@
+-- What the files of a source say.
+use Rattle.std.specs.Prelude.{◌≡◌, ℕ, List, Result, Ok, Err}
+use Rattle.file_source.specs.declared.files.FilesError.{FilesError}
+use Rattle.file_source.specs.declared.files.FilesError.TheVariants as files
+use Rattle.rel_files.specs.Fault.{Fault}
+use Rattle.rel_unpack.specs.Refusal.Trouble.{unreadable, faulty}
+use Rattle.rel_unpack.specs.Refusal.Refusal.{missing_file, bad_file, too_many}
+use Rattle.rel_unpack.specs.Order.{Outcome, Then}
+
+-- what a read of each path may give
+abbrev pub Source : Type 1
+Source = List ℕ → Result (List ℕ) FilesError → Type 0
+
+-- the bytes of the file of a path
+abbrev pub HasBytes : Source → List ℕ → Outcome (List ℕ)
+HasBytes source path (Ok bytes) = source path (Ok bytes)
+HasBytes source path (Err (missing_file p)) = (p ≡ path) × source path (Err files.Missing)
+HasBytes source path (Err (bad_file p unreadable)) = (p ≡ path) × source path (Err files.Unreadable)
+HasBytes source path (Err too_many) = source path (Err files.TooLarge)
+HasBytes source path (Err e) = ⊥
+
+-- A kind of files: what their bytes say, or which fault they have.
+pub record Form (X : Type 0) : Type 1 where
+  pub says : List ℕ → X → Type 0
+  pub fails : List ℕ → Fault → Type 0
+
+-- what bytes say
+abbrev pub HasValue : {X : Type 0} → Form X → List ℕ → List ℕ → Outcome X
+HasValue form path bytes (Ok x) = form.says bytes x
+HasValue form path bytes (Err (bad_file p (faulty f))) = (p ≡ path) × form.fails bytes f
+HasValue form path bytes (Err e) = ⊥
+
+-- what the file of a path says
+abbrev pub FileSays : {X : Type 0} → Form X → Source → List ℕ → Outcome X
+FileSays form source path = Then (HasBytes source path) (HasValue form path)

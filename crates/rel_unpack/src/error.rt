@@ -1,0 +1,60 @@
+//! Why a release isn't taken.
+ghost use Rattle.std.specs.Prelude.{◌≡◌};
+
+use rel_files::FileFault;
+use std::alloc::{AllocError, AllocFailed};
+use thiserror::Error;
+
+/// What is wrong with a file that is there.
+#[derive(Debug, Drop, Error)]
+pub enum FileTrouble {
+    /// It can't be read.
+    #[error("Unreadable")]
+    Unreadable,
+    /// Its bytes have this fault.
+    #[error("{0}")]
+    Fault(FileFault),
+}
+
+/// Why a release isn't taken.
+#[derive(Debug, Drop, Error)]
+pub enum UnpackError {
+    /// There is no file of this path.
+    #[error("MissingFile {0}")]
+    MissingFile(String),
+    /// The file of this path can't be used.
+    #[error("BadFile {0} {1}")]
+    BadFile(String, FileTrouble),
+    /// The file of this path is of another application, version or module than its path says.
+    #[error("VsnMismatch {0}")]
+    VsnMismatch(String),
+    /// The library of this application and version is there, with another specification or other tables.
+    #[error("LibDiffers {0}")]
+    LibDiffers(String),
+    /// A limit is passed.
+    #[error("TooMany")]
+    TooMany,
+    /// No memory was left. It says nothing of the files.
+    #[error("NoMemory")]
+    NoMemory,
+}
+
+impl From<AllocError> for UnpackError {
+    ghost use Rattle.rel_unpack.specs.declared.error.UnpackError.TheVariants.{NoMemory};
+
+    ghost from_gives = { λ _ e. e ≡ NoMemory };
+
+    fn from(_: AllocError) -> UnpackError {
+        UnpackError::NoMemory
+    }
+}
+
+impl<T: Drop> From<AllocFailed<T>> for UnpackError {
+    ghost use Rattle.rel_unpack.specs.declared.error.UnpackError.TheVariants.{NoMemory};
+
+    ghost from_gives = { λ _ e. e ≡ NoMemory };
+
+    fn from(_: AllocFailed<T>) -> UnpackError {
+        UnpackError::NoMemory
+    }
+}

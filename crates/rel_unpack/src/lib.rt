@@ -1,0 +1,20 @@
+//! What a release and its files give: its applications with their modules, or the first refusal.
+//!
+//! [`read_release`] reads a `.rel` file, and [`read_libraries`] the files of its applications. Each answers what its
+//! definition says (specs/Release, specs/Applications), or that no memory was left: a file after another is read, and the
+//! first refusal counts. The definitions stand over files as a relation between paths and what a read of them gives, and
+//! over the libraries that are there already.
+//!
+//! Only tested: that files are read where memory is there. Trusted: the toolchain and `thiserror`.
+#![tactic(auto)]
+
+mod applications;
+mod error;
+mod paths;
+mod release;
+mod source;
+mod tables;
+
+pub use applications::{Libraries, read_libraries};
+pub use error::{FileTrouble, UnpackError};
+pub use release::{MOST_APPLICATIONS, is_small, read_release};
