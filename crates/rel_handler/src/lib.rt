@@ -26,12 +26,10 @@ mod booting;
 mod commit;
 mod creation;
 mod error;
-mod files;
 mod handler;
 pub mod laws;
 mod start;
 
 pub use booting::boot;
 pub use error::{BootError, HandlerError};
-pub use files::{Files, FilesError};
 pub use handler::{Handler, Installed};

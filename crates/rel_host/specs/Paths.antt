@@ -2,8 +2,8 @@
 use Rattle.std.specs.Prelude.{◌≡◌, ◌≢◌, ◌==◌, ℕ, Bool, false, List, [], Option, Some, None, Result, Err, codes, slice_index}
 use Rattle.std.specs.List.{All, list_any, slice_split}
 use Rattle.std.specs.Str.{bytes_eq}
-use Rattle.rel_handler.specs.declared.files.FilesError.{FilesError}
-use Rattle.rel_handler.specs.declared.files.FilesError.TheVariants.{Missing}
+use Rattle.file_source.specs.declared.files.FilesError.{FilesError}
+use Rattle.file_source.specs.declared.files.FilesError.TheVariants.{Missing}
 
 -- the parts of a path, between which '/' stands
 abbrev pub parts : List ℕ → List (List ℕ)

@@ -3,7 +3,7 @@ ghost use Rattle.std.specs.Prelude.{◌≡◌, ◌≢◌, ◌≤◌, ◌↔◌, 
 ghost use Rattle.rel_host.specs.Paths.{climbs, IsBelow, Gives};
 
 use crate::read_within;
-use rel_handler::{Files, FilesError};
+use file_source::{Files, FilesError};
 use std::alloc::{AllocError, Global};
 use std::io::ErrorKind;
 use std::{fs, io, rt};

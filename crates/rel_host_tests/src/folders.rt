@@ -1,6 +1,6 @@
 // What is read below a folder.
 use crate::places::{joined, own_path, write_zeros};
-use rel_handler::Files;
+use file_source::Files;
 use rel_host::RootFiles;
 use std::alloc::{AllocError, Global};
 use std::test::Fail;
