@@ -11,7 +11,8 @@ mod watch;
 mod works;
 
 use mod_table::{Restart, Table, Worker, read_mod};
-use proc_table::{Beginning, HandlerSeat, Name, Pid, ProcTable};
+use proc_history::{Beginning, Name};
+use proc_table::{HandlerSeat, Pid, ProcTable};
 use std::alloc::Global;
 use std::io::Eprint;
 use std::process::ExitCode;

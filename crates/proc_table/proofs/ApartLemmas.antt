@@ -1,16 +1,11 @@
 -- A call and the entries of a release stand apart.
-use Rattle.std.proofs.Common.{◌≡◌, ◌≢◌, ◌⊎◌, ℕ, List, [], ◌∷◌, ◌++◌, refl, ap, sym, subst, ◌∙◌, inl, inr, ⊎_elim}
+use Rattle.std.proofs.Common.{◌≡◌, ◌≢◌, ◌⊎◌, List, [], ◌∷◌, ◌++◌, refl, ap, sym, subst, ◌∙◌, inl, inr, ⊎_elim}
 use mathlib.Core.List.{IsPrefix}
-use Rattle.proc_table.specs.declared.view.View.{View}
-use Rattle.proc_table.specs.declared.value.Outcome.{Outcome}
-use Rattle.proc_table.specs.Events.{HistoryEntry, entry}
-use Rattle.proc_table.specs.Events.Event.{call}
+use Rattle.proc_history.specs.Events.{HistoryEntry, entry}
+use Rattle.proc_history.specs.Events.Event.{call}
 use Rattle.proc_table.specs.Views.{seen}
-use Rattle.proc_table.specs.Calls.{Called}
-use Rattle.proc_table.specs.Holds.{Released}
-use Rattle.proc_table.specs.Moves.{ByHandler}
 use Rattle.proc_table.specs.Together.{CallsStandApart}
-use Rattle.proc_table.proofs.Entries.{AllBy, by_handler}
+use Rattle.proc_history.proofs.Entries.{AllBy, by_handler}
 
 -- an entry that isn't the handler's stands behind entries that are
 behind_all : (es b h : List HistoryEntry) (e : HistoryEntry) → AllBy 0 es → e.by ≢ 0 → IsPrefix es h → IsPrefix (b ++ e ∷ []) h → IsPrefix es b

@@ -3,13 +3,13 @@ use Rattle.std.proofs.Common.{◌≡◌, ℕ, ◌<◌, Bool, true, false, List, 
 use native.Mathlib.Decide.{ℕ_discrete}
 use mathlib.Core.Logic.{dite}
 use Rattle.proc_table.specs.declared.view.View.{View}
-use Rattle.proc_table.specs.declared.value.Value.{Value}
-use Rattle.proc_table.specs.Events.{HistoryEntry, own}
+use Rattle.proc_history.specs.declared.value.Value.{Value}
+use Rattle.proc_history.specs.Events.{HistoryEntry, own}
 use Rattle.proc_table.specs.Parts.{Part, part_of}
-use Rattle.proc_table.specs.Histories.{replay, IsLegal}
+use Rattle.proc_history.specs.Histories.{replay, IsLegal}
 use Rattle.proc_table.specs.Views.{seen, mine, is_out, word_of, found_more}
 use Rattle.proc_table.specs.Agrees.{slots}
-use Rattle.proc_table.specs.Moves.{MayAdd, ByHandler}
+use Rattle.proc_history.specs.Events.{MayAdd, ByHandler}
 use Rattle.proc_table.specs.Steps.{Me, Known, Took, Adding, given, with_laid}
 use Rattle.proc_table.specs.Seats.{IsHandler}
 use Rattle.proc_table.specs.Holds.{HeldNow, Released}

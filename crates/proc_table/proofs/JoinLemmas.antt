@@ -7,14 +7,14 @@ use native.Mathlib.Decide.{ℕ_discrete}
 use mathlib.Core.Logic.{dite}
 use lib.ListN.{get_elem?}
 use Rattle.proc_table.specs.declared.view.View.{View}
-use Rattle.proc_table.specs.declared.value.Value.{Value}
-use Rattle.proc_table.specs.Events.{HistoryEntry, own}
+use Rattle.proc_history.specs.declared.value.Value.{Value}
+use Rattle.proc_history.specs.Events.{HistoryEntry, own}
 use Rattle.proc_table.specs.Parts.{Part, Guest, part_of, only_seen, longer, joined_part, joined_parts}
 use Rattle.proc_table.specs.Views.{seen, is_out, one_more, new_pass, joined, gone}
 use Rattle.proc_table.specs.Agrees.{States, state, Sits, FitsPart, FitsSeat, SlotAgrees, Agrees}
 use Rattle.proc_table.specs.Moves.{Splits, Joins}
-use Rattle.proc_table.proofs.Prefixes.{prefix_self, prefix_shorter, prefix_both}
-use Rattle.proc_table.proofs.Entries.{own_between}
+use Rattle.proc_history.proofs.Prefixes.{prefix_self, prefix_shorter, prefix_both}
+use Rattle.proc_history.proofs.Entries.{own_between}
 use Rattle.proc_table.proofs.Seats.{Reseats, reseats, Leaves, leaves, Comes, comes, one_view}
 use Rattle.proc_table.proofs.Turns.{Change, slot_changes, stays, turns}
 use Rattle.proc_table.proofs.SlotTurns.{turns_nowhere}

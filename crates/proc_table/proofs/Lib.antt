@@ -1,5 +1,3 @@
-pub mod Prefixes
-pub mod Entries
 pub mod Seats
 pub mod Turns
 pub mod SlotTurns
@@ -12,8 +10,7 @@ pub mod Slots
 pub mod PartViews
 pub mod PassLemmas
 pub mod HoldLemmas
-pub mod ReleaseLemmas
-pub mod Beginnings
+pub mod FreeLemmas
 pub mod WaitLemmas
 pub mod TwoClients
 pub mod ApartLemmas

@@ -1,10 +1,10 @@
 -- What a new pass knows, and a seat after a join.
 use Rattle.std.proofs.Common.{◌≡◌, ℕ, List, [], length, refl, ap, sym, subst, ◌∙◌, arith, None, true≢false}
 use Rattle.proc_table.specs.declared.view.View.{View}
-use Rattle.proc_table.specs.declared.value.Value.{Value}
-use Rattle.proc_table.specs.Events.{own}
+use Rattle.proc_history.specs.declared.value.Value.{Value}
+use Rattle.proc_history.specs.Events.{own}
 use Rattle.proc_table.specs.Parts.{Part, Guest, part_of, unseen, joined_part}
-use Rattle.proc_table.specs.Histories.{IsLegal}
+use Rattle.proc_history.specs.Histories.{IsLegal}
 use Rattle.proc_table.specs.Views.{one_more, new_pass, joined, handler_view}
 use Rattle.proc_table.specs.Agrees.{slots}
 use Rattle.proc_table.specs.Steps.{Me, Known, Learnt}

@@ -1,10 +1,10 @@
 -- Who has a process at a word, and where a call of it is answered.
-use Rattle.std.proofs.Common.{◌≡◌, ◌≢◌, ℕ, zero, suc, true, slice_index, Option, Some, None, refl, subst, sym, ◌∙◌, arith}
+use Rattle.std.proofs.Common.{◌≡◌, ◌≢◌, ℕ, zero, suc, slice_index, Option, Some, None, refl, subst, sym, ◌∙◌, arith}
 use Rattle.proc_table.specs.declared.view.View.{View}
-use Rattle.proc_table.specs.declared.value.Outcome.{Outcome}
-use Rattle.proc_table.specs.declared.value.Outcome.TheVariants.{Done, Crashed, Ended}
+use Rattle.proc_history.specs.declared.value.Outcome.{Outcome}
+use Rattle.proc_history.specs.declared.value.Outcome.TheVariants.{Done, Crashed, Ended}
 use Rattle.proc_table.specs.Views.{is_out, word_of}
-use Rattle.proc_table.specs.Agrees.{States, Sits, Agrees}
+use Rattle.proc_table.specs.Agrees.{States}
 use Rattle.proc_table.specs.Moves.{Reached}
 use Rattle.proc_table.specs.Moments.{HasAtWord, HasAtCall, HasAtPeek, NobodyHas, HandlerHas, Once}
 use Rattle.proc_table.specs.Calls.{tried_of, peeked_of}

@@ -3,9 +3,9 @@ use Rattle.std.proofs.Common.{◌≡◌, ℕ, ◌<◌, Bool, List, length, refl,
 use native.Mathlib.Decide.{ℕ_discrete}
 use mathlib.Core.Logic.{dite}
 use Rattle.proc_table.specs.declared.view.View.{View}
-use Rattle.proc_table.specs.Events.{HistoryEntry, own}
+use Rattle.proc_history.specs.Events.{HistoryEntry, own}
 use Rattle.proc_table.specs.Parts.{Part, part, part_of, unseen}
-use Rattle.proc_table.specs.Histories.{IsLegal}
+use Rattle.proc_history.specs.Histories.{IsLegal}
 use Rattle.proc_table.specs.Views.{seen, mine, is_out, with_part}
 use Rattle.proc_table.specs.Agrees.{slots}
 use Rattle.proc_table.specs.Steps.{Known}

@@ -4,23 +4,23 @@ use native.Mathlib.Decide.{ℕ_discrete}
 use mathlib.Core.Logic.{dite}
 use Rattle.atomic_table.specs.Table.{rest}
 use Rattle.proc_table.specs.declared.view.View.{View}
-use Rattle.proc_table.specs.declared.value.Value.{Value}
-use Rattle.proc_table.specs.declared.value.Now.{Now}
-use Rattle.proc_table.specs.declared.value.Outcome.{Outcome}
-use Rattle.proc_table.specs.declared.value.Outcome.TheVariants.{Done, Crashed, Ended}
-use Rattle.proc_table.specs.Events.{HistoryEntry, own, entry}
-use Rattle.proc_table.specs.Events.Event.{call}
+use Rattle.proc_history.specs.declared.value.Value.{Value}
+use Rattle.proc_history.specs.declared.value.Now.{Now}
+use Rattle.proc_history.specs.declared.value.Outcome.{Outcome}
+use Rattle.proc_history.specs.declared.value.Outcome.TheVariants.{Done, Crashed, Ended}
+use Rattle.proc_history.specs.Events.{HistoryEntry, MayDo, own, entry}
+use Rattle.proc_history.specs.Events.Event.{call}
 use Rattle.proc_table.specs.Parts.{Part, part}
-use Rattle.proc_table.specs.Histories.{replay, replay_from, IsLegal, LegalFrom}
-use Rattle.proc_table.specs.Values.{nothing, up_in, up_at, answer, outcome_of}
-use Rattle.proc_table.specs.Outcomes.{outcome_in, state_in, after_call, call_entries}
+use Rattle.proc_history.specs.Histories.{replay, replay_from, IsLegal, LegalFrom}
+use Rattle.proc_history.specs.Values.{nothing, up_in, up_at, answer, outcome_of}
+use Rattle.proc_history.specs.Outcomes.{outcome_in, state_in, after_call, call_entries}
 use Rattle.proc_table.specs.Views.{seen, mine, is_out, word_of, with_part, found_more}
 use Rattle.proc_table.specs.Agrees.{slots}
-use Rattle.proc_table.specs.Moves.{MayAdd}
+use Rattle.proc_history.specs.Events.{MayAdd}
 use Rattle.proc_table.specs.Steps.{Me, Ready, Fresh, Took, Adding, InHand, given, Known}
 use Rattle.proc_table.specs.Seats.{IsPass}
 use Rattle.proc_table.specs.Calls.{Looked, Called, Answers, Shows, tried_of, peeked_of}
-use Rattle.proc_table.proofs.Entries.{own-append, own_all_by, added_by, replay-append, legal-append}
+use Rattle.proc_history.proofs.Entries.{own-append, own_all_by, added_by, replay-append, legal-append}
 use Rattle.proc_table.proofs.PartViews.{PartNow, set_part, then_part, part_known}
 
 pub from_map : {A B : Type 0} (f : A → B) (u : Option A) (o : B) → Some o ≡ option_map f u → (a : A) × (u ≡ Some a) × (o ≡ f a)
@@ -48,11 +48,15 @@ pub may_nothing : (n : ℕ) → MayAdd n []
 may_nothing zero = tt
 may_nothing (suc n) = inl refl
 
-legal_call : (n round input : ℕ) (v : Value) (o : Option Outcome) → o ≡ outcome_in round input v → LegalFrom v (call_entries n input o)
-legal_call n round input v None e = tt
-legal_call n round input v (Some o) e =
+client_calls : (n input : ℕ) (o : Outcome) → n ≢ 0 → MayDo n (call input o)
+client_calls zero input o ne = absurd (ne refl)
+client_calls (suc n) input o ne = tt
+
+legal_call : (n round input : ℕ) (v : Value) (o : Option Outcome) → n ≢ 0 → o ≡ outcome_in round input v → LegalFrom v (call_entries n input o)
+legal_call n round input v None pass e = tt
+legal_call n round input v (Some o) pass e =
     let f = from_map (λ (m : Now). outcome_of (answer m input)) (up_in round v) o e in
-    ((f.0, up_then round v f.0 f.1, f.2), tt)
+    (client_calls n input o pass, (f.0, up_then round v f.0 f.1, f.2), tt)
 
 replay_call : (n input : ℕ) (v : Value) (o : Option Outcome) → replay_from v (call_entries n input o) ≡ after_call v input o
 replay_call n input v None = refl
@@ -82,7 +86,7 @@ call_adds p round input me x y o hand pass lends is next =
       ready = hand.ready;
       out = hand.out;
       may = may_call me.0.number input o pass;
-      legal = legal-append nothing h es hand.legal (legal_call me.0.number round input (replay h) o is');
+      legal = legal-append nothing h es hand.legal (legal_call me.0.number round input (replay h) o pass is');
       value = λ i. (p, left i) ∷ l.1 i;
     }
 
@@ -167,7 +171,7 @@ called p round input v w h o f pass is b =
       up = (up.0, ap (λ g. up_in round (replay g)) (sym f.is) ∙ up.1, up.2);
       seen_is = b.seen_is ∙ ap (λ g. g ++ es) f.is;
       mine_is = b.mine_is;
-      legal = subst IsLegal (sym b.seen_is) (legal-append nothing h es f.legal (legal_call v.number round input (replay h) (Some o) is));
+      legal = subst IsLegal (sym b.seen_is) (legal-append nothing h es f.legal (legal_call v.number round input (replay h) (Some o) pass.pass is));
       once = rw (b.rest.number, b.seen_is, b.mine_is) (own_behind v.number h es (mine v p) (may_call v.number input (Some o) pass.pass) f.once);
       rest = b.rest;
     }
@@ -195,7 +199,7 @@ call_made p round input v m w o inside pass t is given_is =
     let is' : o ≡ outcome_in round input (replay h) = is ∙ ap (λ g. outcome_in round input (replay g)) (ap (λ (z : View). seen z p) m0 ∙ x.seen_is) in
     let b = is_back p v h es inside pass.known.parts in
     let once = own_behind v.number h es (mine v p) (may_call v.number input o pass.pass) t.fresh.once in
-    let legal = legal-append nothing h es t.fresh.legal (legal_call v.number round input (replay h) o is') in
+    let legal = legal-append nothing h es t.fresh.legal (legal_call v.number round input (replay h) o pass.pass is') in
     let w0 = given (taken v p h) p es in
     let there : w ≡ (w0, []) = given_is ∙ ap (λ (z : View). (given z p (call_entries z.number input o), [])) m0 in
     subst (CallMade p round input v o) (sym there) (record {

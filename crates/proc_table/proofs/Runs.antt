@@ -3,9 +3,9 @@ use Rattle.std.proofs.Common.{◌≡◌, ℕ, zero, suc, ◌<◌, Bool, true, fa
 use mathlib.Core.Option.{Option, some, some-injective, some-ne-none}
 use lib.ListN.{get_elem?}
 use Rattle.proc_table.specs.declared.view.View.{View}
-use Rattle.proc_table.specs.declared.value.Value.{Value}
+use Rattle.proc_history.specs.declared.value.Value.{Value}
 use Rattle.proc_table.specs.Parts.{Part, part_of, unseen}
-use Rattle.proc_table.specs.Values.{nothing}
+use Rattle.proc_history.specs.Values.{nothing}
 use Rattle.proc_table.specs.Views.{is_out, handler_view}
 use Rattle.proc_table.specs.Agrees.{slots, States, start, FitsPart, FitsSeat, Agrees}
 use Rattle.proc_table.specs.Moves.{Moves, Run, Reached, RunsAgree, ReachedAgrees, HeldAlone}

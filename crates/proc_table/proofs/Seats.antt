@@ -4,7 +4,7 @@ use mathlib.Core.Option.{Option, some, some-injective, some-ne-none}
 use lib.ListN.{get_elem?}
 use Rattle.atomic_table.proofs.Lists.{at_set, set_here, set_else, at_longer, at_last}
 use Rattle.proc_table.specs.declared.view.View.{View}
-use Rattle.proc_table.specs.declared.value.Value.{Value}
+use Rattle.proc_history.specs.declared.value.Value.{Value}
 use Rattle.proc_table.specs.Views.{gone}
 use Rattle.proc_table.specs.Agrees.{States, state, Sits}
 

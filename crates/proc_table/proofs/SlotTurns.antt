@@ -8,13 +8,13 @@ use mathlib.Core.Logic.{dite}
 use lib.ListN.{get_elem?}
 use Rattle.atomic_table.proofs.Lists.{set_here, set_else}
 use Rattle.proc_table.specs.declared.view.View.{View}
-use Rattle.proc_table.specs.declared.value.Value.{Value}
-use Rattle.proc_table.specs.Events.{HistoryEntry, own}
+use Rattle.proc_history.specs.declared.value.Value.{Value}
+use Rattle.proc_history.specs.Events.{HistoryEntry, own}
 use Rattle.proc_table.specs.Parts.{Part, Guest, part_of, unseen}
 use Rattle.proc_table.specs.Views.{word_of, with_part}
 use Rattle.proc_table.specs.Agrees.{slots, States, state, Sits, SlotAgrees, Agrees}
 use Rattle.proc_table.specs.Moves.{IsHistory}
-use Rattle.proc_table.proofs.Prefixes.{prefix_both}
+use Rattle.proc_history.proofs.Prefixes.{prefix_both}
 use Rattle.proc_table.proofs.Seats.{Reseats, reseats}
 use Rattle.proc_table.proofs.Turns.{Change, slot_changes, stays, turns}
 

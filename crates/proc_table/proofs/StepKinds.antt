@@ -4,15 +4,16 @@ use Rattle.std.proofs.lemmas.List.{set-get_or}
 use mathlib.Core.Option.{Option, some, none}
 use mathlib.Core.List.{IsPrefix}
 use Rattle.proc_table.specs.declared.view.View.{View}
-use Rattle.proc_table.specs.declared.value.Value.{Value}
-use Rattle.proc_table.specs.Events.{HistoryEntry, own}
+use Rattle.proc_history.specs.declared.value.Value.{Value}
+use Rattle.proc_history.specs.Events.{HistoryEntry, own}
 use Rattle.proc_table.specs.Parts.{part, part_of}
-use Rattle.proc_table.specs.Histories.{replay, IsLegal}
+use Rattle.proc_history.specs.Histories.{replay, IsLegal}
 use Rattle.proc_table.specs.Views.{seen, mine, is_out, word_of, with_part, found_more, no_guest}
 use Rattle.proc_table.specs.Agrees.{slots, States, state, Sits, Agrees}
-use Rattle.proc_table.specs.Moves.{MayAdd, Takes, Gives, Misses, Lays, Lifts, Learns}
-use Rattle.proc_table.proofs.Prefixes.{prefix_self, prefix_more}
-use Rattle.proc_table.proofs.Entries.{own-append, own_all_by, own_none_by, added_by}
+use Rattle.proc_history.specs.Events.{MayAdd}
+use Rattle.proc_table.specs.Moves.{Takes, Gives, Misses, Lays, Lifts, Learns}
+use Rattle.proc_history.proofs.Prefixes.{prefix_self, prefix_more}
+use Rattle.proc_history.proofs.Entries.{own-append, own_all_by, own_none_by, added_by}
 use Rattle.proc_table.proofs.SlotTurns.{word_not_zero, history_is, turns_at, turns_nowhere}
 
 -- the history's own entries with those added

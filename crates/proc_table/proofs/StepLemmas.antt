@@ -7,10 +7,10 @@ use Rattle.atomic_table.specs.Table.{Act, stepped, step, Valid, Allows, carried_
 use Rattle.atomic_table.specs.Table.Act.{keeps, takes, gives}
 use Rattle.atomic_table.proofs.Lists.{set_else}
 use Rattle.proc_table.specs.declared.view.View.{View}
-use Rattle.proc_table.specs.declared.value.Value.{Value}
-use Rattle.proc_table.specs.Events.{HistoryEntry, own}
+use Rattle.proc_history.specs.declared.value.Value.{Value}
+use Rattle.proc_history.specs.Events.{HistoryEntry, own}
 use Rattle.proc_table.specs.Parts.{part, part_of}
-use Rattle.proc_table.specs.Histories.{replay}
+use Rattle.proc_history.specs.Histories.{replay}
 use Rattle.proc_table.specs.Views.{seen, mine, is_out, word_of, with_part, found_more, no_guest, one_more, new_pass, joined, gone}
 use Rattle.proc_table.specs.Agrees.{slots, States, Sits, Agrees}
 use Rattle.proc_table.specs.Moves as moves
@@ -18,7 +18,7 @@ use Rattle.proc_table.specs.Moves.{Reached, IsHistory}
 use Rattle.proc_table.specs.Steps.{Me, Ready, Fresh, Took, Missed, took_or_missed, Adding, gave, given, with_laid, laid_down, lifted, learnt}
 use Rattle.proc_table.specs.Moments.{Once, HasAtWord}
 use Rattle.proc_table.proofs.MomentLemmas.{has_at}
-use Rattle.proc_table.proofs.Entries.{own-append, legal_prefix, append_nothing}
+use Rattle.proc_history.proofs.Entries.{own-append, legal_prefix, append_nothing}
 use Rattle.proc_table.proofs.Runs.{reached_agrees, next}
 
 history_of : (s : States) (a : Agrees s) (p : ℕ) → IsHistory s p (a.history p)

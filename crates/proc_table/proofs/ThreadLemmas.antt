@@ -3,7 +3,7 @@
 use denote.RattleType.{RattleType}
 use denote.Builtin.{u8, unit}
 use denote.Struct.Field.{row_field}
-use denote.Param.Send.{IsSend, IsSync, view_send, view_sync, sendable}
+use denote.Param.Send.{IsSend, IsSync, view_send, view_sync, array_send, sendable}
 use denote.Param.SendFields.{as_row_send, declared_send, declared_sync, variants_send}
 use denote.Hole.FixSend.{Sends, fix_send}
 use Rattle.std.proofs.Crossing as crossing
@@ -31,11 +31,11 @@ use Rattle.proc_table.specs.contracts.rule.Agreement as Agreement
 use Rattle.proc_table.specs.contracts.rule.AgreementTableRuleValueViewUnit.TheImpl.{ghosts as rule}
 use Rattle.proc_table.specs.contracts.table.ProcTable as ProcTable
 use Rattle.proc_table.specs.contracts.table.ProcTable.TheInside as TheTable
-use Rattle.proc_table.specs.contracts.value.Now as Now
-use Rattle.proc_table.specs.contracts.value.Value as Value
+use Rattle.proc_history.specs.contracts.value.Now as Now
+use Rattle.proc_history.specs.contracts.value.Value as Value
 use Rattle.proc_table.specs.contracts.view.View as View
-use Rattle.proc_table.proofs.name.Name.TheSendSync as name
-use Rattle.proc_table.proofs.value.Standing.TheSendSync as standing
+use Rattle.proc_history.proofs.name.Name.TheSendSync as name
+use Rattle.proc_history.proofs.value.Standing.TheSendSync as standing
 
 -- ---- a term
 text_send : IsSend (String.the_row heap ghosts)
@@ -95,4 +95,4 @@ pub pass_send : IsSend Pass.the_row
 pass_send = view_send ThePass.the_row _ _ _ _ (declared_send ThePass.the_type (seat.the_send Value.the_row View.the_row value_send, tt))
 
 pub handler_send : IsSend HandlerSeat.the_row
-handler_send = view_send TheSeat.the_row _ _ _ _ (declared_send TheSeat.the_type (seat.the_send Value.the_row View.the_row value_send, tt))
+handler_send = view_send TheSeat.the_row _ _ _ _ (declared_send TheSeat.the_type (seat.the_send Value.the_row View.the_row value_send, (array_send _ _ (option.the_send denote.Builtin.u32 number_send), tt)))

@@ -7,13 +7,13 @@ use native.Mathlib.Decide.{ℕ_discrete}
 use mathlib.Core.Logic.{dite}
 use lib.ListN.{get_elem?}
 use Rattle.proc_table.specs.declared.view.View.{View}
-use Rattle.proc_table.specs.declared.value.Value.{Value}
-use Rattle.proc_table.specs.Events.{HistoryEntry, own}
+use Rattle.proc_history.specs.declared.value.Value.{Value}
+use Rattle.proc_history.specs.Events.{HistoryEntry, own}
 use Rattle.proc_table.specs.Parts.{Part, Guest, part_of}
-use Rattle.proc_table.specs.Histories.{replay, IsLegal}
+use Rattle.proc_history.specs.Histories.{replay, IsLegal}
 use Rattle.proc_table.specs.Views.{seen, is_out}
 use Rattle.proc_table.specs.Agrees.{slots, States, Sits, FitsPart, FitsSeat, SlotAgrees, Agrees}
-use Rattle.proc_table.proofs.Prefixes.{prefix_self, prefix_trans}
+use Rattle.proc_history.proofs.Prefixes.{prefix_self, prefix_trans}
 use Rattle.proc_table.proofs.Seats.{Reseats, one_view}
 
 -- What changes at the slot p, where the seat i had the view v: its history h is now k; the seat's part is x, the word n and

@@ -3,7 +3,7 @@ use Rattle.std.proofs.Common.{◌≡◌, ℕ, ◌++◌, ap, sym, ◌∙◌, appe
 use Rattle.proc_table.specs.declared.view.View.{View}
 use Rattle.proc_table.specs.declared.pass.Tried.{Tried}
 use Rattle.proc_table.specs.declared.pass.Tried.TheVariants.{Done, Crashed, Ended, Down}
-use Rattle.proc_table.specs.Events.{own}
+use Rattle.proc_history.specs.Events.{own}
 use Rattle.proc_table.specs.Views.{seen, mine}
 use Rattle.proc_table.specs.Calls.{Answers, Joined}
 use Rattle.proc_table.specs.Waits.{IsAnswer, AnswersAtLast}

@@ -1,8 +1,12 @@
 -- Steps that found the slot taken.
-use Rattle.std.proofs.Common.{◌≡◌, ◌⊎◌, ℕ, List, [], ◌∷◌, ◌++◌, refl, ap, sym, ◌∙◌, append-nil, append_assoc}
+use Rattle.std.proofs.Common.{◌≡◌, ◌⊎◌, ℕ, List, [], ◌∷◌, ◌++◌, refl, ap, sym, subst, ◌∙◌, append-nil, append_assoc}
 use Rattle.proc_table.specs.declared.view.View.{View}
-use Rattle.proc_table.specs.Views.{found_more}
-use Rattle.proc_table.specs.Waits.{AreBusy, at_slot, Waited}
+use Rattle.proc_history.specs.Events.{HistoryEntry, own}
+use Rattle.proc_table.specs.Parts.{Part, part_of}
+use Rattle.proc_table.specs.Views.{seen, mine, found_more}
+use Rattle.proc_table.specs.Calls.{Elsewhere}
+use Rattle.proc_table.specs.Holds.{Holding, Released}
+use Rattle.proc_table.specs.Waits.{AreBusy, at_slot, Waited, HeldAtLast, HeldSince}
 
 busy_more : (ns : List ℕ) (n : ℕ) → AreBusy ns → (n ≡ 1) ⊎ (n ≡ 2) → AreBusy (ns ++ n ∷ [])
 busy_more [] n b one = (one, tt)
@@ -22,3 +26,29 @@ waited_more p v w u n was one is = record {
   is = is ∙ (ap (λ (z : View). found_more z p n) was.is ∙ ap (λ l. record v { found = l })
       (append_assoc v.found (at_slot p was.words) ((p, n) ∷ []) ∙ ap (λ l. v.found ++ l) (sym (at_slot_more p was.words n))));
 }
+
+-- what is known of a slot that is held, since before it was waited for
+pub since : (p : ℕ) (v : View) (h : Holding) (w : View) → HeldAtLast p v h w → HeldSince p v h w
+since p v h w at =
+    let looked = at.held.looked in
+    let number : at.before.number ≡ v.number = ap (λ (z : View). z.number) at.waited.is in
+    let parts : at.before.parts ≡ v.parts = ap (λ (z : View). z.parts) at.waited.is in
+    record {
+      between = looked.between;
+      strangers = subst (λ n. own n looked.between ≡ []) number looked.strangers;
+      seen_is = looked.seen_is ∙ ap (λ (l : List Part). (part_of l p).seen ++ looked.between) parts;
+      mine_is = looked.mine_is ∙ ap (λ (l : List Part). (part_of l p).mine) parts;
+      legal = looked.legal;
+      once = subst (λ n. own n (seen w p) ≡ mine w p) number looked.once;
+      slot = at.held.slot;
+      out = at.held.out;
+      value = at.held.value;
+      elsewhere = record {
+        number = looked.rest.number ∙ number;
+        others = λ q ne. looked.rest.others q ne ∙ ap (λ (l : List Part). part_of l q) parts;
+      };
+    }
+
+-- a release leaves other slots as they were
+pub elsewhere_left : (p : ℕ) (entries : List HistoryEntry) (v w : View) → Released p entries v w → Elsewhere p v w
+elsewhere_left p entries v w r = record { number = r.rest.number; others = r.rest.others }

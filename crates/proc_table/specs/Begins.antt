@@ -2,9 +2,9 @@
 use Rattle.std.specs.Prelude.{◌≡◌, ◌⊎◌, ℕ, ◌+◌, true, [], ◌∷◌, is_some, None, Result, Ok, Err}
 use Rattle.proc_table.specs.declared.view.View.{View}
 use Rattle.proc_table.specs.declared.pid.Pid.{Pid}
-use Rattle.proc_table.specs.declared.beginning.Beginning.{Beginning}
-use Rattle.proc_table.specs.Events.{entry}
-use Rattle.proc_table.specs.Events.Event.{begin, given_up}
+use Rattle.proc_history.specs.declared.beginning.Beginning.{Beginning}
+use Rattle.proc_history.specs.Events.{entry}
+use Rattle.proc_history.specs.Events.Event.{begin, given_up}
 use Rattle.proc_table.specs.Holds.{Holding, Released}
 use Rattle.proc_table.specs.Waits.{HeldAtLast}
 

@@ -2,18 +2,18 @@
 use Rattle.std.specs.Prelude.{◌≡◌, ◌≢◌, ℕ, ◌+◌, true, List, [], ◌∷◌, ◌++◌, Option, Some, None}
 use mathlib.Core.List.{IsPrefix}
 use Rattle.proc_table.specs.declared.view.View.{View}
-use Rattle.proc_table.specs.declared.value.Now.{Now}
-use Rattle.proc_table.specs.declared.value.Outcome.{Outcome}
-use Rattle.proc_table.specs.declared.value.Outcome.TheVariants as outcome
+use Rattle.proc_history.specs.declared.value.Now.{Now}
+use Rattle.proc_history.specs.declared.value.Outcome.{Outcome}
+use Rattle.proc_history.specs.declared.value.Outcome.TheVariants as outcome
 use Rattle.proc_table.specs.declared.pass.Tried.{Tried}
 use Rattle.proc_table.specs.declared.pass.Tried.TheVariants as tried
 use Rattle.proc_table.specs.declared.pass.Peeked.{Peeked}
 use Rattle.proc_table.specs.declared.pass.Peeked.TheVariants as peeked
-use Rattle.proc_table.specs.Events.{HistoryEntry, entry, own}
-use Rattle.proc_table.specs.Events.Event.{call}
+use Rattle.proc_history.specs.Events.{HistoryEntry, entry, own}
+use Rattle.proc_history.specs.Events.Event.{call}
 use Rattle.proc_table.specs.Parts.{longer, part_of}
-use Rattle.proc_table.specs.Histories.{replay, IsLegal}
-use Rattle.proc_table.specs.Values.{up_in, answer, outcome_of}
+use Rattle.proc_history.specs.Histories.{replay, IsLegal}
+use Rattle.proc_history.specs.Values.{up_in, answer, outcome_of}
 use Rattle.proc_table.specs.Views.{seen, mine, is_out, found_more}
 
 -- All but one slot is as before.
@@ -21,6 +21,11 @@ pub record SameBut (p : ℕ) (v w : View) : Type 0 where
   pub number : w.number ≡ v.number
   pub count : w.count ≡ v.count
   pub found : w.found ≡ v.found
+  pub others : (q : ℕ) → q ≢ p → part_of w.parts q ≡ part_of v.parts q
+
+-- All but one slot is as before. What was found isn't told, since it grows while a slot is waited for.
+pub record Elsewhere (p : ℕ) (v w : View) : Type 0 where
+  pub number : w.number ≡ v.number
   pub others : (q : ℕ) → q ≢ p → part_of w.parts q ≡ part_of v.parts q
 
 -- The seat has seen the history up to a moment in the call: what it had seen, then entries of others. It is legal, and the

@@ -1,9 +1,5 @@
-pub mod Events
 pub mod Parts
 pub mod Codes
-pub mod Values
-pub mod Outcomes
-pub mod Histories
 pub mod Views
 pub mod Agrees
 pub mod Moves
@@ -12,7 +8,7 @@ pub mod Steps
 pub mod Seats
 pub mod Calls
 pub mod Holds
-pub mod Releases
 pub mod Waits
 pub mod Begins
+pub mod Free
 pub mod Together

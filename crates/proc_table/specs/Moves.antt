@@ -1,31 +1,14 @@
 -- The kinds of step, and runs of them.
-use Rattle.std.specs.Prelude.{◌≡◌, ◌≢◌, ◌⊎◌, ℕ, zero, suc, ◌<◌, true, false, List, [], ◌∷◌, ◌++◌, slice_index, slice_set, None}
+use Rattle.std.specs.Prelude.{◌≡◌, ◌≢◌, ℕ, zero, suc, ◌<◌, true, false, List, [], ◌∷◌, ◌++◌, slice_index, slice_set, None}
 use mathlib.Core.Option.{some, none}
 use mathlib.Core.List.{IsPrefix}
 use Rattle.proc_table.specs.declared.view.View.{View}
-use Rattle.proc_table.specs.declared.value.Value.{Value}
-use Rattle.proc_table.specs.declared.value.Outcome.{Outcome}
-use Rattle.proc_table.specs.Events.{Event, HistoryEntry, entry}
-use Rattle.proc_table.specs.Events.Event.{call}
+use Rattle.proc_history.specs.declared.value.Value.{Value}
+use Rattle.proc_history.specs.Events.{HistoryEntry, MayAdd}
 use Rattle.proc_table.specs.Parts.{part}
-use Rattle.proc_table.specs.Histories.{replay, IsLegal}
+use Rattle.proc_history.specs.Histories.{replay, IsLegal}
 use Rattle.proc_table.specs.Views.{seen, mine, is_out, word_of, with_part, found_more, no_guest, one_more, new_pass, joined, gone}
 use Rattle.proc_table.specs.Agrees.{slots, States, state, start, Sits, Agrees}
-
--- what only a pass does
-abbrev pub IsCall : Event → Type 0
-IsCall (call input o) = Unit {0}
-IsCall e = ⊥
-
--- the handler's entries, with no call among them
-abbrev pub ByHandler : List HistoryEntry → Type 0
-ByHandler [] = Unit {0}
-ByHandler (e ∷ es) = (e.by ≡ 0) × (¬ IsCall e.event) × ByHandler es
-
--- what a seat may add to a history at once: the handler a list without a call, a pass one call or nothing
-abbrev pub MayAdd : ℕ → List HistoryEntry → Type 0
-MayAdd zero es = ByHandler es
-MayAdd (suc n) es = (es ≡ []) ⊎ ((input : ℕ) × (o : Outcome) × (es ≡ entry (suc n) (call input o) ∷ []))
 
 -- the longest that any seat has seen of a slot
 pub record IsHistory (s : States) (p : ℕ) (h : List HistoryEntry) : Type 0 where

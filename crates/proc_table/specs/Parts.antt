@@ -1,6 +1,6 @@
 -- What a seat knows of one slot.
 use Rattle.std.specs.Prelude.{ℕ, Bool, false, List, [], length, nat_lt, slice_index_or, if◌then◌else◌, ◌∷◌}
-use Rattle.proc_table.specs.Events.{HistoryEntry}
+use Rattle.proc_history.specs.Events.{HistoryEntry}
 
 -- What a seat knows of one slot. seen: a beginning of its history. mine: its own entries in it.
 -- out: the seat has the slot's value. laid: the value was taken out of the slot, and an empty one stands in its place.

@@ -3,13 +3,13 @@ use Rattle.std.specs.Prelude.{◌≡◌, ◌⊎◌, ◌==◌, ℕ, Bool, true, f
 use mathlib.Core.List.{IsPrefix}
 use Rattle.atomic_table.specs.Table as table
 use Rattle.proc_table.specs.declared.view.View.{View}
-use Rattle.proc_table.specs.declared.value.Value.{Value}
-use Rattle.proc_table.specs.Events.{HistoryEntry, own}
+use Rattle.proc_history.specs.declared.value.Value.{Value}
+use Rattle.proc_history.specs.Events.{HistoryEntry, own}
 use Rattle.proc_table.specs.Parts.{Guest, part, part_of}
-use Rattle.proc_table.specs.Histories.{replay, IsLegal}
+use Rattle.proc_history.specs.Histories.{replay, IsLegal}
 use Rattle.proc_table.specs.Views.{seen, mine, is_out, with_part, found_more, no_guest}
 use Rattle.proc_table.specs.Agrees.{slots}
-use Rattle.proc_table.specs.Moves.{MayAdd}
+use Rattle.proc_history.specs.Events.{MayAdd}
 use Rattle.proc_table.specs.Moments.{Once, HasAtWord}
 
 -- a view, and the slots that are out with it

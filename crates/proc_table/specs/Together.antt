@@ -4,15 +4,15 @@ use mathlib.Core.List.{IsPrefix}
 use Rattle.proc_table.specs.declared.view.View.{View}
 use Rattle.proc_table.specs.declared.pass.Tried.{Tried}
 use Rattle.proc_table.specs.declared.pass.Tried.TheVariants as tried
-use Rattle.proc_table.specs.declared.value.Outcome.{Outcome}
-use Rattle.proc_table.specs.declared.value.Outcome.TheVariants as outcome
-use Rattle.proc_table.specs.Events.{HistoryEntry, entry, own}
-use Rattle.proc_table.specs.Events.Event.{call}
-use Rattle.proc_table.specs.Histories.{IsLegal}
+use Rattle.proc_history.specs.declared.value.Outcome.{Outcome}
+use Rattle.proc_history.specs.declared.value.Outcome.TheVariants as outcome
+use Rattle.proc_history.specs.Events.{HistoryEntry, entry, own}
+use Rattle.proc_history.specs.Events.Event.{call}
+use Rattle.proc_history.specs.Histories.{IsLegal}
 use Rattle.proc_table.specs.Views.{seen, mine}
 use Rattle.proc_table.specs.Calls.{Called, Joined}
 use Rattle.proc_table.specs.Holds.{Released}
-use Rattle.proc_table.specs.Moves.{ByHandler}
+use Rattle.proc_history.specs.Events.{ByHandler}
 use Rattle.proc_table.specs.Waits.{AnswersAtLast}
 
 -- the entries of a call that was answered so

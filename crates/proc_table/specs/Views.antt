@@ -1,7 +1,7 @@
 -- What a seat knows: its view.
 use Rattle.std.specs.Prelude.{ℕ, zero, suc, ◌+◌, Bool, true, false, List, [], ◌∷◌, ◌++◌, map, replicate, slice_set, Some, None}
 use Rattle.proc_table.specs.declared.view.View.{View}
-use Rattle.proc_table.specs.Events.{HistoryEntry}
+use Rattle.proc_history.specs.Events.{HistoryEntry}
 use Rattle.proc_table.specs.Parts.{Part, part_of, unseen, only_seen, joined_parts}
 
 abbrev pub view : ℕ → ℕ → List Part → View

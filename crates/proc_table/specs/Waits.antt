@@ -1,10 +1,13 @@
 -- What the calls that wait answer and leave.
-use Rattle.std.specs.Prelude.{◌≡◌, ◌⊎◌, ℕ, List, [], ◌∷◌, ◌++◌}
+use Rattle.std.specs.Prelude.{◌≡◌, ◌⊎◌, ℕ, true, List, [], ◌∷◌, ◌++◌}
 use Rattle.proc_table.specs.declared.view.View.{View}
 use Rattle.proc_table.specs.declared.pass.Tried.{Tried}
 use Rattle.proc_table.specs.declared.pass.Tried.TheVariants.{Busy, Held}
-use Rattle.proc_table.specs.Calls.{Answers}
-use Rattle.proc_table.specs.Holds.{Holding, HeldNow}
+use Rattle.proc_history.specs.Events.{HistoryEntry, own}
+use Rattle.proc_history.specs.Histories.{replay, IsLegal}
+use Rattle.proc_table.specs.Views.{seen, mine, is_out}
+use Rattle.proc_table.specs.Calls.{Answers, Elsewhere}
+use Rattle.proc_table.specs.Holds.{Holding, HeldNow, Released}
 
 -- each word is a client's or the handler's
 abbrev pub AreBusy : List ℕ → Type 0
@@ -39,3 +42,22 @@ pub record HeldAtLast (p : ℕ) (v : View) (h : Holding) (w : View) : Type 0 whe
   pub before : View
   pub waited : Waited p v before
   pub held : HeldNow p before h w
+
+-- Of a slot that was waited for and is held, since before the waiting: entries of others came, and other slots are as they
+-- were.
+pub record HeldSince (p : ℕ) (v : View) (h : Holding) (w : View) : Type 0 where
+  pub between : List HistoryEntry
+  pub strangers : own v.number between ≡ []
+  pub seen_is : seen w p ≡ seen v p ++ between
+  pub mine_is : mine w p ≡ mine v p
+  pub legal : IsLegal (seen w p)
+  pub once : own v.number (seen w p) ≡ mine w p
+  pub slot : h.slot ≡ p
+  pub out : is_out w p ≡ true
+  pub value : h.value ≡ replay (seen w p)
+  pub elsewhere : Elsewhere p v w
+
+-- What is held was waited for, or not, with the same outcome. A release leaves other slots as they were.
+abbrev pub HoldsAndReleases : Type 0
+HoldsAndReleases = ((p : ℕ) (v : View) (h : Holding) (w : View) → HeldAtLast p v h w → HeldSince p v h w)
+    × ((p : ℕ) (entries : List HistoryEntry) (v w : View) → Released p entries v w → Elsewhere p v w)

@@ -1,15 +1,16 @@
 //! The calls of a client.
 ghost use Rattle.std.specs.Prelude.{◌≡◌, ◌≢◌, []};
 ghost use Rattle.proc_table.specs.Calls.{Answers, Shows, tried_of, peeked_of};
-ghost use Rattle.proc_table.specs.Histories.{replay};
+ghost use Rattle.proc_history.specs.Histories.{replay};
 ghost use Rattle.proc_table.specs.Moments.{Once, HasAtCall, HasAtPeek};
-ghost use Rattle.proc_table.specs.Outcomes.{outcome_in, state_in, call_entries};
+ghost use Rattle.proc_history.specs.Outcomes.{outcome_in, state_in, call_entries};
 ghost use Rattle.proc_table.specs.Steps.{Adding, InHand, given};
 ghost use Rattle.proc_table.specs.Views.{seen};
 
 use crate::rule::Adds;
-use crate::{Outcome, Pass, Peeked, Pid, ProcTable, Tried, Value, View};
+use crate::{Pass, Peeked, Pid, ProcTable, Tried, View};
 use atomic_table::Seat;
+use proc_history::{Outcome, Value};
 use std::marker::Brand;
 
 impl ProcTable {

@@ -1,12 +1,13 @@
 //! The seat of the handler.
-ghost use Rattle.std.specs.Prelude.{◌≡◌, IfOk, replicate};
+ghost use Rattle.std.specs.Prelude.{◌≡◌, IfOk, replicate, []};
 ghost use Rattle.proc_table.specs.Agrees.{slots};
 ghost use Rattle.proc_table.specs.Calls.{Made, Joined};
-ghost use Rattle.proc_table.specs.Values.{nothing};
+ghost use Rattle.proc_history.specs.Values.{nothing};
 ghost use Rattle.proc_table.specs.Views.{handler_view};
 
-use crate::{Pass, ProcTable, SLOTS, Value, View};
+use crate::{Pass, ProcTable, SLOTS, View};
 use atomic_table::{Refused, Seat, Table};
+use proc_history::Value;
 use std::alloc::{AllocError, Global};
 use std::marker::Model;
 
@@ -14,10 +15,13 @@ use std::marker::Model;
 #[derive(Drop)]
 pub struct HandlerSeat {
     pub(crate) seat: Seat<Value, View>,
+    // For each slot the round of the process that can begin there.
+    pub(crate) next: [Option<u32>; SLOTS],
 }
 
 impl Model for HandlerSeat {
     ghost use Rattle.std.specs.Prelude.{◌≡◌, []};
+    ghost use Rattle.proc_table.specs.Free.{Noted};
     ghost use Rattle.proc_table.specs.Seats.{Sitting, sitting_code, IsHandler};
 
     ghost Value = { Sitting };
@@ -26,7 +30,8 @@ impl Model for HandlerSeat {
 
     ghost view = { λ p. record { table = p.seat.table_id; view = p.seat.me.0 } };
 
-    ghost invariant = { λ p. (p.seat.me.1 ≡ []) × IsHandler p.seat.me.0 };
+    ghost invariant = { λ p. (p.seat.me.1 ≡ []) × IsHandler p.seat.me.0
+        × Noted p.next p.seat.me.0 };
 }
 
 impl ProcTable {
@@ -36,7 +41,7 @@ impl ProcTable {
     {
         let values = no_values(alloc)?;
         match Table::new(alloc, &[0; SLOTS], values, &()) {
-            Ok((table, seat)) => Ok((ProcTable { table }, HandlerSeat { seat })),
+            Ok((table, seat)) => Ok((ProcTable { table }, first_seat(seat))),
             Err(Refused { slots: _ }) => Err(AllocError),
         }
     }
@@ -77,6 +82,18 @@ impl ProcTable {
         self.join(&mut seat, other);
         self.learn(&mut seat);
         Pass { seat }
+    }
+}
+
+// The handler's seat of a new table, in each slot of which a process can begin with round 1.
+fn first_seat(seat: Seat<Value, View>) -> HandlerSeat
+    requires { seat.me ≡ (handler_view slots, []) }
+    ensures table { result.table ≡ seat.table_id }
+    ensures view { result.view ≡ handler_view slots }
+{
+    HandlerSeat {
+        seat,
+        next: [Some(1); SLOTS],
     }
 }
 

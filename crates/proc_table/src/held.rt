@@ -3,22 +3,24 @@ ghost use Rattle.std.specs.Prelude.{◌≡◌, ◌<◌, ◌↔◌, IsTrue, true,
 ghost use Rattle.erl_term.specs.Value.{value_of};
 ghost use Rattle.mod_table.specs.InMemory.{old_of};
 ghost use Rattle.proc_table.specs.Agrees.{slots};
-ghost use Rattle.proc_table.specs.Events.{HistoryEntry};
-ghost use Rattle.proc_table.specs.Events.Event.{changed, loaded, stopped, started, given_up};
-ghost use Rattle.proc_table.specs.Histories.{replay, IsLegal};
-ghost use Rattle.proc_table.specs.Holds.{Begins, HeldNow, NotHeld, Released};
-ghost use Rattle.proc_table.specs.Moves.{ByHandler};
-ghost use Rattle.proc_table.specs.Releases.{BeginsLast, entries_of};
+ghost use Rattle.proc_history.specs.Events.{ByHandler, HistoryEntry};
+ghost use Rattle.proc_history.specs.Events.Event.{changed, loaded, stopped, started, given_up};
+ghost use Rattle.proc_history.specs.Histories.{replay, IsLegal};
+ghost use Rattle.proc_history.specs.Changes.{Begins};
+ghost use Rattle.proc_table.specs.Holds.{HeldNow, NotHeld, Released};
+ghost use Rattle.proc_history.specs.Releases.{BeginsLast, entries_of};
 ghost use Rattle.proc_table.specs.Seats.{IsHandler};
 ghost use Rattle.proc_table.specs.Steps.{InHand, given, with_laid};
-ghost use Rattle.proc_table.specs.Values.{after, MayCome};
+ghost use Rattle.proc_history.specs.Values.{after, MayCome};
 ghost use Rattle.proc_table.specs.Views.{seen, is_out};
 
+use crate::free::note;
 use crate::rule::Adds;
-use crate::{Beginning, Entry, HandlerSeat, Pid, ProcTable, Value, View};
+use crate::{HandlerSeat, Pid, ProcTable, View};
 use atomic_table::Seat;
 use erl_term::Term;
 use mod_table::{Old, Worker};
+use proc_history::{Beginning, Entry, Value};
 use std::marker::{Brand, Model};
 
 /// A slot that the handler holds, with what stands in it. It ends in `release`.
@@ -29,7 +31,7 @@ pub struct Held {
 
 impl Model for Held {
     ghost use Rattle.std.specs.Prelude.{◌<◌};
-    ghost use Rattle.proc_table.specs.contracts.value.Value as stored;
+    ghost use Rattle.proc_history.specs.contracts.value.Value as stored;
     ghost use Rattle.proc_table.specs.Agrees.{slots};
     ghost use Rattle.proc_table.specs.Holds.{Holding, holding_code};
 
@@ -139,6 +141,7 @@ impl ProcTable {
             return None;
         }
         let value = self.pick_up(&mut seat.seat, pid);
+        note(&mut seat.next, pid.slot, None);
         Some(Held {
             slot: pid.slot,
             value,
@@ -157,6 +160,7 @@ impl ProcTable {
         ensures released { Released held.slot entries seat.old.view seat.new.view }
     {
         let Held { slot, value } = held;
+        note(&mut seat.next, slot, value.next_round());
         self.put_down::<Brand>(&mut seat.seat, slot, value);
     }
 
@@ -174,6 +178,7 @@ impl ProcTable {
             seat.old.view seat.new.view }
     {
         let Held { slot, value } = held;
+        note(&mut seat.next, slot, value.next_round());
         self.put_down_with::<Brand>(&mut seat.seat, slot, value, entries);
     }
 

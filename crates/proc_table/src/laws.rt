@@ -1,6 +1,8 @@
 //! Laws of the definitions themselves. Each function does nothing: its contract is the law.
+ghost use Rattle.proc_table.specs.Free.{HandlerKnows};
 ghost use Rattle.proc_table.specs.Moves.{RunsAgree, ReachedAgrees, HeldAlone};
 ghost use Rattle.proc_table.specs.Together.{TwoClients, CallsStandApart};
+ghost use Rattle.proc_table.specs.Waits.{HoldsAndReleases};
 
 /// Every run of the kinds of step, by any number of passes, keeps agreement.
 pub fn every_run_keeps_agreement()
@@ -26,4 +28,16 @@ pub fn two_clients_see_one_history()
 /// While the handler holds a process, no call of it is answered: each call stands before the hold, or behind the release.
 pub fn no_call_is_answered_while_held()
     ensures { CallsStandApart }
+{}
+
+/// Of a slot that was waited for and is held, all is known as if it had been held at once; a release leaves other slots as
+/// they were.
+pub fn holds_and_releases_leave_other_slots()
+    ensures { HoldsAndReleases }
+{}
+
+/// The handler alone begins processes and gives them up: by the whole history of a slot a process can begin there exactly
+/// where it can by what the handler has seen, and with the same round.
+pub fn the_handler_knows_where_a_process_can_begin()
+    ensures { HandlerKnows }
 {}

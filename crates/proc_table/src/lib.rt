@@ -6,41 +6,35 @@
 //! [`ProcTable::try_call`] adds one call to the history, or says who has the process (specs/Calls). [`ProcTable::try_hold`] gives
 //! the handler the process, and [`ProcTable::release`] adds the handler's entries at once (specs/Holds, specs/Releases). They are
 //! given no memory and no lock. [`ProcTable::call`], [`ProcTable::hold`], [`ProcTable::begin`] and [`ProcTable::give_up`] wait
-//! for the slot, and say the same if they return (specs/Waits, specs/Begins).
+//! for the slot, and say the same if they return (specs/Waits, specs/Begins). [`HandlerSeat::lowest_free`] tells where a process
+//! can begin, and [`ProcTable::begin_lowest`] begins one there (specs/Free).
 //! Words, values and what each seat knows agree at any time (specs/Agrees). The table keeps that a run of the kinds of step
 //! leads to what it is (specs/Moves); the functions of `laws` say that every run keeps agreement.
 //!
 //! Only tested: that a call is answered where nobody has the process. Trusted: the toolchain alone, `atomic_table` with it.
 #![tactic(auto)]
 
-mod beginning;
 mod begins;
 mod calls;
-mod changes;
-mod entry;
+mod free;
 mod handler;
 mod held;
 pub mod laws;
-mod name;
 mod pass;
 mod pid;
 mod rule;
 mod table;
-mod value;
 mod view;
 mod waits;
 
 /// How many slots a table has.
 pub const SLOTS: usize = 64;
 
-pub use beginning::Beginning;
-pub use entry::Entry;
 pub use handler::HandlerSeat;
 pub use held::Held;
-pub use name::Name;
 pub use pass::{Pass, Peeked, Tried};
 pub use pid::Pid;
+pub use proc_history::{Beginning, Entry, Name, Now, Outcome, Standing, Value};
 pub use rule::Agreement;
 pub use table::ProcTable;
-pub use value::{Now, Outcome, Standing, Value};
 pub use view::View;

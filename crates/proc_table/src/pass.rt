@@ -1,6 +1,7 @@
 //! The seat of a client.
-use crate::{Value, View};
+use crate::View;
 use atomic_table::Seat;
+use proc_history::Value;
 use std::marker::Model;
 
 /// What a call answers.

@@ -1,13 +1,14 @@
 //! The rule of the table, and what each step tells the seat that makes it.
 ghost use Rattle.std.specs.Prelude.{List, []};
-ghost use Rattle.proc_table.specs.Events.{HistoryEntry};
+ghost use Rattle.proc_history.specs.Events.{HistoryEntry};
 ghost use Rattle.proc_table.specs.Agrees.{slots};
 ghost use Rattle.proc_table.specs.Moves.{Reached};
 ghost use Rattle.proc_table.specs.Steps.{took_or_missed, gave, laid_down, lifted, learnt};
 ghost use Rattle.proc_table.specs.Views.{handler_view, one_more, new_pass, joined, gone};
 
-use crate::{Value, View};
+use crate::View;
 use atomic_table::{Join, Play, Split, TableRule};
+use proc_history::Value;
 use std::marker::{Brand, PhantomData};
 
 /// The rule: some run of the kinds of step leads from the start to what the table is.

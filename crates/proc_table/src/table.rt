@@ -2,15 +2,16 @@
 ghost use Rattle.std.specs.Prelude.{◌≡◌, ◌≢◌, ◌<◌, ◌==◌, ℕ, true, false, [], ◌∷◌, MatchBool};
 ghost use Rattle.atomic_table.specs.Seated.{TableId, table_id_coded};
 ghost use Rattle.proc_table.specs.Agrees.{slots};
-ghost use Rattle.proc_table.specs.declared.value.Value.{Value};
+ghost use Rattle.proc_history.specs.declared.value.Value.{Value};
 ghost use Rattle.proc_table.specs.Moments.{Once, HasAtWord};
 ghost use Rattle.proc_table.specs.Parts.{part_of};
 ghost use Rattle.proc_table.specs.Steps.{Ready, Took, Missed, Adding, given, with_laid, Learnt};
 ghost use Rattle.proc_table.specs.Views.{word_of, is_out, one_more, new_pass, joined};
 
+use crate::View;
 use crate::rule::{Adds, Agreement, Cut, Give, Glue, Lay, Learn, Lift, Take};
-use crate::{Value, View};
 use atomic_table::{Seat, Table};
+use proc_history::Value;
 use std::alloc::Global;
 use std::marker::Model;
 

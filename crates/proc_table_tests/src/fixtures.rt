@@ -2,7 +2,8 @@
 ghost use Rattle.std.specs.Prelude.{◌≡◌};
 
 use mod_table::{Restart, Table, read_mod};
-use proc_table::{Beginning, HandlerSeat, Name, Pid, ProcTable};
+use proc_history::{Beginning, Name};
+use proc_table::{HandlerSeat, Pid, ProcTable, SLOTS};
 use std::alloc::Global;
 use std::process::Abort;
 use std::sync::Wait;
@@ -45,5 +46,23 @@ pub(crate) fn ch3<R: Abort + Wait>(
     ) {
         Ok(pid) => pid,
         Err(_) => panic!(rt; "nothing stands in the slot"),
+    }
+}
+
+/// A process begins in each slot, the lowest first.
+pub(crate) fn fill<R: Abort + Wait>(
+    rt: &R,
+    alloc: Global,
+    table: &ProcTable,
+    seat: &mut HandlerSeat,
+)
+    requires { seat.old.table ≡ table.now }
+    ensures { seat.new.table ≡ seat.old.table }
+{
+    for at in 0..SLOTS {
+        match table.begin_lowest(rt, seat, begins(rt, alloc, Restart::Permanent)) {
+            Ok(pid) => assert!(rt; (pid.slot, pid.round) == (at, 1)),
+            Err(_) => panic!(rt; "a slot is free"),
+        }
     }
 }

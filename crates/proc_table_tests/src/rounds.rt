@@ -1,7 +1,8 @@
 //! A slot that is used again.
 use crate::fixtures::{begins, ch3, slot};
 use mod_table::Restart;
-use proc_table::{ProcTable, Tried, Value};
+use proc_history::Value;
+use proc_table::{ProcTable, Tried};
 use std::test::Fail;
 
 #[test]

@@ -1,6 +1,6 @@
 use Rattle.std.proofs.Common.{◌≡◌, replicate, ap, sym, ◌∙◌, arith}
 use Rattle.proc_table.specs.declared.TheConstants.{SLOTS}
-use Rattle.proc_table.specs.Values.{nothing}
+use Rattle.proc_history.specs.Values.{nothing}
 use Rattle.proc_table.proofs.Slots.{slots_is}
 use Rattle.proc_table.proofs.handler.no_values.Goals as goal
 

@@ -1,5 +1,5 @@
 use Rattle.std.proofs.Common.{◌≡◌, replicate}
-use Rattle.proc_table.specs.Values.{nothing}
+use Rattle.proc_history.specs.Values.{nothing}
 use Rattle.proc_table.proofs.handler.no_values.Given as goal
 
 abbrev pub invariant-loop : goal.invariant-loop

@@ -1,8 +1,8 @@
 use Rattle.std.proofs.Common.{◌≡◌, ℕ, subst, sym, ◌∙◌}
-use Rattle.proc_table.specs.Events.{entry}
-use Rattle.proc_table.specs.Releases.{begin_of}
+use Rattle.proc_history.specs.Events.{entry}
+use Rattle.proc_history.specs.Releases.{begin_of}
 use Rattle.proc_table.specs.Views.{seen}
-use Rattle.proc_table.proofs.Beginnings.{Adds, begin_adds}
+use Rattle.proc_history.proofs.Beginnings.{Adds, begin_adds}
 use Rattle.proc_table.proofs.table.ProcTable.begin.Goals as goal
 
 pub release-requires-clause-legal : goal.release-requires-clause-legal

@@ -1,5 +1,5 @@
 use Rattle.std.proofs.Common.{rules}
-use Rattle.proc_table.specs.Histories.{replay}
+use Rattle.proc_history.specs.Histories.{replay}
 use Rattle.proc_table.specs.Views.{seen}
 use Rattle.proc_table.proofs.table.ProcTable.look.Goals as goal
 

@@ -1,8 +1,8 @@
 use Rattle.std.proofs.Common.{replicate, ap, sym, ◌∙◌, List, length}
 use Rattle.atomic_table.specs.Table.{opening}
-use Rattle.proc_table.specs.declared.value.Value.{Value}
+use Rattle.proc_history.specs.declared.value.Value.{Value}
 use Rattle.proc_table.specs.Agrees.{slots}
-use Rattle.proc_table.specs.Values.{nothing}
+use Rattle.proc_history.specs.Values.{nothing}
 use Rattle.proc_table.specs.Views.{handler_view}
 use Rattle.proc_table.proofs.Slots.{slots_is}
 use Rattle.proc_table.proofs.Runs.{length_replicate}

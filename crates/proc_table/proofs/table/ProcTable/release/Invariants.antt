@@ -1,4 +1,4 @@
-use Rattle.proc_table.specs.Releases.{entries_of}
+use Rattle.proc_history.specs.Releases.{entries_of}
 use Rattle.proc_table.proofs.table.ProcTable.release.Given as goal
 
 abbrev pub ghosts-put_down_with : goal.ghosts-put_down_with

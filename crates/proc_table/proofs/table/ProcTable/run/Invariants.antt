@@ -1,4 +1,4 @@
-use Rattle.proc_table.specs.Outcomes.{call_entries}
+use Rattle.proc_history.specs.Outcomes.{call_entries}
 use Rattle.proc_table.proofs.table.ProcTable.run.Given as goal
 
 abbrev pub ghosts-give_call : goal.ghosts-give_call

@@ -1,8 +1,8 @@
 //! What stands in a slot.
 ghost use Rattle.std.specs.Prelude.{◌≡◌};
 ghost use Rattle.std.specs.Option.{option_map};
-ghost use Rattle.proc_table.specs.Values.{nothing, up_if, answer, called, ended, starts_again, where_up, outcome_of};
-ghost use Rattle.proc_table.specs.Outcomes.{outcome_in, outcome_in_now, state_in, after_call};
+ghost use Rattle.proc_history.specs.Values.{nothing, up_if, answer, called, ended, starts_again, where_up, outcome_of};
+ghost use Rattle.proc_history.specs.Outcomes.{outcome_in, outcome_in_now, state_in, after_call};
 
 use crate::Name;
 use mod_table::{Restart, Step, Worker};
@@ -59,7 +59,7 @@ impl Value {
     }
 
     /// A call of the process of this round. Nothing where none is up.
-    pub(crate) fn call(&mut self, round: u32, input: u32) -> Option<Outcome>
+    pub fn call(&mut self, round: u32, input: u32) -> Option<Outcome>
         ensures outcome { result ≡ outcome_in round input self.old }
         ensures value { self.new ≡ after_call self.old input result }
     {
@@ -73,7 +73,7 @@ impl Value {
     }
 
     /// The state of the process of this round. Nothing where none is up.
-    pub(crate) fn state(&self, round: u32) -> Option<u32>
+    pub fn state(&self, round: u32) -> Option<u32>
         ensures { result ≡ state_in round self.entry.now }
     {
         if self.round != round {

@@ -2,9 +2,9 @@
 ghost use Rattle.std.specs.Prelude.{◌≡◌, IfOk};
 ghost use Rattle.erl_term.specs.Value.{value_of};
 ghost use Rattle.mod_table.specs.InMemory.{old_of};
-ghost use Rattle.proc_table.specs.Events.Event.{changed, loaded, stopped, started, given_up};
-ghost use Rattle.proc_table.specs.Holds.{Begins, finds_row, finds_row_if};
-ghost use Rattle.proc_table.specs.Values.{after, begun, changes, moved_to, restarted, where_up};
+ghost use Rattle.proc_history.specs.Events.Event.{changed, loaded, stopped, started, given_up};
+ghost use Rattle.proc_history.specs.Changes.{Begins, finds_row, finds_row_if};
+ghost use Rattle.proc_history.specs.Values.{after, begun, changes, moved_to, next_round, restarted, where_up};
 
 use crate::{Beginning, Now, Standing, Value};
 use erl_term::Term;
@@ -28,8 +28,19 @@ impl Value {
         }
     }
 
-    // The process begins with the next round, where none stands and the rounds aren't used up.
-    pub(crate) fn begin(&mut self, begins: Beginning) -> Result<u32, Beginning>
+    /// The round of the process that begins next here. Nothing where one stands, or where the last round was used.
+    pub fn next_round(&self) -> Option<u32>
+        ensures { result ≡ next_round self.entry.now }
+    {
+        if self.now.is_some() {
+            return None;
+        }
+        self.round.checked_add(1)
+    }
+
+    /// A process begins with the next round. It doesn't, and nothing changes, where one stands, or where the last round was
+    /// used.
+    pub fn begin(&mut self, begins: Beginning) -> Result<u32, Beginning>
         ensures { Begins self.old begins result self.new }
     {
         if self.now.is_some() || self.round == u32::MAX {
@@ -40,7 +51,8 @@ impl Value {
         Ok(self.round)
     }
 
-    pub(crate) fn load(&mut self, table: Worker)
+    /// The process has this table from now on. Nothing changes where none stands.
+    pub fn load(&mut self, table: Worker)
         ensures { self.new ≡ after self.old (loaded table) }
     {
         match &mut self.now {
@@ -49,7 +61,9 @@ impl Value {
         }
     }
 
-    pub(crate) fn change(&mut self, old: &Old, extra: &Term) -> bool
+    /// A change of code from this version, with this extra term. It is false, and nothing changes, where the process is
+    /// up and its table has no row for it. It takes no memory.
+    pub fn change(&mut self, old: &Old, extra: &Term) -> bool
         ensures found { result ≡ finds_row (old_of old.now) (value_of extra.now) self.old }
         ensures value { self.new ≡ after self.old (changed (old_of old.now) (value_of extra.now)) }
     {
@@ -59,7 +73,8 @@ impl Value {
         }
     }
 
-    pub(crate) fn stop(&mut self)
+    /// A process that is up is stopped.
+    pub fn stop(&mut self)
         ensures { self.new ≡ after self.old stopped }
     {
         match &mut self.now {
@@ -68,7 +83,8 @@ impl Value {
         }
     }
 
-    pub(crate) fn start(&mut self)
+    /// A process that was stopped is up, in its table's first state.
+    pub fn start(&mut self)
         ensures { self.new ≡ after self.old started }
     {
         match &mut self.now {
@@ -77,7 +93,8 @@ impl Value {
         }
     }
 
-    pub(crate) fn give_up(&mut self)
+    /// Nothing stands here any more.
+    pub fn give_up(&mut self)
         ensures { self.new ≡ after self.old given_up }
     {
         self.now = None;

@@ -1,12 +1,12 @@
 -- What comes of a call and of a peek.
 use Rattle.std.specs.Prelude.{ℕ, List, [], ◌∷◌, Option, Some, None}
 use Rattle.std.specs.Option.{option_map}
-use Rattle.proc_table.specs.declared.value.Value.{Value}
-use Rattle.proc_table.specs.declared.value.Now.{Now}
-use Rattle.proc_table.specs.declared.value.Outcome.{Outcome}
-use Rattle.proc_table.specs.Events.{HistoryEntry, entry}
-use Rattle.proc_table.specs.Events.Event.{call}
-use Rattle.proc_table.specs.Values.{after, up_if, up_in, answer, outcome_of}
+use Rattle.proc_history.specs.declared.value.Value.{Value}
+use Rattle.proc_history.specs.declared.value.Now.{Now}
+use Rattle.proc_history.specs.declared.value.Outcome.{Outcome}
+use Rattle.proc_history.specs.Events.{HistoryEntry, entry}
+use Rattle.proc_history.specs.Events.Event.{call}
+use Rattle.proc_history.specs.Values.{after, up_if, up_in, answer, outcome_of}
 
 -- what a call has for outcome, if a process of this round is up
 abbrev pub outcome_in : ℕ → ℕ → Value → Option Outcome

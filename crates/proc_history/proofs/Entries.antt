@@ -2,11 +2,11 @@
 use Rattle.std.proofs.Common.{◌≡◌, ◌≢◌, ℕ, zero, suc, ◌==◌, Bool, true, false, if◌then◌else◌, List, [], ◌∷◌, ◌++◌, refl, ap, sym, subst, ◌∙◌, ⊎_elim, arith, append-nil}
 use Rattle.std.proofs.lemmas.Bool.Decides.{nat_tests}
 use mathlib.Core.List.{IsPrefix}
-use Rattle.proc_table.specs.declared.value.Value.{Value}
-use Rattle.proc_table.specs.Events.{HistoryEntry, own}
-use Rattle.proc_table.specs.Values.{after, MayCome}
-use Rattle.proc_table.specs.Histories.{replay_from, LegalFrom}
-use Rattle.proc_table.specs.Moves.{ByHandler, MayAdd}
+use Rattle.proc_history.specs.declared.value.Value.{Value}
+use Rattle.proc_history.specs.Events.{HistoryEntry, MayDo, own}
+use Rattle.proc_history.specs.Values.{after, MayCome}
+use Rattle.proc_history.specs.Histories.{replay_from, LegalFrom}
+use Rattle.proc_history.specs.Events.{ByHandler, MayAdd}
 
 -- the entries of one number in two lists, one behind the other
 pub own-append : (n : ℕ) (g h : List HistoryEntry) → own n (g ++ h) ≡ own n g ++ own n h
@@ -23,7 +23,7 @@ replay-append v (e ∷ es) h = replay-append (after v e.event) es h
 
 pub legal-append : (v : Value) (g h : List HistoryEntry) → LegalFrom v g → LegalFrom (replay_from v g) h → LegalFrom v (g ++ h)
 legal-append v [] h p q = q
-legal-append v (e ∷ es) h p q = (p.0, legal-append (after v e.event) es h p.1 q)
+legal-append v (e ∷ es) h p q = (p.0, p.1, legal-append (after v e.event) es h p.2 q)
 
 -- each entry is by this number
 abbrev pub AllBy : ℕ → List HistoryEntry → Type 0
@@ -64,8 +64,9 @@ legal_prefix v [] h p l = tt
 legal_prefix v (e ∷ es) [] p l = absurd (cc (p.1))
 legal_prefix v (e ∷ es) (x ∷ xs) p l =
     let heads : e ≡ x = cc (p.1) in
-    let m : MayCome v e.event × LegalFrom (after v e.event) xs = subst (λ (y : HistoryEntry). MayCome v y.event × LegalFrom (after v y.event) xs) (sym heads) l in
-    (m.0, legal_prefix (after v e.event) es xs (p.0, cc (p.1)) m.1)
+    let m : MayDo e.by e.event × MayCome v e.event × LegalFrom (after v e.event) xs =
+    subst (λ (y : HistoryEntry). MayDo y.by y.event × MayCome v y.event × LegalFrom (after v y.event) xs) (sym heads) l in
+    (m.0, m.1, legal_prefix (after v e.event) es xs (p.0, cc (p.1)) m.2)
 
 append_both : (g x y : List HistoryEntry) → (g ++ x) ++ y ≡ g → (x ≡ []) × (y ≡ [])
 append_both [] [] y e = (refl, e)

@@ -2,13 +2,13 @@
 use Rattle.std.specs.Prelude.{◌≡◌, ℕ, List, [], ◌∷◌, map, IsSome, Option, Some, None}
 use Rattle.erl_term.specs.Value.{value_of}
 use Rattle.mod_table.specs.InMemory.{old_of}
-use Rattle.proc_table.specs.declared.value.Value.{Value}
-use Rattle.proc_table.specs.declared.value.Now.{Now}
-use Rattle.proc_table.specs.declared.entry.Entry.{Entry}
-use Rattle.proc_table.specs.declared.entry.Entry.TheVariants.{Begin, Loaded, Changed, Stopped, Started, GivenUp}
-use Rattle.proc_table.specs.Events as event
-use Rattle.proc_table.specs.Events.{HistoryEntry, entry}
-use Rattle.proc_table.specs.Events.Event.{begin, loaded, changed, stopped, started, given_up}
+use Rattle.proc_history.specs.declared.value.Value.{Value}
+use Rattle.proc_history.specs.declared.value.Now.{Now}
+use Rattle.proc_history.specs.declared.entry.Entry.{Entry}
+use Rattle.proc_history.specs.declared.entry.Entry.TheVariants.{Begin, Loaded, Changed, Stopped, Started, GivenUp}
+use Rattle.proc_history.specs.Events as event
+use Rattle.proc_history.specs.Events.{HistoryEntry, entry}
+use Rattle.proc_history.specs.Events.Event.{begin, loaded, changed, stopped, started, given_up}
 
 -- what a process that stands begins with
 abbrev pub begin_of : ℕ → Option Now → event.Event

@@ -2,17 +2,17 @@
 use Rattle.std.proofs.Common.{◌≡◌, ℕ, true, IsSome, List, [], ◌∷◌, refl, subst, Option, Some, None}
 use Rattle.erl_term.specs.Value as term
 use Rattle.mod_table.specs.Table.{OldVersion}
-use Rattle.proc_table.specs.declared.value.Standing.{Standing}
-use Rattle.proc_table.specs.declared.value.Standing.TheVariants.{Up}
-use Rattle.proc_table.specs.Events.Event.{changed}
-use Rattle.proc_table.specs.Values.{up_if, up_at, changes, MayCome}
-use Rattle.proc_table.specs.Holds.{finds_row, finds_row_at, finds_row_if}
-use Rattle.proc_table.specs.declared.value.Value.{Value}
-use Rattle.proc_table.specs.declared.value.Now.{Now}
-use Rattle.proc_table.specs.declared.entry.Entry.{Entry}
-use Rattle.proc_table.specs.declared.entry.Entry.TheVariants.{Begin, Loaded, Changed, Stopped, Started, GivenUp}
-use Rattle.proc_table.specs.Moves.{IsCall, ByHandler}
-use Rattle.proc_table.specs.Releases.{begin_of, event_of, entries_of}
+use Rattle.proc_history.specs.declared.value.Standing.{Standing}
+use Rattle.proc_history.specs.declared.value.Standing.TheVariants.{Up}
+use Rattle.proc_history.specs.Events.Event.{changed}
+use Rattle.proc_history.specs.Values.{up_if, up_at, changes, MayCome}
+use Rattle.proc_history.specs.Changes.{finds_row, finds_row_at, finds_row_if}
+use Rattle.proc_history.specs.declared.value.Value.{Value}
+use Rattle.proc_history.specs.declared.value.Now.{Now}
+use Rattle.proc_history.specs.declared.entry.Entry.{Entry}
+use Rattle.proc_history.specs.declared.entry.Entry.TheVariants.{Begin, Loaded, Changed, Stopped, Started, GivenUp}
+use Rattle.proc_history.specs.Events.{IsCall, ByHandler}
+use Rattle.proc_history.specs.Releases.{begin_of, event_of, entries_of}
 
 begin_is_no_call : (round : ℕ) (o : Option Now) → ¬ IsCall (begin_of round o)
 begin_is_no_call round (Some n) e = e

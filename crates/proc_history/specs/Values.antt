@@ -1,5 +1,5 @@
 -- What each event makes of what stands in a slot; docs/RULES.md tells it in words.
-use Rattle.std.specs.Prelude.{◌≡◌, ℕ, ◌<◌, ◌==◌, Bool, true, false, Option, Some, None, IsSome, if◌then◌else◌}
+use Rattle.std.specs.Prelude.{◌≡◌, ℕ, ◌+◌, ◌<◌, ◌==◌, Bool, true, false, Option, Some, None, IsSome, is_some, if◌then◌else◌}
 use Rattle.std.specs.Option.{option_map}
 use Rattle.erl_term.specs.Value as term
 use Rattle.mod_table.specs.declared.child.Restart.{Restart}
@@ -8,15 +8,15 @@ use Rattle.mod_table.specs.declared.step.Step.{Step}
 use Rattle.mod_table.specs.declared.step.Step.TheVariants.{Next, Ends, Crashes}
 use Rattle.mod_table.specs.Table.{OldVersion}
 use Rattle.mod_table.specs.Decide.{step_of, change_of}
-use Rattle.proc_table.specs.declared.value.Standing.{Standing}
-use Rattle.proc_table.specs.declared.value.Standing.TheVariants.{Up, Down, Stopped}
-use Rattle.proc_table.specs.declared.beginning.Beginning.{Beginning}
-use Rattle.proc_table.specs.declared.value.Outcome.{Outcome}
-use Rattle.proc_table.specs.declared.value.Outcome.TheVariants.{Done, Crashed, Ended}
-use Rattle.proc_table.specs.declared.value.Now.{Now}
-use Rattle.proc_table.specs.declared.value.Value.{Value}
-use Rattle.proc_table.specs.Events.{Event}
-use Rattle.proc_table.specs.Events.Event.{begin, call, loaded, changed, stopped, started, given_up}
+use Rattle.proc_history.specs.declared.value.Standing.{Standing}
+use Rattle.proc_history.specs.declared.value.Standing.TheVariants.{Up, Down, Stopped}
+use Rattle.proc_history.specs.declared.beginning.Beginning.{Beginning}
+use Rattle.proc_history.specs.declared.value.Outcome.{Outcome}
+use Rattle.proc_history.specs.declared.value.Outcome.TheVariants.{Done, Crashed, Ended}
+use Rattle.proc_history.specs.declared.value.Now.{Now}
+use Rattle.proc_history.specs.declared.value.Value.{Value}
+use Rattle.proc_history.specs.Events.{Event}
+use Rattle.proc_history.specs.Events.Event.{begin, call, loaded, changed, stopped, started, given_up}
 
 -- no process ever began here
 abbrev pub nothing : Value
@@ -94,6 +94,10 @@ after v (changed old extra) = with_now v (λ n. where_up (λ m. moved_to m (chan
 after v stopped = with_now v (λ n. where_up (λ m. record m { standing = Stopped }) n n.standing)
 after v started = with_now v (λ n. restarted n n.standing)
 after v given_up = record { round = v.round; now = None }
+
+-- The round of the process that begins next. None begins where one stands, or where the last round was used.
+abbrev pub next_round : Value → Option ℕ
+next_round v = if is_some v.now then None else if v.round == 4294967295 then None else Some (v.round + 1)
 
 -- Whether the event may come next. A process begins where none stands, with a round above the last. A call has the outcome
 -- of its process, which is up. A change of code of a process that is up finds its row.

@@ -1,0 +1,5 @@
+pub mod Prefixes
+pub mod Entries
+pub mod ReleaseLemmas
+pub mod Beginnings
+pub mod StandLemmas
