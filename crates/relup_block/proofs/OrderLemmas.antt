@@ -1,27 +1,26 @@
 -- One choice after another.
-use Rattle.std.proofs.Common.{◌≡◌, refl, ap, sym, ◌∙◌, ℕ, zero, suc, ◌+◌, ◌-◌, ◌<◌, List, [], ◌∷◌, ◌++◌, None, Some, arith}
-use Rattle.std.proofs.lemmas.List.{append_assoc}
+use Rattle.std.proofs.Common.{◌≡◌, refl, ap, sym, ◌∙◌, ℕ, List, [], ◌∷◌, ◌++◌, length, Some}
+use Rattle.std.proofs.lemmas.List.{append_assoc, append-nil}
 use Rattle.relup_block.specs.declared.order.ChoiceRule.{ChoiceRule}
-use Rattle.relup_block.specs.Order.{BlockItemForm, choice, choose_then, choices}
+use Rattle.relup_block.specs.Order.{BlockItemForm, choice, choose_then, choices, order}
+use Rattle.relup_block.proofs.PermutationLemmas.{choice_length}
+
+order_more : (rule : ChoiceRule) (left : List BlockItemForm) (x : BlockItemForm) (rest : List BlockItemForm)
+    → choice rule left ≡ Some (x, rest) → order rule left ≡ x ∷ order rule rest
+order_more rule [] x rest e = absurd cc
+order_more rule (y ∷ ys) x rest e =
+    let long : length rest ≡ length ys = choice_length rule (length ys) (y ∷ ys) (x, rest) e refl in
+    ap (choose_then (λ r. choices rule (length ys) r)) e ∙ ap (λ (m : ℕ). x ∷ choices rule m rest) (sym long)
+
+-- one more is chosen, behind those that were chosen before
+pub one_more_chosen : (rule : ChoiceRule) (left : List BlockItemForm) (x : BlockItemForm) (rest before now all : List BlockItemForm)
+    → choice rule left ≡ Some (x, rest) → now ≡ before ++ (x ∷ []) → before ++ order rule left ≡ all → now ++ order rule rest ≡ all
+one_more_chosen rule left x rest before now all e grown is =
+    ap (λ (xs : List BlockItemForm). xs ++ order rule rest) grown
+    ∙ (append_assoc before (x ∷ []) (order rule rest)
+    ∙ (ap (λ (xs : List BlockItemForm). before ++ xs) (sym (order_more rule left x rest e))
+    ∙ is))
 
 -- nothing is left to choose
-pub none_chosen : (rule : ChoiceRule) (n : ℕ) (left : List BlockItemForm) → choice rule left ≡ None → choices rule n left ≡ []
-none_chosen rule zero left e = refl
-none_chosen rule (suc n) left e = ap (choose_then (λ rest. choices rule n rest)) e
-
--- one more is chosen
-pub one_chosen : (rule : ChoiceRule) (n k : ℕ) (left : List BlockItemForm) (x : BlockItemForm) (rest : List BlockItemForm)
-    → k < n → choice rule left ≡ Some (x, rest) → choices rule (n - k) left ≡ x ∷ choices rule (n - (k + 1)) rest
-one_chosen rule n k left x rest more e =
-    let count : n - k ≡ suc (n - (k + 1)) = omega (arith, more) in
-    ap (λ (m : ℕ). choices rule m left) count ∙ ap (choose_then (λ r. choices rule (n - (k + 1)) r)) e
-
--- behind those that were chosen before
-pub one_more_chosen : (rule : ChoiceRule) (n k : ℕ) (left : List BlockItemForm) (x : BlockItemForm) (rest before now all : List BlockItemForm)
-    → k < n → choice rule left ≡ Some (x, rest) → now ≡ before ++ (x ∷ []) → before ++ choices rule (n - k) left ≡ all
-    → now ++ choices rule (n - (k + 1)) rest ≡ all
-one_more_chosen rule n k left x rest before now all more e grown is =
-    ap (λ (xs : List BlockItemForm). xs ++ choices rule (n - (k + 1)) rest) grown
-    ∙ (append_assoc before (x ∷ []) (choices rule (n - (k + 1)) rest)
-    ∙ (ap (λ (xs : List BlockItemForm). before ++ xs) (sym (one_chosen rule n k left x rest more e))
-    ∙ is))
+pub none_chosen : (rule : ChoiceRule) (left before all : List BlockItemForm) → left ≡ [] → before ++ order rule left ≡ all → before ≡ all
+none_chosen rule left before all none is = sym (append-nil before) ∙ (ap (λ (xs : List BlockItemForm). before ++ order rule xs) (sym none) ∙ is)

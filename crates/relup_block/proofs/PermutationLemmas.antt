@@ -55,7 +55,7 @@ all_some : (xs : List BlockItemForm) → filter_map Some xs ≡ xs
 all_some [] = refl
 all_some (x ∷ xs) = ap (λ (ys : List BlockItemForm). x ∷ ys) (all_some xs)
 
-choice_length : (rule : ChoiceRule) (n : ℕ) (xs : List BlockItemForm) (p : BlockItemForm × List BlockItemForm) → choice rule xs ≡ Some p → length xs ≡ suc n → length p.1 ≡ n
+pub choice_length : (rule : ChoiceRule) (n : ℕ) (xs : List BlockItemForm) (p : BlockItemForm × List BlockItemForm) → choice rule xs ≡ Some p → length xs ≡ suc n → length p.1 ≡ n
 choice_length rule n xs p e long =
     let same = length_permutation _ _ (choice_same Some rule xs p e) in
     let count : suc (length p.1) ≡ length xs = ap length (sym (all_some (p.0 ∷ p.1))) ∙ (same ∙ ap length (all_some xs)) in

@@ -1,8 +1,13 @@
 -- How many others each item waits for, by which the orders are made.
-use Rattle.std.specs.Prelude.{ℕ, zero, suc, ◌+◌, ◌-◌, nat_eq, Bool, true, false, List, [], ◌∷◌, ◌≡◌, ◌++◌, map, Option, None, Some, if◌then◌else◌}
+use Rattle.std.specs.Prelude.{ℕ, zero, suc, ◌+◌, ◌-◌, ◌*◌, ◌<◌, ◌≤◌, nat_eq, Bool, true, false, List, [], ◌∷◌, ◌≡◌, ◌++◌, length, map, filter, Option, None, Some, if◌then◌else◌}
 use Rattle.relup_block.specs.declared.order.ChoiceRule.{ChoiceRule}
+use Rattle.relup_block.specs.declared.order.BlockItem.{BlockItem}
 use Rattle.relup_block.specs.declared.order.Waiting.{Waiting}
-use Rattle.relup_block.specs.Order.{BlockItemForm, block_item_of, must_wait_for, choice}
+use Rattle.relup_block.specs.declared.order.Ahead.{Ahead}
+use Rattle.relup_block.specs.declared.order.Left.{Left}
+use Rattle.relup_block.specs.declared.order.Step.{Step}
+use Rattle.relup_block.specs.declared.order.Step.TheVariants.{Chosen, Passed, End}
+use Rattle.relup_block.specs.Order.{BlockItemForm, block_item_of, block_items_of, item_deps, must_wait_for, choice}
 
 abbrev pub one_if : Bool → ℕ
 one_if true = 1
@@ -12,6 +17,15 @@ one_if false = 0
 abbrev pub waits_among : ChoiceRule → BlockItemForm → List BlockItemForm → ℕ
 waits_among rule x [] = 0
 waits_among rule x (y ∷ ys) = one_if (must_wait_for rule x y) + waits_among rule x ys
+
+-- whether there are some
+abbrev pub are_some : List (List ℕ) → Bool
+are_some [] = false
+are_some (n ∷ ns) = true
+
+-- whether it names dependencies
+abbrev pub has_deps : BlockItemForm → Bool
+has_deps x = are_some (item_deps x)
 
 -- an item, with how many others have to come before it
 pub record WaitingForm : Type 0 where
@@ -27,14 +41,18 @@ all_waiting = map waiting_of
 abbrev pub waiting_items : List WaitingForm → List BlockItemForm
 waiting_items = map (λ (w : WaitingForm). w.item)
 
--- those behind others, each with how many of all the others it waits for
-abbrev pub counted_behind : ChoiceRule → List BlockItemForm → List BlockItemForm → List WaitingForm
-counted_behind rule before [] = []
-counted_behind rule before (x ∷ after) =
-    record { item = x; waits = waits_among rule x before + waits_among rule x after } ∷ counted_behind rule (before ++ (x ∷ [])) after
+-- the items that were passed over
+abbrev pub passed_items : List Waiting → List BlockItemForm
+passed_items ws = waiting_items (all_waiting ws)
 
-abbrev pub counted : ChoiceRule → List BlockItemForm → List WaitingForm
-counted rule xs = counted_behind rule [] xs
+-- those behind others, with others ahead, each with how many of all the others it waits for
+abbrev pub counted_behind : ChoiceRule → List BlockItemForm → List BlockItemForm → List BlockItemForm → List WaitingForm
+counted_behind rule before [] ahead = []
+counted_behind rule before (x ∷ xs) ahead =
+    record { item = x; waits = waits_among rule x before + waits_among rule x (xs ++ ahead) } ∷ counted_behind rule (before ++ (x ∷ [])) xs ahead
+
+abbrev pub counted : ChoiceRule → List BlockItemForm → List BlockItemForm → List WaitingForm
+counted rule passed ahead = counted_behind rule [] passed ahead
 
 -- the place of the first that waits for none, behind so many
 abbrev pub first_idle_behind : ℕ → List WaitingForm → Option ℕ
@@ -51,11 +69,59 @@ after_item_first rule y n [] = []
 after_item_first rule y zero (w ∷ ws) = w ∷ ws
 after_item_first rule y (suc n) (w ∷ ws) = after_item rule y w ∷ after_item_first rule y n ws
 
--- The item is the next choice of these, and behind it the others are counted.
-abbrev pub Leaves : ChoiceRule → List BlockItemForm → BlockItemForm → List WaitingForm → Type 0
-Leaves rule xs x ws = (rest : List BlockItemForm) × (choice rule xs ≡ Some (x, rest)) × (map (after_item rule x) ws ≡ counted rule rest)
+-- The naming ones are those of the items that name dependencies.
+abbrev pub HasNaming : Ahead → Type 0
+HasNaming a = block_items_of a.naming.now ≡ filter has_deps (block_items_of a.items.now)
 
--- The next choice of these was taken, and the others are counted.
-abbrev pub TakesChoice : ChoiceRule → List BlockItemForm → Option BlockItemForm → List WaitingForm → Type 0
-TakesChoice rule xs None left = choice rule xs ≡ None
-TakesChoice rule xs (Some x) left = (rest : List BlockItemForm) × (choice rule xs ≡ Some (x, rest)) × (left ≡ counted rule rest)
+-- The first of them was taken, if there is one.
+abbrev pub IsNext : Ahead → Option (BlockItem × Ahead) → Type 0
+IsNext a None = block_items_of a.items.now ≡ []
+IsNext a (Some p) =
+    (block_items_of a.items.now ≡ block_item_of p.0 ∷ block_items_of p.1.items.now) × (length a.items.now ≡ length p.1.items.now + 1) × HasNaming p.1
+
+-- The one at this place was taken out, and the others no longer wait for it.
+abbrev pub Takes : ChoiceRule → List WaitingForm → ℕ → BlockItemForm → List WaitingForm → Type 0
+Takes rule ws k x new = (us : List WaitingForm) (w : WaitingForm) (vs : List WaitingForm) → ws ≡ us ++ (w ∷ vs) → length us ≡ k
+    → (w.item ≡ x) × (new ≡ map (after_item rule x) (us ++ vs))
+
+-- what a step comes to, without where the item lies in memory
+pub data StepForm : Type 0 where
+  chosen : BlockItemForm → StepForm
+  passed : StepForm
+  end : StepForm
+
+abbrev pub step_of : Step → StepForm
+step_of (Chosen x) = chosen (block_item_of x)
+step_of Passed = passed
+step_of End = end
+
+-- An item ahead, with these behind it, was taken or passed over.
+abbrev pub Meets : ChoiceRule → List WaitingForm → BlockItemForm → List BlockItemForm → StepForm → List WaitingForm → Type 0
+Meets rule ws x ahead (chosen y) new =
+    (y ≡ x) × (nat_eq (waits_among rule x (waiting_items ws) + waits_among rule x ahead) 0 ≡ true) × (new ≡ map (after_item rule x) ws)
+Meets rule ws x ahead passed new =
+    new ≡ ws ++ (record { item = x; waits = waits_among rule x (waiting_items ws) + waits_among rule x ahead } ∷ [])
+Meets rule ws x ahead end new = ⊥
+
+-- the items that remain, in their order
+abbrev pub remaining : Left → List BlockItemForm
+remaining l = passed_items l.passed.items ++ block_items_of l.ahead.items.now
+
+-- Each that was passed over is counted.
+abbrev pub IsCounted : ChoiceRule → Left → Type 0
+IsCounted rule l = all_waiting l.passed.items ≡ counted rule (passed_items l.passed.items) (block_items_of l.ahead.items.now)
+
+-- A step took the next choice, or left what remains.
+abbrev pub Steps : ChoiceRule → List BlockItemForm → StepForm → List BlockItemForm → Type 0
+Steps rule old (chosen x) new = choice rule old ≡ Some (x, new)
+Steps rule old passed new = old ≡ new
+Steps rule old end new = old ≡ []
+
+-- how many remain
+abbrev pub size_of_left : Left → ℕ
+size_of_left l = length l.passed.items + length l.ahead.items.now
+
+-- Each step but the last has less left.
+abbrev pub Shrinks : Step → Left → Left → Type 0
+Shrinks End old new = Unit {0}
+Shrinks s old new = (size_of_left new ≤ size_of_left old) × (size_of_left new + length new.ahead.items.now < size_of_left old + length old.ahead.items.now) × HasNaming new.ahead

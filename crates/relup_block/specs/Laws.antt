@@ -1,12 +1,12 @@
 -- Laws of blocks, above the definition of their instructions.
-use Rattle.std.specs.Prelude.{◌≡◌, ℕ, true, false, List, [], ◌∷◌, ◌++◌, map, reverse, filter, IsPermutation}
+use Rattle.std.specs.Prelude.{◌≡◌, ℕ, ◌<◌, true, false, List, [], ◌∷◌, ◌++◌, map, reverse, filter, IsPermutation}
 use Rattle.relup_file.specs.declared.instruction.Direction.{Direction}
 use Rattle.relup_file.specs.declared.instruction.Direction.TheVariants.{Up, Down}
 use Rattle.relup_file.specs.Instruction.{SuspensionForm, PurgingForm, ChangeForm, ConversionForm, Instruction}
 use Rattle.relup_file.specs.Instruction.Instruction.{suspend, load, code_change, resume}
-use Rattle.std.specs.List.{filter_map, flat_map}
+use Rattle.std.specs.List.{AllByRecursion, filter_map, flat_map}
 use Rattle.relup_block.specs.declared.order.ChoiceRule.{ChoiceRule}
-use Rattle.relup_block.specs.Order.{BlockItemForm, order}
+use Rattle.relup_block.specs.Order.{BlockItemForm, must_wait_for, is_free, order}
 use Rattle.relup_block.specs.Block.{resumption, change, purging, is_of_kind, block}
 
 -- what an instruction loads,
@@ -40,6 +40,26 @@ Changes xs cs = IsPermutation (filter_map change xs) cs
 -- An order of a block has its items, each once.
 abbrev pub OrderHasItems : Type 0
 OrderHasItems = (rule : ChoiceRule) (xs : List BlockItemForm) → IsPermutation xs (order rule xs)
+
+-- The one item has the lower number if the other waits for it.
+abbrev pub IsLower : ChoiceRule → (BlockItemForm → ℕ) → BlockItemForm → BlockItemForm → Type 0
+IsLower rule number y x = must_wait_for rule x y ≡ true → number y < number x
+
+-- The dependencies among these items have no cycle: by these numbers each waits for others of lower numbers alone.
+abbrev pub HaveNoCycle : ChoiceRule → (BlockItemForm → ℕ) → List BlockItemForm → Type 0
+HaveNoCycle rule number [] = Unit {0}
+HaveNoCycle rule number (x ∷ xs) =
+    AllByRecursion (λ (y : BlockItemForm). IsLower rule number y x × IsLower rule number x y) xs × HaveNoCycle rule number xs
+
+-- Each of these items stands behind all those that it waits for.
+abbrev pub StandBehind : ChoiceRule → List BlockItemForm → Type 0
+StandBehind rule [] = Unit {0}
+StandBehind rule (x ∷ xs) = (is_free rule x xs ≡ true) × StandBehind rule xs
+
+-- Where the dependencies have no cycle, an order follows them.
+abbrev pub FollowsDependencies : Type 0
+FollowsDependencies = (rule : ChoiceRule) (number : BlockItemForm → ℕ) (xs : List BlockItemForm)
+    → HaveNoCycle rule number xs → StandBehind rule (order rule xs)
 
 -- Each module of a block is loaded exactly once.
 abbrev pub LoadsEachOnce : Type 0

@@ -1,9 +1,15 @@
 //! Laws of blocks, above their definition. Each function does nothing: its contract is the law.
-ghost use Rattle.relup_block.specs.Laws.{OrderHasItems, LoadsEachOnce, ChangesEachOnce, SuspendsEachOnce, ResumesSuspended, LoadsBeforeChange, ChangesBeforeLoad};
+ghost use Rattle.relup_block.specs.Laws.{OrderHasItems, FollowsDependencies, LoadsEachOnce, ChangesEachOnce, SuspendsEachOnce, ResumesSuspended, LoadsBeforeChange, ChangesBeforeLoad};
 
 /// An order of a block has its items, each once.
 pub fn an_order_has_each_item_once()
     ensures { OrderHasItems }
+{}
+
+/// Where the dependencies among the items of a block have no cycle, each item of an order stands behind all those that it
+/// waits for.
+pub fn an_order_follows_dependencies_without_a_cycle()
+    ensures { FollowsDependencies }
 {}
 
 /// Each module of a block is loaded exactly once.

@@ -4,7 +4,8 @@
 //! [`push_block`] writes the instructions of the definition `block`. They go by two orders of the block's items, which two
 //! rules of choice give (specs/Order).
 //!
-//! The functions of `laws` say of the definition that each module is loaded once and each state changed once; that the updated
+//! The functions of `laws` say of the definition that an order has each item once, and follows dependencies that have no
+//! cycle; that each module is loaded once and each state changed once; that the updated
 //! modules are suspended, and resumed the last first; that going up all is loaded before states are changed; and that going
 //! down states are changed before their modules are loaded, but for static updates.
 //!

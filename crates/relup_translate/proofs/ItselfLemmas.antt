@@ -11,8 +11,8 @@ use Rattle.relup_file.specs.declared.instruction.Direction.{Direction}
 use Rattle.relup_file.specs.declared.instruction.Direction.TheVariants.{Up, Down}
 use Rattle.relup_file.specs.Instruction.Instruction.{point_of_no_return}
 use Rattle.appup_file.specs.Instruction.AppupInstruction.{add_application, remove_application}
-use Rattle.relup_translate.specs.Release.{RelupAppForm, RelupReleaseForm, WayForm, app_named}
-use Rattle.relup_translate.specs.Script.{script}
+use Rattle.relup_row.specs.Release.{RelupAppForm, RelupReleaseForm, WayForm, app_named}
+use Rattle.relup_row.specs.Script.{script}
 use Rattle.relup_translate.specs.Fault.{FaultForm}
 use Rattle.relup_translate.specs.Fault.FaultForm.{needs_new_emulator}
 use Rattle.relup_translate.specs.Translation.{first_fault, if_other, row_fault, between_versions, app_fault, way_fault, coming_row, changing_row, going_row, rows, way_script, unless_fault, relup_between, translation}

@@ -1,5 +1,3 @@
-pub mod PartLemmas
-pub mod AppendLemmas
 pub mod OutcomeLemmas
 pub mod ScriptLemmas
 pub mod ItselfLemmas

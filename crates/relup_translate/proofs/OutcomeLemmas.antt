@@ -5,7 +5,7 @@ use Rattle.std.specs.Option.{option_or}
 use Rattle.relup_file.specs.declared.instruction.Direction.{Direction}
 use Rattle.relup_file.specs.declared.instruction.Direction.TheVariants.{Up, Down}
 use Rattle.relup_file.specs.Instruction.{RelupForm}
-use Rattle.relup_translate.specs.Release.{RelupReleaseForm, WayForm, way_between}
+use Rattle.relup_row.specs.Release.{RelupReleaseForm, WayForm, way_between}
 use Rattle.relup_translate.specs.Fault.{FaultForm}
 use Rattle.relup_translate.specs.Translation.{first_fault, way_fault, release_fault, fault_between, relup_between, unless_fault, translation}
 use Rattle.relup_translate.specs.Laws.{ways, AreSound, IsFirstFault, MakesSoundWays, RefusesFirstFault, HaveOneFirstFault, NeverBoth, AreSoundOrFail}

@@ -17,10 +17,10 @@ use Rattle.appup_file.specs.Instruction.AppupInstruction.{update, update_supervi
 use Rattle.relup_block.specs.Order.{BlockItemForm}
 use Rattle.relup_block.specs.Block.{change, over, is_of_kind, loading, suspending, changing, resuming, updating, in_orders, block}
 use Rattle.relup_block.proofs.BlockLemmas.{in_two_orders}
-use Rattle.relup_translate.specs.Release.{RelupAppForm, RelupReleaseForm, WayForm, way_between, app_named}
-use Rattle.relup_translate.specs.Fetches.{MentionForm, fetches, fetching}
-use Rattle.relup_translate.specs.Script.{load_plainly, remove_plainly, starting, coming, leaving, stopping, going, of_app, restarting, in_place, single, block_item, PartForm, put_item, put, parts, part_script, row_script, mentions, written_fetch, written_fetches, script}
-use Rattle.relup_translate.specs.Script.PartForm.{a_block, a_single}
+use Rattle.relup_row.specs.Release.{RelupAppForm, RelupReleaseForm, WayForm, way_between, app_named}
+use Rattle.relup_row.specs.Fetches.{MentionForm, fetches, fetching}
+use Rattle.relup_row.specs.Script.{load_plainly, remove_plainly, starting, coming, leaving, stopping, going, of_app, restarting, in_place, single, block_item, PartForm, put_item, put, parts, part_script, row_script, mentions, written_fetch, written_fetches, script}
+use Rattle.relup_row.specs.Script.PartForm.{a_block, a_single}
 use Rattle.relup_translate.specs.Fault.{FaultForm}
 use Rattle.relup_translate.specs.Fault.FaultForm.{needs_new_emulator}
 use Rattle.relup_translate.specs.Translation.{first_fault, instruction_fault, other_version, between_versions, row_fault, app_fault, way_fault, coming_row, changing_row, going_row, rows, way_script, entry, relup_between, translation}

@@ -9,7 +9,7 @@ use Rattle.relup_file.specs.Instruction.Instruction.{point_of_no_return}
 use Rattle.relup_script.specs.declared.fault.ScriptFault.{ScriptFault}
 use Rattle.relup_script.specs.declared.fault.ScriptFault.TheVariants.{Unsupported}
 use Rattle.relup_script.specs.Script.{IsScriptFault}
-use Rattle.relup_translate.specs.Release.{RelupAppForm, RelupReleaseForm, WayForm, way_between}
+use Rattle.relup_row.specs.Release.{RelupAppForm, RelupReleaseForm, WayForm, way_between}
 use Rattle.relup_translate.specs.Fault.{FaultForm}
 use Rattle.relup_translate.specs.Translation.{way_fault, relup_between, translation}
 

@@ -1,6 +1,3 @@
-pub mod Release
-pub mod Fetches
-pub mod Script
 pub mod Fault
 pub mod Translation
 pub mod Memory

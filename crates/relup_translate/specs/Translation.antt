@@ -18,8 +18,8 @@ use Rattle.appup_file.specs.Search.{entries_of, entry_for}
 use Rattle.relup_translate.specs.declared.error.TranslateError.{TranslateError}
 use Rattle.relup_translate.specs.declared.error.TranslateError.TheVariants.{NoMemory}
 use Rattle.relup_block.specs.Order.{is_among}
-use Rattle.relup_translate.specs.Release.{RelupAppForm, RelupReleaseForm, WayForm, way_between, app_named, owner}
-use Rattle.relup_translate.specs.Script.{script}
+use Rattle.relup_row.specs.Release.{RelupAppForm, RelupReleaseForm, WayForm, way_between, app_named, owner}
+use Rattle.relup_row.specs.Script.{script}
 use Rattle.relup_translate.specs.Fault.{FaultForm, Says}
 use Rattle.relup_translate.specs.Fault.FaultForm.{no_appup, no_entry, unknown_module, regex_version, needs_new_emulator, unsupported}
 

@@ -2,13 +2,13 @@
 ghost use Rattle.std.specs.Prelude.{◌≡◌, IfOk, reverse};
 ghost use Rattle.std.specs.List.{filter_map};
 ghost use Rattle.std.specs.Option.{option_map};
-ghost use Rattle.relup_translate.specs.Release.{relup_app_of, relup_release_of, way_of};
+ghost use Rattle.relup_row.specs.Release.{relup_app_of, relup_release_of, way_of};
 ghost use Rattle.relup_translate.specs.Translation.{coming_row, changing_row, going_row, rows};
 ghost use Rattle.relup_translate.specs.Memory.{row_of_change, rows_of};
 
 use crate::refusals::{between_versions, other_version};
-use crate::release::{RelupApp, Way};
 use appup_file::AppupInstr;
+use relup_row::{RelupApp, Way};
 use std::alloc::{AllocError, Global};
 
 // What becomes of an application.

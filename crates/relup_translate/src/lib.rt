@@ -12,20 +12,14 @@
 //! Only tested: that a relup is made where memory is there. Trusted: the toolchain alone.
 #![tactic(auto)]
 
-mod calls;
 mod changes;
-mod copies;
 mod error;
 mod fault;
-mod fetches;
 pub mod laws;
 mod refusals;
-mod release;
 mod relup;
-mod rows;
 mod script;
-mod single;
 
 pub use error::TranslateError;
-pub use release::{RelupApp, RelupRelease};
 pub use relup::make_relup;
+pub use relup_row::{RelupApp, RelupRelease};

@@ -4,15 +4,15 @@ ghost use Rattle.std.specs.Option.{option_map};
 ghost use Rattle.std.specs.Result.{result_map_both};
 ghost use Rattle.relup_file.specs.Instruction.{instruction_of};
 ghost use Rattle.appup_file.specs.Instruction.{appup_of, appup_instruction_of, row_of};
-ghost use Rattle.relup_translate.specs.Release.{relup_app_of, relup_release_of, way_of};
+ghost use Rattle.relup_row.specs.Release.{relup_app_of, relup_release_of, way_of};
 ghost use Rattle.relup_translate.specs.Fault.{fault_of};
 ghost use Rattle.relup_translate.specs.Translation.{known, target_has_module, target_has_app, left_has_app, deleted_fault, restart_fault, low_level_fault, instruction_fault, first_fault, counting_appup, by_appup, between_versions, other_version, app_fault, way_fault, release_fault, fault_between};
 
 use crate::fault::TranslationFault;
-use crate::release::{RelupApp, RelupRelease, Way};
 use appup_file::{Appup, AppupInstr, EntryFault};
 use relup_block::is_among;
 use relup_file::{Direction, Instr};
+use relup_row::{RelupApp, RelupRelease, Way};
 
 fn known(holds: bool, fault: TranslationFault<'_>) -> Option<TranslationFault<'_>>
     ensures { option_map fault_of result ≡ known holds (fault_of fault.entry) }

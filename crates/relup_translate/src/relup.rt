@@ -1,15 +1,15 @@
 //! The relup between releases.
 ghost use Rattle.std.specs.Prelude.{◌≡◌, IfOk, IfErr, Ok, map};
 ghost use Rattle.relup_file.specs.Instruction.{entry_of, relup_of};
-ghost use Rattle.relup_translate.specs.Release.{relup_release_of};
+ghost use Rattle.relup_row.specs.Release.{relup_release_of};
 ghost use Rattle.relup_translate.specs.Translation.{entry, relup_between, translation, Refuses};
 
 use crate::TranslateError;
 use crate::refusals::fault_between;
-use crate::release::{RelupRelease, Way};
 use crate::script::way_script;
 use erl_term::Term;
 use relup_file::{Direction, Relup, RelupEntry};
+use relup_row::{RelupRelease, Way};
 use std::alloc::{AllocError, Global};
 
 /// The relup of a release: the scripts up to it from some releases, and down from it to others, in the order given. The

@@ -2,19 +2,19 @@
 ghost use Rattle.std.specs.Prelude.{◌≡◌, ◌++◌, IfOk, OnOk, map};
 ghost use Rattle.std.specs.List.{flat_map};
 ghost use Rattle.relup_file.specs.Instruction.{script_of};
-ghost use Rattle.relup_translate.specs.Release.{way_of};
-ghost use Rattle.relup_translate.specs.Fetches.{mention_of};
-ghost use Rattle.relup_translate.specs.Script.{mentions, written_fetches, row_script};
+ghost use Rattle.relup_row.specs.Release.{way_of};
+ghost use Rattle.relup_row.specs.Fetches.{mention_of};
+ghost use Rattle.relup_row.specs.Script.{mentions, written_fetches, row_script};
 ghost use Rattle.relup_translate.specs.Translation.{way_script};
 ghost use Rattle.relup_block.specs.Memory.{Appends};
 ghost use Rattle.relup_translate.specs.Memory.{row_of_change, rows_of};
 
 use crate::changes::{AppChange, changes};
-use crate::fetches::{Mention, push_fetches};
-use crate::release::Way;
-use crate::rows::{push_app_modules, push_mentions, push_row, push_written_fetches};
-use crate::single::{push_added, push_removed};
 use relup_file::Instr;
+use relup_row::{
+    Mention, Way, push_added, push_app_modules, push_fetches, push_mentions, push_removed,
+    push_row, push_written_fetches,
+};
 use std::alloc::{AllocError, Global};
 
 fn push_change_mentions<'a>(

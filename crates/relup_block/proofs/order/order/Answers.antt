@@ -1,24 +1,20 @@
-use Rattle.std.proofs.Common.{◌≡◌, length, None, Some, ap, ◌∙◌, ◌-◌, ◌++◌, List, [], ◌∷◌, rules, sym}
-use Rattle.std.proofs.lemmas.List.{append-nil, map-append}
-use Rattle.relup_block.specs.Order.{BlockItemForm, block_item_of, block_items_of, choice}
-use Rattle.relup_block.proofs.OrderLemmas.{none_chosen, one_more_chosen}
+use Rattle.std.proofs.Common.{◌≡◌, ap, ◌∙◌, subst, Some, [], ◌∷◌, arith}
+use Rattle.std.proofs.lemmas.List.{map-append}
+use Rattle.relup_block.specs.Order.{block_item_of, block_items_of, choice, order}
+use Rattle.relup_block.specs.Counts.{step_of, remaining, Steps, Shrinks}
+use Rattle.relup_block.proofs.OrderLemmas.{one_more_chosen}
 use Rattle.relup_block.proofs.order.order.Goals as goal
 
-pub returns-in_default : goal.returns-in_default
-returns-in_default c =
-    let xs = c.loop.invariant.0 in
-    let none : choice c.args.rule xs ≡ None = c.in_default.ensures xs c.loop.invariant.1 in
-    sym (append-nil (block_items_of c.loop.ordered.items))
-    ∙ (ap (λ (ys : List BlockItemForm). block_items_of c.loop.ordered.items ++ ys) (sym (none_chosen c.args.rule (length c.args.items.now - c.loop.counter) xs none))
-    ∙ c.loop.invariant.2)
-
-pub loop-preserved : goal.loop-preserved
-loop-preserved c =
-    let xs = c.loop.invariant.0 in
-    let chosen = c.in-Some.ensures xs c.loop.invariant.1 in (
-      chosen.0,
-      chosen.2,
-      one_more_chosen c.args.rule (length c.args.items.now) c.loop.counter xs (block_item_of c.in-Some.item) chosen.0
-          (block_items_of c.loop.ordered.items) (block_items_of c.push.new.self.items) _ c.loop-test.true chosen.1
-          (ap block_items_of c.in_ok-push.ensures.items ∙ map-append block_item_of c.loop.ordered.items (c.in-Some.item ∷ [])) c.loop.invariant.2,
+pub loop-left-preserved-in-Continue-branch-5 : goal.loop-left-preserved-in-Continue-branch-5
+loop-left-preserved-in-Continue-branch-5 c =
+    let counted = c.loop-left.invariant.1 in
+    let chosen : choice c.args.rule (remaining c.loop-left.left) ≡ Some (block_item_of c.in-Chosen.item, remaining c.step.new.self) =
+    subst (λ s. Steps c.args.rule (remaining c.loop-left.left) (step_of s) (remaining c.step.new.self)) c.in-Chosen.is (c.in_ok-item.ensures.steps counted) in
+    let less = subst (λ s. Shrinks s c.loop-left.left c.step.new.self) c.in-Chosen.is c.in_ok-item.ensures.shrinks in (
+      one_more_chosen c.args.rule (remaining c.loop-left.left) (block_item_of c.in-Chosen.item) (remaining c.step.new.self) (block_items_of c.loop-left.ordered.items)
+          (block_items_of c.push.new.self.items) (order c.args.rule (block_items_of c.args.items.now)) chosen
+          (ap block_items_of c.in_ok-push-in-Chosen.ensures.items ∙ map-append block_item_of c.loop-left.ordered.items (c.in-Chosen.item ∷ [])) c.loop-left.invariant.0,
+      c.in_ok-item.ensures.counted counted,
+      less.2,
+      omega (arith, less.0, c.loop-left.invariant.3),
     )

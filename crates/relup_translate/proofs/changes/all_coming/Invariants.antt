@@ -1,6 +1,6 @@
 use Rattle.std.proofs.Common.{◌≡◌, ◌++◌, map, drop}
 use Rattle.std.specs.List.{filter_map}
-use Rattle.relup_translate.specs.Release.{relup_app_of, relup_release_of, way_of}
+use Rattle.relup_row.specs.Release.{relup_app_of, relup_release_of, way_of}
 use Rattle.relup_translate.specs.Translation.{coming_row}
 use Rattle.relup_translate.specs.Memory.{rows_of}
 use Rattle.relup_translate.proofs.changes.all_coming.Given as goal

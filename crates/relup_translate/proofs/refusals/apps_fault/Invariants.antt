@@ -1,5 +1,5 @@
 use Rattle.std.proofs.Common.{◌≡◌, map, drop}
-use Rattle.relup_translate.specs.Release.{way_of, relup_app_of}
+use Rattle.relup_row.specs.Release.{way_of, relup_app_of}
 use Rattle.relup_translate.specs.Translation.{first_fault, app_fault}
 use Rattle.relup_translate.proofs.refusals.apps_fault.Given as goal
 

@@ -1,5 +1,5 @@
 use Rattle.std.proofs.Common.{◌≡◌, map, drop}
-use Rattle.relup_translate.specs.Release.{relup_release_of}
+use Rattle.relup_row.specs.Release.{relup_release_of}
 use Rattle.relup_translate.specs.Translation.{first_fault, release_fault}
 use Rattle.relup_translate.proofs.refusals.releases_fault.Given as goal
 

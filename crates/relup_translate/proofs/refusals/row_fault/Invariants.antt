@@ -1,6 +1,6 @@
 use Rattle.std.proofs.Common.{◌≡◌, drop}
 use Rattle.appup_file.specs.Instruction.{row_of}
-use Rattle.relup_translate.specs.Release.{way_of, relup_app_of}
+use Rattle.relup_row.specs.Release.{way_of, relup_app_of}
 use Rattle.relup_translate.specs.Translation.{first_fault, instruction_fault}
 use Rattle.relup_translate.proofs.refusals.row_fault.Given as goal
 

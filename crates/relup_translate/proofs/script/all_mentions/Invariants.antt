@@ -1,8 +1,8 @@
 use Rattle.std.proofs.Common.{◌≡◌, ◌++◌, map, drop}
 use Rattle.std.specs.List.{flat_map}
-use Rattle.relup_translate.specs.Release.{way_of}
-use Rattle.relup_translate.specs.Fetches.{mention_of}
-use Rattle.relup_translate.specs.Script.{mentions}
+use Rattle.relup_row.specs.Release.{way_of}
+use Rattle.relup_row.specs.Fetches.{mention_of}
+use Rattle.relup_row.specs.Script.{mentions}
 use Rattle.relup_translate.specs.Memory.{rows_of}
 use Rattle.relup_translate.proofs.script.all_mentions.Given as goal
 

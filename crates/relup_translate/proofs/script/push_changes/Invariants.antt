@@ -1,8 +1,8 @@
 use Rattle.std.proofs.Common.{◌≡◌, ◌++◌, drop}
 use Rattle.std.specs.List.{flat_map}
 use Rattle.relup_file.specs.Instruction.{script_of}
-use Rattle.relup_translate.specs.Release.{way_of}
-use Rattle.relup_translate.specs.Script.{row_script}
+use Rattle.relup_row.specs.Release.{way_of}
+use Rattle.relup_row.specs.Script.{row_script}
 use Rattle.relup_translate.specs.Memory.{rows_of}
 use Rattle.relup_translate.proofs.script.push_changes.Given as goal
 

@@ -1,0 +1,2 @@
+pub mod PartLemmas
+pub mod AppendLemmas

@@ -1,0 +1,3 @@
+pub mod Release
+pub mod Fetches
+pub mod Script

@@ -1,0 +1,89 @@
+//! What the making of a relup needs to know of releases, and the way between two of them.
+ghost use Rattle.std.specs.Prelude.{◌≡◌, map, string_bytes};
+ghost use Rattle.std.specs.Option.{option_map};
+ghost use Rattle.relup_row.specs.Release.{relup_app_of, relup_release_of, way_of, way_between, app_named, owner};
+
+use appup_file::Appup;
+use rel_files::StartType;
+use relup_block::is_among;
+use relup_file::Direction;
+
+/// An application of a release.
+#[derive(Drop)]
+pub struct RelupApp {
+    pub name: String,
+    pub vsn: String,
+    /// How the release starts it.
+    pub start: StartType,
+    /// In the order of its `.app` file.
+    pub modules: Vec<String>,
+    /// Its appup file, where it has one. That of a lower release isn't asked.
+    pub appup: Option<Appup>,
+}
+
+/// A release: its `.rel` file, with the `.app` and appup files of its applications.
+#[derive(Drop)]
+pub struct RelupRelease {
+    pub vsn: String,
+    /// The version of the runtime system that the release is for.
+    pub erts: String,
+    /// In the order of the `.rel` file.
+    pub apps: Vec<RelupApp>,
+}
+
+/// From the release that is left to the target.
+#[derive(Clone, Copy)]
+pub struct Way<'a> {
+    pub direction: Direction,
+    pub left: &'a RelupRelease,
+    pub target: &'a RelupRelease,
+}
+
+impl<'a> Way<'a> {
+    /// Up from another release, or down to it.
+    pub fn between(direction: Direction, new: &'a RelupRelease, other: &'a RelupRelease) -> Way<'a>
+        ensures { way_of result
+            ≡ way_between direction (relup_release_of new.now) (relup_release_of other.now) }
+    {
+        match direction {
+            Direction::Up => Way {
+                direction,
+                left: other,
+                target: new,
+            },
+            Direction::Down => Way {
+                direction,
+                left: new,
+                target: other,
+            },
+        }
+    }
+}
+
+impl RelupRelease {
+    /// The application of a name.
+    pub fn app_named(&self, name: &str) -> Option<&RelupApp>
+        ensures { option_map (λ a. relup_app_of a.now) result
+            ≡ app_named name.now (relup_release_of self.now) }
+    {
+        for app in &self.apps {
+            if app.name.as_str() == name {
+                return Some(app);
+            }
+        }
+        None
+    }
+
+    /// The first application that has a module.
+    pub fn owner(&self, name: &str) -> Option<&RelupApp>
+        ensures { option_map (λ a. relup_app_of a.now) result
+            ≡ owner name.now (relup_release_of self.now) }
+    {
+        for app in &self.apps {
+            if is_among(name, &app.modules) {
+                return Some(app);
+            }
+        }
+        None
+    }
+}
