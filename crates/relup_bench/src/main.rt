@@ -1,6 +1,6 @@
 //! What it takes to make a relup of many modules, and in which order they come.
 //!
-//! `relup_bench` makes relups of an application with 100 and with 1,000 updated modules: without dependencies, in a chain, in
+//! `relup_bench` makes relups of an application with 100, 1,000 and 4,000 updated modules: without dependencies, in a chain, in
 //! a cycle and in a star. Of each it writes which modules are suspended first and last, and which are loaded first and last,
 //! and on standard error the microseconds of processor time.
 #![tactic(auto)]
@@ -91,7 +91,7 @@ fn measure(rt: &HostRuntime, shape: Shape, count: usize) -> io::Result<()> {
 }
 
 fn main(rt: HostRuntime) -> io::Result<()> {
-    for count in [100, 1000] {
+    for count in [100, 1000, 4000] {
         measure(&rt, Shape::Free, count)?;
         measure(&rt, Shape::Chain, count)?;
         measure(&rt, Shape::Cycle, count)?;
