@@ -5,7 +5,7 @@
 //! first refusal counts. The definitions stand over files as a relation between paths and what a read of them gives, and
 //! over the libraries that are there already.
 //!
-//! Neither proved nor tested yet: that files are read where memory is there. Trusted: the toolchain and `thiserror`.
+//! Only tested (`unpack_cases`): that files are read where memory is there. Trusted: the toolchain and `thiserror`.
 #![tactic(auto)]
 
 mod applications;
