@@ -1,3 +1,3 @@
 pub mod TableRows
-pub mod Placing
+pub mod PlaceLemmas
 pub mod Terms

@@ -16,7 +16,7 @@ use Rattle.library.specs.Library.{Library, IsLibrary, TableTerm, HaveTables, tab
 use Rattle.library.specs.Laws.{SaysOneLibrary, SameAreEqual}
 use Rattle.library.specs.Reading.{AreTables, placed}
 use Rattle.library.proofs.TableRows.{one_table, tables_unique, are_terms}
-use Rattle.library.proofs.Placing.{placed_there, placed_says, there_are, are_true}
+use Rattle.library.proofs.PlaceLemmas.{placed_there, placed_says, there_are, are_true}
 
 abbrev pub terms : List TableTerm → Values
 terms ts = values_of (map (λ (t : TableTerm). t.term) ts)

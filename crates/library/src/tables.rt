@@ -49,7 +49,8 @@ pub(crate) fn placed_in(
     terms: &[Term],
 ) -> Result<Option<Vec<Option<ModFile>>>, AllocError>
     ensures { IfOk result (λ tables. MatchOption tables
-        ((us : List TableTerm) → (ts : List (Option TableTerm)) → AreTables (members_of terms.now) us
+        ((us : List TableTerm) → (ts : List (Option TableTerm))
+        → AreTables (members_of terms.now) us
         → placed (map string_bytes modules.now) us ≡ Some ts → ⊥)
         (λ v. (us : List TableTerm) × AreTables (members_of terms.now) us
         × (placed (map string_bytes modules.now) us

@@ -220,7 +220,7 @@ abbrev pub Transition : Files → Place → Command → Reply → Type 0
 Transition files p c a = (does : Action) × ComesTo files p c does × Acts p does a
 
 -- What stands in place of a reply where memory was refused within a command, and the session ends: a reboot was committed
--- on a node that runs, and its boot had no memory. Nothing is answered.
+-- on a node that runs, and its boot had no memory. Nothing is answered, but the reboot is on the disk: it is acknowledged.
 pub record IsStopped (p : Place) (c : Command) (a : Reply) : Type 0 where
   pub events : Events
   pub end : ℕ

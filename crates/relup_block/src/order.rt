@@ -225,7 +225,8 @@ fn take_out<'a>(rule: ChoiceRule, place: usize, passed: &mut Vec<Waiting<'a>>) -
     requires { place < length passed.old.items }
     ensures taken { (w : Waiting) → result ≡ (slice_index_or passed.old.items place w).item }
     ensures left { all_waiting passed.new.items
-        ≡ map (after_item rule (block_item_of result)) (all_waiting (remove passed.old.items place)) }
+        ≡ map (after_item rule (block_item_of result))
+        (all_waiting (remove passed.old.items place)) }
     ensures fewer { vec_len passed.new + 1 ≡ vec_len passed.old }
 {
     let item = passed[place].item;

@@ -6,7 +6,7 @@ use Rattle.mod_table.specs.declared.reader.ModFile.{ModFile}
 use Rattle.library.specs.InMemory.{table_term_of}
 use Rattle.library.specs.Library.{TableTerm}
 use Rattle.library.specs.Reading.{placed}
-use Rattle.library.proofs.Placing.{placed_on}
+use Rattle.library.proofs.PlaceLemmas.{placed_on}
 use Rattle.library.proofs.tables.placed.Goals as goal
 
 pub loop-module-preserved : goal.loop-module-preserved
