@@ -7,7 +7,8 @@ use Rattle.session_input.specs.Commands.{Command}
 use Rattle.rel_session.specs.Device.{Device, LeavesOnly}
 use Rattle.session_input.specs.Feed.{Feed}
 use Rattle.session_input.specs.Feed.Feed.{over, cut, next}
-use Rattle.rel_session.specs.Files.{Files, files_behind}
+use Rattle.rel_unpack.specs.Source.{Source}
+use Rattle.rel_session.specs.Files.{Files, files_behind, source_of}
 use Rattle.rel_session.specs.Node.{Place, Outcome, Reply}
 use Rattle.rel_session.specs.Node.Place.{raw, closed, running, dead}
 use Rattle.rel_session.specs.Run.{Starts, Holds, Moments, Executes, MayLeave, IsReply, Replies, Ending, IsReached, events_of}
@@ -18,44 +19,44 @@ use Rattle.rel_session.proofs.Prefixes.{prefix_of}
 use Rattle.rel_session.proofs.DeviceLemmas.{IsDevice, weakened, joined, still}
 use Rattle.rel_session.proofs.Transitions.{each_left_keeps}
 
-left_by : (files : Files) (p : Place) (c : Command) (ending : Ending) (a : Reply) (more : List Reply) → IsReply files p c ending more a → MayLeave files p c a
-left_by files p c ended a more is = inl is
-left_by files p c cut_off a more is = inl is
-left_by files p c early a [] is = is
-left_by files p c early a (b ∷ more) is = inl is
+left_by : (source : Source) (p : Place) (c : Command) (ending : Ending) (a : Reply) (more : List Reply) → IsReply source p c ending more a → MayLeave source p c a
+left_by source p c ended a more is = inl is
+left_by source p c cut_off a more is = inl is
+left_by source p c early a [] is = is
+left_by source p c early a (b ∷ more) is = inl is
 
-whole : (files : Files) (p : Place) (c : Command) (ending : Ending) (a : Reply) (more : List Reply) → ending ≢ early → IsReply files p c ending more a → Transition files p c a
-whole files p c ended a more not_early is = is
-whole files p c cut_off a more not_early is = is
-whole files p c early a more not_early is = absurd (not_early refl)
+whole : (source : Source) (p : Place) (c : Command) (ending : Ending) (a : Reply) (more : List Reply) → ending ≢ early → IsReply source p c ending more a → Transition source p c a
+whole source p c ended a more not_early is = is
+whole source p c cut_off a more not_early is = is
+whole source p c early a more not_early is = absurd (not_early refl)
 
 -- the first of some replies is that to the first command, and the others are those to the commands behind it
-pub next_answered : (files : Files) (p : Place) (c : Command) (rest : Feed Command) (ending : Ending) (a : Reply) (more : List Reply) → ending ≢ early → Replies files p (next c rest) ending (a ∷ more)
-    → Transition files p c a × Replies (files_behind files c) a.after rest ending more
-next_answered files p c rest ending a more not_early right = (whole files p c ending a more not_early right.0, right.1)
+pub next_answered : (base : Source) (files : Files) (p : Place) (c : Command) (rest : Feed Command) (ending : Ending) (a : Reply) (more : List Reply) → ending ≢ early → Replies base files p (next c rest) ending (a ∷ more)
+    → Transition (source_of base files) p c a × Replies base (files_behind files c) a.after rest ending more
+next_answered base files p c rest ending a more not_early right = (whole (source_of base files) p c ending a more not_early right.0, right.1)
 
 -- where no command is left there is none
-pub none_left : (files : Files) (p : Place) (commands : Feed Command) (ending : Ending) (a : Reply) (more : List Reply) → (commands ≡ over) ⊎ (commands ≡ cut) → Replies files p commands ending (a ∷ more) → ⊥
-none_left files p over ended a more none right = right
-none_left files p over cut_off a more none right = right
-none_left files p over early a more none right = right
-none_left files p cut ended a more none right = right
-none_left files p cut cut_off a more none right = right
-none_left files p cut early a more none right = right
-none_left files p (next c rest) ending a more (inl none) right = cc none
-none_left files p (next c rest) ending a more (inr none) right = cc none
+pub none_left : (base : Source) (files : Files) (p : Place) (commands : Feed Command) (ending : Ending) (a : Reply) (more : List Reply) → (commands ≡ over) ⊎ (commands ≡ cut) → Replies base files p commands ending (a ∷ more) → ⊥
+none_left base files p over ended a more none right = right
+none_left base files p over cut_off a more none right = right
+none_left base files p over early a more none right = right
+none_left base files p cut ended a more none right = right
+none_left base files p cut cut_off a more none right = right
+none_left base files p cut early a more none right = right
+none_left base files p (next c rest) ending a more (inl none) right = cc none
+none_left base files p (next c rest) ending a more (inr none) right = cc none
 
-pub record Answered (files : Files) (p : Place) (a : Reply) (ending : Ending) (more : List Reply) : Type 0 where
+pub record Answered (base : Source) (files : Files) (p : Place) (a : Reply) (ending : Ending) (more : List Reply) : Type 0 where
   pub command : Command
   pub rest : Feed Command
-  pub is : MayLeave files p command a
-  pub right : Replies (files_behind files command) a.after rest ending more
+  pub is : MayLeave (source_of base files) p command a
+  pub right : Replies base (files_behind files command) a.after rest ending more
 
-pub first_answered : (files : Files) (p : Place) (commands : Feed Command) (ending : Ending) (a : Reply) (more : List Reply) → Replies files p commands ending (a ∷ more) → Answered files p a ending more
-first_answered files p over ending a more right = absurd (none_left files p over ending a more (inl refl) right)
-first_answered files p cut ending a more right = absurd (none_left files p cut ending a more (inr refl) right)
-first_answered files p (next c rest) ending a more right =
-    record { command = c; rest = rest; is = left_by files p c ending a more right.0; right = right.1 }
+pub first_answered : (base : Source) (files : Files) (p : Place) (commands : Feed Command) (ending : Ending) (a : Reply) (more : List Reply) → Replies base files p commands ending (a ∷ more) → Answered base files p a ending more
+first_answered base files p over ending a more right = absurd (none_left base files p over ending a more (inl refl) right)
+first_answered base files p cut ending a more right = absurd (none_left base files p cut ending a more (inr refl) right)
+first_answered base files p (next c rest) ending a more right =
+    record { command = c; rest = rest; is = left_by (source_of base files) p c ending a more right.0; right = right.1 }
 
 -- with the one in doubt or without, the events begin with the acknowledged ones
 doubt_more : (events : Events) (doubt : Option Event) (found : Events) → (found ≡ events) ⊎ (found ≡ with_doubt events doubt) → (more : Events) × (found ≡ events ++ more)
@@ -85,50 +86,50 @@ stands_for_more events more all image is of = record {
 }
 
 -- the events of all the replies
-have_all : (files : Files) (p : Place) (commands : Feed Command) (ending : Ending) (first rest : List Reply) → Replies files p commands ending (first ++ rest)
+have_all : (base : Source) (files : Files) (p : Place) (commands : Feed Command) (ending : Ending) (first rest : List Reply) → Replies base files p commands ending (first ++ rest)
     → HaveAll (acknowledged_at p) first (acknowledged_at (place_after p first))
-have_all files p commands ending [] rest right = refl
-have_all files p commands ending (a ∷ first) rest right =
-    let n = first_answered files p commands ending a (first ++ rest) right in
-    let (between, is) = keeps_more p a (each_left_keeps files p n.command a n.is) in
-    (between, subst (λ events. HaveAll events first (acknowledged_at (place_after a.after first))) is (have_all (files_behind files n.command) a.after n.rest ending first rest n.right))
+have_all base files p commands ending [] rest right = refl
+have_all base files p commands ending (a ∷ first) rest right =
+    let n = first_answered base files p commands ending a (first ++ rest) right in
+    let (between, is) = keeps_more p a (each_left_keeps (source_of base files) p n.command a n.is) in
+    (between, subst (λ events. HaveAll events first (acknowledged_at (place_after a.after first))) is (have_all base (files_behind files n.command) a.after n.rest ending first rest n.right))
 
 known_first : (p : Place) (replies : List Reply) → IsKnown p → BecomesKnown p replies
 known_first p [] known = known
 known_first p (a ∷ more) known = inl (inl known)
 
 -- a store that is known stays known, and one that becomes known is so
-becomes_known : (files : Files) (p : Place) (commands : Feed Command) (ending : Ending) (first rest : List Reply) → Replies files p commands ending (first ++ rest)
+becomes_known : (base : Source) (files : Files) (p : Place) (commands : Feed Command) (ending : Ending) (first rest : List Reply) → Replies base files p commands ending (first ++ rest)
     → BecomesKnown p first → IsKnown (place_after p first)
-becomes_known files p commands ending [] rest right known = known
-becomes_known files p commands ending (a ∷ first) rest right known =
-    let n = first_answered files p commands ending a (first ++ rest) right in
-    let keeps = each_left_keeps files p n.command a n.is in
-    becomes_known (files_behind files n.command) a.after n.rest ending first rest n.right (go keeps known)
+becomes_known base files p commands ending [] rest right known = known
+becomes_known base files p commands ending (a ∷ first) rest right known =
+    let n = first_answered base files p commands ending a (first ++ rest) right in
+    let keeps = each_left_keeps (source_of base files) p n.command a n.is in
+    becomes_known base (files_behind files n.command) a.after n.rest ending first rest n.right (go keeps known)
   where
     go : Keeps p a → (IsKnown p ⊎ (a.outcome.acknowledged ≢ [])) ⊎ BecomesKnown a.after first → BecomesKnown a.after first
     go keeps (inl here) = known_first a.after first (keeps.known here)
     go keeps (inr later) = later
 
 -- the replies that are left
-rest_right : (files : Files) (p : Place) (commands : Feed Command) (ending : Ending) (first rest : List Reply) → Replies files p commands ending (first ++ rest)
-    → (behind : Files) × (left : Feed Command) × Replies behind (place_after p first) left ending rest
-rest_right files p commands ending [] rest right = (files, commands, right)
-rest_right files p commands ending (a ∷ first) rest right =
-    let n = first_answered files p commands ending a (first ++ rest) right in
-    rest_right (files_behind files n.command) a.after n.rest ending first rest n.right
+rest_right : (base : Source) (files : Files) (p : Place) (commands : Feed Command) (ending : Ending) (first rest : List Reply) → Replies base files p commands ending (first ++ rest)
+    → (behind : Files) × (left : Feed Command) × Replies base behind (place_after p first) left ending rest
+rest_right base files p commands ending [] rest right = (files, commands, right)
+rest_right base files p commands ending (a ∷ first) rest right =
+    let n = first_answered base files p commands ending a (first ++ rest) right in
+    rest_right base (files_behind files n.command) a.after n.rest ending first rest n.right
 
 -- behind replies from a known store it is known, and its events begin with those before
 abbrev IsStill : Place → List Reply → Type 0
 IsStill p replies = IsKnown (place_after p replies) × (more : Events) × (acknowledged_at (place_after p replies) ≡ acknowledged_at p ++ more)
 
-stays_known : (files : Files) (p : Place) (commands : Feed Command) (ending : Ending) (replies : List Reply) → Replies files p commands ending replies → IsKnown p → IsStill p replies
-stays_known files p commands ending [] right known = (known, [], sym (append-nil (acknowledged_at p)))
-stays_known files p commands ending (a ∷ more) right known =
-    let n = first_answered files p commands ending a more right in
-    let keeps = each_left_keeps files p n.command a n.is in
+stays_known : (base : Source) (files : Files) (p : Place) (commands : Feed Command) (ending : Ending) (replies : List Reply) → Replies base files p commands ending replies → IsKnown p → IsStill p replies
+stays_known base files p commands ending [] right known = (known, [], sym (append-nil (acknowledged_at p)))
+stays_known base files p commands ending (a ∷ more) right known =
+    let n = first_answered base files p commands ending a more right in
+    let keeps = each_left_keeps (source_of base files) p n.command a n.is in
     let (between, is) = keeps_more p a keeps in
-    let (then, others, are) = stays_known (files_behind files n.command) a.after n.rest ending more n.right (keeps.known (inl known)) in (
+    let (then, others, are) = stays_known base (files_behind files n.command) a.after n.rest ending more n.right (keeps.known (inl known)) in (
       then,
       (between ++ a.outcome.acknowledged) ++ others,
       are ∙ ap (λ (l : Events). l ++ others) is ∙ append_assoc (acknowledged_at p) (between ++ a.outcome.acknowledged) others,
@@ -167,18 +168,18 @@ module _ {D : Type 0} (v : Device D) (laws : IsDevice v) where
   command_images (dead s) o old new known moments = weakened v old new _ _ (stands_for_reached s.known (events_of o)) moments
 
   -- and so at each moment of a session
-  pub session_images : (files : Files) (p : Place) (commands : Feed Command) (ending : Ending) (replies : List Reply) (old new : D) → Replies files p commands ending replies
+  pub session_images : (base : Source) (files : Files) (p : Place) (commands : Feed Command) (ending : Ending) (replies : List Reply) (old new : D) → Replies base files p commands ending replies
       → IsKnown p → Holds v p old → Executes v p replies old new → LeavesOnly v old new (StandsForAll (acknowledged_at p))
-  session_images files p commands ending [] old new right known holds (leaves, then, counted) =
+  session_images base files p commands ending [] old new right known holds (leaves, then, counted) =
       weakened v old new (v.may_leave old) (StandsForAll (acknowledged_at p)) (held_images p old known holds) leaves
-  session_images files p commands ending (a ∷ more) old new right known holds (mid, happens, leads) =
-      let n = first_answered files p commands ending a more right in
-      let keeps = each_left_keeps files p n.command a n.is in
+  session_images base files p commands ending (a ∷ more) old new right known holds (mid, happens, leads) =
+      let n = first_answered base files p commands ending a more right in
+      let keeps = each_left_keeps (source_of base files) p n.command a n.is in
       let (between, is) = keeps_more p a keeps in
       joined v old mid new (StandsForAll (acknowledged_at p)) (command_images p a.outcome old mid known happens.moments)
       (weakened v mid new (StandsForAll (acknowledged_at a.after)) (StandsForAll (acknowledged_at p))
       (λ c. stands_for_more (acknowledged_at p) (between ++ a.outcome.acknowledged) (acknowledged_at a.after) c is)
-      (session_images (files_behind files n.command) a.after n.rest ending more mid new n.right (keeps.known (inl known)) happens.holds leads))
+      (session_images base (files_behind files n.command) a.after n.rest ending more mid new n.right (keeps.known (inl known)) happens.holds leads))
 
   -- a session in two parts
   parts : (p : Place) (first rest : List Reply) (old new : D) → Holds v p old → Executes v p (first ++ rest) old new
@@ -188,18 +189,18 @@ module _ {D : Type 0} (v : Device D) (laws : IsDevice v) where
       let (mid, before, behind, then) = parts a.after first rest here new happens.holds leads in
       (mid, (here, happens, before), behind, then)
 
-  pub loses_nothing : LosesNothing v
-  loses_nothing files p commands ending first rest old new right holds leads known =
+  pub loses_nothing : (base : Source) → LosesNothing v base
+  loses_nothing base files p commands ending first rest old new right holds leads known =
       let (mid, before, behind, then) = parts p first rest old new holds leads in
-      let (fs, left, right_then) = rest_right files p commands ending first rest right in
-      let known_then = becomes_known files p commands ending first rest right known in
+      let (fs, left, right_then) = rest_right base files p commands ending first rest right in
+      let known_then = becomes_known base files p commands ending first rest right known in
       record {
         mid = mid;
         before = before;
         behind = behind;
         known = known_then;
-        have_all = have_all files p commands ending first rest right;
-        moments = session_images fs (place_after p first) left ending rest mid new right_then known_then then behind;
+        have_all = have_all base files p commands ending first rest right;
+        moments = session_images base fs (place_after p first) left ending rest mid new right_then known_then then behind;
       }
 
   -- the disk behind a session
@@ -243,24 +244,24 @@ module _ {D : Type 0} (v : Device D) (laws : IsDevice v) where
       let (more, starts) = begins_behind_a_crash (acknowledged_at p) image later (moments.each image left) only in
       (certain (acknowledged_at p ++ more) (store_end image), more, starts, refl)
 
-  lasts : (n : ℕ) (events : Events) (disk : D) → IsOn events disk → Lasts v n events disk
-  lasts zero events disk on = on
-  lasts (suc n) events disk (s, more, starts, is) = (
+  lasts : (base : Source) (n : ℕ) (events : Events) (disk : D) → IsOn events disk → Lasts v base n events disk
+  lasts base zero events disk on = on
+  lasts base (suc n) events disk (s, more, starts, is) = (
     s,
     more,
     starts,
     is,
     λ files commands ending first rest mid new later right before behind next.
-        let (fs, left, right_then) = rest_right files (closed s) commands ending first rest right in
-        let known = becomes_known files (closed s) commands ending first rest right (known_first (closed s) first tt) in
+        let (fs, left, right_then) = rest_right base files (closed s) commands ending first rest right in
+        let known = becomes_known base files (closed s) commands ending first rest right (known_first (closed s) first tt) in
         let then = place_after (closed s) first in
-        let moments = session_images fs then left ending rest mid new right_then known (handed_back (closed s) first disk mid before) behind in
-        let on = next_disk then rest mid new later moments (stays_known fs then left ending rest right_then known) (handed_back then rest mid new behind) next in (
+        let moments = session_images base fs then left ending rest mid new right_then known (handed_back (closed s) first disk mid before) behind in
+        let on = next_disk then rest mid new later moments (stays_known base fs then left ending rest right_then known) (handed_back then rest mid new behind) next in (
           acknowledged_at then,
-          subst (λ es. HaveAll es first (acknowledged_at then)) is (have_all files (closed s) commands ending first rest right),
-          lasts n (acknowledged_at then) later on,
+          subst (λ es. HaveAll es first (acknowledged_at then)) is (have_all base files (closed s) commands ending first rest right),
+          lasts base n (acknowledged_at then) later on,
         ),
   )
 
-  pub loses_nothing_ever : LosesNothingEver v
-  loses_nothing_ever n s disk starts = lasts n s.known.acknowledged disk (s, [], starts, sym (append-nil s.known.acknowledged))
+  pub loses_nothing_ever : (base : Source) → LosesNothingEver v base
+  loses_nothing_ever base n s disk starts = lasts base n s.known.acknowledged disk (s, [], starts, sym (append-nil s.known.acknowledged))

@@ -27,7 +27,8 @@ use Rattle.rel_session.specs.Listing.{listing, release_line, text_value, applica
 use Rattle.erl_term.specs.FaultTexts.{term_fault_text}
 use Rattle.rel_files.specs.Fault.{file_fault_text}
 use Rattle.rel_session.specs.Refusals.{Refusal, refusal_line, boot_line}
-use Rattle.rel_session.specs.Refusals.Refusal.{no_such_release, existing_release, already_installed, bad_status, permanent, is_running, bad_file, missing_file, too_many, device, full, dead, no_memory, exists}
+use Rattle.rel_unpack.specs.Refusal.Trouble.{unreadable, faulty}
+use Rattle.rel_session.specs.Refusals.Refusal.{no_such_release, existing_release, already_installed, bad_status, permanent, is_running, lib_differs, bad_file, missing_file, vsn_mismatch, too_many, device, full, dead, no_memory, exists}
 use Rattle.rel_session.specs.AnswerLaws.{is_one_line}
 use Rattle.rel_session.specs.Transition.{ok_line, done_line, installed_details}
 
@@ -132,10 +133,12 @@ fault_plain (duplicate name) = refl
 fault_plain bad_version = refl
 fault_plain out_of_memory = refl
 
--- the path that a refusal tells is within a line
+-- the path or the name that a refusal tells is within a line
 abbrev pub HasLine : Refusal → Type 0
-HasLine (bad_file path fault) = is_one_line path ≡ true
+HasLine (lib_differs app) = is_one_line app ≡ true
+HasLine (bad_file path trouble) = is_one_line path ≡ true
 HasLine (missing_file path) = is_one_line path ≡ true
+HasLine (vsn_mismatch path) = is_one_line path ≡ true
 HasLine why = Unit {0}
 
 word_plain : (s : Status) → is_one_line (status_word s) ≡ true
@@ -151,10 +154,13 @@ refusal_whole already_installed line behind = refl
 refusal_whole (bad_status s) line behind = ap (λ t. codes "error handler 4 BadStatus " ++ t) (ends_behind (status_word s) (codes "\n") (word_plain s) newline behind)
 refusal_whole permanent line behind = refl
 refusal_whole is_running line behind = refl
-refusal_whole (bad_file path fault) line behind =
+refusal_whole (lib_differs app) line behind = ap (λ t. codes "error handler 7 LibDiffers " ++ t) (ends_behind app (codes "\n") line newline behind)
+refusal_whole (bad_file path unreadable) line behind = ap (λ t. codes "error handler 8 BadFile " ++ t) (ends_behind path (codes " Unreadable\n") line (λ more. refl) behind)
+refusal_whole (bad_file path (faulty fault)) line behind =
     ap (λ t. codes "error handler 8 BadFile " ++ t)
     (ends_behind path (codes " " ++ (file_fault_text fault ++ codes "\n")) line (λ more. ap (λ t. codes " " ++ t) (ends_behind (file_fault_text fault) (codes "\n") (fault_plain fault) newline more)) behind)
 refusal_whole (missing_file path) line behind = ap (λ t. codes "error handler 9 MissingFile " ++ t) (ends_behind path (codes "\n") line newline behind)
+refusal_whole (vsn_mismatch path) line behind = ap (λ t. codes "error handler 10 VsnMismatch " ++ t) (ends_behind path (codes "\n") line newline behind)
 refusal_whole too_many line behind = refl
 refusal_whole device line behind = refl
 refusal_whole full line behind = refl

@@ -18,7 +18,9 @@ use Rattle.session_input.specs.Commands.{Command}
 use Rattle.session_input.specs.Commands.Command.{quit}
 use Rattle.session_input.specs.Feed.{Feed}
 use Rattle.session_input.specs.Feed.Feed.{over, cut, next}
-use Rattle.rel_session.specs.Files.{Files, files_behind, Found}
+use Rattle.rel_unpack.specs.Release.{Found}
+use Rattle.rel_unpack.specs.Source.{Source}
+use Rattle.rel_session.specs.Files.{Files, files_behind, source_of, GivesEach}
 use Rattle.rel_session.specs.LawsBelow.{FileLaws, BootLaws}
 use Rattle.rel_session.specs.Node.{Place, Reply, reply, nothing, releases_after, list_or_none, behind}
 use Rattle.rel_session.specs.Node.Place.{raw, closed, running, dead}
@@ -28,6 +30,7 @@ use Rattle.rel_session.specs.AnswerLaws.{IsCertain, HasList, HasAnswer, EachHasA
 use Rattle.rel_session.specs.Transition
 use Rattle.rel_session.specs.Transition.Action.{answers, makes_node, changes_node, reboots_node, boots_node, tells_start}
 use Rattle.rel_handler.proofs.CommandLemmas.{commanded_step}
+use Rattle.rel_session.proofs.SourceLemmas.{gives_each}
 use Rattle.rel_session.proofs.ActionLemmas.{some_action}
 use Rattle.rel_session.proofs.Histories.{events_of_image}
 use Rattle.rel_session.proofs.ListLemmas.{list_after-push}
@@ -152,25 +155,25 @@ acts laws p boots_node fair = boots laws p fair
 acts laws p tells_start fair = told p fair
 
 -- A reply to the first command, and what follows it.
-one_more : (files : Files) (p : Place) (c : Command) (rest : Feed Command) (a : Reply) → Transition.Transition files p c a → a.outcome.failed ≡ false → HasAnswer (files_behind files c) a.after rest → HasAnswer files p (next c rest)
-one_more files p c rest a is works behind = record {
+one_more : (base : Source) (files : Files) (p : Place) (c : Command) (rest : Feed Command) (a : Reply) → Transition.Transition (source_of base files) p c a → a.outcome.failed ≡ false → HasAnswer base (files_behind files c) a.after rest → HasAnswer base files p (next c rest)
+one_more base files p c rest a is works behind = record {
   ending = behind.ending;
   whole = behind.whole;
   replies = a ∷ behind.replies;
   works = (works, behind.works);
-  right = replies_next files p c rest behind.ending a behind.replies is behind.right;
+  right = replies_next base files p c rest behind.ending a behind.replies is behind.right;
 }
 
-each : FileLaws → BootLaws → (files : Files) (p : Place) (commands : Feed Command) → IsFair p → HasAnswer files p commands
-each texts laws files p over fair = record { ending = ended; whole = λ e. cc e; replies = []; works = tt; right = refl }
-each texts laws files p cut fair = record { ending = cut_off; whole = λ e. cc e; replies = []; works = tt; right = refl }
-each texts laws files p (next c rest) fair = by_action (some_action texts files p c) (λ next_files q there. each texts laws next_files q rest there)
+each : FileLaws → BootLaws → (base : Source) → GivesEach base → (files : Files) (p : Place) (commands : Feed Command) → IsFair p → HasAnswer base files p commands
+each texts laws base some files p over fair = record { ending = ended; whole = λ e. cc e; replies = []; works = tt; right = refl }
+each texts laws base some files p cut fair = record { ending = cut_off; whole = λ e. cc e; replies = []; works = tt; right = refl }
+each texts laws base some files p (next c rest) fair = by_action (some_action texts (source_of base files) (gives_each base files some) p c) (λ next_files q there. each texts laws base some next_files q rest there)
   where
-    by_action : (c ≡ quit) ⊎ ((does : Transition.Action) × Transition.ComesTo files p c does) → ((next_files : Files) (q : Place) → IsFair q → HasAnswer next_files q rest) → HasAnswer files p (next c rest)
+    by_action : (c ≡ quit) ⊎ ((does : Transition.Action) × Transition.ComesTo (source_of base files) p c does) → ((next_files : Files) (q : Place) → IsFair q → HasAnswer base next_files q rest) → HasAnswer base files p (next c rest)
     by_action (inl is) behind = record { ending = ended; whole = λ e. cc e; replies = []; works = tt; right = (is, refl) }
     by_action (inr (does, comes)) behind =
         let has = acts laws p does fair in
-        one_more files p c rest has.given (does, comes, has.is) has.works (behind (files_behind files c) has.given.after has.fair)
+        one_more base files p c rest has.given (does, comes, has.is) has.works (behind (files_behind files c) has.given.after has.fair)
 
 fair_place : (p : Place) → IsCertain p → HasList p → IsFair p
 fair_place (raw x) sure has = of_raw x
@@ -178,5 +181,5 @@ fair_place (closed s) sure (list, after) = subst (λ t. IsFair (closed t)) (sym 
 fair_place (running events end) sure (list, after) = runs events end list after
 fair_place (dead s) sure has = absurd sure
 
-pub each_has_an_answer : FileLaws → BootLaws → EachHasAnAnswer
-each_has_an_answer texts laws files p commands sure has = each texts laws files p commands (fair_place p sure has)
+pub each_has_an_answer : FileLaws → BootLaws → (base : Source) → EachHasAnAnswer base
+each_has_an_answer texts laws base some files p commands sure has = each texts laws base some files p commands (fair_place p sure has)

@@ -5,7 +5,9 @@ use Rattle.rel_list.specs.Event.Event.{made, boot as booting}
 use Rattle.session_input.specs.Commands.{Command}
 use Rattle.rel_session.specs.Device.{Device}
 use Rattle.session_input.specs.Feed.{Feed}
-use Rattle.rel_session.specs.Files.{Files, files_behind, Found}
+use Rattle.rel_unpack.specs.Release.{Found}
+use Rattle.rel_unpack.specs.Source.{Source}
+use Rattle.rel_session.specs.Files.{Files, files_behind, source_of}
 use Rattle.rel_session.specs.Node.{Place, Reply}
 use Rattle.rel_session.specs.Node.Place.{raw}
 use Rattle.rel_session.specs.Run.{Executes, MayLeave, Replies, Ending}
@@ -37,17 +39,17 @@ boots a (inl (events, list, end, after, image, is)) = cc image.image_of.store
 boots a (inr (inl (why, told, is))) = on_empty_as a _ is (inl (refl, inl refl))
 boots a (inr (inr (torn, is))) = on_empty_as a _ is (inl (refl, inr refl))
 
-on_empty : (files : Files) (c : Command) (a : Reply) → Transition.Transition files (raw []) c a → OnEmpty a
-on_empty files c a (answers text, comes, is) = on_empty_as a _ is (inl (refl, inl refl))
-on_empty files c a (makes_node found, comes, is) = makes found a is
-on_empty files c a (changes_node change, comes, is) = on_empty_as a _ is (inl (refl, inl refl))
-on_empty files c a (reboots_node vsn, comes, is) = on_empty_as a _ is (inl (refl, inl refl))
-on_empty files c a (boots_node, comes, is) = boots a is
-on_empty files c a (tells_start, comes, is) = on_empty_as a _ is (inl (refl, inl refl))
+on_empty : (source : Source) (c : Command) (a : Reply) → Transition.Transition source (raw []) c a → OnEmpty a
+on_empty source c a (answers text, comes, is) = on_empty_as a _ is (inl (refl, inl refl))
+on_empty source c a (makes_node found, comes, is) = makes found a is
+on_empty source c a (changes_node change, comes, is) = on_empty_as a _ is (inl (refl, inl refl))
+on_empty source c a (reboots_node vsn, comes, is) = on_empty_as a _ is (inl (refl, inl refl))
+on_empty source c a (boots_node, comes, is) = boots a is
+on_empty source c a (tells_start, comes, is) = on_empty_as a _ is (inl (refl, inl refl))
 
-left_on_empty : (files : Files) (p : Place) (c : Command) (a : Reply) → p ≡ raw [] → MayLeave files p c a → OnEmpty a
-left_on_empty files p c a empty (inl is) = on_empty files c a (subst (λ q. Transition.Transition files q c a) empty is)
-left_on_empty files p c a empty (inr stopped) = let never = sym empty ∙ stopped.here in absurd cc
+left_on_empty : (source : Source) (p : Place) (c : Command) (a : Reply) → p ≡ raw [] → MayLeave source p c a → OnEmpty a
+left_on_empty source p c a empty (inl is) = on_empty source c a (subst (λ q. Transition.Transition source q c a) empty is)
+left_on_empty source p c a empty (inr stopped) = let never = sym empty ∙ stopped.here in absurd cc
 
 -- where it was left empty
 still_empty : (a : Reply) → OnEmpty a → a.outcome.failed ≡ false → a.outcome.acknowledged ≡ [] → a.after ≡ raw []
@@ -56,16 +58,16 @@ still_empty a (inl (none, inr failed)) works nothing = let lost : true ≡ false
 still_empty a (inr of) works nothing = let lost : made of.release ∷ booting ∷ [] ≡ [] = sym of.acknowledged ∙ nothing in absurd cc
 
 -- the first reply that acknowledges an event
-first_event : (files : Files) (p : Place) (commands : Feed Command) (ending : Ending) (first : List Reply) (a : Reply) (rest : List Reply) → p ≡ raw []
-    → Replies files p commands ending (first ++ a ∷ rest) → NoneFails first → NoneAcknowledged first → a.outcome.acknowledged ≢ [] → IsMade a
-first_event files p commands ending [] a rest empty right works none some =
-    let n = first_answered files p commands ending a rest right in
+first_event : (base : Source) (files : Files) (p : Place) (commands : Feed Command) (ending : Ending) (first : List Reply) (a : Reply) (rest : List Reply) → p ≡ raw []
+    → Replies base files p commands ending (first ++ a ∷ rest) → NoneFails first → NoneAcknowledged first → a.outcome.acknowledged ≢ [] → IsMade a
+first_event base files p commands ending [] a rest empty right works none some =
+    let n = first_answered base files p commands ending a rest right in
     ⊎_elim (λ (nothing : (a.outcome.acknowledged ≡ []) × ((a.after ≡ raw []) ⊎ (a.outcome.failed ≡ true))). absurd (some nothing.0)) (λ (of : IsMade a). of)
-    (left_on_empty files p n.command a empty n.is)
-first_event files p commands ending (b ∷ first) a rest empty right (worked, works) (nothing, none) some =
-    let n = first_answered files p commands ending b (first ++ a ∷ rest) right in
-    let there = still_empty b (left_on_empty files p n.command b empty n.is) worked nothing in
-    first_event (files_behind files n.command) b.after n.rest ending first a rest there n.right works none some
+    (left_on_empty (source_of base files) p n.command a empty n.is)
+first_event base files p commands ending (b ∷ first) a rest empty right (worked, works) (nothing, none) some =
+    let n = first_answered base files p commands ending b (first ++ a ∷ rest) right in
+    let there = still_empty b (left_on_empty (source_of base files) p n.command b empty n.is) worked nothing in
+    first_event base (files_behind files n.command) b.after n.rest ending first a rest there n.right works none some
 
 -- the store is known behind such a reply
 becomes_known : (p : Place) (first : List Reply) (a : Reply) → a.outcome.acknowledged ≢ [] → BecomesKnown p (first ++ a ∷ [])
@@ -73,13 +75,13 @@ becomes_known p [] a some = inl (inr some)
 becomes_known p (b ∷ first) a some = inr (becomes_known b.after first a some)
 
 module _ {D : Type 0} (v : Device D) (laws : IsDevice v) where
-  pub begins_with_a_making : BeginsWithAMaking v
-  begins_with_a_making files commands ending first a rest old new right empty leads works none some =
-      let of = first_event files (raw []) commands ending first a rest refl right works none some in
+  pub begins_with_a_making : (base : Source) → BeginsWithAMaking v base
+  begins_with_a_making base files commands ending first a rest old new right empty leads works none some =
+      let of = first_event base files (raw []) commands ending first a rest refl right works none some in
       let same : first ++ a ∷ rest ≡ (first ++ a ∷ []) ++ rest = sym (append_assoc first (a ∷ []) rest) in (
         of.release,
         of.acknowledged,
         of.after,
-        loses_nothing v laws files (raw []) commands ending (first ++ a ∷ []) rest old new (subst (Replies files (raw []) commands ending) same right) empty
+        loses_nothing v laws base files (raw []) commands ending (first ++ a ∷ []) rest old new (subst (Replies base files (raw []) commands ending) same right) empty
             (subst (λ l. Executes v (raw []) l old new) same leads) (becomes_known (raw []) first a some),
       )

@@ -10,7 +10,9 @@ use Rattle.rel_records.specs.Record.{makes as makes_record, body_of}
 use Rattle.rel_handler.specs.Taking.{commanded}
 use Rattle.session_input.specs.Commands.{Command}
 use Rattle.rel_session.specs.Device.{Device, HasFailed}
-use Rattle.rel_session.specs.Files.{Files, files_behind, Found}
+use Rattle.rel_unpack.specs.Release.{Found}
+use Rattle.rel_unpack.specs.Source.{Source}
+use Rattle.rel_session.specs.Files.{files_behind, source_of}
 use Rattle.rel_session.specs.Node.{Place, Reply, releases_after}
 use Rattle.rel_session.specs.Node.Place.{raw, closed, running, dead}
 use Rattle.rel_session.specs.Refusals.{refusal_line}
@@ -85,23 +87,23 @@ acts (raw bytes) tells_start a is = plain a _ is (inl refl)
 acts (closed s) tells_start a is = plain a _ is (inl refl)
 acts (dead s) tells_start a is = plain a _ is (inl refl)
 
-is_plain : (files : Files) (p : Place) (c : Command) (a : Reply) → Transition.Transition files p c a → IsPlain a
-is_plain files p c a (does, comes, is) = acts p does a is
+is_plain : (source : Source) (p : Place) (c : Command) (a : Reply) → Transition.Transition source p c a → IsPlain a
+is_plain source p c a (does, comes, is) = acts p does a is
 
-pub tells_doubt : TellsDoubt
-tells_doubt files p c a e is doubt = go (is_plain files p c a is)
+pub tells_doubt : (source : Source) → TellsDoubt source
+tells_doubt source p c a e is doubt = go (is_plain source p c a is)
   where
     go : IsPlain a → (a.outcome.failed ≡ true) × (a.answer ≡ refusal_line device)
     go (inl none) = let lost : Some e ≡ None = sym doubt ∙ none in absurd cc
     go (inr told) = told
 
-left_plain : (files : Files) (p : Place) (c : Command) (a : Reply) → MayLeave files p c a → IsPlain a
-left_plain files p c a (inl is) = is_plain files p c a is
-left_plain files p c a (inr stopped) = plain a _ stopped.is (inl refl)
+left_plain : (source : Source) (p : Place) (c : Command) (a : Reply) → MayLeave source p c a → IsPlain a
+left_plain source p c a (inl is) = is_plain source p c a is
+left_plain source p c a (inr stopped) = plain a _ stopped.is (inl refl)
 
 -- a reply in which the device does not fail leaves nothing in doubt
-pub no_doubt : (files : Files) (p : Place) (c : Command) (a : Reply) → MayLeave files p c a → a.outcome.failed ≡ false → a.outcome.in_doubt ≡ None
-no_doubt files p c a is works = go (left_plain files p c a is)
+pub no_doubt : (source : Source) (p : Place) (c : Command) (a : Reply) → MayLeave source p c a → a.outcome.failed ≡ false → a.outcome.in_doubt ≡ None
+no_doubt source p c a is works = go (left_plain source p c a is)
   where
     go : IsPlain a → a.outcome.in_doubt ≡ None
     go (inl none) = none
@@ -117,11 +119,11 @@ module _ {D : Type 0} (v : Device D) where
   rises p [] old new (leaves, then, counted) = counted
   rises p (a ∷ more) old new (mid, happens, leads) = omega (arith, happens.counted, rises a.after more mid new leads)
 
-  pub fails_only_with_the_device : FailsOnlyWithTheDevice v
-  fails_only_with_the_device files p commands ending [] old new right leads never = (tt, tt)
-  fails_only_with_the_device files p commands ending (a ∷ more) old new right (mid, happens, leads) never =
-      let n = first_answered files p commands ending a more right in
+  pub fails_only_with_the_device : (base : Source) → FailsOnlyWithTheDevice v base
+  fails_only_with_the_device base files p commands ending [] old new right leads never = (tt, tt)
+  fails_only_with_the_device base files p commands ending (a ∷ more) old new right (mid, happens, leads) never =
+      let n = first_answered base files p commands ending a more right in
       let counted = rises a.after more mid new leads in
       let worked = works a.outcome.failed (HasFailed v old mid) happens.cause (λ failed. never (failed_first v old mid new counted failed)) in
-      let (fail, doubt) = fails_only_with_the_device (files_behind files n.command) a.after n.rest ending more mid new n.right leads (λ failed. never (failed_behind v old mid new happens.counted counted failed)) in
-      ((worked, fail), (no_doubt files p n.command a n.is worked, doubt))
+      let (fail, doubt) = fails_only_with_the_device base (files_behind files n.command) a.after n.rest ending more mid new n.right leads (λ failed. never (failed_behind v old mid new happens.counted counted failed)) in
+      ((worked, fail), (no_doubt (source_of base files) p n.command a n.is worked, doubt))

@@ -16,6 +16,7 @@ pub mod AcknowledgedEvents
 pub mod Failures
 pub mod EmptyDisk
 pub mod AnswerLines
+pub mod SourceLemmas
 pub mod ActionLemmas
 pub mod OneAnswer
 pub mod EachAnswer

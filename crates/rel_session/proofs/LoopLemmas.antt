@@ -15,7 +15,8 @@ use Rattle.rel_session.specs.Device.{Device}
 use Rattle.rel_session.specs.Session.{AreCommands, IsSession}
 use Rattle.session_input.specs.Feed.{Feed, Gives, EndsAs, IsNext, bytes_within}
 use Rattle.session_input.specs.Feed.Feed.{over, cut, next}
-use Rattle.rel_session.specs.Files.{Files, no_files, files_of, files_behind}
+use Rattle.rel_unpack.specs.Source.{Source}
+use Rattle.rel_session.specs.Files.{Files, no_files, files_of, files_behind, source_of}
 use Rattle.rel_session.specs.InMemory.{IsAt, Leads, NothingDone, FollowsCommand, disk_at, disk_of}
 use Rattle.session_input.specs.Input.{IsFresh, commands_left, most_bytes}
 use Rattle.session_input.specs.Lines.{lines_of}
@@ -67,22 +68,22 @@ are_all : (known : Option (List ℕ)) (commands : Feed Command) → AreLeft (opt
 are_all None commands left = tt
 are_all (Some input) commands left = left
 
-is_reply : (files : Files) (p : Place) (c : Command) (ending : Ending) (a : Reply) (more : List Reply) → Transition files p c a → IsReply files p c ending more a
-is_reply files p c ended a more is = is
-is_reply files p c cut_off a more is = is
-is_reply files p c early a [] is = inl is
-is_reply files p c early a (b ∷ more) is = is
+is_reply : (source : Source) (p : Place) (c : Command) (ending : Ending) (a : Reply) (more : List Reply) → Transition source p c a → IsReply source p c ending more a
+is_reply source p c ended a more is = is
+is_reply source p c cut_off a more is = is
+is_reply source p c early a [] is = inl is
+is_reply source p c early a (b ∷ more) is = is
 
 -- a reply to the first of these commands
-pub replies_next : (files : Files) (p : Place) (c : Command) (rest : Feed Command) (ending : Ending) (a : Reply) (more : List Reply) → Transition files p c a
-    → Replies (files_behind files c) a.after rest ending more → Replies files p (next c rest) ending (a ∷ more)
-replies_next files p c rest ending a more is right = (is_reply files p c ending a more is, right)
+pub replies_next : (base : Source) (files : Files) (p : Place) (c : Command) (rest : Feed Command) (ending : Ending) (a : Reply) (more : List Reply) → Transition (source_of base files) p c a
+    → Replies base (files_behind files c) a.after rest ending more → Replies base files p (next c rest) ending (a ∷ more)
+replies_next base files p c rest ending a more is right = (is_reply (source_of base files) p c ending a more is, right)
 
 -- none of them has one
-replies_none : (files : Files) (p : Place) (commands : Feed Command) → Replies files p commands early []
-replies_none files p over = tt
-replies_none files p cut = tt
-replies_none files p (next c rest) = tt
+replies_none : (base : Source) (files : Files) (p : Place) (commands : Feed Command) → Replies base files p commands early []
+replies_none base files p over = tt
+replies_none base files p cut = tt
+replies_none base files p (next c rest) = tt
 
 -- the text of one more reply in front
 written_next : (ending : Ending) (a : Reply) (more : List Reply) (text : List ℕ) → IsTextOf ending more text → IsTextOf ending (a ∷ more) (a.answer ++ text)
@@ -102,7 +103,7 @@ Appends-twice (Some o) None new xs ys a b = absurd a
 Appends-twice (Some o) (Some m) None xs ys a b = absurd b
 Appends-twice (Some o) (Some m) (Some n) xs ys a b = b ∙ ap (λ k. k ++ ys) a ∙ append_assoc o xs ys
 
-module _ {D : Type 0} (v : Device D) where
+module _ {D : Type 0} (v : Device D) (base : Source) where
   -- Where the node stands, what was written, and how a run of the commands that are left completes that of all.
   pub record Reached (start : Place) (all left : Option (Feed Command)) (disk : D) (node : Node D) (old now : Option (List ℕ)) : Type 0 where
     pub here : Place
@@ -110,13 +111,13 @@ module _ {D : Type 0} (v : Device D) where
     pub written : List ℕ
     pub appended : Appends old now written
     pub completes : (ending : Ending) (rest : Feed Command) (replies : List Reply) (new : D) (text : List ℕ) → AreLeft left rest
-        → Replies (files_of node.files) here rest ending replies → Executes v here replies (disk_of node) new → IsTextOf ending replies text
-        → (commands : Feed Command) × AreLeft all commands × IsRun v no_files start commands ending disk new (written ++ text)
+        → Replies base (files_of node.files) here rest ending replies → Executes v here replies (disk_of node) new → IsTextOf ending replies text
+        → (commands : Feed Command) × AreLeft all commands × IsRun v base no_files start commands ending disk new (written ++ text)
 
   abbrev pub Goes : Option (Feed Command) → Option (Feed Command) → D → Node D → Option (List ℕ) → Option (List ℕ) → Type 0
   Goes all left disk node old now = (start : Place) → Starts v start disk → Reached start all left disk node old now
 
-module _ {D : Type 0} (v : Device D) (laws : IsDevice v) where
+module _ {D : Type 0} (v : Device D) (laws : IsDevice v) (base : Source) where
   starts_at : (start : Place) (disk : D) → Starts v start disk → IsAt v (memory.Idle disk) start
   starts_at (raw bytes) disk starts = starts
   starts_at (closed s) disk starts = starts
@@ -124,7 +125,7 @@ module _ {D : Type 0} (v : Device D) (laws : IsDevice v) where
   starts_at (dead s) disk starts = absurd starts
 
   -- before the first command
-  pub begins : (all left : Option (Feed Command)) (disk : D) (node : Node D) (old : Option (List ℕ)) → left ≡ all → node.place ≡ memory.Idle disk → files_of node.files ≡ no_files → Goes v all left disk node old old
+  pub begins : (all left : Option (Feed Command)) (disk : D) (node : Node D) (old : Option (List ℕ)) → left ≡ all → node.place ≡ memory.Idle disk → files_of node.files ≡ no_files → Goes v base all left disk node old old
   begins all left disk node old same place files start starts = record {
     here = start;
     at = subst (λ q. IsAt v q start) (sym place) (starts_at start disk starts);
@@ -135,7 +136,7 @@ module _ {D : Type 0} (v : Device D) (laws : IsDevice v) where
       subst (λ l. AreLeft l rest) same are,
       record {
         replies = replies;
-        right = subst (λ fs. Replies fs start rest ending replies) files right;
+        right = subst (λ fs. Replies base fs start rest ending replies) files right;
         leads = subst (λ d. Executes v start replies d new) (ap disk_at place) leads;
         written = written;
       },
@@ -146,10 +147,10 @@ module _ {D : Type 0} (v : Device D) (laws : IsDevice v) where
   nothing_more : (p : Place) (node : Node D) → IsAt v node.place p → Executes v p [] (disk_of node) (disk_of node)
   nothing_more p node at = (still v laws (disk_of node), held v laws node.place p at, omega arith)
 
-  module _ (all now new : Option (Feed Command)) (disk : D) (node : Node D) (old mid : Option (List ℕ)) (goes : Goes v all now disk node old mid) where
+  module _ (all now new : Option (Feed Command)) (disk : D) (node : Node D) (old mid : Option (List ℕ)) (goes : Goes v base all now disk node old mid) where
     -- a command was followed, and its answer was written
-    pub goes_on : (c : Command) (text : String Global) (later : Node D) (mid' : Option (List ℕ)) → Gives now new (λ d. c ≡ d) → FollowsCommand v c (Ok (Some text)) node later → Appends mid mid' (string_bytes text)
-        → Goes v all new disk later old mid'
+    pub goes_on : (c : Command) (text : String Global) (later : Node D) (mid' : Option (List ℕ)) → Gives now new (λ d. c ≡ d) → FollowsCommand v base c (Ok (Some text)) node later → Appends mid mid' (string_bytes text)
+        → Goes v base all new disk later old mid'
     goes_on c text later mid' gives (files, follows) appended start starts =
         let r = goes start starts in
         let a = follows r.here r.at in
@@ -160,73 +161,73 @@ module _ {D : Type 0} (v : Device D) (laws : IsDevice v) where
           appended = Appends-twice old mid mid' r.written (string_bytes text) r.appended appended;
           completes = λ ending rest replies final more are right leads written.
               let whole = r.completes ending (next c rest) (a.given ∷ replies) final (a.given.answer ++ more) (are_next now new c rest gives are)
-              (replies_next (files_of node.files) r.here c rest ending a.given replies a.right.0 (subst (λ fs. Replies fs a.given.after rest ending replies) files right))
+              (replies_next base (files_of node.files) r.here c rest ending a.given replies a.right.0 (subst (λ fs. Replies base fs a.given.after rest ending replies) files right))
               (disk_of later, a.happens, leads) (written_next ending a.given replies more written) in
               let same : r.written ++ (a.given.answer ++ more) ≡ (r.written ++ string_bytes text) ++ more = ap (λ (l : List ℕ). r.written ++ (l ++ more)) a.right.1 ∙ sym (append_assoc r.written (string_bytes text) more) in
-              (whole.0, whole.1, subst (λ t. IsRun v no_files start whole.0 ending disk final t) same whole.2);
+              (whole.0, whole.1, subst (λ t. IsRun v base no_files start whole.0 ending disk final t) same whole.2);
         }
 
     -- the session ended there
-    ends_with : (ending : Ending) (rest : Feed Command) (final : D) → AreLeft now rest → final ≡ disk_of node → ((files : Files) (p : Place) → Replies files p rest ending []) → IsTextOf ending [] []
-        → (start : Place) → Starts v start disk → (commands : Feed Command) × AreLeft all commands × Writes old mid (λ text. IsRun v no_files start commands ending disk final text)
+    ends_with : (ending : Ending) (rest : Feed Command) (final : D) → AreLeft now rest → final ≡ disk_of node → ((files : Files) (p : Place) → Replies base files p rest ending []) → IsTextOf ending [] []
+        → (start : Place) → Starts v start disk → (commands : Feed Command) × AreLeft all commands × Writes old mid (λ text. IsRun v base no_files start commands ending disk final text)
     ends_with ending rest final are is right written start starts =
         let r = goes start starts in
         let whole = r.completes ending rest [] (disk_of node) [] are (right (files_of node.files) r.here) (nothing_more r.here node r.at) written in
-        (whole.0, whole.1, (r.written, r.appended, subst (λ t. IsRun v no_files start whole.0 ending disk final t) (append-nil r.written) (subst (λ d. IsRun v no_files start whole.0 ending disk d (r.written ++ [])) (sym is) whole.2)))
+        (whole.0, whole.1, (r.written, r.appended, subst (λ t. IsRun v base no_files start whole.0 ending disk final t) (append-nil r.written) (subst (λ d. IsRun v base no_files start whole.0 ending disk d (r.written ++ [])) (sym is) whole.2)))
 
     pub ends : (final : D) → final ≡ disk_of node → EndsAs over now new → (start : Place) → Starts v start disk
-        → (commands : Feed Command) × AreLeft all commands × Writes old mid (λ text. IsRun v no_files start commands ended disk final text)
+        → (commands : Feed Command) × AreLeft all commands × Writes old mid (λ text. IsRun v base no_files start commands ended disk final text)
     ends final is gone = ends_with ended over final (are_ended now new over gone) is (λ files p. refl) refl
 
     pub ends_cut : (final : D) → final ≡ disk_of node → EndsAs cut now new → (start : Place) → Starts v start disk
-        → (commands : Feed Command) × AreLeft all commands × Writes old mid (λ text. IsRun v no_files start commands cut_off disk final text)
+        → (commands : Feed Command) × AreLeft all commands × Writes old mid (λ text. IsRun v base no_files start commands cut_off disk final text)
     ends_cut final is gone = ends_with cut_off cut final (are_ended now new cut gone) is (λ files p. refl) refl
 
     pub ends_early : (final : D) → final ≡ disk_of node → (start : Place) → Starts v start disk
-        → (commands : Feed Command) × AreLeft all commands × Writes old mid (λ text. IsRun v no_files start commands early disk final text)
-    ends_early final is = ends_with early (some_left now) final (are_some now) is (λ files p. replies_none files p (some_left now)) (inl refl)
+        → (commands : Feed Command) × AreLeft all commands × Writes old mid (λ text. IsRun v base no_files start commands early disk final text)
+    ends_early final is = ends_with early (some_left now) final (are_some now) is (λ files p. replies_none base files p (some_left now)) (inl refl)
 
     -- at `quit`
-    pub quits : (c : Command) (later : Node D) (final : D) → final ≡ disk_of later → Gives now new (λ d. c ≡ d) → FollowsCommand v c (Ok None) node later → (start : Place) → Starts v start disk
-        → (commands : Feed Command) × AreLeft all commands × Writes old mid (λ text. IsRun v no_files start commands ended disk final text)
+    pub quits : (c : Command) (later : Node D) (final : D) → final ≡ disk_of later → Gives now new (λ d. c ≡ d) → FollowsCommand v base c (Ok None) node later → (start : Place) → Starts v start disk
+        → (commands : Feed Command) × AreLeft all commands × Writes old mid (λ text. IsRun v base no_files start commands ended disk final text)
     quits c later final is gives (quitting, same) =
         ends_with ended (next quit (some_left new)) final (subst (λ d. AreLeft now (next d (some_left new))) quitting (are_next now new c (some_left new) gives (are_some new))) (is ∙ ap disk_at same) (λ files p. (refl, refl)) refl
 
     -- a command's answer was not written whole
-    pub stops_within : (c : Command) (text : String Global) (later : Node D) (final : D) (mid' : Option (List ℕ)) → final ≡ disk_of later → Gives now new (λ d. c ≡ d) → FollowsCommand v c (Ok (Some text)) node later
+    pub stops_within : (c : Command) (text : String Global) (later : Node D) (final : D) (mid' : Option (List ℕ)) → final ≡ disk_of later → Gives now new (λ d. c ≡ d) → FollowsCommand v base c (Ok (Some text)) node later
         → AppendsPrefix mid mid' (string_bytes text) → (start : Place) → Starts v start disk
-        → (commands : Feed Command) × AreLeft all commands × Writes old mid' (λ t. IsRun v no_files start commands early disk final t)
+        → (commands : Feed Command) × AreLeft all commands × Writes old mid' (λ t. IsRun v base no_files start commands early disk final t)
     stops_within c text later final mid' is gives (files, follows) (part, left, parts, appended) start starts =
         let r = goes start starts in
         let a = follows r.here r.at in
         let whole = r.completes early (next c (some_left new)) (a.given ∷ []) (disk_of later) part (are_next now new c (some_left new) gives (are_some new))
-        (replies_next (files_of node.files) r.here c (some_left new) early a.given [] a.right.0 (replies_none (files_behind (files_of node.files) c) a.given.after (some_left new)))
+        (replies_next base (files_of node.files) r.here c (some_left new) early a.given [] a.right.0 (replies_none base (files_behind (files_of node.files) c) a.given.after (some_left new)))
         (disk_of later, a.happens, nothing_more a.given.after later a.at) (inr ([], a.given, part, left, refl, parts ∙ sym a.right.1, refl)) in
-        (whole.0, whole.1, (r.written ++ part, Appends-twice old mid mid' r.written part r.appended appended, subst (λ d. IsRun v no_files start whole.0 early disk d (r.written ++ part)) (sym is) whole.2))
+        (whole.0, whole.1, (r.written ++ part, Appends-twice old mid mid' r.written part r.appended appended, subst (λ d. IsRun v base no_files start whole.0 early disk d (r.written ++ part)) (sym is) whole.2))
 
     -- or not at all, since memory was refused
-    pub stops_before : (c : Command) (e : SessionError) (later : Node D) (final : D) → final ≡ disk_of later → Gives now new (λ d. c ≡ d) → FollowsCommand v c (Err e) node later → (start : Place) → Starts v start disk
-        → (commands : Feed Command) × AreLeft all commands × Writes old mid (λ t. IsRun v no_files start commands early disk final t)
+    pub stops_before : (c : Command) (e : SessionError) (later : Node D) (final : D) → final ≡ disk_of later → Gives now new (λ d. c ≡ d) → FollowsCommand v base c (Err e) node later → (start : Place) → Starts v start disk
+        → (commands : Feed Command) × AreLeft all commands × Writes old mid (λ t. IsRun v base no_files start commands early disk final t)
     stops_before c e later final is gives follows start starts = by_outcome (follows r.here r.at)
       where
-        r : Reached v start all now disk node old mid
+        r : Reached v base start all now disk node old mid
         r = goes start starts
 
-        by_outcome : Leads v r.here (MayLeave (files_of node.files) r.here c) node.place later.place ⊎ NothingDone v r.here node.place later.place
-            → (commands : Feed Command) × AreLeft all commands × Writes old mid (λ t. IsRun v no_files start commands early disk final t)
+        by_outcome : Leads v r.here (MayLeave (source_of base (files_of node.files)) r.here c) node.place later.place ⊎ NothingDone v r.here node.place later.place
+            → (commands : Feed Command) × AreLeft all commands × Writes old mid (λ t. IsRun v base no_files start commands early disk final t)
         by_outcome (inl a) =
             let whole = r.completes early (next c (some_left new)) (a.given ∷ []) (disk_of later) [] (are_next now new c (some_left new) gives (are_some new))
-            (a.right, replies_none (files_behind (files_of node.files) c) a.given.after (some_left new))
+            (a.right, replies_none base (files_behind (files_of node.files) c) a.given.after (some_left new))
             (disk_of later, a.happens, (still v laws (disk_of later), a.happens.holds, omega arith)) (inr ([], a.given, [], a.given.answer, refl, refl, refl)) in
-            (whole.0, whole.1, (r.written, r.appended, subst (λ t. IsRun v no_files start whole.0 early disk final t) (append-nil r.written) (subst (λ d. IsRun v no_files start whole.0 early disk d (r.written ++ [])) (sym is) whole.2)))
+            (whole.0, whole.1, (r.written, r.appended, subst (λ t. IsRun v base no_files start whole.0 early disk final t) (append-nil r.written) (subst (λ d. IsRun v base no_files start whole.0 early disk d (r.written ++ [])) (sym is) whole.2)))
         by_outcome (inr lapsed) =
-            let whole = r.completes early (some_left now) [] (disk_of later) [] (are_some now) (replies_none (files_of node.files) r.here (some_left now)) (lapsed.nothing_new, lapsed.holds, lapsed.counted) (inl refl) in
-            (whole.0, whole.1, (r.written, r.appended, subst (λ t. IsRun v no_files start whole.0 early disk final t) (append-nil r.written) (subst (λ d. IsRun v no_files start whole.0 early disk d (r.written ++ [])) (sym is) whole.2)))
+            let whole = r.completes early (some_left now) [] (disk_of later) [] (are_some now) (replies_none base (files_of node.files) r.here (some_left now)) (lapsed.nothing_new, lapsed.holds, lapsed.counted) (inl refl) in
+            (whole.0, whole.1, (r.written, r.appended, subst (λ t. IsRun v base no_files start whole.0 early disk final t) (append-nil r.written) (subst (λ d. IsRun v base no_files start whole.0 early disk d (r.written ++ [])) (sym is) whole.2)))
 
   -- of the commands that were left at first, to those of the input
   pub sessions : (known : Option (List ℕ)) (all : Option (Feed Command)) (ending : Ending) (disk final : D) (old now : Option (List ℕ)) → all ≡ option_map commands_in known
-      → ((start : Place) → Starts v start disk → (commands : Feed Command) × AreLeft all commands × Writes old now (λ text. IsRun v no_files start commands ending disk final text))
-      → IsSession v no_files ending known disk final old now
+      → ((start : Place) → Starts v start disk → (commands : Feed Command) × AreLeft all commands × Writes old now (λ text. IsRun v base no_files start commands ending disk final text))
+      → IsSession v base no_files ending known disk final old now
   sessions known all ending disk final old now same run start starts =
       let (commands, are, text) = run start starts in
       (commands, are_all known commands (subst (λ l. AreLeft l commands) same are), text)

@@ -26,7 +26,8 @@ use Rattle.rel_session.specs.declared.refusal.Refusal.{Refusal as RefusalInMemor
 use Rattle.rel_session.specs.declared.refusal.Refusal.TheVariants as refusal
 use Rattle.session_input.specs.Commands.Command.{set_unpacked}
 use Rattle.rel_session.specs.Device.{Device, LeavesOnly, HasFailed}
-use Rattle.rel_session.specs.Files.{Files, Found}
+use Rattle.rel_unpack.specs.Release.{Found}
+use Rattle.rel_unpack.specs.Source.{Source}
 use Rattle.rel_session.specs.InMemory.{disk_at, IsAt, Replied, NothingDone, Answers, TellsReply}
 use Rattle.rel_session.specs.Node.{Place, Reply, reply, refused, failed, nothing, done, failed_with}
 use Rattle.rel_session.specs.Node.Place.{raw, closed, running, dead}
@@ -401,6 +402,8 @@ module _ {D : Type 0} (v : Device D) (laws : IsDevice v) where
   tells_refusal P refusal.Running old new told lapsed = told (λ e. cc e)
   tells_refusal P (refusal.BadFile q f) old new told lapsed = told (λ e. cc e)
   tells_refusal P (refusal.MissingFile q) old new told lapsed = told (λ e. cc e)
+  tells_refusal P (refusal.VsnMismatch q) old new told lapsed = told (λ e. cc e)
+  tells_refusal P (refusal.LibDiffers q) old new told lapsed = told (λ e. cc e)
   tells_refusal P refusal.TooMany old new told lapsed = told (λ e. cc e)
   tells_refusal P refusal.Device old new told lapsed = told (λ e. cc e)
   tells_refusal P refusal.Full old new told lapsed = told (λ e. cc e)
@@ -446,11 +449,11 @@ module _ {D : Type 0} (v : Device D) (laws : IsDevice v) where
       tells_refusal P why place place (λ known p at. stays p (refusal_line (refusal_of why)) _ place place at refl at (right known p, refl)) (λ p at. leaves_all p place place refl at)
 
   -- `set_unpacked` where no node runs
-  pub idle_sets : (files : Files) (path : List ℕ) (p : Place) → ((events : Events) (end : ℕ) → p ≡ running events end → ⊥) → Transition.Transition files p (set_unpacked path) (refused dead_node p)
-  idle_sets files path (raw bytes) idle = (Transition.refuses dead_node, refl, refl)
-  idle_sets files path (closed s) idle = (Transition.refuses dead_node, refl, refl)
-  idle_sets files path (running events end) idle = absurd (idle events end refl)
-  idle_sets files path (dead s) idle = (Transition.refuses dead_node, refl, refl)
+  pub idle_sets : (source : Source) (path : List ℕ) (p : Place) → ((events : Events) (end : ℕ) → p ≡ running events end → ⊥) → Transition.Transition source p (set_unpacked path) (refused dead_node p)
+  idle_sets source path (raw bytes) idle = (Transition.refuses dead_node, refl, refl)
+  idle_sets source path (closed s) idle = (Transition.refuses dead_node, refl, refl)
+  idle_sets source path (running events end) idle = absurd (idle events end refl)
+  idle_sets source path (dead s) idle = (Transition.refuses dead_node, refl, refl)
 
   -- and so are a change, a reboot and `start`
   pub idle_changes : (c : Transition.Change) (p : Place) → ((events : Events) (end : ℕ) → p ≡ running events end → ⊥) → Transition.Acts p (changes_node c) (refused dead_node p)

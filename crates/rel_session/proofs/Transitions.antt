@@ -9,7 +9,8 @@ use Rattle.rel_handler.specs.Image.{holds_a_store}
 use Rattle.rel_records.specs.Record.{makes as makes_record, body_of}
 use Rattle.rel_handler.specs.Taking.{commanded}
 use Rattle.session_input.specs.Commands.{Command}
-use Rattle.rel_session.specs.Files.{Files, Found}
+use Rattle.rel_unpack.specs.Release.{Found}
+use Rattle.rel_unpack.specs.Source.{Source}
 use Rattle.rel_session.specs.Node.{Place, Reply, reply, nothing, releases_after, behind}
 use Rattle.rel_session.specs.Node.Place.{raw, closed, running, dead}
 use Rattle.rel_session.specs.Run.{MayLeave}
@@ -128,12 +129,12 @@ acts (raw bytes) tells_start a is = still_as (raw bytes) _ a is
 acts (closed s) tells_start a is = still_as (closed s) _ a is
 acts (dead s) tells_start a is = still_as (dead s) _ a is
 
-pub each_keeps : (files : Files) (p : Place) (c : Command) (a : Reply) → Transition.Transition files p c a → Keeps p a
-each_keeps files p c a (does, comes, is) = acts p does a is
+pub each_keeps : (source : Source) (p : Place) (c : Command) (a : Reply) → Transition.Transition source p c a → Keeps p a
+each_keeps source p c a (does, comes, is) = acts p does a is
 
 -- and so it does where memory is refused within a command
-pub each_left_keeps : (files : Files) (p : Place) (c : Command) (a : Reply) → MayLeave files p c a → Keeps p a
-each_left_keeps files p c a (inl is) = each_keeps files p c a is
-each_left_keeps files p c a (inr stopped) =
+pub each_left_keeps : (source : Source) (p : Place) (c : Command) (a : Reply) → MayLeave source p c a → Keeps p a
+each_left_keeps source p c a (inl is) = each_keeps source p c a is
+each_left_keeps source p c a (inr stopped) =
     let here = running stopped.events stopped.end in
     subst (λ q. Keeps q a) (sym stopped.here) (keeps_as here a _ stopped.is (keeps_known here _ stopped.events refl refl tt))

@@ -20,7 +20,8 @@ use Rattle.rel_handler.specs.Events.{Events, Stored, MayHave, certain, uncertain
 use Rattle.rel_handler.specs.Image.{holds_a_store}
 use Rattle.rel_handler.specs.Taking.{commanded}
 use Rattle.session_input.specs.Commands.{Command}
-use Rattle.rel_session.specs.Files.{Files, Found}
+use Rattle.rel_unpack.specs.Release.{Found}
+use Rattle.rel_unpack.specs.Source.{Source}
 use Rattle.rel_session.specs.Node.{Place, Reply, releases_after, list_or_none}
 use Rattle.rel_session.specs.Node.Place.{raw, closed, running, dead}
 use Rattle.rel_session.specs.Refusals.{refusal_of, refusal_line, handler_refusal}
@@ -227,5 +228,5 @@ acts (raw x) tells_start good all a is = good_as a _ is ((λ behind. refl), all)
 acts (closed s) tells_start good all a is = good_as a _ is ((λ behind. refl), all)
 acts (dead s) tells_start good all a is = good_as a _ is ((λ behind. refl), all)
 
-pub each_good : (files : Files) (p : Place) (c : Command) → HasLinePath c → HasVersionsAt p → (a : Reply) → Transition.Transition files p c a → IsGood a
-each_good files p c line all a (does, comes, is) = acts p does (good_action files p c does line comes) all a is
+pub each_good : (source : Source) (p : Place) (c : Command) → HasLinePath c → HasVersionsAt p → (a : Reply) → Transition.Transition source p c a → IsGood a
+each_good source p c line all a (does, comes, is) = acts p does (good_action source p c does line comes) all a is

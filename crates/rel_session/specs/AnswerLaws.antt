@@ -10,7 +10,8 @@ use Rattle.session_input.specs.Commands.Command.{create, set_unpacked}
 use Rattle.rel_session.specs.Device.{Device, HasFailed}
 use Rattle.session_input.specs.Feed.{Feed}
 use Rattle.session_input.specs.Feed.Feed.{next}
-use Rattle.rel_session.specs.Files.{Files}
+use Rattle.rel_unpack.specs.Source.{Source}
+use Rattle.rel_session.specs.Files.{Files, GivesOne, GivesEach}
 use Rattle.rel_session.specs.Node.{Place, Reply}
 use Rattle.rel_session.specs.Node.Place.{raw, closed, running, dead}
 use Rattle.rel_session.specs.Refusals.{refusal_line}
@@ -26,17 +27,17 @@ NoneInDoubt [] = Unit {0}
 NoneInDoubt (a ∷ more) = (a.outcome.in_doubt ≡ None) × NoneInDoubt more
 
 -- Where the disk's count of failures did not rise, none of the replies is a failure, and nothing is in doubt.
-abbrev pub FailsOnlyWithTheDevice : {D : Type 0} → Device D → Type 0
-FailsOnlyWithTheDevice {D} v =
+abbrev pub FailsOnlyWithTheDevice : {D : Type 0} → Device D → Source → Type 0
+FailsOnlyWithTheDevice {D} v base =
     (files : Files) (p : Place) (commands : Feed Command) (ending : Ending) (replies : List Reply) (old new : D)
-    → Replies files p commands ending replies → Executes v p replies old new → (HasFailed v old new → ⊥)
+    → Replies base files p commands ending replies → Executes v p replies old new → (HasFailed v old new → ⊥)
     → NoneFails replies × NoneInDoubt replies
 
 -- The answer of a reply with an event in doubt tells that the device failed.
-abbrev pub TellsDoubt : Type 0
-TellsDoubt =
-    (files : Files) (p : Place) (c : Command) (a : Reply) (e : Event)
-    → Transition files p c a → a.outcome.in_doubt ≡ Some e
+abbrev pub TellsDoubt : Source → Type 0
+TellsDoubt source =
+    (p : Place) (c : Command) (a : Reply) (e : Event)
+    → Transition source p c a → a.outcome.in_doubt ≡ Some e
     → (a.outcome.failed ≡ true) × (a.answer ≡ refusal_line device)
 
 -- A device that does not fail leaves no choice there: bytes, or a store with nothing in doubt.
@@ -52,20 +53,21 @@ AreSame [] [] = Unit {0}
 AreSame (a ∷ first) (b ∷ second) = (a.answer ≡ b.answer) × (a.outcome ≡ b.outcome) × AreSame first second
 AreSame first second = ⊥
 
--- Where the device does not fail, all the commands of an input have one answer each, and the session one ending.
-abbrev pub HaveOneAnswer : Type 0
-HaveOneAnswer =
-    (files : Files) (p : Place) (commands : Feed Command) (a b : Ending) (first second : List Reply)
+-- Where the device does not fail, and a read of a file has one answer, all the commands of an input have one answer each, and
+-- the session one ending.
+abbrev pub HaveOneAnswer : Source → Type 0
+HaveOneAnswer base =
+    GivesOne base → (files : Files) (p : Place) (commands : Feed Command) (a b : Ending) (first second : List Reply)
     → IsCertain p → a ≢ early → b ≢ early → NoneFails first → NoneFails second
-    → Replies files p commands a first → Replies files p commands b second → (a ≡ b) × AreSame first second
+    → Replies base files p commands a first → Replies base files p commands b second → (a ≡ b) × AreSame first second
 
 -- So sessions over the same commands from one place, in which the device did not fail, have written the same text, on
 -- whatever disks.
-abbrev pub HaveOneText : {D : Type 0} → Device D → Type 0
-HaveOneText {D} v =
-    (files : Files) (p : Place) (commands : Feed Command) (a b : Ending) (old new other later : D) (text written : List ℕ)
+abbrev pub HaveOneText : {D : Type 0} → Device D → Source → Type 0
+HaveOneText {D} v base =
+    GivesOne base → (files : Files) (p : Place) (commands : Feed Command) (a b : Ending) (old new other later : D) (text written : List ℕ)
     → IsCertain p → a ≢ early → b ≢ early → (HasFailed v old new → ⊥) → (HasFailed v other later → ⊥)
-    → IsRun v files p commands a old new text → IsRun v files p commands b other later written
+    → IsRun v base files p commands a old new text → IsRun v base files p commands b other later written
     → (a ≡ b) × (text ≡ written)
 
 -- the events of the place have a list
@@ -76,17 +78,18 @@ HasList (running events end) = (list : Releases) × (list_after events ≡ Some 
 HasList (dead s) = ⊥
 
 -- The commands have answers in which the device does not fail.
-pub record HasAnswer (files : Files) (p : Place) (commands : Feed Command) : Type 0 where
+pub record HasAnswer (base : Source) (files : Files) (p : Place) (commands : Feed Command) : Type 0 where
   pub ending : Ending
   pub whole : ending ≢ early
   pub replies : List Reply
   pub works : NoneFails replies
-  pub right : Replies files p commands ending replies
+  pub right : Replies base files p commands ending replies
 
--- Each input has such answers.
-abbrev pub EachHasAnAnswer : Type 0
-EachHasAnAnswer =
-    (files : Files) (p : Place) (commands : Feed Command) → IsCertain p → HasList p → HasAnswer files p commands
+-- Each input has such answers, where each read of a file has an answer.
+abbrev pub EachHasAnAnswer : Source → Type 0
+EachHasAnAnswer base =
+    GivesEach base → (files : Files) (p : Place) (commands : Feed Command)
+    → IsCertain p → HasList p → HasAnswer base files p commands
 
 -- a text without a newline
 abbrev pub is_one_line : List ℕ → Bool
@@ -112,13 +115,13 @@ HasVersionsAt (running events end) = (list : Releases) → list_after events ≡
 HasVersionsAt (dead s) =
     (events : Events) (list : Releases) → MayBe s events → list_after events ≡ Some list → HaveVersions list
 
--- A text tells one run: two over the same commands, whether the device fails or not, which write the same have the
+-- A text tells one run, where a read of a file has one answer: two over the same commands, whether the device fails or not, which write the same have the
 -- same answers and the same events, acknowledged and in doubt, command by command.
-abbrev pub TellsOneRun : Type 0
-TellsOneRun =
-    (files : Files) (p : Place) (commands : Feed Command) (a b : Ending) (first second : List Reply)
+abbrev pub TellsOneRun : Source → Type 0
+TellsOneRun base =
+    GivesOne base → (files : Files) (p : Place) (commands : Feed Command) (a b : Ending) (first second : List Reply)
     → HasVersionsAt p → HaveLinePaths commands → a ≢ early → b ≢ early
-    → Replies files p commands a first → Replies files p commands b second → answers_of first ≡ answers_of second
+    → Replies base files p commands a first → Replies base files p commands b second → answers_of first ≡ answers_of second
     → (a ≡ b) × AreSame first second
 
 -- The commands of an input have such paths.

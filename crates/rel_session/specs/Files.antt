@@ -1,19 +1,15 @@
--- The files of a session, and the release that a command finds in one.
-use Rattle.std.specs.Prelude.{◌≡◌, ℕ, List, if◌then◌else◌, Option, None, Some, Result, Ok, Err}
+-- The files of a session: those that were given come before those of its source.
+use Rattle.std.specs.Prelude.{◌≡◌, ◌≢◌, ℕ, List, length, nat_lt, if◌then◌else◌, Option, None, Some, Result, Ok, Err}
 use Rattle.std.specs.HashMap.{get_by_text}
 use Rattle.std.specs.Option.{option_map}
 use Rattle.std.specs.Str.{bytes_eq}
-use Rattle.erl_term.specs.Value.{Value}
-use Rattle.rel_files.specs.Fault.{Fault}
-use Rattle.rel_files.specs.File.{HasFileTerm, IsReleaseTerm, HasFault}
-use Rattle.rel_files.specs.Release.{Release}
-use Rattle.rel_records.specs.Limits.{is_small}
-use Rattle.rel_session.specs.declared.files.Files.{Files as FilesInMemory}
-use Rattle.session_input.specs.Commands.{Command, File, given_of}
+use Rattle.file_source.specs.declared.files.FilesError.{FilesError}
+use Rattle.file_source.specs.declared.files.FilesError.TheVariants.{TooLarge, NoMemory}
+use Rattle.rel_unpack.specs.Source.{Source}
+use Rattle.rel_session.specs.declared.given_files.GivenFiles.{GivenFiles}
+use Rattle.session_input.specs.Commands.{Command, File, given_of, most_file}
 use Rattle.session_input.specs.Commands.Command.{file}
 use Rattle.session_input.specs.Commands.File.{bytes, too_large}
-use Rattle.rel_session.specs.Refusals.{Refusal}
-use Rattle.rel_session.specs.Refusals.Refusal.{bad_file, missing_file, too_many}
 
 -- the files that were given, by their paths
 abbrev pub Files : Type 0
@@ -31,27 +27,28 @@ abbrev pub files_behind : Files → Command → Files
 files_behind files (file path f) = give files path f
 files_behind files command = files
 
--- a release, and the term of its file
-pub record Found : Type 0 where
-  pub release : Release
-  pub term : Value
+-- what a read of a given file gives
+abbrev pub read_of : File → Result (List ℕ) FilesError
+read_of (bytes bs) = if nat_lt most_file (length bs) then Err TooLarge else Ok bs
+read_of too_large = Err TooLarge
 
--- what the bytes of a `.rel` file say
-abbrev pub Says : List ℕ → Result Found Fault → Type 0
-Says bs (Ok found) = HasFileTerm bs found.term × IsReleaseTerm found.term found.release
-Says bs (Err fault) = HasFault bs fault
+-- of a path that has a given file, or none
+abbrev pub GivenOr : Option File → (Result (List ℕ) FilesError → Type 0) → Result (List ℕ) FilesError → Type 0
+GivenOr None below read = below read
+GivenOr (Some f) below read = read ≡ read_of f
 
--- what a command makes of that
-abbrev pub usable : List ℕ → Result Found Fault → Result Found Refusal
-usable path (Ok found) = if is_small found.release then Ok found else Err too_many
-usable path (Err fault) = Err (bad_file path fault)
+-- what reads give where these files were given, and those below are of a source
+abbrev pub source_of : Source → Files → Source
+source_of base files path = GivenOr (files path) (base path)
 
--- the release in the file of this path, or why there is none
-abbrev pub IsFound : List ℕ → Option File → Result Found Refusal → Type 0
-IsFound path None found = found ≡ Err (missing_file path)
-IsFound path (Some too_large) found = found ≡ Err too_many
-IsFound path (Some (bytes bs)) found = (said : Result Found Fault) × Says bs said × (found ≡ usable path said)
+-- each path of the source has one answer at most
+abbrev pub GivesOne : Source → Type 0
+GivesOne source = (path : List ℕ) (a b : Result (List ℕ) FilesError) → source path a → source path b → a ≡ b
+
+-- and one at least that is not out of memory
+abbrev pub GivesEach : Source → Type 0
+GivesEach source = (path : List ℕ) → (a : Result (List ℕ) FilesError) × (a ≢ Err NoMemory) × source path a
 
 -- the files in memory
-abbrev pub files_of : FilesInMemory → Files
+abbrev pub files_of : GivenFiles → Files
 files_of files = λ path. option_map given_of (get_by_text files.given path)

@@ -2,9 +2,7 @@
 use Rattle.std.specs.Prelude.{◌≡◌, ◌⊎◌, ℕ, ◌≤◌, true, false, List, Option, None, Some, Result, Ok, Err, String, string_bytes}
 use Rattle.std.specs.declared.alloc.Global.{Global}
 use Rattle.std.specs.declared.alloc.AllocError.{AllocError}
-use Rattle.erl_term.specs.Value.{value_of}
-use Rattle.rel_files.specs.Release.{release_of}
-use Rattle.rel_files.specs.declared.reader.RelFile.{RelFile}
+use Rattle.rel_unpack.specs.Source.{Source}
 use Rattle.rel_list.specs.Event.{list_after}
 use Rattle.rel_handler.specs.State.{disk_in, list_in, is_dead, end_in, IsSound}
 use Rattle.session_input.specs.declared.error.SessionError.{SessionError}
@@ -16,12 +14,12 @@ use Rattle.rel_session.specs.declared.refusal.Refusal.TheVariants as refusal
 use Rattle.session_input.specs.Commands.{Command}
 use Rattle.session_input.specs.Commands.Command.{quit}
 use Rattle.rel_session.specs.Device.{Device, LeavesOnly}
-use Rattle.rel_session.specs.Files.{Found, files_of, files_behind}
+use Rattle.rel_session.specs.Files.{files_of, files_behind, source_of}
 use Rattle.rel_session.specs.Node.{Place, Reply}
 use Rattle.rel_session.specs.Node.Place.{raw, closed, running, dead}
 use Rattle.rel_session.specs.Refusals.{refusal_of, refusal_line}
-use Rattle.rel_session.specs.Run.{Holds, Happens, MayLeave}
-use Rattle.rel_session.specs.Transition.{Transition}
+use Rattle.rel_session.specs.Run.{Holds, Happens}
+use Rattle.rel_session.specs.Transition.{Transition, IsStopped}
 
 abbrev pub disk_at : {D : Type 0} → PlaceInMemory D → D
 disk_at (memory.Idle disk) = disk
@@ -31,10 +29,6 @@ disk_at (memory.Made handler) = disk_in handler
 abbrev pub IsSoundPlace : {D : Type 0} → (D → List ℕ) → (D → List ℕ → Type 0) → PlaceInMemory D → Type 0
 IsSoundPlace seen may_leave (memory.Idle disk) = Unit {0}
 IsSoundPlace seen may_leave (memory.Made handler) = IsSound seen may_leave handler
-
--- what a command finds in a file that was read
-abbrev pub found_of : RelFile → Found
-found_of file = record { release = release_of file.release; term = value_of file.term }
 
 -- This is where the place in memory stands.
 abbrev pub IsAt : {D : Type 0} → Device D → PlaceInMemory D → Place → Type 0
@@ -91,17 +85,23 @@ AnswersOrStops v P Q result old new =
     Answers v P result old new
     ⊎ ((result ≡ Err refusal.NoMemory) × ((p : Place) → IsAt v old p → Leads v p (λ a. P p a ⊎ Q p a) old new))
 
--- A command was followed. Its text is its answer; there is none where the session ends.
-abbrev pub FollowsCommand : {D : Type 0} → Device D → Command → Result (Option (String Global)) SessionError
+-- A command was followed; P says which replies are right. Its text is its answer; there is none where the session ends.
+abbrev pub Follows : {D : Type 0} → Device D → Command → (Place → Reply → Type 0) → Result (Option (String Global)) SessionError
     → Node D → Node D → Type 0
-FollowsCommand v command (Ok (Some text)) old new =
+Follows v command P (Ok (Some text)) old new =
     (files_of new.files ≡ files_behind (files_of old.files) command)
     × ((p : Place) → IsAt v old.place p
-    → Replied v p (λ a. Transition (files_of old.files) p command a × (a.answer ≡ string_bytes text)) old.place new.place)
-FollowsCommand v command (Ok None) old new = (command ≡ quit) × (new.place ≡ old.place)
-FollowsCommand v command (Err e) old new =
+    → Replied v p (λ a. P p a × (a.answer ≡ string_bytes text)) old.place new.place)
+Follows v command P (Ok None) old new = (command ≡ quit) × (new.place ≡ old.place)
+Follows v command P (Err e) old new =
     (p : Place) → IsAt v old.place p
-    → Leads v p (MayLeave (files_of old.files) p command) old.place new.place ⊎ NothingDone v p old.place new.place
+    → Leads v p (λ a. P p a ⊎ IsStopped p command a) old.place new.place ⊎ NothingDone v p old.place new.place
+
+-- So by its transition, over a source of files.
+abbrev pub FollowsCommand : {D : Type 0} → Device D → Source → Command → Result (Option (String Global)) SessionError
+    → Node D → Node D → Type 0
+FollowsCommand v base command result old new =
+    Follows v command (λ p a. Transition (source_of base (files_of old.files)) p command a) result old new
 
 abbrev pub disk_of : {D : Type 0} → Node D → D
 disk_of n = disk_at n.place

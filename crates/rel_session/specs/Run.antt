@@ -12,7 +12,8 @@ use Rattle.session_input.specs.Commands.Command.{quit}
 use Rattle.rel_session.specs.Device.{Device, LeavesOnly, HasFailed}
 use Rattle.session_input.specs.Feed.{Feed, bytes_within}
 use Rattle.session_input.specs.Feed.Feed.{over, cut, next}
-use Rattle.rel_session.specs.Files.{Files, files_behind}
+use Rattle.rel_unpack.specs.Source.{Source}
+use Rattle.rel_session.specs.Files.{Files, files_behind, source_of}
 use Rattle.session_input.specs.Input.{most_bytes}
 use Rattle.session_input.specs.Lines.{lines_of}
 use Rattle.rel_session.specs.Node.{Place, Outcome, Reply}
@@ -89,23 +90,24 @@ pub data Ending : Type 0 where
   early : Ending
 
 -- A command was followed with this reply, or stopped within.
-abbrev pub MayLeave : Files → Place → Command → Reply → Type 0
-MayLeave files p c a = Transition files p c a ⊎ IsStopped p c a
+abbrev pub MayLeave : Source → Place → Command → Reply → Type 0
+MayLeave source p c a = Transition source p c a ⊎ IsStopped p c a
 
 -- This is the reply to a command, which these follow. The last one before an early end may be stopped within.
-abbrev pub IsReply : Files → Place → Command → Ending → List Reply → Reply → Type 0
-IsReply files p c early [] a = MayLeave files p c a
-IsReply files p c ending more a = Transition files p c a
+abbrev pub IsReply : Source → Place → Command → Ending → List Reply → Reply → Type 0
+IsReply source p c early [] a = MayLeave source p c a
+IsReply source p c ending more a = Transition source p c a
 
--- These are the replies to the commands, in order: to each up to the end or `quit`, or to the first of them.
-abbrev pub Replies : Files → Place → Feed Command → Ending → List Reply → Type 0
-Replies files p (next c commands) ending (a ∷ more) =
-    IsReply files p c ending more a × Replies (files_behind files c) a.after commands ending more
-Replies files p commands early [] = Unit {0}
-Replies files p over ending [] = ending ≡ ended
-Replies files p cut ending [] = ending ≡ cut_off
-Replies files p (next c commands) ending [] = (c ≡ quit) × (ending ≡ ended)
-Replies files p commands ending replies = ⊥
+-- These are the replies to the commands, in order, over a source of files: to each up to the end or `quit`, or to the first
+-- of them.
+abbrev pub Replies : Source → Files → Place → Feed Command → Ending → List Reply → Type 0
+Replies base files p (next c commands) ending (a ∷ more) =
+    IsReply (source_of base files) p c ending more a × Replies base (files_behind files c) a.after commands ending more
+Replies base files p commands early [] = Unit {0}
+Replies base files p over ending [] = ending ≡ ended
+Replies base files p cut ending [] = ending ≡ cut_off
+Replies base files p (next c commands) ending [] = (c ≡ quit) × (ending ≡ ended)
+Replies base files p commands ending replies = ⊥
 
 -- their answers, one after another
 abbrev pub answers_of : List Reply → List ℕ
@@ -123,10 +125,10 @@ IsTextOf ending replies text = text ≡ answers_of replies
 abbrev pub commands_in : List ℕ → Feed Command
 commands_in input = commands_of (lines_of (bytes_within most_bytes input))
 
--- A session with these commands ended so, on this disk, and this was written.
-pub record IsRun {D : Type 0} (v : Device D) (files : Files) (p : Place) (commands : Feed Command) (ending : Ending)
-    (old new : D) (text : List ℕ) : Type 0 where
+-- A session with these commands ended so, on this disk and over these files, and this was written.
+pub record IsRun {D : Type 0} (v : Device D) (base : Source) (files : Files) (p : Place) (commands : Feed Command)
+    (ending : Ending) (old new : D) (text : List ℕ) : Type 0 where
   pub replies : List Reply
-  pub right : Replies files p commands ending replies
+  pub right : Replies base files p commands ending replies
   pub leads : Executes v p replies old new
   pub written : IsTextOf ending replies text

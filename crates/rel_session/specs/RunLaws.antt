@@ -10,6 +10,7 @@ use Rattle.rel_handler.specs.Image.{IsImageOf, store_end}
 use Rattle.session_input.specs.Commands.{Command}
 use Rattle.rel_session.specs.Device.{Device, LeavesOnly}
 use Rattle.session_input.specs.Feed.{Feed}
+use Rattle.rel_unpack.specs.Source.{Source}
 use Rattle.rel_session.specs.Files.{Files}
 use Rattle.rel_session.specs.Node.{Place, Reply}
 use Rattle.rel_session.specs.Node.Place.{raw, closed, running, dead}
@@ -50,8 +51,8 @@ pub record Keeps (p : Place) (a : Reply) : Type 0 where
   pub known : IsKnown p ⊎ (a.outcome.acknowledged ≢ []) → IsKnown a.after
 
 -- Each reply keeps the acknowledged events.
-abbrev pub EachKeeps : Type 0
-EachKeeps = (files : Files) (p : Place) (c : Command) (a : Reply) → Transition files p c a → Keeps p a
+abbrev pub EachKeeps : Source → Type 0
+EachKeeps source = (p : Place) (c : Command) (a : Reply) → Transition source p c a → Keeps p a
 
 -- where the disk stands behind these replies
 abbrev pub place_after : Place → List Reply → Place
@@ -89,10 +90,10 @@ pub record KeepsAll {D : Type 0} (v : Device D) (p : Place) (first rest : List R
   pub moments : LeavesOnly v mid new (StandsForAll (acknowledged_at (place_after p first)))
 
 -- No moment of a session loses an acknowledged event.
-abbrev pub LosesNothing : {D : Type 0} → Device D → Type 0
-LosesNothing {D} v =
+abbrev pub LosesNothing : {D : Type 0} → Device D → Source → Type 0
+LosesNothing {D} v base =
     (files : Files) (p : Place) (commands : Feed Command) (ending : Ending) (first rest : List Reply) (old new : D)
-    → Replies files p commands ending (first ++ rest) → Holds v p old → Executes v p (first ++ rest) old new
+    → Replies base files p commands ending (first ++ rest) → Holds v p old → Executes v p (first ++ rest) old new
     → BecomesKnown p first → KeepsAll v p first rest old new
 
 -- An image of a store stands for the list of a prefix of the accepted events, with every acknowledged one.
@@ -125,20 +126,20 @@ IsNextDisk v mid new later =
 
 -- All these events are acknowledged on the disk, and so over as many sessions: each begins where they are, and behind
 -- any of its replies a crash may come, or its end.
-abbrev pub Lasts : {D : Type 0} → Device D → ℕ → Events → D → Type 0
-Lasts v zero events disk =
+abbrev pub Lasts : {D : Type 0} → Device D → Source → ℕ → Events → D → Type 0
+Lasts v base zero events disk =
     (s : Stored) × (more : Events) × Starts v (closed s) disk × (s.known.acknowledged ≡ events ++ more)
-Lasts {D} v (suc n) events disk =
+Lasts {D} v base (suc n) events disk =
     (s : Stored) × (more : Events) × Starts v (closed s) disk × (s.known.acknowledged ≡ events ++ more)
     × ((files : Files) (commands : Feed Command) (ending : Ending) (first rest : List Reply) (mid new later : D)
-    → Replies files (closed s) commands ending (first ++ rest) → Executes v (closed s) first disk mid
+    → Replies base files (closed s) commands ending (first ++ rest) → Executes v (closed s) first disk mid
     → Executes v (place_after (closed s) first) rest mid new → IsNextDisk v mid new later
-    → (all : Events) × HaveAll (events ++ more) first all × Lasts v n all later)
+    → (all : Events) × HaveAll (events ++ more) first all × Lasts v base n all later)
 
 -- Where a store is known, no number of sessions and crashes loses an acknowledged event.
-abbrev pub LosesNothingEver : {D : Type 0} → Device D → Type 0
-LosesNothingEver {D} v =
-    (n : ℕ) (s : Stored) (disk : D) → Starts v (closed s) disk → Lasts v n s.known.acknowledged disk
+abbrev pub LosesNothingEver : {D : Type 0} → Device D → Source → Type 0
+LosesNothingEver {D} v base =
+    (n : ℕ) (s : Stored) (disk : D) → Starts v (closed s) disk → Lasts v base n s.known.acknowledged disk
 
 -- the device fails in none of the replies
 abbrev pub NoneFails : List Reply → Type 0
@@ -152,11 +153,11 @@ NoneAcknowledged (a ∷ more) = (a.outcome.acknowledged ≡ []) × NoneAcknowled
 
 -- On an empty disk the first reply that acknowledges events is that a release was made, where the device did not fail
 -- before, and from that reply on no moment loses an acknowledged event.
-abbrev pub BeginsWithAMaking : {D : Type 0} → Device D → Type 0
-BeginsWithAMaking {D} v =
+abbrev pub BeginsWithAMaking : {D : Type 0} → Device D → Source → Type 0
+BeginsWithAMaking {D} v base =
     (files : Files) (commands : Feed Command) (ending : Ending)
     (first : List Reply) (a : Reply) (rest : List Reply) (old new : D)
-    → Replies files (raw []) commands ending (first ++ a ∷ rest)
+    → Replies base files (raw []) commands ending (first ++ a ∷ rest)
     → v.seen old ≡ [] → Executes v (raw []) (first ++ a ∷ rest) old new
     → NoneFails first → NoneAcknowledged first → a.outcome.acknowledged ≢ []
     → (r : Release) × (a.outcome.acknowledged ≡ made r ∷ booting ∷ [])

@@ -14,13 +14,15 @@ use Rattle.rel_handler.specs.Image.{IsImageAt, holds_a_store, first_end, end_beh
 use Rattle.rel_handler.specs.Refusals.{IsBootRefusal}
 use Rattle.rel_handler.specs.Taking.{commanded, change_size}
 pub use Rattle.rel_handler.specs.State.{version_of}
+use Rattle.rel_unpack.specs.Refusal.{Refusal as FilesRefusal}
+use Rattle.rel_unpack.specs.Release.{Found, ReleaseAt}
+use Rattle.rel_unpack.specs.Source.{Source}
 use Rattle.session_input.specs.Commands.{Command}
 use Rattle.session_input.specs.Commands.Command.{file, create, set_unpacked, install, permanent, remove, reboot_old, boot, start, releases, quit, bad}
-use Rattle.rel_session.specs.Files.{Files, Found, IsFound}
 use Rattle.rel_session.specs.Listing.{listing, text_value}
 use Rattle.rel_session.specs.Node.{Place, releases_after, Reply, reply, refused, failed, nothing, done, failed_with, behind}
 use Rattle.rel_session.specs.Node.Place.{raw, closed, running, dead}
-use Rattle.rel_session.specs.Refusals.{Refusal, refusal_of, refusal_line, handler_refusal, boot_line}
+use Rattle.rel_session.specs.Refusals.{Refusal, refusal_of, refusal_line, refusal_for, handler_refusal, boot_line}
 use Rattle.rel_session.specs.Refusals.Refusal.{full, exists, dead as dead_node}
 
 abbrev pub ok_line : List ℕ → List ℕ
@@ -55,8 +57,8 @@ abbrev pub refuses : Refusal → Action
 refuses why = answers (refusal_line why)
 
 -- `create`, by what is found in the file
-abbrev pub creation : Result Found Refusal → Action
-creation (Err why) = refuses why
+abbrev pub creation : Result Found FilesRefusal → Action
+creation (Err why) = refuses (refusal_for why)
 creation (Ok found) = makes_node found
 
 -- a release comes in as unpacked
@@ -90,8 +92,8 @@ abbrev pub removal : List ℕ → Change
 removal vsn = record { event = removed vsn; size = change_size (removed vsn); details = λ list. [] }
 
 -- `set_unpacked`, by what is found in the file
-abbrev pub unpacking : Result Found Refusal → Action
-unpacking (Err why) = refuses why
+abbrev pub unpacking : Result Found FilesRefusal → Action
+unpacking (Err why) = refuses (refusal_for why)
 unpacking (Ok found) = changes_node (unpacked_change found)
 
 -- a command that reads its file only where a node runs
@@ -100,21 +102,21 @@ OnNode (running events end) P does = P does
 OnNode p P does = does ≡ refuses dead_node
 
 -- What each command comes to where the disk stands; `quit` comes to nothing.
-abbrev pub ComesTo : Files → Place → Command → Action → Type 0
-ComesTo files p (file path f) does = does ≡ answers (codes "ok\n")
-ComesTo files p (create path) does =
-    (found : Result Found Refusal) × IsFound path (files path) found × (does ≡ creation found)
-ComesTo files p (set_unpacked path) does =
-    OnNode p (λ does. (found : Result Found Refusal) × IsFound path (files path) found × (does ≡ unpacking found)) does
-ComesTo files p (install vsn) does = does ≡ changes_node (installation vsn)
-ComesTo files p (permanent vsn) does = does ≡ changes_node (permanence vsn)
-ComesTo files p (remove vsn) does = does ≡ changes_node (removal vsn)
-ComesTo files p (reboot_old vsn) does = does ≡ reboots_node vsn
-ComesTo files p boot does = does ≡ boots_node
-ComesTo files p start does = does ≡ tells_start
-ComesTo files p releases does = does ≡ answers (listed p)
-ComesTo files p bad does = does ≡ answers (codes "error session 1 BadCommand\n")
-ComesTo files p quit does = ⊥
+abbrev pub ComesTo : Source → Place → Command → Action → Type 0
+ComesTo source p (file path f) does = does ≡ answers (codes "ok\n")
+ComesTo source p (create path) does =
+    (found : Result Found FilesRefusal) × ReleaseAt source path found × (does ≡ creation found)
+ComesTo source p (set_unpacked path) does =
+    OnNode p (λ does. (found : Result Found FilesRefusal) × ReleaseAt source path found × (does ≡ unpacking found)) does
+ComesTo source p (install vsn) does = does ≡ changes_node (installation vsn)
+ComesTo source p (permanent vsn) does = does ≡ changes_node (permanence vsn)
+ComesTo source p (remove vsn) does = does ≡ changes_node (removal vsn)
+ComesTo source p (reboot_old vsn) does = does ≡ reboots_node vsn
+ComesTo source p boot does = does ≡ boots_node
+ComesTo source p start does = does ≡ tells_start
+ComesTo source p releases does = does ≡ answers (listed p)
+ComesTo source p bad does = does ≡ answers (codes "error session 1 BadCommand\n")
+ComesTo source p quit does = ⊥
 
 -- An event, whose record has a body of so many bytes, is committed where the list takes it, its record fits, and the device
 -- does not fail. P says what is replied then.
@@ -216,8 +218,8 @@ Acts (running events end) tells_start a = TellsStart events end a
 Acts p tells_start a = a ≡ refused dead_node p
 
 -- The reply to a command.
-abbrev pub Transition : Files → Place → Command → Reply → Type 0
-Transition files p c a = (does : Action) × ComesTo files p c does × Acts p does a
+abbrev pub Transition : Source → Place → Command → Reply → Type 0
+Transition source p c a = (does : Action) × ComesTo source p c does × Acts p does a
 
 -- What stands in place of a reply where memory was refused within a command, and the session ends: a reboot was committed
 -- on a node that runs, and its boot had no memory. Nothing is answered, but the reboot is on the disk: it is acknowledged.

@@ -9,16 +9,18 @@ ghost use Rattle.rel_session.specs.Run.Ending.{ended, cut_off, early};
 
 use crate::node::Node;
 use counted_io::CountedWriter;
+use file_source::Files;
 use rel_disk::Disk;
 use session_input::{Input, SessionError};
 use std::alloc::Global;
 use std::io::{Read, Write};
 
-/// Follows the commands of an input on a disk, and writes each answer as soon as its command was read. The disk comes back
-/// with the result.
-pub fn session<D: Disk, R: Read + Drop, W: Write + Drop>(
+/// Follows the commands of an input on a disk, and writes each answer as soon as its command was read. A file that isn't given
+/// in the session is read from `files`. The disk comes back with the result.
+pub fn session<D: Disk, F: Files, R: Read + Drop, W: Write + Drop>(
     alloc: Global,
     disk: D,
+    files: &F,
     input: &mut Input<R>,
     output: &mut CountedWriter<W>,
 ) -> (D, Result<(), SessionError>)
@@ -27,15 +29,16 @@ pub fn session<D: Disk, R: Read + Drop, W: Write + Drop>(
     // The session is a run of transitions over the commands of its input, from the disk that it took to the one that it
     // hands back. What it wrote are the answers: all of them at the end of the input or at `quit`, and where more of the
     // input was needed than may be taken.
-    ensures ended { OnOk result.1 (IsSession D.Disk no_files ended
+    ensures ended { OnOk result.1 (IsSession D.Disk (F.gives files.now) no_files ended
         (left_in R.remaining input.old) disk result.0
         (held_by W.contents output.old) (held_by W.contents output.new)) }
     ensures cut { IsErrOf result.1 SessionError.Limit
-        → IsSession D.Disk no_files cut_off (left_in R.remaining input.old) disk result.0
+        → IsSession D.Disk (F.gives files.now) no_files cut_off
+        (left_in R.remaining input.old) disk result.0
         (held_by W.contents output.old) (held_by W.contents output.new) }
 
     // After any error it is such a run up to some command, whose answer may not be written whole.
-    ensures broken { OnErr result.1 (IsSession D.Disk no_files early
+    ensures broken { OnErr result.1 (IsSession D.Disk (F.gives files.now) no_files early
         (left_in R.remaining input.old) disk result.0
         (held_by W.contents output.old) (held_by W.contents output.new)) }
 
@@ -56,7 +59,7 @@ pub fn session<D: Disk, R: Read + Drop, W: Write + Drop>(
             Ok(None) => return (node.into_disk(), Ok(())),
             Err(error) => return (node.into_disk(), Err(error)),
         };
-        let (next, text) = node.follow(alloc, command);
+        let (next, text) = node.follow(alloc, files, command);
         node = next;
         match text {
             Ok(Some(text)) => {

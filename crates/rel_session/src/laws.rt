@@ -4,6 +4,7 @@ ghost use Rattle.rel_session.specs.LawsBelow.{FileLaws, BootLaws};
 ghost use Rattle.rel_session.specs.RunLaws.{EachKeeps, IsOfAccepted, LosesNothing, BeginsWhereOneEnded, BeginsBehindACrash, LosesNothingEver, BeginsWithAMaking};
 
 use erl_reader::laws::no_text_has_two_readings;
+use file_source::Files;
 use rel_disk::Disk;
 use rel_files::laws::{
     a_file_has_one_fault, each_file_says_a_release_or_has_a_fault,
@@ -31,36 +32,36 @@ fn a_disk_stands_for_one_list()
 
 /// Each reply keeps the acknowledged events. At each moment of a session, ended or broken off, a crash leaves the list
 /// of events that begin with all those acknowledged before that moment.
-pub fn a_crash_loses_nothing_acknowledged<D: Disk>()
-    ensures replies { EachKeeps }
+pub fn a_crash_loses_nothing_acknowledged<D: Disk, F: Files>()
+    ensures replies { (files : F) → EachKeeps (F.gives files) }
     ensures accepted { IsOfAccepted }
-    ensures moments { LosesNothing D.Disk }
+    ensures moments { (files : F) → LosesNothing D.Disk (F.gives files) }
 {}
 
 /// A session may begin on the disk that another handed back, and on one that holds what a crash left of it. No number of
 /// sessions and crashes loses an acknowledged event.
-pub fn a_session_begins_where_another_ended<D: Disk>()
+pub fn a_session_begins_where_another_ended<D: Disk, F: Files>()
     ensures ended { BeginsWhereOneEnded D.Disk }
     ensures crashed { BeginsBehindACrash D.Disk }
-    ensures ever { LosesNothingEver D.Disk }
+    ensures ever { (files : F) → LosesNothingEver D.Disk (F.gives files) }
 {}
 
 /// Where the device's count of failures does not rise in a session, no command fails by it and no event is in doubt.
-pub fn no_failure_leaves_no_doubt<D: Disk>()
-    ensures { FailsOnlyWithTheDevice D.Disk }
+pub fn no_failure_leaves_no_doubt<D: Disk, F: Files>()
+    ensures { (files : F) → FailsOnlyWithTheDevice D.Disk (F.gives files) }
 {}
 
 /// An event that is in doubt is told as a failure of the device, never as done.
-pub fn a_doubt_is_reported_as_a_failure()
-    ensures { TellsDoubt }
+pub fn a_doubt_is_reported_as_a_failure<F: Files>()
+    ensures { (files : F) → TellsDoubt (F.gives files) }
 {}
 
-/// Where the device does not fail, an input has one answer from each place with nothing in doubt: no two, and one there
-/// is.
-pub fn an_input_has_one_answer<D: Disk>()
-    ensures one { HaveOneAnswer }
-    ensures written { HaveOneText D.Disk }
-    ensures some { EachHasAnAnswer }
+/// Where the device does not fail, an input has one answer from each place with nothing in doubt: no two, where a read of
+/// a file has one answer, and one there is, where each read has one.
+pub fn an_input_has_one_answer<D: Disk, F: Files>()
+    ensures one { (files : F) → HaveOneAnswer (F.gives files) }
+    ensures written { (files : F) → HaveOneText D.Disk (F.gives files) }
+    ensures some { (files : F) → EachHasAnAnswer (F.gives files) }
 {
     a_file_says_one_thing();
     a_disk_stands_for_one_list();
@@ -68,14 +69,14 @@ pub fn an_input_has_one_answer<D: Disk>()
 
 /// On an empty disk of a device that has not failed, the first event that is acknowledged is that a release was made.
 /// From then on no acknowledged event is lost, whatever fails.
-pub fn an_empty_disk_begins_with_a_making<D: Disk>()
-    ensures { BeginsWithAMaking D.Disk }
+pub fn an_empty_disk_begins_with_a_making<D: Disk, F: Files>()
+    ensures { (files : F) → BeginsWithAMaking D.Disk (F.gives files) }
 {}
 
 /// Two runs of the same commands from one place that have written the same text have the same events, acknowledged and
 /// in doubt, command by command. So a text tells which they are, whether the device failed or not.
-pub fn a_text_tells_one_run<D: Disk>()
-    ensures one { TellsOneRun }
+pub fn a_text_tells_one_run<D: Disk, F: Files>()
+    ensures one { (files : F) → TellsOneRun (F.gives files) }
 
     // The paths of an input's commands and the versions of a store are as it asks.
     ensures paths { ReadsLinePaths }

@@ -1,29 +1,38 @@
 //! The node of a session.
-ghost use Rattle.std.specs.Prelude.{◌≡◌, codes, None, Some, Ok, Err, string_bytes, IfOk, IfErr, OnOk, MatchResult};
+ghost use Rattle.std.specs.Prelude.{◌≡◌, ◌≢◌, codes, true, None, Some, Ok, Err, string_bytes, IfOk, IfErr, OnOk, MatchResult};
 ghost use Rattle.session_input.specs.Commands.{command_of, given_of};
 ghost use Rattle.session_input.specs.Commands.Command.{file as file_given, create, set_unpacked, install, permanent, remove, reboot_old, boot, start};
-ghost use Rattle.rel_session.specs.Files.{files_of, no_files, give};
+ghost use Rattle.rel_files.specs.Release.{release_of};
+ghost use Rattle.rel_handler.specs.Files.{IsRelFile};
+ghost use Rattle.rel_records.specs.Limits.{is_small};
+ghost use Rattle.rel_session.specs.Files.{files_of, no_files, give, source_of};
+ghost use Rattle.rel_unpack.specs.Release.{ReleaseAt, found_of};
 ghost use Rattle.rel_session.specs.InMemory.{Answers, IsLine, IsText};
-ghost use Rattle.rel_session.specs.Transition.{Transition};
+ghost use Rattle.rel_session.specs.Refusals.{refusal_of, IsFilesRefusal};
+ghost use Rattle.rel_session.specs.Transition.{Transition, Acts, installation, permanence, removal};
+ghost use Rattle.rel_session.specs.Transition.Action.{answers, changes_node, reboots_node, boots_node, tells_start};
 ghost use Rattle.rel_session.specs.declared.place.Place.TheVariants.{Idle, Made};
 ghost use Rattle.rel_handler.specs.State.{IsSound};
 
-use crate::files::Files;
+use crate::given_files::{GivenFiles, SessionFiles};
 use crate::place::{Place, ok_line};
 use crate::refusal::Refusal;
+use file_source::Files;
 use rel_disk::Disk;
+use rel_files::RelFile;
 use rel_handler::Handler;
+use rel_unpack::read_release;
 use session_input::{Command, GivenFile, SessionError};
 use std::alloc::{AllocError, Global};
 
 /// The node of a session: the disk that it is on, and the files that were given.
 pub struct Node<D: Disk> {
     place: Place<D>,
-    files: Files,
+    files: GivenFiles,
 }
 
 impl<D: Disk> Node<D> {
-    ghost use Rattle.rel_session.specs.InMemory.{disk_of, IsSoundPlace, FollowsCommand};
+    ghost use Rattle.rel_session.specs.InMemory.{disk_of, IsSoundPlace, Follows, FollowsCommand};
 
     /// No node was made or booted on the disk yet, and no file was given.
     pub fn new(alloc: Global, disk: D) -> Node<D>
@@ -32,7 +41,7 @@ impl<D: Disk> Node<D> {
     {
         Node {
             place: Place::Idle(disk),
-            files: Files::new(alloc),
+            files: GivenFiles::new(alloc),
         }
     }
 
@@ -44,21 +53,24 @@ impl<D: Disk> Node<D> {
         place.into_disk()
     }
 
-    /// Does what the command says. The answer is its text, or none where the session ends.
-    pub fn follow(
+    /// Does what the command says. A file that wasn't given is read from `base`. The answer is its text, or none where the
+    /// session ends.
+    pub fn follow<F: Files>(
         self,
         alloc: Global,
+        base: &F,
         command: Command,
     ) -> (Node<D>, Result<Option<String>, SessionError>)
         requires { IsSoundPlace D.seen D.may_leave self.place }
         ensures sound { IsSoundPlace D.seen D.may_leave result.0.place }
-        ensures followed { FollowsCommand D.Disk (command_of command) result.1 self result.0 }
+        ensures followed { FollowsCommand D.Disk (F.gives base.now)
+            (command_of command) result.1 self result.0 }
         ensures memory { IfErr result.1 (λ e. e ≡ SessionError.NoMemory) }
     {
         match command {
             Command::File(path, file) => self.give(alloc, path, file),
-            Command::Create(path) => self.create(alloc, path.as_str()),
-            Command::SetUnpacked(path) => self.set_unpacked(alloc, path.as_str()),
+            Command::Create(path) => self.create(alloc, base, path.as_str()),
+            Command::SetUnpacked(path) => self.set_unpacked(alloc, base, path.as_str()),
             Command::Install(vsn) => self.install(alloc, vsn.as_str()),
             Command::Permanent(vsn) => self.make_permanent(alloc, vsn.as_str()),
             Command::Remove(vsn) => self.remove(alloc, vsn.as_str()),
@@ -85,8 +97,8 @@ impl<D: Disk> Node<D> {
         file: GivenFile,
     ) -> (Node<D>, Result<Option<String>, SessionError>)
         ensures place { result.0.place ≡ self.place }
-        ensures followed { FollowsCommand D.Disk
-            (file_given (string_bytes path) (given_of file)) result.1 self result.0 }
+        ensures followed { Follows D.Disk (file_given (string_bytes path) (given_of file))
+            (λ p a. Acts p (answers (codes "ok\n")) a) result.1 self result.0 }
         ensures memory { IfErr result.1 (λ e. e ≡ SessionError.NoMemory) }
     {
         let Node { place, mut files } = self;
@@ -95,14 +107,20 @@ impl<D: Disk> Node<D> {
     }
 
     /// Makes the node, with the release in the file of this path as its permanent one.
-    fn create(self, alloc: Global, path: &str) -> (Node<D>, Result<Option<String>, SessionError>)
+    fn create<F: Files>(
+        self,
+        alloc: Global,
+        base: &F,
+        path: &str,
+    ) -> (Node<D>, Result<Option<String>, SessionError>)
         requires { IsSoundPlace D.seen D.may_leave self.place }
         ensures sound { IsSoundPlace D.seen D.may_leave result.0.place }
-        ensures followed { FollowsCommand D.Disk (create path.now) result.1 self result.0 }
+        ensures followed { FollowsCommand D.Disk (F.gives base.now)
+            (create path.now) result.1 self result.0 }
         ensures memory { IfErr result.1 (λ e. e ≡ SessionError.NoMemory) }
     {
         let Node { place, files } = self;
-        match files.release(alloc, path) {
+        match release_at(alloc, &files, base, path) {
             Ok(file) => {
                 let (place, created) = place.make(alloc, file);
                 (Node { place, files }, line_of(alloc, created))
@@ -112,14 +130,16 @@ impl<D: Disk> Node<D> {
     }
 
     /// Takes in the release in the file of this path as unpacked.
-    fn set_unpacked(
+    fn set_unpacked<F: Files>(
         self,
         alloc: Global,
+        base: &F,
         path: &str,
     ) -> (Node<D>, Result<Option<String>, SessionError>)
         requires { IsSoundPlace D.seen D.may_leave self.place }
         ensures sound { IsSoundPlace D.seen D.may_leave result.0.place }
-        ensures followed { FollowsCommand D.Disk (set_unpacked path.now) result.1 self result.0 }
+        ensures followed { FollowsCommand D.Disk (F.gives base.now)
+            (set_unpacked path.now) result.1 self result.0 }
         ensures memory { IfErr result.1 (λ e. e ≡ SessionError.NoMemory) }
     {
         let Node { place, files } = self;
@@ -132,7 +152,7 @@ impl<D: Disk> Node<D> {
                 line_of(alloc, Err(Refusal::Dead)),
             ),
             Place::Made(mut handler) => {
-                let unpacked = unpack(alloc, &mut handler, &files, path);
+                let unpacked = unpack(alloc, &mut handler, &files, base, path);
                 (
                     Node {
                         place: Place::Made(handler),
@@ -148,7 +168,8 @@ impl<D: Disk> Node<D> {
     fn install(self, alloc: Global, vsn: &str) -> (Node<D>, Result<Option<String>, SessionError>)
         requires { IsSoundPlace D.seen D.may_leave self.place }
         ensures sound { IsSoundPlace D.seen D.may_leave result.0.place }
-        ensures followed { FollowsCommand D.Disk (install vsn.now) result.1 self result.0 }
+        ensures followed { Follows D.Disk (install vsn.now)
+            (λ p a. Acts p (changes_node (installation vsn.now)) a) result.1 self result.0 }
         ensures memory { IfErr result.1 (λ e. e ≡ SessionError.NoMemory) }
     {
         let Node { place, files } = self;
@@ -164,7 +185,8 @@ impl<D: Disk> Node<D> {
     ) -> (Node<D>, Result<Option<String>, SessionError>)
         requires { IsSoundPlace D.seen D.may_leave self.place }
         ensures sound { IsSoundPlace D.seen D.may_leave result.0.place }
-        ensures followed { FollowsCommand D.Disk (permanent vsn.now) result.1 self result.0 }
+        ensures followed { Follows D.Disk (permanent vsn.now)
+            (λ p a. Acts p (changes_node (permanence vsn.now)) a) result.1 self result.0 }
         ensures memory { IfErr result.1 (λ e. e ≡ SessionError.NoMemory) }
     {
         let Node { place, files } = self;
@@ -176,7 +198,8 @@ impl<D: Disk> Node<D> {
     fn remove(self, alloc: Global, vsn: &str) -> (Node<D>, Result<Option<String>, SessionError>)
         requires { IsSoundPlace D.seen D.may_leave self.place }
         ensures sound { IsSoundPlace D.seen D.may_leave result.0.place }
-        ensures followed { FollowsCommand D.Disk (remove vsn.now) result.1 self result.0 }
+        ensures followed { Follows D.Disk (remove vsn.now)
+            (λ p a. Acts p (changes_node (removal vsn.now)) a) result.1 self result.0 }
         ensures memory { IfErr result.1 (λ e. e ≡ SessionError.NoMemory) }
     {
         let Node { place, files } = self;
@@ -188,7 +211,8 @@ impl<D: Disk> Node<D> {
     fn reboot_old(self, alloc: Global, vsn: &str) -> (Node<D>, Result<Option<String>, SessionError>)
         requires { IsSoundPlace D.seen D.may_leave self.place }
         ensures sound { IsSoundPlace D.seen D.may_leave result.0.place }
-        ensures followed { FollowsCommand D.Disk (reboot_old vsn.now) result.1 self result.0 }
+        ensures followed { Follows D.Disk (reboot_old vsn.now)
+            (λ p a. Acts p (reboots_node vsn.now) a) result.1 self result.0 }
         ensures memory { IfErr result.1 (λ e. e ≡ SessionError.NoMemory) }
     {
         let Node { place, files } = self;
@@ -200,7 +224,8 @@ impl<D: Disk> Node<D> {
     fn boot(self, alloc: Global) -> (Node<D>, Result<Option<String>, SessionError>)
         requires { IsSoundPlace D.seen D.may_leave self.place }
         ensures sound { IsSoundPlace D.seen D.may_leave result.0.place }
-        ensures followed { FollowsCommand D.Disk boot result.1 self result.0 }
+        ensures followed { Follows D.Disk boot
+            (λ p a. Acts p boots_node a) result.1 self result.0 }
         ensures memory { IfErr result.1 (λ e. e ≡ SessionError.NoMemory) }
     {
         let Node { place, files } = self;
@@ -212,7 +237,8 @@ impl<D: Disk> Node<D> {
     fn start(self, alloc: Global) -> (Node<D>, Result<Option<String>, SessionError>)
         requires { IsSoundPlace D.seen D.may_leave self.place }
         ensures sound { IsSoundPlace D.seen D.may_leave result.0.place }
-        ensures followed { FollowsCommand D.Disk start result.1 self result.0 }
+        ensures followed { Follows D.Disk start
+            (λ p a. Acts p tells_start a) result.1 self result.0 }
         ensures memory { IfErr result.1 (λ e. e ≡ SessionError.NoMemory) }
     {
         let Node { place, files } = self;
@@ -224,7 +250,7 @@ impl<D: Disk> Node<D> {
 /// Keeps a file for its path.
 fn keep(
     alloc: Global,
-    files: &mut Files,
+    files: &mut GivenFiles,
     path: String,
     file: GivenFile,
 ) -> Result<Option<String>, SessionError>
@@ -237,23 +263,42 @@ fn keep(
     Ok(Some(String::from_str(alloc, "ok\n")?))
 }
 
+/// The release of a path.
+fn release_at<F: Files>(
+    alloc: Global,
+    given: &GivenFiles,
+    base: &F,
+    path: &str,
+) -> Result<RelFile, Refusal>
+    ensures found { IfOk result (λ file. ReleaseAt
+        (source_of (F.gives base.now) (files_of given.now)) path.now (Ok (found_of file))) }
+    ensures file { IfOk result IsRelFile }
+    ensures small { IfOk result (λ file. is_small (release_of file.release) ≡ true) }
+    ensures refused { IfErr result (λ r. r ≢ Refusal.NoMemory → IsFilesRefusal
+        (source_of (F.gives base.now) (files_of given.now)) path.now (refusal_of r)) }
+{
+    let files = SessionFiles { given, base };
+    Ok(read_release(alloc, &files, path)?)
+}
+
 /// Has a node take in the release in the file of this path as unpacked. The answer tells its version.
-fn unpack<D: Disk>(
+fn unpack<D: Disk, F: Files>(
     alloc: Global,
     handler: &mut Handler<D>,
-    files: &Files,
+    given: &GivenFiles,
+    base: &F,
     path: &str,
 ) -> Result<String, Refusal>
     requires { IsSound D.seen D.may_leave handler.old }
     ensures sound { IsSound D.seen D.may_leave handler.new }
-    ensures unpacked { Answers D.Disk
-        (λ p a. Transition (files_of files.now) p (set_unpacked path.now) a) result
-        (Made handler.old) (Made handler.new) }
+    ensures unpacked { Answers D.Disk (λ p a.
+        Transition (source_of (F.gives base.now) (files_of given.now)) p (set_unpacked path.now) a)
+        result (Made handler.old) (Made handler.new) }
 {
     if handler.is_dead() {
         return Err(Refusal::Dead);
     }
-    let file = files.release(alloc, path)?;
+    let file = release_at(alloc, given, base, path)?;
     let line = ok_line(alloc, file.release.vsn.as_str())?;
     handler.set_unpacked(alloc, file)?;
     Ok(line)

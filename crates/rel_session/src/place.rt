@@ -5,7 +5,7 @@ ghost use Rattle.rel_handler.specs.Files.{IsRelFile};
 ghost use Rattle.rel_records.specs.Limits.{is_small};
 ghost use Rattle.rel_handler.specs.State.{is_dead, list_in};
 ghost use Rattle.rel_list.specs.Releases.{running};
-ghost use Rattle.rel_session.specs.InMemory.{found_of};
+ghost use Rattle.rel_unpack.specs.Release.{found_of};
 ghost use Rattle.rel_session.specs.Node.{Place as SomePlace};
 ghost use Rattle.rel_session.specs.Refusals.{boot_line};
 ghost use Rattle.rel_session.specs.Transition.{MakesNode, Boots, listed, ok_line, version_of};

@@ -3,9 +3,9 @@ ghost use Rattle.std.specs.Prelude.{◌≡◌, ◌++◌, codes, string_bytes, If
 ghost use Rattle.rel_session.specs.declared.refusal.Refusal.TheVariants.{NoMemory};
 ghost use Rattle.rel_session.specs.Refusals.{refusal_line};
 
-use rel_files::FileFault;
 use rel_handler::HandlerError;
 use rel_list::Status;
+use rel_unpack::{FileTrouble, UnpackError};
 use std::alloc::{AllocError, AllocFailed, Global};
 use thiserror::Error;
 
@@ -31,12 +31,18 @@ pub enum Refusal {
     /// The release runs, and is to be removed.
     #[error("the release runs")]
     Running,
-    /// The file of this path has a fault.
-    #[error("the file {0} has a fault: {1}")]
-    BadFile(String, FileFault),
-    /// No file of this path was given.
-    #[error("no file {0} was given")]
+    /// The library of this application is there, with another specification or other tables.
+    #[error("the library of {0} is there and differs")]
+    LibDiffers(String),
+    /// The file of this path can't be used.
+    #[error("the file {0} can't be used: {1}")]
+    BadFile(String, FileTrouble),
+    /// There is no file of this path.
+    #[error("there is no file {0}")]
     MissingFile(String),
+    /// The file of this path is of another application, version or module than its path says.
+    #[error("the file {0} is of something else")]
+    VsnMismatch(String),
     /// A limit is passed.
     #[error("a limit is passed")]
     TooMany,
@@ -70,6 +76,23 @@ impl<T: Drop> From<AllocFailed<T>> for Refusal {
 
     fn from(_: AllocFailed<T>) -> Refusal {
         Refusal::NoMemory
+    }
+}
+
+impl From<UnpackError> for Refusal {
+    ghost use Rattle.rel_session.specs.Refusals.{files_refusal};
+
+    ghost from_gives = { λ e r. r ≡ files_refusal e };
+
+    fn from(error: UnpackError) -> Refusal {
+        match error {
+            UnpackError::MissingFile(path) => Refusal::MissingFile(path),
+            UnpackError::BadFile(path, trouble) => Refusal::BadFile(path, trouble),
+            UnpackError::VsnMismatch(path) => Refusal::VsnMismatch(path),
+            UnpackError::LibDiffers(app) => Refusal::LibDiffers(app),
+            UnpackError::TooMany => Refusal::TooMany,
+            UnpackError::NoMemory => Refusal::NoMemory,
+        }
     }
 }
 
@@ -108,10 +131,17 @@ impl Refusal {
                 let word = status.as_str();
                 format!(in alloc; "error handler 4 BadStatus {word}\n")
             }
-            Refusal::BadFile(path, fault) => format!(in alloc;
+            Refusal::LibDiffers(app) => format!(in alloc; "error handler 7 LibDiffers {app}\n"),
+            Refusal::BadFile(path, FileTrouble::Unreadable) => format!(in alloc;
+                "error handler 8 BadFile {path} Unreadable\n"
+            ),
+            Refusal::BadFile(path, FileTrouble::Fault(fault)) => format!(in alloc;
                 "error handler 8 BadFile {path} {fault}\n"
             ),
             Refusal::MissingFile(path) => format!(in alloc; "error handler 9 MissingFile {path}\n"),
+            Refusal::VsnMismatch(path) => format!(in alloc;
+                "error handler 10 VsnMismatch {path}\n"
+            ),
             Refusal::NoSuchRelease => String::from_str(alloc, "error handler 1 NoSuchRelease\n"),
             Refusal::ExistingRelease => String::from_str(
                 alloc,

@@ -13,3 +13,5 @@ mod installations;
 mod limits;
 #[cfg(test)]
 mod sessions;
+#[cfg(test)]
+mod sources;

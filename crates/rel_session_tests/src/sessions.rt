@@ -1,5 +1,6 @@
 //! Sessions on disks in memory.
 use counted_io::CountedWriter;
+use file_source::{Files, FilesError};
 use rel_disk::{Disk, MemDisk};
 use rel_session::session;
 use session_input::{Input, SessionError};
@@ -62,16 +63,37 @@ pub(crate) fn end_of(ended: Result<(), SessionError>) -> &'static str {
     }
 }
 
+/// A source without files.
+pub(crate) struct NoFiles;
+
+impl Files for NoFiles {
+    ghost gives = { λ files path read. Unit {0} };
+
+    fn read(&self, _alloc: Global, _path: &str) -> Result<Vec<u8>, FilesError> {
+        Err(FilesError::Missing)
+    }
+}
+
 /// A session of this input on this disk.
 pub(crate) fn session_on<D: Disk + Drop, R: Read + Drop>(
     alloc: Global,
     disk: D,
     reader: R,
 ) -> Result<Ran<D>, SessionError> {
+    session_over(alloc, disk, &NoFiles, reader)
+}
+
+/// So over the files of a source.
+pub(crate) fn session_over<D: Disk + Drop, F: Files, R: Read + Drop>(
+    alloc: Global,
+    disk: D,
+    files: &F,
+    reader: R,
+) -> Result<Ran<D>, SessionError> {
     let mut written = Vec::new(alloc);
     let mut input = Input::new(alloc, reader)?;
     let mut output = CountedWriter::new(&mut written);
-    let (disk, ended) = session(alloc, disk, &mut input, &mut output);
+    let (disk, ended) = session(alloc, disk, files, &mut input, &mut output);
     drop(output);
     written.extend_from_slice(end_of(ended).as_bytes())?;
     Ok(Ran { written, disk })

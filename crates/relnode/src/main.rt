@@ -1,16 +1,17 @@
 //! The program `relnode`: a session of a node on standard input and output.
 //!
-//! `relnode [--store FILE]`: the node is on a disk over this file, which a further session goes on with. Without the option
-//! it is on an empty disk in memory. `--root DIR` is read, and refused as bad arguments, since sessions don't read files
-//! below a folder yet.
+//! `relnode [--store FILE] [--root DIR]`: the node is on a disk over this file, which a further session goes on with. Without
+//! the option it is on an empty disk in memory. A file that isn't given in the session is read below this folder; without the
+//! option there is none.
 //!
 //! What a session writes and what it leaves is said by `rel_session`; what a disk over a file trusts, by `rel_host`. A
 //! program that ends before its input reports it on standard error, with the text and the exit status of its error.
 #![tactic(auto)]
 
 use counted_io::CountedWriter;
+use file_source::Files;
 use rel_disk::{Disk, MemDisk};
-use rel_host::{FileDisk, OpenError, Options, OptionsError, read_options};
+use rel_host::{FileDisk, OpenError, Options, OptionsError, RootFiles, read_options};
 use rel_session::session;
 use session_input::{Input, SessionError};
 use std::alloc::Global;
@@ -62,22 +63,25 @@ fn main(rt: HostRuntime) -> ExitCode {
 /// A session on the disk that the arguments name.
 fn run(rt: &HostRuntime, alloc: Global) -> Result<(), Failure> {
     let Options { store, root } = arguments(rt, alloc)?;
-    if root.is_some() {
-        return Err(Failure::BadArguments);
-    }
+    let files = RootFiles::new(rt, root);
     match store {
-        Some(path) => run_on_file(rt, alloc, path.as_str()),
+        Some(path) => run_on_file(rt, alloc, path.as_str(), &files),
         None => match MemDisk::new(alloc, DISK, LOG) {
-            Ok(disk) => run_on(rt, alloc, disk),
+            Ok(disk) => run_on(rt, alloc, disk, &files),
             Err(_) => Err(Failure::Session(SessionError::NoMemory)),
         },
     }
 }
 
 /// A session on the disk over the file of this path.
-fn run_on_file(rt: &HostRuntime, alloc: Global, path: &str) -> Result<(), Failure> {
+fn run_on_file<F: Files>(
+    rt: &HostRuntime,
+    alloc: Global,
+    path: &str,
+    files: &F,
+) -> Result<(), Failure> {
     match FileDisk::open(rt, alloc, path) {
-        Ok(disk) => run_on(rt, alloc, disk),
+        Ok(disk) => run_on(rt, alloc, disk, files),
         Err(OpenError::NoMemory) => Err(Failure::Session(SessionError::NoMemory)),
         Err(_) => Err(Failure::Session(SessionError::Read)),
     }
@@ -99,13 +103,18 @@ fn arguments(rt: &HostRuntime, alloc: Global) -> Result<Options, Failure> {
     }
 }
 
-/// A session on standard input and output, and on this disk.
-fn run_on<D: Disk + Drop>(rt: &HostRuntime, alloc: Global, disk: D) -> Result<(), Failure> {
+/// A session on standard input and output, on this disk and over these files.
+fn run_on<D: Disk + Drop, F: Files>(
+    rt: &HostRuntime,
+    alloc: Global,
+    disk: D,
+    files: &F,
+) -> Result<(), Failure> {
     let Ok(mut input) = Input::new(alloc, rt.reader()) else {
         return Err(Failure::Session(SessionError::NoMemory));
     };
     let mut output = CountedWriter::new(io::writer(rt));
-    let (_disk, ended) = session(alloc, disk, &mut input, &mut output);
+    let (_disk, ended) = session(alloc, disk, files, &mut input, &mut output);
     match ended {
         Ok(()) => Ok(()),
         Err(error) => Err(Failure::Session(error)),

@@ -22,5 +22,5 @@ mod words;
 
 pub use command::Command;
 pub use error::SessionError;
-pub use given::GivenFile;
+pub use given::{GivenFile, MOST_FILE};
 pub use input::Input;

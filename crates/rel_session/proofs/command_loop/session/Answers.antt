@@ -13,7 +13,7 @@ pub loop-command-init : goal.loop-command-init
 loop-command-init g c =
     let laws : IsDevice g.D.Disk = record { reads_an_image = g.met.D.Disk.reads_an_image; counts_now = g.met.D.Disk.counts_now; only_now = g.met.D.Disk.only_now } in
     let all = option_map commands_in (g.R.Read.remaining c.args.input.now.reader.reader) in (
-      begins g.D.Disk laws all (commands_left g.R.Read.remaining c.args.input.now) c.args.disk c.new-node.result (g.W.Write.contents c.args.output.now.writer)
+      begins g.D.Disk laws (g.F.Files.gives c.args.files.now) all (commands_left g.R.Read.remaining c.args.input.now) c.args.disk c.new-node.result (g.W.Write.contents c.args.output.now.writer)
           (fresh_left g.R.Read.remaining c.args.input.now c.requires) c.new-node.ensures.place c.new-node.ensures.files,
       rw c.new-node.ensures.place tt,
       refl,
@@ -23,7 +23,7 @@ loop-command-init g c =
 pub loop-command-preserved : goal.loop-command-preserved
 loop-command-preserved g c =
     let laws : IsDevice g.D.Disk = record { reads_an_image = g.met.D.Disk.reads_an_image; counts_now = g.met.D.Disk.counts_now; only_now = g.met.D.Disk.only_now } in (
-      goes_on g.D.Disk laws (option_map commands_in (g.R.Read.remaining c.args.input.now.reader.reader)) (commands_left g.R.Read.remaining c.loop-command.input) (commands_left g.R.Read.remaining c.next_command.new.self) c.args.disk c.loop-command.node
+      goes_on g.D.Disk laws (g.F.Files.gives c.args.files.now) (option_map commands_in (g.R.Read.remaining c.args.input.now.reader.reader)) (commands_left g.R.Read.remaining c.loop-command.input) (commands_left g.R.Read.remaining c.next_command.new.self) c.args.disk c.loop-command.node
           (g.W.Write.contents c.args.output.now.writer) (g.W.Write.contents c.loop-command.output.writer) c.loop-command.invariant.0
           (command_of c.in-Ok-Some.command) c.in-Ok-Some-text.text c.follow-next.result.0 (g.W.Write.contents c.write.new.self.writer) (rw c.in-Ok-Some.field-0-is at c.in-Ok-Some.ensures.command)
           (rw (c.in-Ok-Some-text.is, c.in-Ok-Some-text.field-0-is) at c.follow-next.ensures.followed) (rw c.as_bytes.ensures.value at c.in_default.ensures.written),
@@ -35,17 +35,17 @@ loop-command-preserved g c =
 pub returns-in-Ok-None-clause-ended : goal.returns-in-Ok-None-clause-ended
 returns-in-Ok-None-clause-ended g c =
     let laws : IsDevice g.D.Disk = record { reads_an_image = g.met.D.Disk.reads_an_image; counts_now = g.met.D.Disk.counts_now; only_now = g.met.D.Disk.only_now } in
-    sessions g.D.Disk laws (g.R.Read.remaining c.args.input.now.reader.reader) (option_map commands_in (g.R.Read.remaining c.args.input.now.reader.reader)) ended c.args.disk c.into_disk.result
+    sessions g.D.Disk laws (g.F.Files.gives c.args.files.now) (g.R.Read.remaining c.args.input.now.reader.reader) (option_map commands_in (g.R.Read.remaining c.args.input.now.reader.reader)) ended c.args.disk c.into_disk.result
     (g.W.Write.contents c.args.output.now.writer) (g.W.Write.contents c.loop-command.output.writer) refl
-    (ends g.D.Disk laws (option_map commands_in (g.R.Read.remaining c.args.input.now.reader.reader)) (commands_left g.R.Read.remaining c.loop-command.input) (commands_left g.R.Read.remaining c.next_command.new.self) c.args.disk c.loop-command.node
+    (ends g.D.Disk laws (g.F.Files.gives c.args.files.now) (option_map commands_in (g.R.Read.remaining c.args.input.now.reader.reader)) (commands_left g.R.Read.remaining c.loop-command.input) (commands_left g.R.Read.remaining c.next_command.new.self) c.args.disk c.loop-command.node
     (g.W.Write.contents c.args.output.now.writer) (g.W.Write.contents c.loop-command.output.writer) c.loop-command.invariant.0 c.into_disk.result c.into_disk.ensures (rw c.in-Ok-None.field-0-is at c.in-Ok-None.ensures.command))
 
 pub returns-in-Err-clause-cut : goal.returns-in-Err-clause-cut
 returns-in-Err-clause-cut g c = λ is.
     let laws : IsDevice g.D.Disk = record { reads_an_image = g.met.D.Disk.reads_an_image; counts_now = g.met.D.Disk.counts_now; only_now = g.met.D.Disk.only_now } in
-    sessions g.D.Disk laws (g.R.Read.remaining c.args.input.now.reader.reader) (option_map commands_in (g.R.Read.remaining c.args.input.now.reader.reader)) cut_off c.args.disk c.into_disk-in-Err.result
+    sessions g.D.Disk laws (g.F.Files.gives c.args.files.now) (g.R.Read.remaining c.args.input.now.reader.reader) (option_map commands_in (g.R.Read.remaining c.args.input.now.reader.reader)) cut_off c.args.disk c.into_disk-in-Err.result
     (g.W.Write.contents c.args.output.now.writer) (g.W.Write.contents c.loop-command.output.writer) refl
-    (ends_cut g.D.Disk laws (option_map commands_in (g.R.Read.remaining c.args.input.now.reader.reader)) (commands_left g.R.Read.remaining c.loop-command.input) (commands_left g.R.Read.remaining c.next_command.new.self) c.args.disk c.loop-command.node
+    (ends_cut g.D.Disk laws (g.F.Files.gives c.args.files.now) (option_map commands_in (g.R.Read.remaining c.args.input.now.reader.reader)) (commands_left g.R.Read.remaining c.loop-command.input) (commands_left g.R.Read.remaining c.next_command.new.self) c.args.disk c.loop-command.node
     (g.W.Write.contents c.args.output.now.writer) (g.W.Write.contents c.loop-command.output.writer) c.loop-command.invariant.0 c.into_disk-in-Err.result c.into_disk-in-Err.ensures
     (cut_told (λ (known : CommandInMemory) d. command_of known ≡ d) c.in-Err.error (commands_left g.R.Read.remaining c.loop-command.input)
     (commands_left g.R.Read.remaining c.next_command.new.self) is c.in-Err.ensures.command))
@@ -53,17 +53,17 @@ returns-in-Err-clause-cut g c = λ is.
 pub returns-in-Err-clause-broken : goal.returns-in-Err-clause-broken
 returns-in-Err-clause-broken g c =
     let laws : IsDevice g.D.Disk = record { reads_an_image = g.met.D.Disk.reads_an_image; counts_now = g.met.D.Disk.counts_now; only_now = g.met.D.Disk.only_now } in
-    sessions g.D.Disk laws (g.R.Read.remaining c.args.input.now.reader.reader) (option_map commands_in (g.R.Read.remaining c.args.input.now.reader.reader)) early c.args.disk c.into_disk-in-Err.result
+    sessions g.D.Disk laws (g.F.Files.gives c.args.files.now) (g.R.Read.remaining c.args.input.now.reader.reader) (option_map commands_in (g.R.Read.remaining c.args.input.now.reader.reader)) early c.args.disk c.into_disk-in-Err.result
     (g.W.Write.contents c.args.output.now.writer) (g.W.Write.contents c.loop-command.output.writer) refl
-    (ends_early g.D.Disk laws (option_map commands_in (g.R.Read.remaining c.args.input.now.reader.reader)) (commands_left g.R.Read.remaining c.loop-command.input) (commands_left g.R.Read.remaining c.next_command.new.self) c.args.disk c.loop-command.node
+    (ends_early g.D.Disk laws (g.F.Files.gives c.args.files.now) (option_map commands_in (g.R.Read.remaining c.args.input.now.reader.reader)) (commands_left g.R.Read.remaining c.loop-command.input) (commands_left g.R.Read.remaining c.next_command.new.self) c.args.disk c.loop-command.node
     (g.W.Write.contents c.args.output.now.writer) (g.W.Write.contents c.loop-command.output.writer) c.loop-command.invariant.0 c.into_disk-in-Err.result c.into_disk-in-Err.ensures)
 
 pub returns-in-Err-write-clause-broken : goal.returns-in-Err-write-clause-broken
 returns-in-Err-write-clause-broken g c =
     let laws : IsDevice g.D.Disk = record { reads_an_image = g.met.D.Disk.reads_an_image; counts_now = g.met.D.Disk.counts_now; only_now = g.met.D.Disk.only_now } in
-    sessions g.D.Disk laws (g.R.Read.remaining c.args.input.now.reader.reader) (option_map commands_in (g.R.Read.remaining c.args.input.now.reader.reader)) early c.args.disk c.into_disk-in-Err-write.result
+    sessions g.D.Disk laws (g.F.Files.gives c.args.files.now) (g.R.Read.remaining c.args.input.now.reader.reader) (option_map commands_in (g.R.Read.remaining c.args.input.now.reader.reader)) early c.args.disk c.into_disk-in-Err-write.result
     (g.W.Write.contents c.args.output.now.writer) (g.W.Write.contents c.write.new.self.writer) refl
-    (stops_within g.D.Disk laws (option_map commands_in (g.R.Read.remaining c.args.input.now.reader.reader)) (commands_left g.R.Read.remaining c.loop-command.input) (commands_left g.R.Read.remaining c.next_command.new.self) c.args.disk c.loop-command.node
+    (stops_within g.D.Disk laws (g.F.Files.gives c.args.files.now) (option_map commands_in (g.R.Read.remaining c.args.input.now.reader.reader)) (commands_left g.R.Read.remaining c.loop-command.input) (commands_left g.R.Read.remaining c.next_command.new.self) c.args.disk c.loop-command.node
     (g.W.Write.contents c.args.output.now.writer) (g.W.Write.contents c.loop-command.output.writer) c.loop-command.invariant.0
     (command_of c.in-Ok-Some.command) c.in-Ok-Some-text.text c.follow-next.result.0 c.into_disk-in-Err-write.result (g.W.Write.contents c.write.new.self.writer) c.into_disk-in-Err-write.ensures
     (rw c.in-Ok-Some.field-0-is at c.in-Ok-Some.ensures.command) (rw (c.in-Ok-Some-text.is, c.in-Ok-Some-text.field-0-is) at c.follow-next.ensures.followed)
@@ -72,9 +72,9 @@ returns-in-Err-write-clause-broken g c =
 pub returns-in-Ok-None-text-clause-ended : goal.returns-in-Ok-None-text-clause-ended
 returns-in-Ok-None-text-clause-ended g c =
     let laws : IsDevice g.D.Disk = record { reads_an_image = g.met.D.Disk.reads_an_image; counts_now = g.met.D.Disk.counts_now; only_now = g.met.D.Disk.only_now } in
-    sessions g.D.Disk laws (g.R.Read.remaining c.args.input.now.reader.reader) (option_map commands_in (g.R.Read.remaining c.args.input.now.reader.reader)) ended c.args.disk c.into_disk-in-Ok-None-text.result
+    sessions g.D.Disk laws (g.F.Files.gives c.args.files.now) (g.R.Read.remaining c.args.input.now.reader.reader) (option_map commands_in (g.R.Read.remaining c.args.input.now.reader.reader)) ended c.args.disk c.into_disk-in-Ok-None-text.result
     (g.W.Write.contents c.args.output.now.writer) (g.W.Write.contents c.loop-command.output.writer) refl
-    (quits g.D.Disk laws (option_map commands_in (g.R.Read.remaining c.args.input.now.reader.reader)) (commands_left g.R.Read.remaining c.loop-command.input) (commands_left g.R.Read.remaining c.next_command.new.self) c.args.disk c.loop-command.node
+    (quits g.D.Disk laws (g.F.Files.gives c.args.files.now) (option_map commands_in (g.R.Read.remaining c.args.input.now.reader.reader)) (commands_left g.R.Read.remaining c.loop-command.input) (commands_left g.R.Read.remaining c.next_command.new.self) c.args.disk c.loop-command.node
     (g.W.Write.contents c.args.output.now.writer) (g.W.Write.contents c.loop-command.output.writer) c.loop-command.invariant.0
     (command_of c.in-Ok-Some.command) c.follow-next.result.0 c.into_disk-in-Ok-None-text.result c.into_disk-in-Ok-None-text.ensures
     (rw c.in-Ok-Some.field-0-is at c.in-Ok-Some.ensures.command) (rw (c.in-Ok-None-text.is, c.in-Ok-None-text.field-0-is) at c.follow-next.ensures.followed))
@@ -82,9 +82,9 @@ returns-in-Ok-None-text-clause-ended g c =
 pub returns-in-Err-text-clause-broken : goal.returns-in-Err-text-clause-broken
 returns-in-Err-text-clause-broken g c =
     let laws : IsDevice g.D.Disk = record { reads_an_image = g.met.D.Disk.reads_an_image; counts_now = g.met.D.Disk.counts_now; only_now = g.met.D.Disk.only_now } in
-    sessions g.D.Disk laws (g.R.Read.remaining c.args.input.now.reader.reader) (option_map commands_in (g.R.Read.remaining c.args.input.now.reader.reader)) early c.args.disk c.into_disk-in-Err-text.result
+    sessions g.D.Disk laws (g.F.Files.gives c.args.files.now) (g.R.Read.remaining c.args.input.now.reader.reader) (option_map commands_in (g.R.Read.remaining c.args.input.now.reader.reader)) early c.args.disk c.into_disk-in-Err-text.result
     (g.W.Write.contents c.args.output.now.writer) (g.W.Write.contents c.loop-command.output.writer) refl
-    (stops_before g.D.Disk laws (option_map commands_in (g.R.Read.remaining c.args.input.now.reader.reader)) (commands_left g.R.Read.remaining c.loop-command.input) (commands_left g.R.Read.remaining c.next_command.new.self) c.args.disk c.loop-command.node
+    (stops_before g.D.Disk laws (g.F.Files.gives c.args.files.now) (option_map commands_in (g.R.Read.remaining c.args.input.now.reader.reader)) (commands_left g.R.Read.remaining c.loop-command.input) (commands_left g.R.Read.remaining c.next_command.new.self) c.args.disk c.loop-command.node
     (g.W.Write.contents c.args.output.now.writer) (g.W.Write.contents c.loop-command.output.writer) c.loop-command.invariant.0
     (command_of c.in-Ok-Some.command) c.in-Err-text.error c.follow-next.result.0 c.into_disk-in-Err-text.result c.into_disk-in-Err-text.ensures
     (rw c.in-Ok-Some.field-0-is at c.in-Ok-Some.ensures.command) (rw c.in-Err-text.is at c.follow-next.ensures.followed))

@@ -8,7 +8,7 @@ use Rattle.rel_session.proofs.command_loop.session.Given as goal
 
 abbrev pub invariant-loop-command : goal.invariant-loop-command
 invariant-loop-command g l =
-    Goes g.D.Disk (option_map commands_in (g.R.Read.remaining l.initial.input.reader.reader)) (commands_left g.R.Read.remaining l.input) l.fn.disk l.node
+    Goes g.D.Disk (g.F.Files.gives l.fn.files) (option_map commands_in (g.R.Read.remaining l.initial.input.reader.reader)) (commands_left g.R.Read.remaining l.input) l.fn.disk l.node
     (g.W.Write.contents l.initial.output.writer) (g.W.Write.contents l.output.writer)
     × IsSoundPlace g.D.Disk.seen g.D.Disk.may_leave l.node.place
     × (l.input.reader.failures ≡ l.initial.input.reader.failures)

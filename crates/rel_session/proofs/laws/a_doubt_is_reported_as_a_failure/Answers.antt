@@ -2,4 +2,4 @@ use Rattle.rel_session.proofs.Failures.{tells_doubt}
 use Rattle.rel_session.proofs.laws.a_doubt_is_reported_as_a_failure.Goals as goal
 
 pub returns : goal.returns
-returns c = tells_doubt
+returns g c = λ files. tells_doubt (g.F.Files.gives files)

@@ -15,4 +15,4 @@ returns-clause-crashed g c =
 pub returns-clause-ever : goal.returns-clause-ever
 returns-clause-ever g c =
     let laws : IsDevice g.D.Disk = record { reads_an_image = g.met.D.Disk.reads_an_image; counts_now = g.met.D.Disk.counts_now; only_now = g.met.D.Disk.only_now } in
-    loses_nothing_ever g.D.Disk laws
+    λ files. loses_nothing_ever g.D.Disk laws (g.F.Files.gives files)

@@ -8,5 +8,5 @@ use Rattle.rel_session.proofs.node.Node.install.Goals as goal
 pub returns-clause-followed : goal.returns-clause-followed
 returns-clause-followed g c =
     let does = changes_node (installation c.args.vsn.now) in
-    follows g.D.Disk c.args.self (record { place = c.install-place.result.0; files = c.args.self.files }) (install c.args.vsn.now) refl (λ p a. Acts p does a)
-    (λ p a is. (does, refl, is)) c.install-place.result.1 c.line_of.result c.line_of.ensures.line c.install-place.ensures.installed
+    follows g.D.Disk c.args.self (record { place = c.install-place.result.0; files = c.args.self.files }) (install c.args.vsn.now) refl (λ p a. Acts p does a) (λ p a. Acts p does a)
+    (λ p a is. is) c.install-place.result.1 c.line_of.result c.line_of.ensures.line c.install-place.ensures.installed

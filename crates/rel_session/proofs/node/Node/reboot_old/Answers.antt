@@ -8,5 +8,5 @@ use Rattle.rel_session.proofs.node.Node.reboot_old.Goals as goal
 pub returns-clause-followed : goal.returns-clause-followed
 returns-clause-followed g c =
     let does = reboots_node c.args.vsn.now in
-    follows_or_stops g.D.Disk c.args.self (record { place = c.reboot_old-place.result.0; files = c.args.self.files }) (reboot_old c.args.vsn.now) refl (λ p a. Acts p does a)
-    (λ p a is. (does, refl, is)) (λ p a. IsStopped p (reboot_old c.args.vsn.now) a) (λ p a of. of) c.reboot_old-place.result.1 c.line_of.result c.line_of.ensures.line c.reboot_old-place.ensures.rebooted
+    follows_or_stops g.D.Disk c.args.self (record { place = c.reboot_old-place.result.0; files = c.args.self.files }) (reboot_old c.args.vsn.now) refl (λ p a. Acts p does a) (λ p a. Acts p does a)
+    (λ p a is. is) (λ p a. IsStopped p (reboot_old c.args.vsn.now) a) (λ p a of. of) c.reboot_old-place.result.1 c.line_of.result c.line_of.ensures.line c.reboot_old-place.ensures.rebooted

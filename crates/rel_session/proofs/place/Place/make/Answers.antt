@@ -1,5 +1,5 @@
 use Rattle.std.proofs.Common.{rules, Ok, Err}
-use Rattle.rel_session.specs.InMemory.{found_of}
+use Rattle.rel_unpack.specs.Release.{found_of}
 use Rattle.rel_session.specs.Transition.{MakesNode}
 use Rattle.rel_session.specs.declared.place.Place.TheVariants as memory
 use Rattle.rel_session.specs.declared.refusal.Refusal.TheVariants as refusal
