@@ -53,8 +53,8 @@ AreSame [] [] = Unit {0}
 AreSame (a ∷ first) (b ∷ second) = (a.answer ≡ b.answer) × (a.outcome ≡ b.outcome) × AreSame first second
 AreSame first second = ⊥
 
--- Where the device does not fail, and a read of a file has one answer, all the commands of an input have one answer each, and
--- the session one ending.
+-- Where the device does not fail, and a read of a file has one answer, all the commands of an input have one answer each,
+-- and the session one ending.
 abbrev pub HaveOneAnswer : Source → Type 0
 HaveOneAnswer base =
     GivesOne base → (files : Files) (p : Place) (commands : Feed Command) (a b : Ending) (first second : List Reply)
@@ -115,8 +115,8 @@ HasVersionsAt (running events end) = (list : Releases) → list_after events ≡
 HasVersionsAt (dead s) =
     (events : Events) (list : Releases) → MayBe s events → list_after events ≡ Some list → HaveVersions list
 
--- A text tells one run, where a read of a file has one answer: two over the same commands, whether the device fails or not, which write the same have the
--- same answers and the same events, acknowledged and in doubt, command by command.
+-- A text tells one run, where a read of a file has one answer: two over the same commands, whether the device fails or
+-- not, which write the same have the same answers and the same events, acknowledged and in doubt, command by command.
 abbrev pub TellsOneRun : Source → Type 0
 TellsOneRun base =
     GivesOne base → (files : Files) (p : Place) (commands : Feed Command) (a b : Ending) (first second : List Reply)
