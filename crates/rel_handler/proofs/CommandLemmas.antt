@@ -12,7 +12,7 @@ use Rattle.rel_list.specs.declared.status.Status.{Status}
 use Rattle.rel_list.specs.declared.status.Status.TheVariants.{Unpacked, Current, Old, Permanent}
 use Rattle.rel_list.specs.Releases.{Releases, Entry, entry, status_of, release_at, permanent}
 use Rattle.rel_list.specs.Event.{Event, may_be_made_permanent, may_be_rebooted, permanent_status, list_made_permanent, step}
-use Rattle.rel_list.specs.Status.{is_current, is_permanent}
+use Rattle.rel_list.specs.Status.{is_permanent}
 use Rattle.rel_list.specs.Event.Event.{made, unpacked, installed, made_permanent, removed, reboot_old, boot}
 use Rattle.rel_list.specs.Refusal.{refusal, listed_refusal}
 use Rattle.rel_list.proofs.RefusalLaws.{refused_where_not_allowed}
@@ -145,10 +145,6 @@ module _ (r : Release) (es : Releases) where
   by_sizes small listed is there = ap (λ b. if b then kept_short (refused_or (refusal (unpacked r) es) (step (unpacked r) es)) else Err TooMany) is
       ∙ ap (λ b. if small then kept_short (refused_or (if b then Some list.ExistingRelease else None) (if b then None else Some with_it)) else Err TooMany) there
 
-  -- a release with too many applications
-  pub too_large : is_small r ≡ false → commanded (unpacked r) es ≡ Err TooMany
-  too_large large = ap (λ b. if b then kept_short (refused_or (refusal (unpacked r) es) (step (unpacked r) es)) else Err TooMany) large
-
   module _ (small : is_small r ≡ true) where
     -- one that is there
     pub there_already : is_some (status_of r.vsn es) ≡ true → commanded (unpacked r) es ≡ Err ExistingRelease
@@ -173,14 +169,18 @@ module _ (r : Release) (es : Releases) where
           short = grind (arith, nat_tests, length-append es (entry r Unpacked ∷ []))
 
 -- a refusal by the list and its limits
-abbrev OfList : HandlerError → Type 0
-OfList told.Dead = ⊥
-OfList told.Full = ⊥
-OfList told.Device = ⊥
-OfList told.Exists = ⊥
-OfList e = Unit {0}
+abbrev pub IsListRefusal : HandlerError → Type 0
+IsListRefusal told.Dead = ⊥
+IsListRefusal told.Full = ⊥
+IsListRefusal told.Device = ⊥
+IsListRefusal told.Exists = ⊥
+IsListRefusal (told.LibDiffers app) = ⊥
+IsListRefusal (told.BadFile path trouble) = ⊥
+IsListRefusal (told.MissingFile path) = ⊥
+IsListRefusal (told.VsnMismatch path) = ⊥
+IsListRefusal e = Unit {0}
 
-of_list_error : (why : ListError) → OfList (list_refusal why)
+of_list_error : (why : ListError) → IsListRefusal (list_refusal why)
 of_list_error list.NoSuchRelease = tt
 of_list_error list.ExistingRelease = tt
 of_list_error list.AlreadyInstalled = tt
@@ -190,42 +190,46 @@ of_list_error list.Running = tt
 of_list_error list.NoMemory = tt
 
 -- an answer that is a list, or a refusal of that kind
-abbrev IsOfList : Result Releases HandlerError → Type 0
-IsOfList (Ok es) = Unit {0}
-IsOfList (Err why) = OfList why
+abbrev pub IsListAnswer : Result Releases HandlerError → Type 0
+IsListAnswer (Ok es) = Unit {0}
+IsListAnswer (Err why) = IsListRefusal why
 
-of_refused_or : (o : Option ListError) (s : Option Releases) → IsOfList (refused_or o s)
+of_refused_or : (o : Option ListError) (s : Option Releases) → IsListAnswer (refused_or o s)
 of_refused_or (Some why) s = of_list_error why
 of_refused_or None (Some es) = tt
 of_refused_or None None = tt
 
-of_short : (x : Result Releases HandlerError) → IsOfList x → IsOfList (kept_short x)
+of_short : (x : Result Releases HandlerError) → IsListAnswer x → IsListAnswer (kept_short x)
 of_short (Err why) is = is
 of_short (Ok es) is = go (nat_le (length es) most_releases)
   where
-    go : (b : Bool) → IsOfList (if b then Ok es else Err TooMany)
+    go : (b : Bool) → IsListAnswer (if b then Ok es else Err TooMany)
     go true = tt
     go false = tt
 
-of_unpacking : (r : Release) (es : Releases) → IsOfList (commanded (unpacked r) es)
-of_unpacking r es = go (is_small r)
-  where
-    inner : Result Releases HandlerError
-    inner = kept_short (refused_or (refusal (unpacked r) es) (step (unpacked r) es))
+of_small : (b : Bool) (x : Result Releases HandlerError) → IsListAnswer x → IsListAnswer (if b then x else Err TooMany)
+of_small true x is = is
+of_small false x is = tt
 
-    go : (b : Bool) → IsOfList (if b then inner else Err TooMany)
-    go true = of_short _ (of_refused_or (refusal (unpacked r) es) (step (unpacked r) es))
-    go false = tt
+-- what a list answers to the event of a command is such an answer
+pub of_command : (e : Event) (es : Releases) → IsListAnswer (commanded e es)
+of_command (made r) es = of_small (is_small r) _ (of_refused_or (refusal (made r) es) (step (made r) es))
+of_command (unpacked r) es = of_small (is_small r) _ (of_short _ (of_refused_or (refusal (unpacked r) es) (step (unpacked r) es)))
+of_command (installed v) es = of_refused_or (refusal (installed v) es) (step (installed v) es)
+of_command (made_permanent v) es = of_refused_or (refusal (made_permanent v) es) (step (made_permanent v) es)
+of_command (removed v) es = of_refused_or (refusal (removed v) es) (step (removed v) es)
+of_command (reboot_old v) es = of_refused_or (refusal (reboot_old v) es) (step (reboot_old v) es)
+of_command boot es = of_refused_or (refusal boot es) (step boot es)
 
 -- A further release is refused by the list or its limits, and nothing changed.
 pub refused_by_list : {D : Type 0} (failures : D → ℕ) (h : Handler D) (r : Release) (size : ℕ) (why : HandlerError) → is_dead h ≡ false → commanded (unpacked r) (list_in h) ≡ Err why
     → CommandRefused failures (unpacked r) size h h why
-refused_by_list failures h r size why alive barred = by_why why (subst IsOfList barred (of_unpacking r (list_in h))) barred
+refused_by_list failures h r size why alive barred = by_why why (subst IsListAnswer barred (of_command (unpacked r) (list_in h))) barred
   where
     same : IsSame h h
     same = record { disk = refl; list = refl; dead = refl; end = refl }
 
-    by_why : (why : HandlerError) → OfList why → commanded (unpacked r) (list_in h) ≡ Err why → CommandRefused failures (unpacked r) size h h why
+    by_why : (why : HandlerError) → IsListRefusal why → commanded (unpacked r) (list_in h) ≡ Err why → CommandRefused failures (unpacked r) size h h why
     by_why told.Dead of barred = absurd of
     by_why told.Full of barred = absurd of
     by_why told.Device of barred = absurd of
@@ -238,6 +242,10 @@ refused_by_list failures h r size why alive barred = by_why why (subst IsOfList 
     by_why told.Permanent of barred = ((alive, barred), same)
     by_why told.Running of barred = ((alive, barred), same)
     by_why told.TooMany of barred = ((alive, barred), same)
+    by_why (told.LibDiffers app) of barred = absurd of
+    by_why (told.BadFile path trouble) of barred = absurd of
+    by_why (told.MissingFile path) of barred = absurd of
+    by_why (told.VsnMismatch path) of barred = absurd of
 
 -- A release that isn't listed isn't made permanent.
 pub unlisted : (v : List ℕ) (e : Event) (es : Releases) → MakesPermanent v e → release_at v es ≡ None → commanded e es ≡ Err told.NoSuchRelease

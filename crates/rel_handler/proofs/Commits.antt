@@ -33,7 +33,6 @@ use Rattle.start_record.specs.Text.{Versions, AreVersions, start_text as text_of
 use Rattle.rel_list.specs.Laws.{leaves_permanent}
 use Rattle.rel_list.proofs.PermanentLaws.{permanent_stays}
 use Rattle.rel_handler.specs.Files.{started as start_versions}
-use Rattle.rel_handler.specs.declared.error.HandlerError.{HandlerError}
 use Rattle.rel_handler.specs.declared.error.HandlerError.TheVariants.{Device}
 use Rattle.rel_handler.specs.declared.handler.Handler.{Handler}
 use Rattle.rel_handler.proofs.CommandLemmas.{commanded_step, small_and_few}
@@ -218,6 +217,7 @@ module _ {D : Type 0} (v : Ghosts D) (h : Handler D) (s : IsSound v.seen v.may_l
 
       pub is_done : commanded e (list_in h) ≡ Ok next → HasSpace (end_in h) (length body) → store.end_in new ≡ store.end_in reserved + (5 + length body) → IsDone v e (length body) h (record { store = new; list = next; dead = true })
       is_done accepted fits end = record {
+        worked = alive;
         accepted = accepted;
         acknowledged = λ c now. each_image v.seen v.may_leave new next settled ready_next.list c now;
         fits = fits;
@@ -263,6 +263,7 @@ module _ {D : Type 0} (v : Ghosts D) (h : Handler D) (s : IsSound v.seen v.may_l
 
       pub is_done_then : ((c : List ℕ) → v.may_leave (disk_in new) c → IsImageAt c (list_in new) (end_in new) × (start_slot c ≡ slot_with (text_of_start versions))) → IsDone v e size h new
       is_done_then images = record {
+        worked = alive;
         accepted = is_done.accepted ∙ ap (λ l. Ok l) (sym keeps.list);
         acknowledged = λ c now. (images c now).0;
         fits = is_done.fits;

@@ -6,3 +6,4 @@ pub mod PermanenceLemmas
 pub mod RepairLemmas
 mod BadRecords
 pub mod Commits
+pub mod ReleaseLemmas

@@ -4,7 +4,6 @@ use Rattle.rel_disk.specs.declared.disk.Disk.{Ghosts}
 use Rattle.rel_disk.specs.Moments.{HasFailed}
 use Rattle.rel_files.specs.Release.{Release}
 use Rattle.rel_list.specs.Event.{Event}
-use Rattle.rel_list.specs.Event.Event.{made_permanent, reboot_old}
 use Rattle.rel_list.specs.Releases.{permanent, release_at}
 use Rattle.rel_records.specs.Writing.{IsOfListed}
 use Rattle.rel_store.specs.Layout.{slot_with}

@@ -1,5 +1,5 @@
 -- The start record of a node that is booted.
-use Rattle.std.proofs.Common.{◌≡◌, ◌⊎◌, inl, inr, ⊎_elim, ℕ, ◌≤◌, Bool, true, false, cond, find, List, [], ◌∷◌, length, Option, Some, None, true≢false, refl, sym, ap, ◌∙◌, subst, arith}
+use Rattle.std.proofs.Common.{◌≡◌, ◌⊎◌, inl, inr, ⊎_elim, ℕ, ◌≤◌, Bool, true, false, cond, find, List, [], ◌∷◌, length, Some, None, true≢false, refl, sym, ap, ◌∙◌, subst, arith}
 use Rattle.std.specs.Option.{option_map}
 use Rattle.std.specs.Prelude.{◌==◌}
 use Rattle.rel_disk.specs.declared.disk.Disk.{Ghosts}
@@ -14,7 +14,6 @@ use Rattle.rel_list.proofs.PermanentLaws.{permanent-of_booted}
 use Rattle.rel_records.specs.Limits.{has_one_permanent}
 use Rattle.rel_records.specs.Lists.{Makes, HaveVersions}
 use Rattle.rel_store.specs.Layout.{slot_with}
-use Rattle.rel_store.specs.State as store
 use Rattle.start_record.specs.Text.{Versions, AreVersions, SpellsStart, start_text as text_of_start}
 use Rattle.rel_handler.specs.Booting.{IsOpened, Repairs}
 use Rattle.rel_handler.specs.Commits.{HasOldStartOr, HasRead, Keeps}

@@ -28,8 +28,10 @@ pub record Commits {D : Type 0} (v : Ghosts D) (e : Event) (size : ℕ) (old new
       → LeavesOnly v.moment v.left_since (disk_in old) (disk_in new) (IsStoredAs (uncertain events (end_in old) e size))
   pub counted : v.failures (disk_in old) ≤ v.failures (disk_in new)
 
--- Such a command was done: the list has taken the event, and from now on each crash leaves a disk that stands for it.
+-- Such a command was done, on a node that wasn't dead: the list has taken the event, and from now on each crash leaves a
+-- disk that stands for it.
 pub record IsDone {D : Type 0} (v : Ghosts D) (e : Event) (size : ℕ) (old new : Handler D) : Type 0 where
+  pub worked : is_dead old ≡ false
   pub accepted : commanded e (list_in old) ≡ Ok (list_in new)
   pub acknowledged : (c : List ℕ) → v.may_leave (disk_in new) c → IsImageAt c (list_in new) (end_in new)
   pub fits : HasSpace (end_in old) size

@@ -7,6 +7,7 @@ use Rattle.rel_files.specs.Release.{Release, release_of}
 use Rattle.rel_files.specs.declared.reader.RelFile.{RelFile}
 use Rattle.start_record.specs.Text.{Versions, start_text as text_of_start}
 use Rattle.rel_records.specs.Record.{makes, adds, body_of}
+use Rattle.rel_unpack.specs.Release.{Found}
 
 -- The file's term says its release, and is no deeper than what a file may hold.
 pub record IsRelFile (file : RelFile) : Type 0 where
@@ -22,8 +23,8 @@ abbrev pub start_text : Release → List ℕ
 start_text r = text_of_start (started r)
 
 -- how many bytes the body of the record has by which a node is made with this release, or takes it in
-abbrev pub made_size : RelFile → ℕ
-made_size file = length (body_of (value_of file.term) (makes (release_of file.release)))
+abbrev pub made_size : Found → ℕ
+made_size found = length (body_of found.term (makes found.release))
 
-abbrev pub unpacked_size : RelFile → ℕ
-unpacked_size file = length (body_of (value_of file.term) (adds (release_of file.release)))
+abbrev pub unpacked_size : Found → ℕ
+unpacked_size found = length (body_of found.term (adds found.release))

@@ -7,4 +7,5 @@ pub mod Commits
 pub mod Booting
 pub mod Refusals
 pub mod Moments
+pub mod Unpacking
 pub mod Laws

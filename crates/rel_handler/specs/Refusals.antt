@@ -1,21 +1,19 @@
 -- Why a call is refused, and what stands after it.
 use Rattle.std.specs.Prelude.{◌≡◌, ℕ, true, false, List, None, Ok, Err}
 use Rattle.rel_disk.specs.Moments.{HasFailed}
-use Rattle.rel_files.specs.Release.{Release}
 use Rattle.rel_list.specs.Releases.{Releases, release_at}
 use Rattle.rel_list.specs.Event.{Event}
 use Rattle.rel_store.specs.Records.{records_of}
 use Rattle.rel_store.specs.declared.error.StoreError.{StoreError}
 use Rattle.rel_store.specs.declared.error.StoreError.TheVariants as store
 use Rattle.rel_handler.specs.Image.{holds_a_store, first_end, HasSpace}
-use Rattle.rel_records.specs.Limits.{is_small}
 use Rattle.rel_records.specs.Lists.{IsBadRecord}
 use Rattle.rel_records.specs.declared.fault.RecordsError.{RecordsError}
 use Rattle.rel_records.specs.declared.fault.RecordsError.TheVariants as records
 use Rattle.rel_handler.specs.State.{disk_in, list_in, is_dead, end_in, IsSame}
 use Rattle.rel_handler.specs.Taking.{commanded}
 use Rattle.rel_handler.specs.declared.error.HandlerError.{HandlerError}
-use Rattle.rel_handler.specs.declared.error.HandlerError.TheVariants.{TooMany, Device, Full, Dead, NoMemory, Exists, NoSuchRelease}
+use Rattle.rel_handler.specs.declared.error.HandlerError.TheVariants.{Device, Full, Dead, NoMemory, Exists, NoSuchRelease}
 use Rattle.rel_handler.specs.declared.error.BootError.{BootError}
 use Rattle.rel_handler.specs.declared.error.BootError.TheVariants as boot
 use Rattle.rel_handler.specs.declared.handler.Handler.{Handler}
@@ -55,15 +53,14 @@ StartRefused failures old new Device =
     (is_dead old ≡ false) × HasFailed (failures (disk_in old)) (failures (disk_in new)) × (is_dead new ≡ true)
 StartRefused failures old new _ = ⊥
 
--- Why a node isn't made with this release, on a disk with these bytes, by a record with a body of so many. Nothing has been
--- written then, unless the device failed.
-abbrev pub CreateRefused : List ℕ → Release → ℕ → ℕ → ℕ → Type 0 → HandlerError → Type 0
-CreateRefused bytes r size before now unwritten TooMany = (is_small r ≡ false) × unwritten
-CreateRefused bytes r size before now unwritten Exists = (is_small r ≡ true) × (holds_a_store bytes ≡ true) × unwritten
-CreateRefused bytes r size before now unwritten Full = (is_small r ≡ true) × (holds_a_store bytes ≡ false) × (HasSpace first_end size → ⊥) × unwritten
-CreateRefused bytes r size before now unwritten NoMemory = (is_small r ≡ true) × unwritten
-CreateRefused bytes r size before now unwritten Device = (is_small r ≡ true) × HasFailed before now
-CreateRefused bytes r size before now unwritten _ = ⊥
+-- Why no node is made on a disk with these bytes, by a record with a body of so many. Nothing has been written then, unless
+-- the device failed.
+abbrev pub MakingRefused : List ℕ → ℕ → ℕ → ℕ → Type 0 → HandlerError → Type 0
+MakingRefused bytes size before now unwritten Exists = (holds_a_store bytes ≡ true) × unwritten
+MakingRefused bytes size before now unwritten Full = (holds_a_store bytes ≡ false) × (HasSpace first_end size → ⊥) × unwritten
+MakingRefused bytes size before now unwritten NoMemory = unwritten
+MakingRefused bytes size before now unwritten Device = HasFailed before now
+MakingRefused bytes size before now unwritten _ = ⊥
 
 -- Why a boot refuses these bytes: they are no store, a record of theirs is damaged, or no command could have written one.
 abbrev pub IsBootRefusal : List ℕ → BootError → Type 0

@@ -11,46 +11,38 @@ ghost use Rattle.rel_handler.specs.Events.{doubted};
 ghost use Rattle.rel_handler.specs.Files.{IsRelFile, start_text, made_size};
 ghost use Rattle.rel_handler.specs.Image.{IsImageOf, IsImageAt, holds_a_store, end_behind, first_end, HasSpace};
 ghost use Rattle.rel_handler.specs.Moments.{Begins, BeginsAt, WritesNothing};
-ghost use Rattle.rel_handler.specs.Refusals.{CreateRefused, told_create, IsCreateError};
+ghost use Rattle.rel_handler.specs.Refusals.{MakingRefused, told_create, IsCreateError};
 ghost use Rattle.rel_handler.specs.State.{disk_in, disk_of, list_in, is_dead, end_in, start_in, IsSound};
+ghost use Rattle.rel_handler.specs.Unpacking.{IsMade, CreationRefused};
+ghost use Rattle.rel_unpack.specs.Release.{found_of};
 ghost use Rattle.rel_list.specs.declared.status.Status.TheVariants.{Permanent};
 
+use crate::unpacking::release_at;
 use crate::{Handler, HandlerError};
+use file_source::Files;
 use rel_disk::Disk;
 use rel_files::{Rel, RelFile};
 use rel_list::{Event, ReleaseList};
-use rel_records::{is_small, made_body};
+use rel_records::made_body;
 use rel_store::{Store, StoreError};
 use std::alloc::{AllocError, Global};
 
 impl<D: Disk> Handler<D> {
-    /// Makes a node on a disk that has none, with a release from its file as the permanent one.
+    /// Makes a node on a disk that has none, with the release in the file of this path as the permanent one.
     ///
-    /// Refusals, in this order: `TooMany` for its applications, `Exists`, `Full`; `NoMemory` may come in place of `Exists`
-    /// and `Full`. Nothing has been written then. After `Device` the disk has no store or the new one, once the first sync
-    /// has succeeded; before that nothing but its first byte was written. The disk comes back with each refusal.
-    pub fn create(alloc: Global, disk: D, file: RelFile) -> Result<Handler<D>, (HandlerError, D)>
-        requires { IsRelFile file }
+    /// Refusals, in this order: `MissingFile`, `BadFile`, `TooMany` for the file's size or the release's applications,
+    /// `Exists`, `Full`; `NoMemory` may come in place of each. Nothing has been written then. After `Device` the disk has
+    /// no store or the new one, once the first sync has succeeded; before that nothing but its first byte was written. The
+    /// disk comes back with each refusal.
+    pub fn create<F: Files>(
+        alloc: Global,
+        disk: D,
+        files: &F,
+        path: &str,
+    ) -> Result<Handler<D>, (HandlerError, D)>
         ensures sound { IfOk result (IsSound D.seen D.may_leave) }
         ensures works { IfOk result (λ handler. is_dead handler ≡ false) }
-        ensures small { OnOk result (is_small (release_of file.release) ≡ true) }
-        ensures list { IfOk result (λ handler. list_in handler
-            ≡ entry (release_of file.release) Permanent ∷ []) }
-        ensures acknowledged { IfOk result (λ handler. (c : List ℕ)
-            → D.may_leave (disk_in handler) c → IsImageAt c (list_in handler) (end_in handler)) }
-        ensures start { IfOk result (λ handler. start_in D.seen handler
-            ≡ slot_with (start_text (release_of file.release))) }
-        ensures fits { OnOk result (HasSpace first_end (made_size file)) }
-        ensures end { IfOk result (λ handler. end_in handler
-            ≡ end_behind first_end (made_size file)) }
-
-        // A crash at any moment from the first sync on leaves no store, or one that stands for the list with the release.
-        ensures any_moment { Begins D.seen D.may_leave D.moment D.left_since
-            (doubted [] (made (release_of file.release))) disk (disk_of result) }
-        ensures begun { OnOk result ((at : D)
-            × BeginsAt D.seen D.may_leave D.moment D.left_since
-            (doubted [] (made (release_of file.release))) disk (disk_of result) at) }
-
+        ensures made { IfOk result (IsMade D.Disk (F.gives files.now) path.now disk) }
         ensures taken { holds_a_store (D.seen disk) ≡ true → IfErr result
             (λ e. WritesNothing D.seen D.may_leave D.moment D.left_since disk e.1) × IsErr result }
 
@@ -59,13 +51,42 @@ impl<D: Disk> Handler<D> {
             → holds_a_store (D.seen disk) ≡ true }
 
         ensures counted { D.failures disk ≤ D.failures (disk_of result) }
-        ensures refused { IfErr result (λ e. CreateRefused (D.seen disk) (release_of file.release)
-            (made_size file) (D.failures disk) (D.failures e.1)
+        ensures refused { IfErr result (λ e.
+            CreationRefused D.Disk (F.gives files.now) path.now disk e.1 e.0) }
+    {
+        match release_at(alloc, files, path) {
+            Ok(file) => Handler::make(alloc, disk, file),
+            Err(error) => Err((error, disk)),
+        }
+    }
+
+    // Makes it with the release of this file.
+    fn make(alloc: Global, disk: D, file: RelFile) -> Result<Handler<D>, (HandlerError, D)>
+        requires file { IsRelFile file }
+        requires small { is_small (release_of file.release) ≡ true }
+        ensures sound { IfOk result (IsSound D.seen D.may_leave) }
+        ensures works { IfOk result (λ handler. is_dead handler ≡ false) }
+        ensures list { IfOk result (λ handler. list_in handler
+            ≡ entry (release_of file.release) Permanent ∷ []) }
+        ensures acknowledged { IfOk result (λ handler. (c : List ℕ)
+            → D.may_leave (disk_in handler) c → IsImageAt c (list_in handler) (end_in handler)) }
+        ensures start { IfOk result (λ handler. start_in D.seen handler
+            ≡ slot_with (start_text (release_of file.release))) }
+        ensures fits { OnOk result (HasSpace first_end (made_size (found_of file))) }
+        ensures end { IfOk result (λ handler. end_in handler
+            ≡ end_behind first_end (made_size (found_of file))) }
+        ensures any_moment { Begins D.seen D.may_leave D.moment D.left_since
+            (doubted [] (made (release_of file.release))) disk (disk_of result) }
+        ensures begun { OnOk result ((at : D)
+            × BeginsAt D.seen D.may_leave D.moment D.left_since
+            (doubted [] (made (release_of file.release))) disk (disk_of result) at) }
+        ensures taken { holds_a_store (D.seen disk) ≡ true → IfErr result
+            (λ e. WritesNothing D.seen D.may_leave D.moment D.left_since disk e.1) × IsErr result }
+        ensures counted { D.failures disk ≤ D.failures (disk_of result) }
+        ensures refused { IfErr result (λ e. MakingRefused (D.seen disk)
+            (made_size (found_of file)) (D.failures disk) (D.failures e.1)
             (WritesNothing D.seen D.may_leave D.moment D.left_since disk e.1) e.0) }
     {
-        if !is_small(&file.release) {
-            return Err((HandlerError::TooMany, disk));
-        }
         let Ok(new) = NewNode::of(alloc, file) else {
             return Err((HandlerError::NoMemory, disk));
         };
@@ -93,7 +114,8 @@ impl NewNode {
     // All of it, or nothing where memory is refused.
     fn of(alloc: Global, file: RelFile) -> Result<NewNode, AllocError>
         requires { IsRelFile file }
-        ensures body { IfOk result (λ new. length (string_bytes new.body) ≡ made_size file) }
+        ensures body { IfOk result (λ new.
+            length (string_bytes new.body) ≡ made_size (found_of file)) }
         ensures spells { IfOk result (λ new.
             Spells (string_bytes new.body) (makes (release_of file.release))) }
         ensures start { IfOk result (λ new. string_bytes new.start

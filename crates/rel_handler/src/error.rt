@@ -4,15 +4,17 @@ ghost use Rattle.rel_handler.specs.declared.error.HandlerError.TheVariants as co
 ghost use Rattle.rel_handler.specs.declared.error.BootError.TheVariants as boot;
 ghost use Rattle.rel_handler.specs.Refusals.{told_records};
 ghost use Rattle.rel_handler.specs.Taking.{list_refusal};
+ghost use Rattle.rel_handler.specs.Unpacking.{told_files};
 
 use rel_disk::DeviceFault;
 use rel_list::{ListError, Status};
 use rel_records::RecordsError;
+use rel_unpack::{FileTrouble, UnpackError};
 use std::alloc::{AllocError, AllocFailed};
 use thiserror::Error;
 
 /// Why a command was refused. Nothing has changed then, but after `Device`.
-#[derive(Clone, Copy, Debug, PartialEq, Eq, Error)]
+#[derive(Debug, Drop, Error)]
 pub enum HandlerError {
     /// The list has no release of this version.
     #[error("NoSuchRelease")]
@@ -32,7 +34,20 @@ pub enum HandlerError {
     /// The release is to be removed, and runs.
     #[error("Running")]
     Running,
-    /// The release has more applications than a release may have, or would be one more than a node may have.
+    /// The library of this application is there, with another specification or other tables.
+    #[error("LibDiffers {0}")]
+    LibDiffers(String),
+    /// The file of this path can't be used.
+    #[error("BadFile {0} {1}")]
+    BadFile(String, FileTrouble),
+    /// There is no file of this path.
+    #[error("MissingFile {0}")]
+    MissingFile(String),
+    /// The file of this path is of another application, version or module than its path says.
+    #[error("VsnMismatch {0}")]
+    VsnMismatch(String),
+    /// A file is too large, the release has more applications than a release may have, or would be one more than a node may
+    /// have.
     #[error("TooMany")]
     TooMany,
     /// The device failed. The handler is dead until the next boot, which finds the command's event or not.
@@ -64,6 +79,21 @@ impl From<ListError> for HandlerError {
             ListError::Permanent => HandlerError::Permanent,
             ListError::Running => HandlerError::Running,
             ListError::NoMemory => HandlerError::NoMemory,
+        }
+    }
+}
+
+impl From<UnpackError> for HandlerError {
+    ghost from_gives = { λ e h. h ≡ told_files e };
+
+    fn from(error: UnpackError) -> HandlerError {
+        match error {
+            UnpackError::MissingFile(path) => HandlerError::MissingFile(path),
+            UnpackError::BadFile(path, trouble) => HandlerError::BadFile(path, trouble),
+            UnpackError::VsnMismatch(path) => HandlerError::VsnMismatch(path),
+            UnpackError::LibDiffers(app) => HandlerError::LibDiffers(app),
+            UnpackError::TooMany => HandlerError::TooMany,
+            UnpackError::NoMemory => HandlerError::NoMemory,
         }
     }
 }

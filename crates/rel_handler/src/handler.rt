@@ -1,19 +1,15 @@
 // A node's releases on a disk, and the commands on them.
-ghost use Rattle.std.specs.Prelude.{◌≡◌, true, false, string_bytes, Ok, Err, IfOk, IfErr, OnOk, MatchOption, MatchResult};
-ghost use Rattle.rel_files.specs.Release.{release_of};
-ghost use Rattle.rel_list.specs.Event.Event.{unpacked, installed, made_permanent, removed, reboot_old};
-ghost use Rattle.rel_list.specs.Releases.{Releases, running};
+ghost use Rattle.std.specs.Prelude.{◌≡◌, true, false, string_bytes, IfOk, IfErr, OnOk, MatchResult};
+ghost use Rattle.rel_list.specs.Event.Event.{installed, made_permanent, removed, reboot_old};
+ghost use Rattle.rel_list.specs.Releases.{running};
 ghost use Rattle.rel_handler.specs.Commits.{Commits, IsDone};
-ghost use Rattle.rel_handler.specs.Files.{IsRelFile, unpacked_size};
 ghost use Rattle.rel_handler.specs.Refusals.{CommandRefused};
 ghost use Rattle.rel_handler.specs.State.{disk_in, list_in, is_dead, start_in, version_of, HasStarted, IsSound};
-ghost use Rattle.rel_handler.specs.Taking.{commanded, change_size};
+ghost use Rattle.rel_handler.specs.Taking.{change_size};
 
 use crate::HandlerError;
 use rel_disk::Disk;
-use rel_files::{Rel, RelFile};
 use rel_list::{Event, ReleaseList};
-use rel_records::{MOST_RELEASES, is_small, unpacked_body};
 use rel_store::Store;
 use std::alloc::{AllocError, Global};
 
@@ -66,37 +62,10 @@ impl<D: Disk> Handler<D> {
         }
     }
 
-    /// Takes in a release as unpacked, from its file. At `Ok` it is acknowledged (`done`).
-    ///
-    /// Refusals, in this order: `Dead`, `TooMany` for its applications, `ExistingRelease`, `TooMany` for the node's
-    /// releases, `Full`; `NoMemory` may come in place of each but the first. Nothing has changed then. `Device` comes only
-    /// where the list allows the release and its record fits; then the handler is dead, and the disk stands for its list
-    /// with the release or without.
-    pub fn set_unpacked(&mut self, alloc: Global, file: RelFile) -> Result<(), HandlerError>
-        requires sound { IsSound D.seen D.may_leave self.old }
-        requires file { IsRelFile file }
-        ensures commits { Commits D.Disk (unpacked (release_of file.release)) (unpacked_size file)
-            self.old self.new }
-        ensures done { OnOk result (IsDone D.Disk (unpacked (release_of file.release))
-            (unpacked_size file) self.old self.new) }
-        ensures works { OnOk result (is_dead self.new ≡ false) }
-        ensures start { OnOk result (start_in D.seen self.new ≡ start_in D.seen self.old) }
-        ensures refused { IfErr result (CommandRefused D.failures
-            (unpacked (release_of file.release)) (unpacked_size file) self.old self.new) }
-    {
-        if self.dead {
-            return Err(HandlerError::Dead);
-        }
-        if let Some(why) = unpacking_refusal(&self.list, &file.release) {
-            return Err(why);
-        }
-        let body = unpacked_body(alloc, file.term)?;
-        self.commit(alloc, Event::Unpacked(file.release), body.as_str())
-    }
-
     /// Installs a release: it is current until the next boot. At `Ok` that is acknowledged (`done`).
     ///
-    /// Refusals, in this order: `Dead`, `NoSuchRelease`, `AlreadyInstalled`, `Full`; else as `set_unpacked`.
+    /// Refusals, in this order: `Dead`, `NoSuchRelease`, `AlreadyInstalled`, `Full`; `NoMemory` and `Device` as of
+    /// `set_unpacked`.
     pub fn install_release(&mut self, alloc: Global, vsn: &str) -> Result<Installed, HandlerError>
         requires { IsSound D.seen D.may_leave self.old }
         ensures commits { Commits D.Disk (installed vsn.now)
@@ -122,7 +91,7 @@ impl<D: Disk> Handler<D> {
     /// Makes the current release, of this version, the permanent one: the list is committed, then the start record. At `Ok`
     /// both are acknowledged (`done`; `sound` of `commits` has `started`).
     ///
-    /// Refusals, in this order: `Dead`, `NoSuchRelease`, `BadStatus`, `Full`; else as `set_unpacked`. After a `Device` the
+    /// Refusals, in this order: `Dead`, `NoSuchRelease`, `BadStatus`, `Full`; `NoMemory` as of `set_unpacked`. After a `Device` the
     /// list has the event or not, and the start record is the old one or the new.
     pub fn make_permanent(&mut self, alloc: Global, vsn: &str) -> Result<(), HandlerError>
         requires { IsSound D.seen D.may_leave self.old }
@@ -167,7 +136,8 @@ impl<D: Disk> Handler<D> {
 
     /// Takes a release out of the list. At `Ok` that is acknowledged (`done`).
     ///
-    /// Refusals, in this order: `Dead`, `NoSuchRelease`, `Permanent`, `Running`, `Full`; else as `set_unpacked`.
+    /// Refusals, in this order: `Dead`, `NoSuchRelease`, `Permanent`, `Running`, `Full`; `NoMemory` and `Device`
+    /// as of `set_unpacked`.
     pub fn remove_release(&mut self, alloc: Global, vsn: &str) -> Result<(), HandlerError>
         requires { IsSound D.seen D.may_leave self.old }
         ensures commits { Commits D.Disk (removed vsn.now)
@@ -185,24 +155,6 @@ impl<D: Disk> Handler<D> {
         let vsn = String::from_str(alloc, vsn)?;
         self.change(alloc, Event::Removed(vsn))
     }
-}
-
-// Why a node with this list takes in no such release.
-fn unpacking_refusal(list: &ReleaseList, release: &Rel) -> Option<HandlerError>
-    ensures { MatchOption result
-        ((es : Releases) × (commanded (unpacked (release_of release.now)) list.now ≡ Ok es))
-        (λ why. commanded (unpacked (release_of release.now)) list.now ≡ Err why) }
-{
-    if !is_small(release) {
-        return Some(HandlerError::TooMany);
-    }
-    if list.status(release.vsn.as_str()).is_some() {
-        return Some(HandlerError::ExistingRelease);
-    }
-    if list.len() >= MOST_RELEASES {
-        return Some(HandlerError::TooMany);
-    }
-    None
 }
 
 // The version of the release that runs.

@@ -10,6 +10,9 @@
 //! the device alone. After an `Ok` the disk stands for the list with the command's event (`IsDone`). A refusal changes
 //! nothing, but after `Device` the handler is dead until the next boot.
 //!
+//! A release comes from the file of a path, in a source of files: `create` and `set_unpacked` take what `rel_unpack` says of
+//! it (`IsMade`, `IsUnpacked`), and are refused for its files first (`IsOfFiles`).
+//!
 //! The start record is that of the permanent release between two calls of a handler that isn't dead (`HasStarted`), and at
 //! each moment that, or the one of the release that was permanent before the last event of the prefix (`HasStart`): a boot
 //! repairs it.
@@ -29,6 +32,7 @@ mod error;
 mod handler;
 pub mod laws;
 mod start;
+mod unpacking;
 
 pub use booting::boot;
 pub use error::{BootError, HandlerError};

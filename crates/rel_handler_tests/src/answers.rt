@@ -2,7 +2,7 @@
 ghost use Rattle.rel_handler.specs.State.{IsSound};
 ghost use Rattle.rel_store.specs.State.{IsSoundStore};
 
-use crate::fixtures::rel_file;
+use crate::fixtures::ReleaseFiles;
 use rel_disk::{Disk, FailDisk, MemDisk};
 use rel_handler::{BootError, Handler, HandlerError, boot};
 use rel_list::ReleaseList;
@@ -37,7 +37,7 @@ fn push_done(done: Result<(), HandlerError>, text: &mut String) -> Result<(), Fa
     Ok(())
 }
 
-// What a node answers to a further release.
+// What a node answers to a further release: the version that it took in.
 fn unpack<D: Disk>(
     alloc: Global,
     node: &mut Handler<D>,
@@ -47,7 +47,11 @@ fn unpack<D: Disk>(
     requires { IsSound D.seen D.may_leave node.old }
     ensures { IsSound D.seen D.may_leave node.new }
 {
-    push_done(node.set_unpacked(alloc, rel_file(alloc, release)?), text)
+    match node.set_unpacked(alloc, &ReleaseFiles, release) {
+        Ok(vsn) => write!(text, " took {vsn}")?,
+        Err(error) => write!(text, " {error}")?,
+    }
+    Ok(())
 }
 
 // What a node answers to the installation of the release of this version.
@@ -164,7 +168,7 @@ pub(crate) fn create<D: Disk + Drop>(
     text: &mut String,
 ) -> Result<D, Fail> {
     let (first, more) = words.split_once(' ').unwrap_or((words, ""));
-    match Handler::create(alloc, disk, rel_file(alloc, first)?) {
+    match Handler::create(alloc, disk, &ReleaseFiles, first) {
         Ok(node) => follow_node(alloc, node, more, text),
         Err((error, disk)) => {
             write!(text, " {error}")?;

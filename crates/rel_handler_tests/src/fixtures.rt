@@ -1,9 +1,8 @@
 // What the tests begin with: release files, disks, and stores with given records.
-ghost use Rattle.std.specs.Prelude.{IfOk};
-ghost use Rattle.rel_handler.specs.Files.{IsRelFile};
+ghost use Rattle.std.specs.Prelude.{◌≤◌, IfOk, length};
 
+use file_source::{Files, FilesError};
 use rel_disk::{DeviceFault, Disk, FailDisk, MemDisk};
-use rel_files::{RelFile, read_rel_file};
 use rel_store::Store;
 use std::alloc::{AllocError, Global};
 use std::test::Fail;
@@ -45,13 +44,37 @@ fn rel_term(alloc: Global, release: &str) -> Result<String, AllocError> {
     Ok(text)
 }
 
-// The file of such a release.
-pub(crate) fn rel_file(alloc: Global, release: &str) -> Result<RelFile, Fail>
-    ensures { IfOk result IsRelFile }
+// Each path names the release that its file has. The path `missing` has no file, and that of `torn` ends within its term.
+#[derive(Clone, Copy)]
+pub(crate) struct ReleaseFiles;
+
+impl Files for ReleaseFiles {
+    ghost gives = { λ files path found. Unit {0} };
+
+    fn read(&self, alloc: Global, path: &str) -> Result<Vec<u8>, FilesError> {
+        match path {
+            "missing" => Err(FilesError::Missing),
+            "unreadable" => Err(FilesError::Unreadable),
+            "large" => Err(FilesError::TooLarge),
+            _ => rel_bytes(alloc, path),
+        }
+    }
+}
+
+// The bytes of the file of such a release.
+fn rel_bytes(alloc: Global, release: &str) -> Result<Vec<u8>, FilesError>
+    ensures { IfOk result (λ bytes. length bytes.items ≤ 1048576) }
 {
-    let mut text = rel_term(alloc, release)?;
-    text.push('.')?;
-    Ok(read_rel_file(alloc, text.as_bytes())?)
+    let Ok(mut text) = rel_term(alloc, release) else {
+        return Err(FilesError::NoMemory);
+    };
+    if release != "torn" && text.push('.').is_err() {
+        return Err(FilesError::NoMemory);
+    }
+    if text.len() > 1_048_576 {
+        return Err(FilesError::TooLarge);
+    }
+    Ok(text.into_bytes())
 }
 
 // The body of the record that makes a node with such a release.
@@ -97,6 +120,17 @@ fn start_slot<D: Disk>(disk: &mut D) -> Result<[u8; 9], DeviceFault> {
     }
     disk.read(16, &mut start)?;
     Ok(start)
+}
+
+// The last 42 bytes of a disk.
+pub(crate) fn last_bytes<D: Disk>(disk: &mut D) -> Result<[u8; 42], DeviceFault> {
+    let mut bytes = [0; 42];
+    let len = disk.len()?;
+    if len < 42 {
+        return Err(DeviceFault);
+    }
+    disk.read(len - 42, &mut bytes)?;
+    Ok(bytes)
 }
 
 // The first nine bytes of the first start slot, and the bodies of the records, each in a line.

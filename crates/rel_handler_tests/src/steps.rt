@@ -28,7 +28,7 @@ fn prepare(
     Ok(sound(disk))
 }
 
-// Follows a step. `create A B` makes a node of A and gives it B, `boot +B -C` boots the disk and has the node install B and
+// Follows a step. `create A B` makes a node of A and has it take in B, `boot +B -C` boots the disk and has the node install B and
 // remove C. `fail 3` lets the third call from now on fail, `start` tells the start record. Hands the disk back.
 pub(crate) fn follow(
     alloc: Global,

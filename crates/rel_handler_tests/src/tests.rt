@@ -1,7 +1,7 @@
 // Nodes on disks in memory, among them disks that fail, and stores that no command has written.
 use crate::answers::{boots, count, create, is_explained, starts, unpack_once};
 use crate::fixtures::{
-    first_record, made_body, new_disk, next_record, patch, sound, start_and_bodies,
+    first_record, last_bytes, made_body, new_disk, next_record, patch, sound, start_and_bodies,
 };
 use crate::steps::{follow, same, shows};
 use rel_disk::{Disk, FailDisk, MemDisk};
@@ -15,7 +15,7 @@ fn boot_on_an_empty_disk(rt: HostRuntime) -> Result<(), Fail> {
 }
 
 const KEEPS_UNPACKED: &str = "\
-create A B => A permanent; ok open A permanent;B unpacked;
+create A B => A permanent; took B open A permanent;B unpacked;
 boot => A permanent;B unpacked;
 boot => A permanent;B unpacked;
 ";
@@ -42,9 +42,9 @@ fn bytes_of_a_node(rt: HostRuntime) -> Result<(), Fail> {
 // Each installation tells the version that ran before. What was installed is unpacked behind a boot, and a release that was
 // removed is gone.
 const INSTALLED: &str = "\
-create A B +B +A => A permanent; ok other A other B open A permanent;B old;
-boot C +C -B => A permanent;B old; ok other A ok open A permanent;C current;
-boot B +B +C => A permanent;C unpacked; ok other A other B open A permanent;C current;B old;
+create A B +B +A => A permanent; took B other A other B open A permanent;B old;
+boot C +C -B => A permanent;B old; took C other A ok open A permanent;C current;
+boot B +B +C => A permanent;C unpacked; took B other A other B open A permanent;C current;B old;
 boot +B +C +A => A permanent;C unpacked;B old; other A other B other C open A permanent;C old;B old;
 boot -C -B => A permanent;C old;B old; ok ok open A permanent;
 boot => A permanent;
@@ -57,7 +57,7 @@ fn boot_behind_installations_and_removals(rt: HostRuntime) -> Result<(), Fail> {
 
 const REFUSED_CHANGES: &str = "\
 create A +A -A +B => A permanent; AlreadyInstalled Permanent NoSuchRelease open A permanent;
-boot B +B +B => A permanent; ok other A AlreadyInstalled open A permanent;B current;
+boot B +B +B => A permanent; took B other A AlreadyInstalled open A permanent;B current;
 boot +B -B -A => A permanent;B unpacked; other A Running Permanent open A permanent;B current;
 boot -B -B => A permanent;B unpacked; ok NoSuchRelease open A permanent;
 ";
@@ -88,7 +88,7 @@ fn bytes_of_changes(rt: HostRuntime) -> Result<(), Fail> {
 
 // A/65 is A with 65 applications.
 const REFUSALS: &str = "\
-create A A A/65 B/64 => A permanent; ExistingRelease TooMany ok open A permanent;B unpacked;
+create A A A/65 B/64 => A permanent; ExistingRelease TooMany took B open A permanent;B unpacked;
 create C => Exists
 boot => A permanent;B unpacked;
 ";
@@ -96,6 +96,25 @@ boot => A permanent;B unpacked;
 #[test]
 fn refusals(rt: HostRuntime) -> Result<(), Fail> {
     shows(&rt, rt.alloc(), REFUSALS)
+}
+
+// A release whose file isn't there, can't be read, is too large or ends within its term is not taken. The file is read before
+// the disk is looked at.
+const FILES_NOT_TAKEN: &str = "\
+create missing => MissingFile missing
+create unreadable => BadFile unreadable Unreadable
+create large => TooMany
+create torn => BadFile torn MissingDot 54
+create A missing unreadable torn => A permanent; \
+MissingFile missing BadFile unreadable Unreadable BadFile torn MissingDot 54 open A permanent;
+create missing => MissingFile missing
+create B => Exists
+boot large B => A permanent; TooMany took B open A permanent;B unpacked;
+";
+
+#[test]
+fn files_that_are_not_taken(rt: HostRuntime) -> Result<(), Fail> {
+    shows(&rt, rt.alloc(), FILES_NOT_TAKEN)
 }
 
 #[test]
@@ -115,7 +134,9 @@ fn fill(alloc: Global, answers: &mut String) -> Result<MemDisk, Fail> {
 
 // The 31 answers, and those to one release more and to one that is there.
 const ANSWERS: &str = " A permanent; \
-ok ok ok ok ok ok ok ok ok ok ok ok ok ok ok ok ok ok ok ok ok ok ok ok ok ok ok ok ok ok ok \
+took 1 took 2 took 3 took 4 took 5 took 6 took 7 took 8 took 9 took 10 took 11 \
+took 12 took 13 took 14 took 15 took 16 took 17 took 18 took 19 took 20 took 21 took 22 \
+took 23 took 24 took 25 took 26 took 27 took 28 took 29 took 30 took 31 \
 TooMany ExistingRelease";
 
 #[test]
@@ -326,21 +347,21 @@ fn unpack_on_failing(alloc: Global, call: u64, text: &mut String) -> Result<(), 
 // With 0 no call fails. A boot of a node with one record has seven calls, the last of which reads the start record, and a
 // commit four, two of them syncs: the third opens the record's gate. The twelfth call is the first of the next commit.
 const COMMANDS: &str = " \
-A permanent; ok ok open A permanent;B unpacked;C unpacked; failures 0 \
+A permanent; took B took C open A permanent;B unpacked;C unpacked; failures 0 \
 A permanent;B unpacked;C unpacked; ExistingRelease open A permanent;B unpacked;C unpacked;
- Device failures 1 A permanent; ok open A permanent;B unpacked;
- Device failures 1 A permanent; ok open A permanent;B unpacked;
- Device failures 1 A permanent; ok open A permanent;B unpacked;
- Device failures 1 A permanent; ok open A permanent;B unpacked;
- Device failures 1 A permanent; ok open A permanent;B unpacked;
- Device failures 1 A permanent; ok open A permanent;B unpacked;
- Device failures 1 A permanent; ok open A permanent;B unpacked;
- A permanent; Device Dead dead Dead failures 1 A permanent; ok open A permanent;B unpacked;
- A permanent; Device Dead dead Dead failures 1 A permanent; ok open A permanent;B unpacked;
- A permanent; Device Dead dead Dead failures 1 A permanent; ok open A permanent;B unpacked;
+ Device failures 1 A permanent; took B open A permanent;B unpacked;
+ Device failures 1 A permanent; took B open A permanent;B unpacked;
+ Device failures 1 A permanent; took B open A permanent;B unpacked;
+ Device failures 1 A permanent; took B open A permanent;B unpacked;
+ Device failures 1 A permanent; took B open A permanent;B unpacked;
+ Device failures 1 A permanent; took B open A permanent;B unpacked;
+ Device failures 1 A permanent; took B open A permanent;B unpacked;
+ A permanent; Device Dead dead Dead failures 1 A permanent; took B open A permanent;B unpacked;
+ A permanent; Device Dead dead Dead failures 1 A permanent; took B open A permanent;B unpacked;
+ A permanent; Device Dead dead Dead failures 1 A permanent; took B open A permanent;B unpacked;
  A permanent; Device Dead dead Dead failures 1 \
 A permanent;B unpacked; ExistingRelease open A permanent;B unpacked;
- A permanent; ok Device dead Dead failures 1 \
+ A permanent; took B Device dead Dead failures 1 \
 A permanent;B unpacked; ExistingRelease open A permanent;B unpacked;
 ";
 
@@ -410,7 +431,7 @@ fn start_record_repaired(rt: HostRuntime) -> Result<(), Fail> {
 
 // An old release that is rebooted is permanent at once, the former one old, and the node answers nothing until it boots.
 const REBOOTED: &str = "\
-create A B +B => A permanent; ok other A open A permanent;B current;
+create A B +B => A permanent; took B other A open A permanent;B current;
 boot +B !B ? => A permanent;B unpacked; other A ok starts 14.2 B open A old;B permanent;
 boot ? <A ? => A old;B permanent; starts 14.2 B ok Dead dead Dead
 start => 14.2 A
@@ -467,6 +488,43 @@ fn stopped_before_the_start_record(rt: HostRuntime) -> Result<(), Fail> {
         moves_on_failing(alloc, "+B", "+B !B", call, &mut text)?;
     }
     same(&rt, text.as_str(), PERMANENCES);
+    Ok(())
+}
+
+// The store of a node of A and of B, which was current, stopped before the gate of the record that makes B permanent.
+fn stopped_permanence(alloc: Global) -> Result<MemDisk, Fail> {
+    let mut unread = String::new(alloc);
+    let disk = create(alloc, new_disk(alloc)?, "A B", &mut unread)?;
+    let disk = boots(alloc, disk, "+B", &mut unread)?;
+    let disk = boots(alloc, FailDisk::new(disk, 18), "+B !B", &mut unread)?;
+    Ok(disk.disk)
+}
+
+// What a boot of it answers where the gate has this byte. The gate is the 43rd byte from the end.
+fn boots_with_gate(alloc: Global, byte: u8, text: &mut String) -> Result<(), Fail> {
+    let mut disk = stopped_permanence(alloc)?;
+    let gate = disk.len()?.saturating_sub(43);
+    patch(&mut disk, gate, byte)?;
+    boots(alloc, disk, "", text)?;
+    Ok(())
+}
+
+// What stands behind that gate: the length of the body, the body, and the closed gate of the next record.
+const STOPPED_RECORD: &[u8] = b"\0\0\0\x25{status,[{\"A\",old},{\"B\",permanent}]}.\0";
+
+#[test]
+fn stopped_at_the_gate_byte(rt: HostRuntime) -> Result<(), Fail> {
+    let alloc = rt.alloc();
+    let mut disk = stopped_permanence(alloc)?;
+    assert_eq!(rt; last_bytes(&mut disk)?.as_slice(), STOPPED_RECORD);
+    let mut text = String::new(alloc);
+    boots_with_gate(alloc, 1, &mut text)?;
+    boots_with_gate(alloc, 7, &mut text)?;
+    same(
+        &rt,
+        text.as_str(),
+        " A old;B permanent; A permanent;B unpacked;",
+    );
     Ok(())
 }
 

@@ -1,23 +1,20 @@
 -- What an answer tells of its command: with the command, its file and the kind of place it determines the events.
-use Rattle.std.proofs.Common.{◌≡◌, ◌⊎◌, inl, inr, ℕ, Bool, true, false, List, [], ◌∷◌, length, Option, Some, None, Result, Ok, Err, refl, sym, ap, ◌∙◌, subst}
-use Rattle.std.specs.Prelude.{if◌then◌else◌, ◌==◌, nat_le}
+use Rattle.std.proofs.Common.{◌≡◌, ◌⊎◌, inl, inr, ℕ, Bool, true, false, List, [], ◌∷◌, length, Some, None, Result, Ok, Err, refl, sym, ap, ◌∙◌, subst}
+use Rattle.std.specs.Prelude.{if◌then◌else◌, ◌==◌}
 use Rattle.std.specs.Str.{bytes_eq}
 use Rattle.rel_list.specs.Releases.{Releases}
-use Rattle.rel_list.specs.Event.{Event, step}
-use Rattle.rel_list.specs.Refusal.{refusal}
-use Rattle.rel_list.specs.declared.fault.ListError.{ListError}
-use Rattle.rel_list.specs.declared.fault.ListError.TheVariants as list
-use Rattle.rel_list.specs.Event.Event.{made, unpacked, installed, made_permanent, removed, reboot_old, boot as booting}
+use Rattle.rel_list.specs.Event.{Event}
+use Rattle.rel_list.specs.Event.Event.{made, reboot_old, boot as booting}
 use Rattle.rel_handler.specs.declared.error.BootError.{BootError}
 use Rattle.rel_handler.specs.declared.error.BootError.TheVariants as boot_error
 use Rattle.rel_handler.specs.declared.error.HandlerError.{HandlerError}
-use Rattle.rel_handler.specs.declared.error.HandlerError.TheVariants.{TooMany}
+use Rattle.rel_handler.specs.declared.error.HandlerError.TheVariants as handler_error
 use Rattle.rel_handler.specs.Events.{Events, Stored, certain}
-use Rattle.rel_records.specs.Limits.{is_small, most_releases}
 use Rattle.rel_handler.specs.Image.{holds_a_store}
 use Rattle.rel_records.specs.Record.{makes as makes_record, body_of}
 use Rattle.rel_handler.specs.Refusals.{IsBootRefusal}
-use Rattle.rel_handler.specs.Taking.{list_refusal, refused_or, kept_short, commanded}
+use Rattle.rel_handler.specs.Taking.{commanded}
+use Rattle.rel_handler.proofs.CommandLemmas.{IsListAnswer, of_command}
 use Rattle.session_input.specs.Commands.{Command}
 use Rattle.rel_unpack.specs.Release.{Found}
 use Rattle.rel_unpack.specs.Source.{Source}
@@ -25,7 +22,7 @@ use Rattle.rel_session.specs.Files.{GivesOne}
 use Rattle.rel_session.specs.LawsBelow.{FileLaws}
 use Rattle.rel_session.specs.Node.{Place, Outcome, Reply, reply, nothing, done, failed_with, releases_after, behind}
 use Rattle.rel_session.specs.Node.Place.{raw, closed, running, dead}
-use Rattle.rel_session.specs.Refusals.{refusal_of, refusal_line, handler_refusal, boot_line}
+use Rattle.rel_session.specs.Refusals.{refusal_of, refusal_line, boot_line}
 use Rattle.rel_session.specs.Refusals.Refusal.{device}
 use Rattle.rel_session.specs.Transition
 use Rattle.rel_session.specs.Transition.Action.{answers, makes_node, changes_node, reboots_node, boots_node, tells_start}
@@ -98,45 +95,29 @@ effect_as f a b is of = subst (HasEffect f) (sym is) of
 -- no list refuses an event for the device
 abbrev IsPlainList : Result Releases HandlerError → Type 0
 IsPlainList (Ok list) = Unit {0}
-IsPlainList (Err why) = report_of (refusal_line (refusal_of (handler_refusal why))) ≡ nothing_done
+IsPlainList (Err why) = report_of (refusal_line (refusal_of why)) ≡ nothing_done
 
 plain_list : (e : Event) (es : Releases) → IsPlainList (commanded e es)
-plain_list e es = by_event e
+plain_list e es = go (commanded e es) (of_command e es)
   where
-    by_error : (why : ListError) → report_of (refusal_line (refusal_of (handler_refusal (list_refusal why)))) ≡ nothing_done
-    by_error list.NoSuchRelease = refl
-    by_error list.ExistingRelease = refl
-    by_error list.AlreadyInstalled = refl
-    by_error (list.BadStatus s) = refl
-    by_error list.Permanent = refl
-    by_error list.Running = refl
-    by_error list.NoMemory = refl
-
-    taken : (o : Option ListError) (s : Option Releases) → IsPlainList (refused_or o s)
-    taken (Some why) s = by_error why
-    taken None (Some l) = tt
-    taken None None = refl
-
-    short : (o : Result Releases HandlerError) → IsPlainList o → IsPlainList (kept_short o)
-    short (Err why) plain = plain
-    short (Ok l) plain = go (nat_le (length l) most_releases)
-      where
-        go : (b : Bool) → IsPlainList (if b then Ok l else Err TooMany)
-        go true = tt
-        go false = refl
-
-    small : (b : Bool) (o : Result Releases HandlerError) → IsPlainList o → IsPlainList (if b then o else Err TooMany)
-    small true o plain = plain
-    small false o plain = refl
-
-    by_event : (e : Event) → IsPlainList (commanded e es)
-    by_event (made r) = small (is_small r) _ (taken (refusal (made r) es) (step (made r) es))
-    by_event (unpacked r) = small (is_small r) _ (short _ (taken (refusal (unpacked r) es) (step (unpacked r) es)))
-    by_event booting = taken (refusal booting es) (step booting es)
-    by_event (installed v) = taken (refusal (installed v) es) (step (installed v) es)
-    by_event (made_permanent v) = taken (refusal (made_permanent v) es) (step (made_permanent v) es)
-    by_event (removed v) = taken (refusal (removed v) es) (step (removed v) es)
-    by_event (reboot_old v) = taken (refusal (reboot_old v) es) (step (reboot_old v) es)
+    go : (o : Result Releases HandlerError) → IsListAnswer o → IsPlainList o
+    go (Ok list) of = tt
+    go (Err handler_error.NoSuchRelease) of = refl
+    go (Err handler_error.ExistingRelease) of = refl
+    go (Err handler_error.AlreadyInstalled) of = refl
+    go (Err (handler_error.BadStatus s)) of = refl
+    go (Err handler_error.Permanent) of = refl
+    go (Err handler_error.Running) of = refl
+    go (Err handler_error.TooMany) of = refl
+    go (Err handler_error.NoMemory) of = refl
+    go (Err (handler_error.LibDiffers app)) of = absurd of
+    go (Err (handler_error.BadFile path trouble)) of = absurd of
+    go (Err (handler_error.MissingFile path)) of = absurd of
+    go (Err (handler_error.VsnMismatch path)) of = absurd of
+    go (Err handler_error.Device) of = absurd of
+    go (Err handler_error.Full) of = absurd of
+    go (Err handler_error.Dead) of = absurd of
+    go (Err handler_error.Exists) of = absurd of
 
 -- a commit, by what its answers tell
 module _ (e : Event) (f : Report → Effect) (stays : f nothing_done ≡ effect nothing runs) (doubted : f it_failed ≡ effect (failed_with (Some e)) fails) where

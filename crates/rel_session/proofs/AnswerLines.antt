@@ -27,7 +27,8 @@ use Rattle.rel_session.specs.Listing.{listing, release_line, text_value, applica
 use Rattle.erl_term.specs.FaultTexts.{term_fault_text}
 use Rattle.rel_files.specs.Fault.{file_fault_text}
 use Rattle.rel_session.specs.Refusals.{Refusal, refusal_line, boot_line}
-use Rattle.rel_unpack.specs.Refusal.Trouble.{unreadable, faulty}
+use Rattle.rel_unpack.specs.Refusal.{Trouble, trouble_text}
+use Rattle.rel_unpack.specs.Refusal.Trouble.{unreadable, faulty, misshapen}
 use Rattle.rel_session.specs.Refusals.Refusal.{no_such_release, existing_release, already_installed, bad_status, permanent, is_running, lib_differs, bad_file, missing_file, vsn_mismatch, too_many, device, full, dead, no_memory, exists}
 use Rattle.rel_session.specs.AnswerLaws.{is_one_line}
 use Rattle.rel_session.specs.Transition.{ok_line, done_line, installed_details}
@@ -133,6 +134,11 @@ fault_plain (duplicate name) = refl
 fault_plain bad_version = refl
 fault_plain out_of_memory = refl
 
+trouble_plain : (t : Trouble) → is_one_line (trouble_text t) ≡ true
+trouble_plain unreadable = refl
+trouble_plain (faulty f) = fault_plain f
+trouble_plain misshapen = refl
+
 -- the path or the name that a refusal tells is within a line
 abbrev pub HasLine : Refusal → Type 0
 HasLine (lib_differs app) = is_one_line app ≡ true
@@ -155,10 +161,9 @@ refusal_whole (bad_status s) line behind = ap (λ t. codes "error handler 4 BadS
 refusal_whole permanent line behind = refl
 refusal_whole is_running line behind = refl
 refusal_whole (lib_differs app) line behind = ap (λ t. codes "error handler 7 LibDiffers " ++ t) (ends_behind app (codes "\n") line newline behind)
-refusal_whole (bad_file path unreadable) line behind = ap (λ t. codes "error handler 8 BadFile " ++ t) (ends_behind path (codes " Unreadable\n") line (λ more. refl) behind)
-refusal_whole (bad_file path (faulty fault)) line behind =
-    ap (λ t. codes "error handler 8 BadFile " ++ t)
-    (ends_behind path (codes " " ++ (file_fault_text fault ++ codes "\n")) line (λ more. ap (λ t. codes " " ++ t) (ends_behind (file_fault_text fault) (codes "\n") (fault_plain fault) newline more)) behind)
+refusal_whole (bad_file path t) line behind =
+    ap (λ u. codes "error handler 8 BadFile " ++ u)
+    (ends_behind path (codes " " ++ (trouble_text t ++ codes "\n")) line (λ more. ap (λ u. codes " " ++ u) (ends_behind (trouble_text t) (codes "\n") (trouble_plain t) newline more)) behind)
 refusal_whole (missing_file path) line behind = ap (λ t. codes "error handler 9 MissingFile " ++ t) (ends_behind path (codes "\n") line newline behind)
 refusal_whole (vsn_mismatch path) line behind = ap (λ t. codes "error handler 10 VsnMismatch " ++ t) (ends_behind path (codes "\n") line newline behind)
 refusal_whole too_many line behind = refl

@@ -14,13 +14,11 @@ use Rattle.rel_handler.specs.Refusals.{CommandRefused}
 use Rattle.rel_handler.specs.State.{disk_in, list_in, is_dead, end_in, IsSame}
 use Rattle.rel_handler.specs.Taking.{commanded}
 use Rattle.rel_session.specs.declared.place.Place.TheVariants as memory
-use Rattle.rel_session.specs.declared.refusal.Refusal.{Refusal as RefusalInMemory}
-use Rattle.rel_session.specs.declared.refusal.Refusal.TheVariants as refusal
 use Rattle.rel_session.specs.Device.{Device, LeavesOnly, HasFailed}
 use Rattle.rel_session.specs.InMemory.{IsAt, Replied, Answers}
 use Rattle.rel_session.specs.Node.{Place, Reply, refused, failed, releases_after, list_or_none}
 use Rattle.rel_session.specs.Node.Place.{raw, closed, running, dead}
-use Rattle.rel_session.specs.Refusals.{Refusal, refusal_of, refusal_line, handler_refusal}
+use Rattle.rel_session.specs.Refusals.{Refusal, refusal_of, refusal_line}
 use Rattle.rel_session.specs.Refusals.Refusal.{full, device}
 use Rattle.rel_session.specs.Run.{IsReached, Holds}
 use Rattle.rel_session.specs.Transition
@@ -80,28 +78,28 @@ module _ {D : Type 0} (v : Device D) (laws : IsDevice v) (P : Place → Reply �
         (right_for events end o _ at.2 is (barred events end at.3), refl)
 
     by_list : (why : HandlerError) → (is_dead h ≡ false) × (commanded e (list_in h) ≡ Err why) → IsSame h new
-        → (p : Place) → IsAt v (memory.Made h) p → Replied v p (λ a. P p a × (a.answer ≡ refusal_line (refusal_of (handler_refusal why)))) (memory.Made h) (memory.Made new)
-    by_list why (living, barred) same = same_reply (refusal_of (handler_refusal why)) (Err why) barred same (λ events end at. refl)
+        → (p : Place) → IsAt v (memory.Made h) p → Replied v p (λ a. P p a × (a.answer ≡ refusal_line (refusal_of why))) (memory.Made h) (memory.Made new)
+    by_list why (living, barred) same = same_reply (refusal_of why) (Err why) barred same (λ events end at. refl)
 
     -- It was not committed.
-    pub commits_none : (why : HandlerError) (told : RefusalInMemory) → CommandRefused v.failures e body_size h new why → told ≡ handler_refusal why
-        → Answers v P (Err told) (memory.Made h) (memory.Made new)
-    commits_none why told so is = subst (λ t. Answers v P (Err t) (memory.Made h) (memory.Made new)) (sym is) (by_error why so)
-      where
-        by_error : (why : HandlerError) → CommandRefused v.failures e body_size h new why → Answers v P (Err (handler_refusal why)) (memory.Made h) (memory.Made new)
-        by_error handler_error.Dead (gone, same) = never (sym alive ∙ gone)
-        by_error handler_error.NoSuchRelease (barred, same) = by_list handler_error.NoSuchRelease barred same
-        by_error handler_error.ExistingRelease (barred, same) = by_list handler_error.ExistingRelease barred same
-        by_error handler_error.AlreadyInstalled (barred, same) = by_list handler_error.AlreadyInstalled barred same
-        by_error (handler_error.BadStatus s) (barred, same) = by_list (handler_error.BadStatus s) barred same
-        by_error handler_error.Permanent (barred, same) = by_list handler_error.Permanent barred same
-        by_error handler_error.Running (barred, same) = by_list handler_error.Running barred same
-        by_error handler_error.TooMany (barred, same) = by_list handler_error.TooMany barred same
-        by_error handler_error.Full ((living, (list, allowed)), over, same) =
-            same_reply full (Ok list) allowed same (λ events end at. inr (subst (λ n. HasSpace n body_size → ⊥) at over, refl))
-        by_error handler_error.NoMemory (living, same) = λ p at. inr (leaves_all v laws p (memory.Made h) (memory.Made new) same.disk (same_at v laws h new p same at))
-        by_error handler_error.Device ((living, (list, allowed), fits), cause, gone) = device_failed list allowed fits cause gone
-        by_error handler_error.Exists gone = absurd gone
+    pub commits_none : (why : HandlerError) → CommandRefused v.failures e body_size h new why → Answers v P (Err why) (memory.Made h) (memory.Made new)
+    commits_none handler_error.Dead (gone, same) = never (sym alive ∙ gone)
+    commits_none handler_error.NoSuchRelease (barred, same) = by_list handler_error.NoSuchRelease barred same
+    commits_none handler_error.ExistingRelease (barred, same) = by_list handler_error.ExistingRelease barred same
+    commits_none handler_error.AlreadyInstalled (barred, same) = by_list handler_error.AlreadyInstalled barred same
+    commits_none (handler_error.BadStatus s) (barred, same) = by_list (handler_error.BadStatus s) barred same
+    commits_none handler_error.Permanent (barred, same) = by_list handler_error.Permanent barred same
+    commits_none handler_error.Running (barred, same) = by_list handler_error.Running barred same
+    commits_none handler_error.TooMany (barred, same) = by_list handler_error.TooMany barred same
+    commits_none (handler_error.LibDiffers app) (barred, same) = by_list (handler_error.LibDiffers app) barred same
+    commits_none (handler_error.BadFile path trouble) (barred, same) = by_list (handler_error.BadFile path trouble) barred same
+    commits_none (handler_error.MissingFile path) (barred, same) = by_list (handler_error.MissingFile path) barred same
+    commits_none (handler_error.VsnMismatch path) (barred, same) = by_list (handler_error.VsnMismatch path) barred same
+    commits_none handler_error.Full ((living, (list, allowed)), over, same) =
+        same_reply full (Ok list) allowed same (λ events end at. inr (subst (λ n. HasSpace n body_size → ⊥) at over, refl))
+    commits_none handler_error.NoMemory (living, same) = λ p at. inr (leaves_all v laws p (memory.Made h) (memory.Made new) same.disk (same_at v laws h new p same at))
+    commits_none handler_error.Device ((living, (list, allowed), fits), cause, gone) = device_failed list allowed fits cause gone
+    commits_none handler_error.Exists gone = absurd gone
 
   -- A command changes the node.
   module _ (change : Transition.Change) (right : (events : Events) (end : ℕ) (a : Reply) → Transition.Acts (running events end) (changes_node change) a → P (running events end) a)
@@ -134,12 +132,11 @@ module _ {D : Type 0} (v : Device D) (laws : IsDevice v) (P : Place → Reply �
         record { given = r.given; right = (r.right.0, r.right.1 ∙ sym is); at = r.at; happens = r.happens }
 
     -- it is done, and memory is refused for its answer
-    pub changes_untold : is_dead new ≡ false → IsDone v change.event (change.size (list_in h)) h new → Answers v P (Err refusal.NoMemory) (memory.Made h) (memory.Made new)
+    pub changes_untold : is_dead new ≡ false → IsDone v change.event (change.size (list_in h)) h new → Answers v P (Err handler_error.NoMemory) (memory.Made h) (memory.Made new)
     changes_untold works is_done p at =
         let r = replies_done works is_done p at in
         inl (record { given = r.given; right = r.right.0; at = r.at; happens = r.happens })
 
     -- it isn't
-    pub changes_none : (e : HandlerError) (told : RefusalInMemory) → CommandRefused v.failures change.event (change.size (list_in h)) h new e → told ≡ handler_refusal e
-        → Answers v P (Err told) (memory.Made h) (memory.Made new)
+    pub changes_none : (e : HandlerError) → CommandRefused v.failures change.event (change.size (list_in h)) h new e → Answers v P (Err e) (memory.Made h) (memory.Made new)
     changes_none = commits_none change.event change.size IsChanged right new commits

@@ -5,6 +5,8 @@ pub mod ListLemmas
 pub mod Prefixes
 pub mod Replies
 pub mod CommitReplies
+pub mod CreationReplies
+pub mod UnpackingReplies
 pub mod StartReplies
 pub mod RebootReplies
 pub mod ReplyTexts

@@ -14,8 +14,8 @@ use Rattle.rel_handler.specs.State.{disk_in, list_in, is_dead, HasStarted}
 use Rattle.rel_handler.specs.Taking.{change_size, commanded}
 use Rattle.rel_session.specs.declared.place.Place.{Place as PlaceInMemory}
 use Rattle.rel_session.specs.declared.place.Place.TheVariants as memory
-use Rattle.rel_session.specs.declared.refusal.Refusal.{Refusal as RefusalInMemory}
-use Rattle.rel_session.specs.declared.refusal.Refusal.TheVariants as refusal
+use Rattle.rel_handler.specs.declared.error.HandlerError.{HandlerError}
+use Rattle.rel_handler.specs.declared.error.HandlerError.TheVariants as handler_error
 use Rattle.session_input.specs.Commands.Command.{reboot_old}
 use Rattle.rel_session.specs.Device.{Device, LeavesOnly}
 use Rattle.rel_session.specs.InMemory.{disk_at, IsAt, Replied, Leads, NothingDone, Answers, TellsReply, AnswersOrStops}
@@ -129,7 +129,7 @@ module _ {D : Type 0} (v : Device D) (laws : IsDevice v) (vsn : List ℕ) (h new
 
   -- at each place where the node may be
   module _ (final : PlaceInMemory D) where
-    pub reboots : (line : Result (String Global) AllocError) (result : Result (String Global) RefusalInMemory) → MatchResult line (λ text. result ≡ Ok text) (λ _. result ≡ Err refusal.NoMemory)
+    pub reboots : (line : Result (String Global) AllocError) (result : Result (String Global) HandlerError) → MatchResult line (λ text. result ≡ Ok text) (λ _. result ≡ Err handler_error.NoMemory)
         → TellsReply v Boots line (memory.Made new) final → AnswersOrStops v Does Stops result (memory.Made h) final
     reboots (Ok text) result is told = inl (subst (λ r. Answers v Does r (memory.Made h) final) (sym is) answers)
       where

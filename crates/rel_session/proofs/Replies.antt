@@ -1,38 +1,31 @@
 -- What each command replies, wherever the disk stands, as the handler's clauses give it.
 use Rattle.std.proofs.Common.{◌≡◌, ◌≢◌, ◌⊎◌, inl, inr, ℕ, ◌≤◌, Bool, true, false, List, [], ◌∷◌, ◌++◌, Some, None, Result, Ok, Err, refl, sym, ap, ◌∙◌, subst, arith}
 use Rattle.std.specs.Result.{IsErrAnd}
-use Rattle.std.specs.Prelude.{IfOk, IsErr, String, string_bytes, length}
+use Rattle.std.specs.Prelude.{IfOk, IsErr, String, string_bytes, MatchResult}
 use Rattle.std.specs.declared.alloc.Global.{Global}
 use Rattle.std.specs.declared.alloc.AllocError.{AllocError}
 use Rattle.rel_list.specs.Releases.{Releases, running as running_release}
-use Rattle.rel_list.specs.Event.{list_after, booted, entry}
-use Rattle.rel_list.specs.Event.Event.{made, boot as booting}
-use Rattle.rel_list.specs.declared.status.Status.TheVariants.{Permanent}
+use Rattle.rel_list.specs.Event.{list_after, booted}
+use Rattle.rel_list.specs.Event.Event.{boot as booting}
 use Rattle.rel_handler.specs.declared.error.HandlerError.{HandlerError}
 use Rattle.rel_handler.specs.declared.error.HandlerError.TheVariants as handler_error
 use Rattle.rel_handler.specs.declared.error.BootError.{BootError}
 use Rattle.rel_handler.specs.declared.error.BootError.TheVariants as boot_error
 use Rattle.rel_handler.specs.declared.handler.Handler.{Handler}
-use Rattle.rel_handler.specs.Events.{Events, Stored, MayHave, certain, StartsBehind, IsStoredAs, doubted}
-use Rattle.rel_handler.specs.Image.{IsImageOf, IsImageAt, IsRepairOf, holds_a_store, first_end, end_behind, HasSpace}
-use Rattle.rel_records.specs.Limits.{is_small}
-use Rattle.rel_handler.specs.Moments.{Begins, BeginsAt, WritesNothing}
-use Rattle.rel_records.specs.Record.{makes as makes_record, body_of}
-use Rattle.rel_handler.specs.Refusals.{CreateRefused, BootRefused, IsBootRefusal}
+use Rattle.rel_handler.specs.Events.{Events, Stored, MayHave, certain, StartsBehind, IsStoredAs}
+use Rattle.rel_handler.specs.Image.{IsImageOf, IsImageAt, IsRepairOf}
+use Rattle.rel_handler.specs.Refusals.{BootRefused, IsBootRefusal}
 use Rattle.rel_handler.specs.State.{disk_in, list_in, is_dead, end_in, HasStarted, IsSame}
 use Rattle.rel_session.specs.declared.place.Place.{Place as PlaceInMemory}
 use Rattle.rel_session.specs.declared.place.Place.TheVariants as memory
-use Rattle.rel_session.specs.declared.refusal.Refusal.{Refusal as RefusalInMemory}
-use Rattle.rel_session.specs.declared.refusal.Refusal.TheVariants as refusal
 use Rattle.session_input.specs.Commands.Command.{set_unpacked}
 use Rattle.rel_session.specs.Device.{Device, LeavesOnly, HasFailed}
-use Rattle.rel_unpack.specs.Release.{Found}
 use Rattle.rel_unpack.specs.Source.{Source}
 use Rattle.rel_session.specs.InMemory.{disk_at, IsAt, Replied, NothingDone, Answers, TellsReply}
 use Rattle.rel_session.specs.Node.{Place, Reply, reply, refused, failed, nothing, done, failed_with}
 use Rattle.rel_session.specs.Node.Place.{raw, closed, running, dead}
-use Rattle.rel_session.specs.Refusals.{Refusal, refusal_of, refusal_line, handler_refusal, boot_line}
-use Rattle.rel_session.specs.Refusals.Refusal.{full, exists, device, dead as dead_node}
+use Rattle.rel_session.specs.Refusals.{refusal_of, refusal_line, boot_line}
+use Rattle.rel_session.specs.Refusals.Refusal.{dead as dead_node}
 use Rattle.rel_session.specs.Run.{IsReached, Holds, Moments}
 use Rattle.rel_session.specs.Transition
 use Rattle.rel_session.specs.Transition.Action.{changes_node, reboots_node, tells_start}
@@ -42,7 +35,7 @@ use Rattle.rel_session.proofs.ListLemmas.{list_after-push}
 use Rattle.rel_session.proofs.Prefixes.{reached, stored}
 
 -- what an error became is the refusal
-pub told_so : (r : Result (String Global) RefusalInMemory) (why : RefusalInMemory) → IsErrAnd r (λ e. e ≡ why) → r ≡ Err why
+pub told_so : (r : Result (String Global) HandlerError) (why : HandlerError) → IsErrAnd r (λ e. e ≡ why) → r ≡ Err why
 told_so (Ok vsn) why never = absurd never
 told_so (Err e) why is = ap Err is
 
@@ -272,179 +265,72 @@ module _ {D : Type 0} (v : Device D) (laws : IsDevice v) where
         })
         go (inr known) = boot_refused why is read only known (Err e) told
 
-  -- A node is made on a disk.
-  module _ (disk : D) (found : Found) (stores : (es : Releases) → IsImageOf (v.seen disk) es → holds_a_store (v.seen disk) ≡ true) where
-    abbrev size : ℕ
-    size = length (body_of found.term (makes_record found.release))
-
-    on_raw : (bytes : List ℕ) (b : Bool) (a : Reply) → holds_a_store bytes ≡ b → Transition.MakesOn bytes found.release size b a → Transition.MakesNode (raw bytes) found a
-    on_raw bytes b a stored_there makes = inl (subst (λ m. Transition.MakesOn bytes found.release size m a) (sym stored_there) makes)
-
-    store_there : (s : Stored) → ((c : List ℕ) → v.may_leave disk c → IsStoredAs s c) → holds_a_store (v.seen disk) ≡ true
-    store_there s here = let of = here (v.seen disk) (laws.reads_an_image disk) in stores of.list of.image_of
-
-    pub makes : (h : Handler D) → ((at : D) × BeginsAt v.seen v.may_leave v.moment v.left_since (doubted [] (made found.release)) disk (disk_in h) at)
-        → ((c : List ℕ) → v.may_leave (disk_in h) c → IsImageAt c (list_in h) (end_in h)) → HasStarted v.may_leave h → list_in h ≡ entry found.release Permanent ∷ [] → is_dead h ≡ false → (holds_a_store (v.seen disk) ≡ true → ⊥)
-        → HasSpace first_end size → end_in h ≡ end_behind first_end size → v.failures disk ≤ v.failures (disk_in h) → (answer : List ℕ) → answer ≡ Transition.ok_line found.release.vsn
-        → (p : Place) → IsAt v (memory.Idle disk) p → Replied v p (λ a. Transition.MakesNode p found a × (a.answer ≡ answer)) (memory.Idle disk) (memory.Made h)
-    makes h begun images started list alive free fits ends counted answer is (closed s) at = absurd (free (store_there s at))
-    makes h begun images started list alive free fits ends counted answer is (running events end) at = absurd at
-    makes h begun images started list alive free fits ends counted answer is (dead s) at = absurd at
-    makes h begun images started list alive free fits ends counted answer is (raw bytes) at =
-        let events = made found.release ∷ booting ∷ [] in
-        let place = runs_at h events (end_behind first_end size) alive (ap (λ l. Some l) (sym list)) ends images started in
-        let a = reply (Transition.ok_line found.release.vsn) (done events) (running events (end_behind first_end size)) in
-        record {
-          given = a;
-          right = (on_raw bytes false a (no_store (holds_a_store bytes) refl) (inl (fits, refl)), sym is);
-          at = place;
-          happens = record { moments = begun; holds = place.0; cause = λ e. never e; counted = counted };
-        }
-      where
-        no_store : (b : Bool) → holds_a_store bytes ≡ b → holds_a_store bytes ≡ false
-        no_store true e = absurd (free (ap holds_a_store at ∙ e))
-        no_store false e = e
-
-    -- It isn't.
-    module _ (new : D) (small : is_small found.release ≡ true) (counted : v.failures disk ≤ v.failures new)
-        (begins : Begins v.seen v.may_leave v.moment v.left_since (doubted [] (made found.release)) disk new)
-        (taken : holds_a_store (v.seen disk) ≡ true → WritesNothing v.seen v.may_leave v.moment v.left_since disk new) where
-      unwritten_at : (p : Place) → IsAt v (memory.Idle disk) p → WritesNothing v.seen v.may_leave v.moment v.left_since disk new → IsAt v (memory.Idle new) p
-      unwritten_at (raw bytes) at u = u.same ∙ at
-      unwritten_at (closed s) at u = kept (IsStoredAs s) disk new at u.any_moment
-      unwritten_at (running events end) at u = absurd at
-      unwritten_at (dead s) at u = absurd at
-
-      refuses : (p : Place) (why : Refusal) → IsAt v (memory.Idle disk) p → WritesNothing v.seen v.may_leave v.moment v.left_since disk new → Transition.MakesNode p found (refused why p)
-          → Replied v p (λ a. Transition.MakesNode p found a × (a.answer ≡ refusal_line why)) (memory.Idle disk) (memory.Idle new)
-      refuses p why at u right = record {
-        given = refused why p;
-        right = (right, refl);
-        at = unwritten_at p at u;
-        happens = record {
-          moments = moments_of_nothing p disk new (held (memory.Idle disk) p at) u.any_moment;
-          holds = held (memory.Idle new) p (unwritten_at p at u);
-          cause = λ e. never e;
-          counted = counted;
-        };
-      }
-
-      device_fails : HasFailed v disk new → (p : Place) → IsAt v (memory.Idle disk) p → Replied v p (λ a. Transition.MakesNode p found a × (a.answer ≡ refusal_line device)) (memory.Idle disk) (memory.Idle new)
-      device_fails cause (raw bytes) at = record {
-        given = failed (Some (made found.release)) (raw (v.seen new));
-        right = (inr (v.seen new, refl), refl);
-        at = refl;
-        happens = record { moments = begins; holds = refl; cause = λ e. cause; counted = counted };
-      }
-      device_fails cause (closed s) at =
-          let u = taken (store_there s at) in
-          record {
-            given = failed (Some (made found.release)) (closed s);
-            right = (inr refl, refl);
-            at = kept (IsStoredAs s) disk new at u.any_moment;
-            happens = record { moments = quiet s (made found.release ∷ []) disk new at u.any_moment; holds = kept (IsStoredAs s) disk new at u.any_moment; cause = λ e. cause; counted = counted };
-          }
-      device_fails cause (running events end) at = absurd at
-      device_fails cause (dead s) at = absurd at
-
-      exists_there : holds_a_store (v.seen disk) ≡ true → (p : Place) → IsAt v (memory.Idle disk) p → Transition.MakesNode p found (refused exists p)
-      exists_there stored_there (raw bytes) at = on_raw bytes true (refused exists (raw bytes)) (ap holds_a_store (sym at) ∙ stored_there) refl
-      exists_there stored_there (closed s) at = inl refl
-      exists_there stored_there (running events end) at = absurd at
-      exists_there stored_there (dead s) at = absurd at
-
-      full_there : holds_a_store (v.seen disk) ≡ false → (HasSpace first_end size → ⊥) → (p : Place) → IsAt v (memory.Idle disk) p → Transition.MakesNode p found (refused full p)
-      full_there stored_there over (raw bytes) at = on_raw bytes false (refused full (raw bytes)) (ap holds_a_store (sym at) ∙ stored_there) (inr (over, refl))
-      full_there stored_there over (closed s) at = never (sym stored_there ∙ store_there s at)
-      full_there stored_there over (running events end) at = absurd at
-      full_there stored_there over (dead s) at = absurd at
-
-      pub makes_none : (e : HandlerError) (told : RefusalInMemory)
-          → CreateRefused (v.seen disk) found.release size (v.failures disk) (v.failures new) (WritesNothing v.seen v.may_leave v.moment v.left_since disk new) e → told ≡ handler_refusal e
-          → Answers v (λ p a. Transition.MakesNode p found a) (Err told) (memory.Idle disk) (memory.Idle new)
-      makes_none e told why is = subst (λ t. Answers v (λ p a. Transition.MakesNode p found a) (Err t) (memory.Idle disk) (memory.Idle new)) (sym is) (by_error e why)
-        where
-          by_error : (e : HandlerError) → CreateRefused (v.seen disk) found.release size (v.failures disk) (v.failures new) (WritesNothing v.seen v.may_leave v.moment v.left_since disk new) e
-              → Answers v (λ p a. Transition.MakesNode p found a) (Err (handler_refusal e)) (memory.Idle disk) (memory.Idle new)
-          by_error handler_error.Device (small_too, cause) = device_fails cause
-          by_error handler_error.TooMany (big, u) = never (sym big ∙ small)
-          by_error handler_error.Exists (small_too, stored_there, u) = λ p at. refuses p exists at u (exists_there stored_there p at)
-          by_error handler_error.Full (small_too, stored_there, over, u) = λ p at. refuses p full at u (full_there stored_there over p at)
-          by_error handler_error.NoMemory (small_too, u) = λ p at. inr (record { nothing_new = u.any_moment; holds = held (memory.Idle new) p (unwritten_at p at u); counted = counted })
-          by_error handler_error.NoSuchRelease gone = absurd gone
-          by_error handler_error.ExistingRelease gone = absurd gone
-          by_error handler_error.AlreadyInstalled gone = absurd gone
-          by_error (handler_error.BadStatus s) gone = absurd gone
-          by_error handler_error.Permanent gone = absurd gone
-          by_error handler_error.Running gone = absurd gone
-          by_error handler_error.Dead gone = absurd gone
+  -- a line as an answer
+  pub answers_line : (P : Place → Reply → Type 0) (line : Result (String Global) AllocError) (result : Result (String Global) HandlerError) (old new : PlaceInMemory D)
+      → MatchResult line (λ text. result ≡ Ok text) (λ _. result ≡ Err handler_error.NoMemory) → TellsReply v P line old new → Answers v P result old new
+  answers_line P (Ok text) result old new is told = subst (λ r. Answers v P r old new) (sym is) told
+  answers_line P (Err e) result old new is told = subst (λ r. Answers v P r old new) (sym is) told
 
   -- from the place as the call took it
-  pub from_there : (P : Place → Reply → Type 0) (r : Result (String Global) RefusalInMemory) (old there new : PlaceInMemory D) → old ≡ there → Answers v P r there new → Answers v P r old new
+  pub from_there : (P : Place → Reply → Type 0) (r : Result (String Global) HandlerError) (old there new : PlaceInMemory D) → old ≡ there → Answers v P r there new → Answers v P r old new
   from_there P r old there new is answers = subst (λ o. Answers v P r o new) (sym is) answers
 
-  -- There is a node.
-  pub makes_again : (h : Handler D) (found : Found) → Answers v (λ p a. Transition.MakesNode p found a) (Err refusal.Exists) (memory.Made h) (memory.Made h)
-  makes_again h found (raw bytes) at = absurd at
-  makes_again h found (closed s) at = absurd at
-  makes_again h found (running events end) at = stays (running events end) (refusal_line exists) _ (memory.Made h) (memory.Made h) at refl at (refl, refl)
-  makes_again h found (dead s) at = stays (dead s) (refusal_line exists) _ (memory.Made h) (memory.Made h) at refl at (refl, refl)
-
   -- A refusal is told, unless memory was refused.
-  pub tells_refusal : (P : Place → Reply → Type 0) (why : RefusalInMemory) (old new : PlaceInMemory D)
-      → (why ≢ refusal.NoMemory → (p : Place) → IsAt v old p → Replied v p (λ a. P p a × (a.answer ≡ refusal_line (refusal_of why))) old new)
+  pub tells_refusal : (P : Place → Reply → Type 0) (why : HandlerError) (old new : PlaceInMemory D)
+      → (why ≢ handler_error.NoMemory → (p : Place) → IsAt v old p → Replied v p (λ a. P p a × (a.answer ≡ refusal_line (refusal_of why))) old new)
       → ((p : Place) → IsAt v old p → NothingDone v p old new) → Answers v P (Err why) old new
-  tells_refusal P refusal.NoSuchRelease old new told lapsed = told (λ e. cc e)
-  tells_refusal P refusal.ExistingRelease old new told lapsed = told (λ e. cc e)
-  tells_refusal P refusal.AlreadyInstalled old new told lapsed = told (λ e. cc e)
-  tells_refusal P (refusal.BadStatus s) old new told lapsed = told (λ e. cc e)
-  tells_refusal P refusal.Permanent old new told lapsed = told (λ e. cc e)
-  tells_refusal P refusal.Running old new told lapsed = told (λ e. cc e)
-  tells_refusal P (refusal.BadFile q f) old new told lapsed = told (λ e. cc e)
-  tells_refusal P (refusal.MissingFile q) old new told lapsed = told (λ e. cc e)
-  tells_refusal P (refusal.VsnMismatch q) old new told lapsed = told (λ e. cc e)
-  tells_refusal P (refusal.LibDiffers q) old new told lapsed = told (λ e. cc e)
-  tells_refusal P refusal.TooMany old new told lapsed = told (λ e. cc e)
-  tells_refusal P refusal.Device old new told lapsed = told (λ e. cc e)
-  tells_refusal P refusal.Full old new told lapsed = told (λ e. cc e)
-  tells_refusal P refusal.Dead old new told lapsed = told (λ e. cc e)
-  tells_refusal P refusal.NoMemory old new told lapsed = λ p at. inr (lapsed p at)
-  tells_refusal P refusal.Exists old new told lapsed = told (λ e. cc e)
+  tells_refusal P handler_error.NoSuchRelease old new told lapsed = told (λ e. cc e)
+  tells_refusal P handler_error.ExistingRelease old new told lapsed = told (λ e. cc e)
+  tells_refusal P handler_error.AlreadyInstalled old new told lapsed = told (λ e. cc e)
+  tells_refusal P (handler_error.BadStatus s) old new told lapsed = told (λ e. cc e)
+  tells_refusal P handler_error.Permanent old new told lapsed = told (λ e. cc e)
+  tells_refusal P handler_error.Running old new told lapsed = told (λ e. cc e)
+  tells_refusal P (handler_error.BadFile q f) old new told lapsed = told (λ e. cc e)
+  tells_refusal P (handler_error.MissingFile q) old new told lapsed = told (λ e. cc e)
+  tells_refusal P (handler_error.VsnMismatch q) old new told lapsed = told (λ e. cc e)
+  tells_refusal P (handler_error.LibDiffers q) old new told lapsed = told (λ e. cc e)
+  tells_refusal P handler_error.TooMany old new told lapsed = told (λ e. cc e)
+  tells_refusal P handler_error.Device old new told lapsed = told (λ e. cc e)
+  tells_refusal P handler_error.Full old new told lapsed = told (λ e. cc e)
+  tells_refusal P handler_error.Dead old new told lapsed = told (λ e. cc e)
+  tells_refusal P handler_error.NoMemory old new told lapsed = λ p at. inr (lapsed p at)
+  tells_refusal P handler_error.Exists old new told lapsed = told (λ e. cc e)
 
   -- A command on the node that runs: P has what it replies there.
   module _ (P : Place → Reply → Type 0) (h : Handler D) (alive : is_dead h ≡ false) where
-    -- it is refused before the node was asked
-    pub refuses_running : (why : RefusalInMemory) → (why ≢ refusal.NoMemory → (events : Events) (end : ℕ) → P (running events end) (refused (refusal_of why) (running events end)))
-        → Answers v P (Err why) (memory.Made h) (memory.Made h)
-    refuses_running why right = tells_refusal P why (memory.Made h) (memory.Made h) (λ known p at. stands known p at) (λ p at. leaves_all p (memory.Made h) (memory.Made h) refl at)
+    -- it is refused, and nothing of the node has changed
+    pub refuses_running : (new : Handler D) → IsSame h new → (why : HandlerError) → (why ≢ handler_error.NoMemory → (events : Events) (end : ℕ) → P (running events end) (refused (refusal_of why) (running events end)))
+        → Answers v P (Err why) (memory.Made h) (memory.Made new)
+    refuses_running new same why right = tells_refusal P why (memory.Made h) (memory.Made new) (λ known p at. stands known p at) (λ p at. leaves_all p (memory.Made h) (memory.Made new) same.disk (same_at h new p same at))
       where
-        stands : why ≢ refusal.NoMemory → (p : Place) → IsAt v (memory.Made h) p → Replied v p (λ a. P p a × (a.answer ≡ refusal_line (refusal_of why))) (memory.Made h) (memory.Made h)
+        stands : why ≢ handler_error.NoMemory → (p : Place) → IsAt v (memory.Made h) p → Replied v p (λ a. P p a × (a.answer ≡ refusal_line (refusal_of why))) (memory.Made h) (memory.Made new)
         stands known (raw bytes) at = absurd at
         stands known (closed s) at = absurd at
-        stands known (running events end) at = stays (running events end) (refusal_line (refusal_of why)) _ (memory.Made h) (memory.Made h) at refl at (right known events end, refl)
+        stands known (running events end) at =
+            stays (running events end) (refusal_line (refusal_of why)) _ (memory.Made h) (memory.Made new) at same.disk (same_at h new (running events end) same at) (right known events end, refl)
         stands known (dead s) at = never (sym alive ∙ at.1)
 
   -- Where no node runs, a command that would change one is refused.
   module _ (P : Place → Reply → Type 0) (right : (p : Place) → ((events : Events) (end : ℕ) → p ≡ running events end → ⊥) → P p (refused dead_node p)) where
-    pub changes_dead : (h : Handler D) → is_dead h ≡ true → Answers v P (Err refusal.Dead) (memory.Made h) (memory.Made h)
+    pub changes_dead : (h : Handler D) → is_dead h ≡ true → Answers v P (Err handler_error.Dead) (memory.Made h) (memory.Made h)
     changes_dead h gone (raw bytes) at = absurd at
     changes_dead h gone (closed s) at = absurd at
     changes_dead h gone (running events end) at = never (sym at.1 ∙ gone)
     changes_dead h gone (dead s) at = stays (dead s) (refusal_line dead_node) _ (memory.Made h) (memory.Made h) at refl at (right (dead s) (λ es n e. cc e), refl)
 
-    pub changes_nowhere : (disk : D) → Answers v P (Err refusal.Dead) (memory.Idle disk) (memory.Idle disk)
+    pub changes_nowhere : (disk : D) → Answers v P (Err handler_error.Dead) (memory.Idle disk) (memory.Idle disk)
     changes_nowhere disk (raw bytes) at = stays (raw bytes) (refusal_line dead_node) _ (memory.Idle disk) (memory.Idle disk) at refl at (right (raw bytes) (λ es n e. cc e), refl)
     changes_nowhere disk (closed s) at = stays (closed s) (refusal_line dead_node) _ (memory.Idle disk) (memory.Idle disk) at refl at (right (closed s) (λ es n e. cc e), refl)
     changes_nowhere disk (running events end) at = absurd at
     changes_nowhere disk (dead s) at = absurd at
 
   -- where memory is refused
-  pub changes_no_memory : (P : Place → Reply → Type 0) (place : PlaceInMemory D) → Answers v P (Err refusal.NoMemory) place place
+  pub changes_no_memory : (P : Place → Reply → Type 0) (place : PlaceInMemory D) → Answers v P (Err handler_error.NoMemory) place place
   changes_no_memory P place p at = inr (leaves_all p place place refl at)
 
   -- A command is refused wherever the disk stands, before the node was asked.
-  pub refuses_anywhere : (P : Place → Reply → Type 0) (place : PlaceInMemory D) (why : RefusalInMemory)
-      → (why ≢ refusal.NoMemory → (p : Place) → P p (refused (refusal_of why) p)) → Answers v P (Err why) place place
+  pub refuses_anywhere : (P : Place → Reply → Type 0) (place : PlaceInMemory D) (why : HandlerError)
+      → (why ≢ handler_error.NoMemory → (p : Place) → P p (refused (refusal_of why) p)) → Answers v P (Err why) place place
   refuses_anywhere P place why right =
       tells_refusal P why place place (λ known p at. stays p (refusal_line (refusal_of why)) _ place place at refl at (right known p, refl)) (λ p at. leaves_all p place place refl at)
 

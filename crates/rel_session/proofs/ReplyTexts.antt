@@ -7,8 +7,8 @@ use Rattle.session_input.specs.declared.error.SessionError.{SessionError}
 use Rattle.session_input.specs.declared.error.SessionError.TheVariants.{NoMemory}
 use Rattle.rel_session.specs.declared.given_files.GivenFiles.{GivenFiles}
 use Rattle.rel_session.specs.declared.node.Node.{Node}
-use Rattle.rel_session.specs.declared.refusal.Refusal.{Refusal as RefusalInMemory}
-use Rattle.rel_session.specs.declared.refusal.Refusal.TheVariants as refusal
+use Rattle.rel_handler.specs.declared.error.HandlerError.{HandlerError}
+use Rattle.rel_handler.specs.declared.error.HandlerError.TheVariants as handler_error
 use Rattle.session_input.specs.Commands.{Command, File}
 use Rattle.session_input.specs.Commands.Command.{file}
 use Rattle.erl_term.specs.Printing.{text_of}
@@ -53,42 +53,42 @@ module _ {D : Type 0} (v : Device D) (old new : Node D) (command : Command) (sam
     without answer told p at = inl (leads_so p _ (OrStops p) (λ a r. inl (right p a r.0)) (told p at))
 
     -- a command that was done, or refused
-    pub follows : (r : Result (String Global) RefusalInMemory) (line : Result (Option (String Global)) SessionError) → IfOk line (λ text. IsLine r text) → Answers v P r old.place new.place → Follows v command Q line old new
+    pub follows : (r : Result (String Global) HandlerError) (line : Result (Option (String Global)) SessionError) → IfOk line (λ text. IsLine r text) → Answers v P r old.place new.place → Follows v command Q line old new
     follows r (Ok None) is given = absurd is
     follows (Ok answer) (Ok (Some text)) is given = with_text (string_bytes answer) text is given
     follows (Ok answer) (Err e) is given = without (string_bytes answer) given
-    follows (Err refusal.NoMemory) (Ok (Some text)) is given = absurd is
-    follows (Err refusal.NoMemory) (Err e) is given = λ p at. by_reply p (given p at)
-    follows (Err refusal.NoSuchRelease) (Ok (Some text)) is given = with_text (refusal_line (refusal_of refusal.NoSuchRelease)) text is given
-    follows (Err refusal.NoSuchRelease) (Err e) is given = without (refusal_line (refusal_of refusal.NoSuchRelease)) given
-    follows (Err refusal.AlreadyInstalled) (Ok (Some text)) is given = with_text (refusal_line (refusal_of refusal.AlreadyInstalled)) text is given
-    follows (Err refusal.AlreadyInstalled) (Err e) is given = without (refusal_line (refusal_of refusal.AlreadyInstalled)) given
-    follows (Err (refusal.BadStatus s)) (Ok (Some text)) is given = with_text (refusal_line (refusal_of (refusal.BadStatus s))) text is given
-    follows (Err (refusal.BadStatus s)) (Err e) is given = without (refusal_line (refusal_of (refusal.BadStatus s))) given
-    follows (Err refusal.Permanent) (Ok (Some text)) is given = with_text (refusal_line (refusal_of refusal.Permanent)) text is given
-    follows (Err refusal.Permanent) (Err e) is given = without (refusal_line (refusal_of refusal.Permanent)) given
-    follows (Err refusal.Running) (Ok (Some text)) is given = with_text (refusal_line (refusal_of refusal.Running)) text is given
-    follows (Err refusal.Running) (Err e) is given = without (refusal_line (refusal_of refusal.Running)) given
-    follows (Err refusal.ExistingRelease) (Ok (Some text)) is given = with_text (refusal_line (refusal_of refusal.ExistingRelease)) text is given
-    follows (Err (refusal.BadFile q f)) (Ok (Some text)) is given = with_text (refusal_line (refusal_of (refusal.BadFile q f))) text is given
-    follows (Err (refusal.MissingFile q)) (Ok (Some text)) is given = with_text (refusal_line (refusal_of (refusal.MissingFile q))) text is given
-    follows (Err (refusal.LibDiffers q)) (Ok (Some text)) is given = with_text (refusal_line (refusal_of (refusal.LibDiffers q))) text is given
-    follows (Err (refusal.LibDiffers q)) (Err e) is given = without (refusal_line (refusal_of (refusal.LibDiffers q))) given
-    follows (Err (refusal.VsnMismatch q)) (Ok (Some text)) is given = with_text (refusal_line (refusal_of (refusal.VsnMismatch q))) text is given
-    follows (Err (refusal.VsnMismatch q)) (Err e) is given = without (refusal_line (refusal_of (refusal.VsnMismatch q))) given
-    follows (Err refusal.TooMany) (Ok (Some text)) is given = with_text (refusal_line (refusal_of refusal.TooMany)) text is given
-    follows (Err refusal.Device) (Ok (Some text)) is given = with_text (refusal_line (refusal_of refusal.Device)) text is given
-    follows (Err refusal.Full) (Ok (Some text)) is given = with_text (refusal_line (refusal_of refusal.Full)) text is given
-    follows (Err refusal.Dead) (Ok (Some text)) is given = with_text (refusal_line (refusal_of refusal.Dead)) text is given
-    follows (Err refusal.Exists) (Ok (Some text)) is given = with_text (refusal_line (refusal_of refusal.Exists)) text is given
-    follows (Err refusal.ExistingRelease) (Err e) is given = without (refusal_line (refusal_of refusal.ExistingRelease)) given
-    follows (Err (refusal.BadFile q f)) (Err e) is given = without (refusal_line (refusal_of (refusal.BadFile q f))) given
-    follows (Err (refusal.MissingFile q)) (Err e) is given = without (refusal_line (refusal_of (refusal.MissingFile q))) given
-    follows (Err refusal.TooMany) (Err e) is given = without (refusal_line (refusal_of refusal.TooMany)) given
-    follows (Err refusal.Device) (Err e) is given = without (refusal_line (refusal_of refusal.Device)) given
-    follows (Err refusal.Full) (Err e) is given = without (refusal_line (refusal_of refusal.Full)) given
-    follows (Err refusal.Dead) (Err e) is given = without (refusal_line (refusal_of refusal.Dead)) given
-    follows (Err refusal.Exists) (Err e) is given = without (refusal_line (refusal_of refusal.Exists)) given
+    follows (Err handler_error.NoMemory) (Ok (Some text)) is given = absurd is
+    follows (Err handler_error.NoMemory) (Err e) is given = λ p at. by_reply p (given p at)
+    follows (Err handler_error.NoSuchRelease) (Ok (Some text)) is given = with_text (refusal_line (refusal_of handler_error.NoSuchRelease)) text is given
+    follows (Err handler_error.NoSuchRelease) (Err e) is given = without (refusal_line (refusal_of handler_error.NoSuchRelease)) given
+    follows (Err handler_error.AlreadyInstalled) (Ok (Some text)) is given = with_text (refusal_line (refusal_of handler_error.AlreadyInstalled)) text is given
+    follows (Err handler_error.AlreadyInstalled) (Err e) is given = without (refusal_line (refusal_of handler_error.AlreadyInstalled)) given
+    follows (Err (handler_error.BadStatus s)) (Ok (Some text)) is given = with_text (refusal_line (refusal_of (handler_error.BadStatus s))) text is given
+    follows (Err (handler_error.BadStatus s)) (Err e) is given = without (refusal_line (refusal_of (handler_error.BadStatus s))) given
+    follows (Err handler_error.Permanent) (Ok (Some text)) is given = with_text (refusal_line (refusal_of handler_error.Permanent)) text is given
+    follows (Err handler_error.Permanent) (Err e) is given = without (refusal_line (refusal_of handler_error.Permanent)) given
+    follows (Err handler_error.Running) (Ok (Some text)) is given = with_text (refusal_line (refusal_of handler_error.Running)) text is given
+    follows (Err handler_error.Running) (Err e) is given = without (refusal_line (refusal_of handler_error.Running)) given
+    follows (Err handler_error.ExistingRelease) (Ok (Some text)) is given = with_text (refusal_line (refusal_of handler_error.ExistingRelease)) text is given
+    follows (Err (handler_error.BadFile q f)) (Ok (Some text)) is given = with_text (refusal_line (refusal_of (handler_error.BadFile q f))) text is given
+    follows (Err (handler_error.MissingFile q)) (Ok (Some text)) is given = with_text (refusal_line (refusal_of (handler_error.MissingFile q))) text is given
+    follows (Err (handler_error.LibDiffers q)) (Ok (Some text)) is given = with_text (refusal_line (refusal_of (handler_error.LibDiffers q))) text is given
+    follows (Err (handler_error.LibDiffers q)) (Err e) is given = without (refusal_line (refusal_of (handler_error.LibDiffers q))) given
+    follows (Err (handler_error.VsnMismatch q)) (Ok (Some text)) is given = with_text (refusal_line (refusal_of (handler_error.VsnMismatch q))) text is given
+    follows (Err (handler_error.VsnMismatch q)) (Err e) is given = without (refusal_line (refusal_of (handler_error.VsnMismatch q))) given
+    follows (Err handler_error.TooMany) (Ok (Some text)) is given = with_text (refusal_line (refusal_of handler_error.TooMany)) text is given
+    follows (Err handler_error.Device) (Ok (Some text)) is given = with_text (refusal_line (refusal_of handler_error.Device)) text is given
+    follows (Err handler_error.Full) (Ok (Some text)) is given = with_text (refusal_line (refusal_of handler_error.Full)) text is given
+    follows (Err handler_error.Dead) (Ok (Some text)) is given = with_text (refusal_line (refusal_of handler_error.Dead)) text is given
+    follows (Err handler_error.Exists) (Ok (Some text)) is given = with_text (refusal_line (refusal_of handler_error.Exists)) text is given
+    follows (Err handler_error.ExistingRelease) (Err e) is given = without (refusal_line (refusal_of handler_error.ExistingRelease)) given
+    follows (Err (handler_error.BadFile q f)) (Err e) is given = without (refusal_line (refusal_of (handler_error.BadFile q f))) given
+    follows (Err (handler_error.MissingFile q)) (Err e) is given = without (refusal_line (refusal_of (handler_error.MissingFile q))) given
+    follows (Err handler_error.TooMany) (Err e) is given = without (refusal_line (refusal_of handler_error.TooMany)) given
+    follows (Err handler_error.Device) (Err e) is given = without (refusal_line (refusal_of handler_error.Device)) given
+    follows (Err handler_error.Full) (Err e) is given = without (refusal_line (refusal_of handler_error.Full)) given
+    follows (Err handler_error.Dead) (Err e) is given = without (refusal_line (refusal_of handler_error.Dead)) given
+    follows (Err handler_error.Exists) (Err e) is given = without (refusal_line (refusal_of handler_error.Exists)) given
 
     -- one that gave a line
     pub follows_line : (line : Result (String Global) AllocError) (text : Result (Option (String Global)) SessionError) → MatchResult line (λ s. text ≡ Ok (Some s)) (λ _. text ≡ Err NoMemory)
@@ -97,7 +97,7 @@ module _ {D : Type 0} (v : Device D) (old new : Node D) (command : Command) (sam
     follows_line (Err e) text is tells = subst (λ t. Follows v command Q t old new) (sym is) (λ p at. by_reply p (tells p at))
 
     -- one that may have been stopped within
-    pub follows_or_stops : (R : Place → Reply → Type 0) → ((p : Place) (a : Reply) → R p a → IsStopped p command a) → (r : Result (String Global) RefusalInMemory) (line : Result (Option (String Global)) SessionError)
+    pub follows_or_stops : (R : Place → Reply → Type 0) → ((p : Place) (a : Reply) → R p a → IsStopped p command a) → (r : Result (String Global) HandlerError) (line : Result (Option (String Global)) SessionError)
         → IfOk line (λ text. IsLine r text) → AnswersOrStops v P R r old.place new.place → Follows v command Q line old new
     follows_or_stops R stops r line is (inl given) = follows r line is given
     follows_or_stops R stops r (Ok None) is (inr (none, leads)) = absurd is

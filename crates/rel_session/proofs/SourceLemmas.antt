@@ -10,7 +10,7 @@ use Rattle.rel_files.specs.Release.{Release}
 use Rattle.rel_unpack.specs.Order.{Outcome, Then}
 use Rattle.rel_unpack.specs.Refusal.{Refusal}
 use Rattle.rel_unpack.specs.Refusal.Refusal.{missing_file, bad_file, vsn_mismatch, lib_differs, too_many, no_memory}
-use Rattle.rel_unpack.specs.Refusal.Trouble.{unreadable, faulty}
+use Rattle.rel_unpack.specs.Refusal.Trouble.{unreadable, faulty, misshapen}
 use Rattle.rel_unpack.specs.Release.{Found, ReleaseAt, is_small, rel_form}
 use Rattle.rel_unpack.specs.Source.{Source, HasBytes, HasValue, FileSays}
 use Rattle.session_input.specs.Commands.{File, most_file}
@@ -86,6 +86,7 @@ was_read source path (Ok bs) has = (Ok bs, has, refl)
 was_read source path (Err (missing_file p)) (is, has) = (Err read.Missing, has, ap (λ q. Err (missing_file q)) is)
 was_read source path (Err (bad_file p unreadable)) (is, has) = (Err read.Unreadable, has, ap (λ q. Err (bad_file q unreadable)) is)
 was_read source path (Err (bad_file p (faulty f))) has = absurd has
+was_read source path (Err (bad_file p misshapen)) has = absurd has
 was_read source path (Err (vsn_mismatch p)) has = absurd has
 was_read source path (Err (lib_differs p)) has = absurd has
 was_read source path (Err too_many) has = (Err read.TooLarge, has, refl)
@@ -113,7 +114,8 @@ module _ (laws : FileLaws) where
   was_told : (path bs : List ℕ) (r : Result Found Refusal) → HasValue rel_form path bs r → Told path bs r
   was_told path bs (Ok f) says = inl (f, says, refl)
   was_told path bs (Err (bad_file p (faulty e))) (is, has) = inr (e, has, ap (λ q. Err (bad_file q (faulty e))) is)
-  was_told path bs (Err (bad_file p unreadable)) has = absurd has
+  was_told path bs (Err (bad_file p unreadable)) has = absurd has.1
+  was_told path bs (Err (bad_file p misshapen)) has = absurd has.1
   was_told path bs (Err (missing_file p)) has = absurd has
   was_told path bs (Err (vsn_mismatch p)) has = absurd has
   was_told path bs (Err (lib_differs p)) has = absurd has
@@ -163,14 +165,14 @@ good_bytes : (source : Source) (path : List ℕ) (e : Refusal) → is_one_line p
 good_bytes source path (missing_file p) line (is, has) = ap is_one_line is ∙ line
 good_bytes source path (bad_file p unreadable) line (is, has) = ap is_one_line is ∙ line
 good_bytes source path (bad_file p (faulty f)) line has = absurd has
+good_bytes source path (bad_file p misshapen) line has = absurd has
 good_bytes source path (vsn_mismatch p) line has = absurd has
 good_bytes source path (lib_differs p) line has = absurd has
 good_bytes source path too_many line has = tt
 good_bytes source path no_memory line has = absurd has
 
 good_value : (path bs : List ℕ) (e : Refusal) → is_one_line path ≡ true → HasValue rel_form path bs (Err e) → HasLine (refusal_for e)
-good_value path bs (bad_file p (faulty f)) line (is, has) = ap is_one_line is ∙ line
-good_value path bs (bad_file p unreadable) line has = absurd has
+good_value path bs (bad_file p t) line (is, has) = ap is_one_line is ∙ line
 good_value path bs (missing_file p) line has = absurd has
 good_value path bs (vsn_mismatch p) line has = absurd has
 good_value path bs (lib_differs p) line has = absurd has

@@ -15,13 +15,12 @@ use Rattle.rel_session.specs.Device.{Device, HasFailed}
 use Rattle.rel_session.specs.InMemory.{IsAt, Replied, NothingDone, Answers}
 use Rattle.rel_session.specs.Node.{Place, Reply, reply, failed, nothing, releases_after, list_or_none}
 use Rattle.rel_session.specs.Node.Place.{raw, closed, running, dead}
-use Rattle.rel_session.specs.Refusals.{refusal_line, handler_refusal}
+use Rattle.rel_session.specs.Refusals.{refusal_line}
 use Rattle.rel_session.specs.Refusals.Refusal.{device}
 use Rattle.rel_session.specs.Run.{Holds}
 use Rattle.rel_session.specs.Transition.{Acts, ok_line, start_versions}
 use Rattle.rel_session.specs.Transition.Action.{tells_start}
 use Rattle.rel_session.specs.declared.place.Place.TheVariants as memory
-use Rattle.rel_session.specs.declared.refusal.Refusal.TheVariants as refusal
 use Rattle.rel_session.proofs.DeviceLemmas.{IsDevice}
 use Rattle.rel_session.proofs.Replies.{held, kept, quiet, moments_of_nothing, holds_still}
 
@@ -67,7 +66,7 @@ module _ {D : Type 0} (v : Device D) (laws : IsDevice v) (h new : Handler D) (al
   nothing_done : is_dead new ≡ false → (p : Place) → IsAt v (memory.Made h) p → NothingDone v p (memory.Made h) (memory.Made new)
   nothing_done works p at = record { nothing_new = read.only_read.any_moment; holds = still_holds p at; counted = read.counted }
 
-  pub untold : is_dead new ≡ false → Answers v Does (Err refusal.NoMemory) (memory.Made h) (memory.Made new)
+  pub untold : is_dead new ≡ false → Answers v Does (Err handler_error.NoMemory) (memory.Made h) (memory.Made new)
   untold works p at = inr (nothing_done works p at)
 
   -- the device failed
@@ -92,7 +91,7 @@ module _ {D : Type 0} (v : Device D) (laws : IsDevice v) (h new : Handler D) (al
         };
       }
 
-  pub told_none : (e : HandlerError) → StartRefused v.failures h new e → Answers v Does (Err (handler_refusal e)) (memory.Made h) (memory.Made new)
+  pub told_none : (e : HandlerError) → StartRefused v.failures h new e → Answers v Does (Err e) (memory.Made h) (memory.Made new)
   told_none handler_error.Dead (gone, same) = never (sym alive ∙ gone)
   told_none handler_error.NoMemory (living, works) = untold works
   told_none handler_error.Device (living, cause, gone) = device_failed cause gone
@@ -103,5 +102,9 @@ module _ {D : Type 0} (v : Device D) (laws : IsDevice v) (h new : Handler D) (al
   told_none handler_error.Permanent lost = absurd lost
   told_none handler_error.Running lost = absurd lost
   told_none handler_error.TooMany lost = absurd lost
+  told_none (handler_error.LibDiffers app) lost = absurd lost
+  told_none (handler_error.BadFile path trouble) lost = absurd lost
+  told_none (handler_error.MissingFile path) lost = absurd lost
+  told_none (handler_error.VsnMismatch path) lost = absurd lost
   told_none handler_error.Full lost = absurd lost
   told_none handler_error.Exists lost = absurd lost

@@ -12,6 +12,7 @@ use Rattle.rel_list.specs.declared.status.Status.TheVariants.{Unpacked, Permanen
 use Rattle.rel_list.specs.Event.Event.{made, unpacked, installed, made_permanent, removed, reboot_old, boot as booting}
 use Rattle.rel_records.specs.Lists.{HaveVersions}
 use Rattle.rel_records.specs.Record.{makes as makes_record, body_of}
+use Rattle.rel_handler.proofs.CommandLemmas.{IsListRefusal, IsListAnswer, of_command}
 use Rattle.rel_handler.proofs.Commits.{have_versions}
 use Rattle.rel_handler.proofs.RepairLemmas.{permanent_versions}
 use Rattle.rel_handler.specs.declared.error.HandlerError.{HandlerError}
@@ -24,7 +25,7 @@ use Rattle.rel_unpack.specs.Release.{Found}
 use Rattle.rel_unpack.specs.Source.{Source}
 use Rattle.rel_session.specs.Node.{Place, Reply, releases_after, list_or_none}
 use Rattle.rel_session.specs.Node.Place.{raw, closed, running, dead}
-use Rattle.rel_session.specs.Refusals.{refusal_of, refusal_line, handler_refusal}
+use Rattle.rel_session.specs.Refusals.{refusal_of, refusal_line}
 use Rattle.rel_session.specs.Refusals.Refusal.{device, bad_status}
 use Rattle.rel_session.specs.AnswerLaws.{is_one_line, HasLinePath, HasVersionsAt}
 use Rattle.rel_session.specs.RunLaws.{MayBe}
@@ -115,38 +116,42 @@ IsGood a = IsWhole a.answer × HasVersionsAt a.after
 good_as : (a b : Reply) → a ≡ b → IsGood b → IsGood a
 good_as a b is good = subst IsGood (sym is) good
 
-handler_line : (e : HandlerError) → IsWhole (refusal_line (refusal_of (handler_refusal e)))
-handler_line handler_error.NoSuchRelease behind = refl
-handler_line handler_error.ExistingRelease behind = refl
-handler_line handler_error.AlreadyInstalled behind = refl
-handler_line (handler_error.BadStatus s) behind = refusal_whole (bad_status s) tt behind
-handler_line handler_error.Permanent behind = refl
-handler_line handler_error.Running behind = refl
-handler_line handler_error.TooMany behind = refl
-handler_line handler_error.Device behind = refl
-handler_line handler_error.Full behind = refl
-handler_line handler_error.Dead behind = refl
-handler_line handler_error.NoMemory behind = refl
-handler_line handler_error.Exists behind = refl
+handler_line : (e : HandlerError) → IsListRefusal e → IsWhole (refusal_line (refusal_of e))
+handler_line handler_error.NoSuchRelease of behind = refl
+handler_line handler_error.ExistingRelease of behind = refl
+handler_line handler_error.AlreadyInstalled of behind = refl
+handler_line (handler_error.BadStatus s) of behind = refusal_whole (bad_status s) tt behind
+handler_line handler_error.Permanent of behind = refl
+handler_line handler_error.Running of behind = refl
+handler_line handler_error.TooMany of behind = refl
+handler_line handler_error.NoMemory of behind = refl
+handler_line (handler_error.LibDiffers app) of behind = absurd of
+handler_line (handler_error.BadFile path trouble) of behind = absurd of
+handler_line (handler_error.MissingFile path) of behind = absurd of
+handler_line (handler_error.VsnMismatch path) of behind = absurd of
+handler_line handler_error.Device of behind = absurd of
+handler_line handler_error.Full of behind = absurd of
+handler_line handler_error.Dead of behind = absurd of
+handler_line handler_error.Exists of behind = absurd of
 
 device_line : IsWhole (refusal_line device)
 device_line behind = refl
 
-commits : (events : Events) (end : ℕ) (e : Event) (size : ℕ) (o : Result Releases HandlerError) (P : Reply → Type 0) → ((a : Reply) → P a → IsGood a) → OfEvent e → OfList events → (a : Reply)
+commits : (events : Events) (end : ℕ) (e : Event) (size : ℕ) (o : Result Releases HandlerError) (P : Reply → Type 0) → IsListAnswer o → ((a : Reply) → P a → IsGood a) → OfEvent e → OfList events → (a : Reply)
     → Transition.IsCommit events end e size o P a → IsGood a
-commits events end e size (Err why) P done of all a is = good_as a _ is (handler_line why, all)
-commits events end e size (Ok next) P done of all a (inl (fits, inl is)) = done a is
-commits events end e size (Ok next) P done of all a (inl (fits, inr is)) = good_as a _ is (device_line, either_way)
+commits events end e size (Err why) P plain done of all a is = good_as a _ is (handler_line why plain, all)
+commits events end e size (Ok next) P plain done of all a (inl (fits, inl is)) = done a is
+commits events end e size (Ok next) P plain done of all a (inl (fits, inr is)) = good_as a _ is (device_line, either_way)
   where
     either_way : (es : Events) (l : Releases) → MayBe (uncertain events end e size) es → list_after es ≡ Some l → HaveVersions l
     either_way es l (inl same) after = all l (ap list_after (sym same) ∙ after)
     either_way es l (inr same) after = list_versions events e of all l (ap list_after (sym same) ∙ after)
-commits events end e size (Ok next) P done of all a (inr (over_it, is)) = good_as a _ is ((λ behind. refl), all)
+commits events end e size (Ok next) P plain done of all a (inr (over_it, is)) = good_as a _ is ((λ behind. refl), all)
 
-changes : (events : Events) (end : ℕ) (c : Transition.Change) (list : Releases) (o : Result Releases HandlerError) → OfEvent c.event → is_one_line (c.details list) ≡ true → OfList events → (a : Reply)
+changes : (events : Events) (end : ℕ) (c : Transition.Change) (list : Releases) (o : Result Releases HandlerError) → IsListAnswer o → OfEvent c.event → is_one_line (c.details list) ≡ true → OfList events → (a : Reply)
     → Transition.Changes events end c list o a → IsGood a
-changes events end c list o of line all =
-    commits events end c.event (c.size list) o _ (λ a is. good_as a _ is (done_whole (c.details list) line, list_versions events c.event of all)) of all
+changes events end c list o plain of line all =
+    commits events end c.event (c.size list) o _ plain (λ a is. good_as a _ is (done_whole (c.details list) line, list_versions events c.event of all)) of all
 
 makes_on : (x : List ℕ) (r : Release) (size : ℕ) (b : Bool) → HasVersions r → (a : Reply) → Transition.MakesOn x r size b a → IsGood a
 makes_on x r size true of a is = good_as a _ is ((λ behind. refl), tt)
@@ -175,12 +180,12 @@ certain_versions : (events : Events) (end : ℕ) → OfList events → HasVersio
 certain_versions events end all es l (inl same) after = all l (ap list_after (sym same) ∙ after)
 certain_versions events end all es l (inr same) after = all l (ap list_after (sym same) ∙ after)
 
-reboots : (events : Events) (end : ℕ) (vsn : List ℕ) (list : Releases) (o : Result Releases HandlerError) → OfList events → (a : Reply) → Transition.Reboots events end vsn list o a → IsGood a
-reboots events end vsn list o all =
+reboots : (events : Events) (end : ℕ) (vsn : List ℕ) (list : Releases) (o : Result Releases HandlerError) → IsListAnswer o → OfList events → (a : Reply) → Transition.Reboots events end vsn list o a → IsGood a
+reboots events end vsn list o plain all =
     let e = reboot_old vsn in
     let s = Transition.rebooted events end vsn list in
     let behind_it = certain_versions (events ++ e ∷ []) s.end (list_versions events e tt all) in
-    commits events end e _ o _ (λ a (b, boot, is). good_as a _ is (boots_store s behind_it b boot)) tt all
+    commits events end e _ o _ plain (λ a (b, boot, is). good_as a _ is (boots_store s behind_it b boot)) tt all
 
 boots : (p : Place) → HasVersionsAt p → (a : Reply) → Transition.Boots p a → IsGood a
 boots (raw x) all a (inl (events, list, end, after, image, is)) =
@@ -213,11 +218,11 @@ listed_versions events all = go (list_after events) all
 acts : (p : Place) (does : Transition.Action) → IsGoodAction does → HasVersionsAt p → (a : Reply) → Transition.Acts p does a → IsGood a
 acts p (answers text) good all a is = good_as a _ is (good, all)
 acts p (makes_node found) good all a is = makes p found good all a is
-acts (running events end) (changes_node c) good all a is = changes events end c (releases_after events) (commanded c.event (releases_after events)) good.0 (good.1 (releases_after events)) all a is
+acts (running events end) (changes_node c) good all a is = changes events end c (releases_after events) (commanded c.event (releases_after events)) (of_command c.event (releases_after events)) good.0 (good.1 (releases_after events)) all a is
 acts (raw x) (changes_node c) good all a is = good_as a _ is ((λ behind. refl), all)
 acts (closed s) (changes_node c) good all a is = good_as a _ is ((λ behind. refl), all)
 acts (dead s) (changes_node c) good all a is = good_as a _ is ((λ behind. refl), all)
-acts (running events end) (reboots_node vsn) good all a is = reboots events end vsn (releases_after events) (commanded (reboot_old vsn) (releases_after events)) all a is
+acts (running events end) (reboots_node vsn) good all a is = reboots events end vsn (releases_after events) (commanded (reboot_old vsn) (releases_after events)) (of_command (reboot_old vsn) (releases_after events)) all a is
 acts (raw x) (reboots_node vsn) good all a is = good_as a _ is ((λ behind. refl), all)
 acts (closed s) (reboots_node vsn) good all a is = good_as a _ is ((λ behind. refl), all)
 acts (dead s) (reboots_node vsn) good all a is = good_as a _ is ((λ behind. refl), all)

@@ -9,8 +9,8 @@ use Rattle.session_input.specs.declared.error.SessionError.{SessionError}
 use Rattle.rel_session.specs.declared.node.Node.{Node}
 use Rattle.rel_session.specs.declared.place.Place.{Place as PlaceInMemory}
 use Rattle.rel_session.specs.declared.place.Place.TheVariants as memory
-use Rattle.rel_session.specs.declared.refusal.Refusal.{Refusal as RefusalInMemory}
-use Rattle.rel_session.specs.declared.refusal.Refusal.TheVariants as refusal
+use Rattle.rel_handler.specs.declared.error.HandlerError.{HandlerError}
+use Rattle.rel_handler.specs.declared.error.HandlerError.TheVariants as handler_error
 use Rattle.session_input.specs.Commands.{Command}
 use Rattle.session_input.specs.Commands.Command.{quit}
 use Rattle.rel_session.specs.Device.{Device, LeavesOnly}
@@ -62,11 +62,11 @@ pub record NothingDone {D : Type 0} (v : Device D) (p : Place) (old new : PlaceI
 
 -- A command gave this result, wherever it began: its answer, or why it was refused. P says which replies are right. Where
 -- memory is refused, it may have been done.
-abbrev pub Answers : {D : Type 0} → Device D → (Place → Reply → Type 0) → Result (String Global) RefusalInMemory
+abbrev pub Answers : {D : Type 0} → Device D → (Place → Reply → Type 0) → Result (String Global) HandlerError
     → PlaceInMemory D → PlaceInMemory D → Type 0
 Answers v P (Ok text) old new =
     (p : Place) → IsAt v old p → Replied v p (λ a. P p a × (a.answer ≡ string_bytes text)) old new
-Answers v P (Err refusal.NoMemory) old new =
+Answers v P (Err handler_error.NoMemory) old new =
     (p : Place) → IsAt v old p → Replied v p (P p) old new ⊎ NothingDone v p old new
 Answers v P (Err why) old new =
     (p : Place) → IsAt v old p → Replied v p (λ a. P p a × (a.answer ≡ refusal_line (refusal_of why))) old new
@@ -80,10 +80,10 @@ TellsReply v P (Err e) old new = (p : Place) → IsAt v old p → Replied v p (P
 
 -- It gave this result, or memory was refused within it. Q says what stands in place of the reply then.
 abbrev pub AnswersOrStops : {D : Type 0} → Device D → (P Q : Place → Reply → Type 0)
-    → Result (String Global) RefusalInMemory → PlaceInMemory D → PlaceInMemory D → Type 0
+    → Result (String Global) HandlerError → PlaceInMemory D → PlaceInMemory D → Type 0
 AnswersOrStops v P Q result old new =
     Answers v P result old new
-    ⊎ ((result ≡ Err refusal.NoMemory) × ((p : Place) → IsAt v old p → Leads v p (λ a. P p a ⊎ Q p a) old new))
+    ⊎ ((result ≡ Err handler_error.NoMemory) × ((p : Place) → IsAt v old p → Leads v p (λ a. P p a ⊎ Q p a) old new))
 
 -- A command was followed; P says which replies are right. Its text is its answer; there is none where the session ends.
 abbrev pub Follows : {D : Type 0} → Device D → Command → (Place → Reply → Type 0) → Result (Option (String Global)) SessionError
@@ -107,10 +107,10 @@ abbrev pub disk_of : {D : Type 0} → Node D → D
 disk_of n = disk_at n.place
 
 -- the line that tells what a command has done, or why it was refused
-abbrev pub IsLine : Result (String Global) RefusalInMemory → Option (String Global) → Type 0
+abbrev pub IsLine : Result (String Global) HandlerError → Option (String Global) → Type 0
 IsLine done None = ⊥
 IsLine (Ok answer) (Some text) = string_bytes text ≡ string_bytes answer
-IsLine (Err refusal.NoMemory) (Some text) = ⊥
+IsLine (Err handler_error.NoMemory) (Some text) = ⊥
 IsLine (Err why) (Some text) = string_bytes text ≡ refusal_line (refusal_of why)
 
 -- it is a text with these bytes

@@ -1,6 +1,5 @@
 -- Why a command is refused, and how that is told.
 use Rattle.std.specs.Prelude.{◌≡◌, ℕ, List, ◌++◌, codes, Err, string_bytes}
-use Rattle.rel_files.specs.Fault.{file_fault_text}
 use Rattle.rel_list.specs.declared.status.Status.{Status}
 use Rattle.rel_list.specs.Status.{status_word}
 use Rattle.rel_handler.specs.declared.error.HandlerError.{HandlerError}
@@ -10,12 +9,7 @@ use Rattle.rel_handler.specs.declared.error.BootError.TheVariants as boot
 use Rattle.rel_unpack.specs.Release.{ReleaseAt}
 use Rattle.rel_unpack.specs.Source.{Source}
 use Rattle.rel_unpack.specs.Refusal as of_files
-use Rattle.rel_unpack.specs.Refusal.{Trouble, trouble_of}
-use Rattle.rel_unpack.specs.Refusal.Trouble.{unreadable, faulty}
-use Rattle.rel_unpack.specs.declared.error.UnpackError.{UnpackError}
-use Rattle.rel_unpack.specs.declared.error.UnpackError.TheVariants as unpack
-use Rattle.rel_session.specs.declared.refusal.Refusal.{Refusal as RefusalInMemory}
-use Rattle.rel_session.specs.declared.refusal.Refusal.TheVariants as memory
+use Rattle.rel_unpack.specs.Refusal.{Trouble, trouble_of, trouble_text}
 
 -- why a command is refused
 pub data Refusal : Type 0 where
@@ -45,9 +39,7 @@ refusal_line (bad_status s) = codes "error handler 4 BadStatus " ++ (status_word
 refusal_line permanent = codes "error handler 5 Permanent\n"
 refusal_line is_running = codes "error handler 6 Running\n"
 refusal_line (lib_differs app) = codes "error handler 7 LibDiffers " ++ (app ++ codes "\n")
-refusal_line (bad_file path unreadable) = codes "error handler 8 BadFile " ++ (path ++ codes " Unreadable\n")
-refusal_line (bad_file path (faulty fault)) =
-    codes "error handler 8 BadFile " ++ (path ++ (codes " " ++ (file_fault_text fault ++ codes "\n")))
+refusal_line (bad_file path t) = codes "error handler 8 BadFile " ++ (path ++ (codes " " ++ (trouble_text t ++ codes "\n")))
 refusal_line (missing_file path) = codes "error handler 9 MissingFile " ++ (path ++ codes "\n")
 refusal_line (vsn_mismatch path) = codes "error handler 10 VsnMismatch " ++ (path ++ codes "\n")
 refusal_line too_many = codes "error handler 12 TooMany\n"
@@ -58,49 +50,25 @@ refusal_line no_memory = codes "error handler 19 NoMemory\n"
 refusal_line exists = codes "error handler 20 Exists\n"
 
 -- a refusal without where it lies in memory
-abbrev pub refusal_of : RefusalInMemory → Refusal
-refusal_of memory.NoSuchRelease = no_such_release
-refusal_of memory.ExistingRelease = existing_release
-refusal_of memory.AlreadyInstalled = already_installed
-refusal_of (memory.BadStatus s) = bad_status s
-refusal_of memory.Permanent = permanent
-refusal_of memory.Running = is_running
-refusal_of (memory.LibDiffers app) = lib_differs (string_bytes app)
-refusal_of (memory.BadFile path trouble) = bad_file (string_bytes path) (trouble_of trouble)
-refusal_of (memory.MissingFile path) = missing_file (string_bytes path)
-refusal_of (memory.VsnMismatch path) = vsn_mismatch (string_bytes path)
-refusal_of memory.TooMany = too_many
-refusal_of memory.Device = device
-refusal_of memory.Full = full
-refusal_of memory.Dead = dead
-refusal_of memory.NoMemory = no_memory
-refusal_of memory.Exists = exists
+abbrev pub refusal_of : HandlerError → Refusal
+refusal_of handler.NoSuchRelease = no_such_release
+refusal_of handler.ExistingRelease = existing_release
+refusal_of handler.AlreadyInstalled = already_installed
+refusal_of (handler.BadStatus s) = bad_status s
+refusal_of handler.Permanent = permanent
+refusal_of handler.Running = is_running
+refusal_of (handler.LibDiffers app) = lib_differs (string_bytes app)
+refusal_of (handler.BadFile path trouble) = bad_file (string_bytes path) (trouble_of trouble)
+refusal_of (handler.MissingFile path) = missing_file (string_bytes path)
+refusal_of (handler.VsnMismatch path) = vsn_mismatch (string_bytes path)
+refusal_of handler.TooMany = too_many
+refusal_of handler.Device = device
+refusal_of handler.Full = full
+refusal_of handler.Dead = dead
+refusal_of handler.NoMemory = no_memory
+refusal_of handler.Exists = exists
 
--- what a session tells of a refusal of the handler
-abbrev pub handler_refusal : HandlerError → RefusalInMemory
-handler_refusal handler.NoSuchRelease = memory.NoSuchRelease
-handler_refusal handler.ExistingRelease = memory.ExistingRelease
-handler_refusal handler.AlreadyInstalled = memory.AlreadyInstalled
-handler_refusal (handler.BadStatus s) = memory.BadStatus s
-handler_refusal handler.Permanent = memory.Permanent
-handler_refusal handler.Running = memory.Running
-handler_refusal handler.TooMany = memory.TooMany
-handler_refusal handler.Device = memory.Device
-handler_refusal handler.Full = memory.Full
-handler_refusal handler.Dead = memory.Dead
-handler_refusal handler.NoMemory = memory.NoMemory
-handler_refusal handler.Exists = memory.Exists
-
--- of a refusal of a release for its files
-abbrev pub files_refusal : UnpackError → RefusalInMemory
-files_refusal (unpack.MissingFile path) = memory.MissingFile path
-files_refusal (unpack.BadFile path trouble) = memory.BadFile path trouble
-files_refusal (unpack.VsnMismatch path) = memory.VsnMismatch path
-files_refusal (unpack.LibDiffers app) = memory.LibDiffers app
-files_refusal unpack.TooMany = memory.TooMany
-files_refusal unpack.NoMemory = memory.NoMemory
-
--- and as a refusal
+-- what is told of a release that isn't taken for its files
 abbrev pub refusal_for : of_files.Refusal → Refusal
 refusal_for (of_files.missing_file path) = missing_file path
 refusal_for (of_files.bad_file path trouble) = bad_file path trouble

@@ -22,7 +22,7 @@ use Rattle.session_input.specs.Commands.Command.{file, create, set_unpacked, ins
 use Rattle.rel_session.specs.Listing.{listing, text_value}
 use Rattle.rel_session.specs.Node.{Place, releases_after, Reply, reply, refused, failed, nothing, done, failed_with, behind}
 use Rattle.rel_session.specs.Node.Place.{raw, closed, running, dead}
-use Rattle.rel_session.specs.Refusals.{Refusal, refusal_of, refusal_line, refusal_for, handler_refusal, boot_line}
+use Rattle.rel_session.specs.Refusals.{Refusal, refusal_of, refusal_line, refusal_for, boot_line}
 use Rattle.rel_session.specs.Refusals.Refusal.{full, exists, dead as dead_node}
 
 abbrev pub ok_line : List ℕ → List ℕ
@@ -121,7 +121,7 @@ ComesTo source p quit does = ⊥
 -- An event, whose record has a body of so many bytes, is committed where the list takes it, its record fits, and the device
 -- does not fail. P says what is replied then.
 abbrev pub IsCommit : Events → ℕ → Event → ℕ → Result Releases HandlerError → (Reply → Type 0) → Reply → Type 0
-IsCommit events end e size (Err why) P a = a ≡ refused (refusal_of (handler_refusal why)) (running events end)
+IsCommit events end e size (Err why) P a = a ≡ refused (refusal_of why) (running events end)
 IsCommit events end e size (Ok next) P a =
     (HasSpace end size × (P a ⊎ (a ≡ failed (Some e) (dead (uncertain events end e size)))))
     ⊎ ((HasSpace end size → ⊥) × (a ≡ refused full (running events end)))

@@ -1,27 +1,19 @@
 //! The node of a session.
-ghost use Rattle.std.specs.Prelude.{◌≡◌, ◌≢◌, codes, true, None, Some, Ok, Err, string_bytes, IfOk, IfErr, OnOk, MatchResult};
+ghost use Rattle.std.specs.Prelude.{◌≡◌, codes, None, Some, Ok, Err, string_bytes, IfOk, IfErr, OnOk, MatchResult};
 ghost use Rattle.session_input.specs.Commands.{command_of, given_of};
 ghost use Rattle.session_input.specs.Commands.Command.{file as file_given, create, set_unpacked, install, permanent, remove, reboot_old, boot, start};
-ghost use Rattle.rel_files.specs.Release.{release_of};
-ghost use Rattle.rel_handler.specs.Files.{IsRelFile};
-ghost use Rattle.rel_records.specs.Limits.{is_small};
-ghost use Rattle.rel_session.specs.Files.{files_of, no_files, give, source_of};
-ghost use Rattle.rel_unpack.specs.Release.{ReleaseAt, found_of};
-ghost use Rattle.rel_session.specs.InMemory.{Answers, IsLine, IsText};
-ghost use Rattle.rel_session.specs.Refusals.{refusal_of, IsFilesRefusal};
-ghost use Rattle.rel_session.specs.Transition.{Transition, Acts, installation, permanence, removal};
+ghost use Rattle.rel_session.specs.Files.{files_of, no_files, give};
+ghost use Rattle.rel_session.specs.InMemory.{IsLine, IsText};
+ghost use Rattle.rel_session.specs.Transition.{Acts, installation, permanence, removal};
 ghost use Rattle.rel_session.specs.Transition.Action.{answers, changes_node, reboots_node, boots_node, tells_start};
-ghost use Rattle.rel_session.specs.declared.place.Place.TheVariants.{Idle, Made};
-ghost use Rattle.rel_handler.specs.State.{IsSound};
+ghost use Rattle.rel_session.specs.declared.place.Place.TheVariants.{Idle};
 
 use crate::given_files::{GivenFiles, SessionFiles};
-use crate::place::{Place, ok_line};
-use crate::refusal::Refusal;
+use crate::place::Place;
+use crate::refusal::refusal_line;
 use file_source::Files;
 use rel_disk::Disk;
-use rel_files::RelFile;
-use rel_handler::Handler;
-use rel_unpack::read_release;
+use rel_handler::HandlerError;
 use session_input::{Command, GivenFile, SessionError};
 use std::alloc::{AllocError, Global};
 
@@ -120,13 +112,12 @@ impl<D: Disk> Node<D> {
         ensures memory { IfErr result.1 (λ e. e ≡ SessionError.NoMemory) }
     {
         let Node { place, files } = self;
-        match release_at(alloc, &files, base, path) {
-            Ok(file) => {
-                let (place, created) = place.make(alloc, file);
-                (Node { place, files }, line_of(alloc, created))
-            }
-            Err(refusal) => (Node { place, files }, line_of(alloc, Err(refusal))),
-        }
+        let source = SessionFiles {
+            given: &files,
+            base,
+        };
+        let (place, created) = place.create(alloc, &source, path);
+        (Node { place, files }, line_of(alloc, created))
     }
 
     /// Takes in the release in the file of this path as unpacked.
@@ -143,25 +134,12 @@ impl<D: Disk> Node<D> {
         ensures memory { IfErr result.1 (λ e. e ≡ SessionError.NoMemory) }
     {
         let Node { place, files } = self;
-        match place {
-            Place::Idle(disk) => (
-                Node {
-                    place: Place::Idle(disk),
-                    files,
-                },
-                line_of(alloc, Err(Refusal::Dead)),
-            ),
-            Place::Made(mut handler) => {
-                let unpacked = unpack(alloc, &mut handler, &files, base, path);
-                (
-                    Node {
-                        place: Place::Made(handler),
-                        files,
-                    },
-                    line_of(alloc, unpacked),
-                )
-            }
-        }
+        let source = SessionFiles {
+            given: &files,
+            base,
+        };
+        let (place, unpacked) = place.set_unpacked(alloc, &source, path);
+        (Node { place, files }, line_of(alloc, unpacked))
     }
 
     /// Installs the release of this version.
@@ -263,56 +241,18 @@ fn keep(
     Ok(Some(String::from_str(alloc, "ok\n")?))
 }
 
-/// The release of a path.
-fn release_at<F: Files>(
-    alloc: Global,
-    given: &GivenFiles,
-    base: &F,
-    path: &str,
-) -> Result<RelFile, Refusal>
-    ensures found { IfOk result (λ file. ReleaseAt
-        (source_of (F.gives base.now) (files_of given.now)) path.now (Ok (found_of file))) }
-    ensures file { IfOk result IsRelFile }
-    ensures small { IfOk result (λ file. is_small (release_of file.release) ≡ true) }
-    ensures refused { IfErr result (λ r. r ≢ Refusal.NoMemory → IsFilesRefusal
-        (source_of (F.gives base.now) (files_of given.now)) path.now (refusal_of r)) }
-{
-    let files = SessionFiles { given, base };
-    Ok(read_release(alloc, &files, path)?)
-}
-
-/// Has a node take in the release in the file of this path as unpacked. The answer tells its version.
-fn unpack<D: Disk, F: Files>(
-    alloc: Global,
-    handler: &mut Handler<D>,
-    given: &GivenFiles,
-    base: &F,
-    path: &str,
-) -> Result<String, Refusal>
-    requires { IsSound D.seen D.may_leave handler.old }
-    ensures sound { IsSound D.seen D.may_leave handler.new }
-    ensures unpacked { Answers D.Disk (λ p a.
-        Transition (source_of (F.gives base.now) (files_of given.now)) p (set_unpacked path.now) a)
-        result (Made handler.old) (Made handler.new) }
-{
-    if handler.is_dead() {
-        return Err(Refusal::Dead);
-    }
-    let file = release_at(alloc, given, base, path)?;
-    let line = ok_line(alloc, file.release.vsn.as_str())?;
-    handler.set_unpacked(alloc, file)?;
-    Ok(line)
-}
-
 /// The line that tells what a command has done, or why it was refused.
-fn line_of(alloc: Global, done: Result<String, Refusal>) -> Result<Option<String>, SessionError>
+fn line_of(
+    alloc: Global,
+    done: Result<String, HandlerError>,
+) -> Result<Option<String>, SessionError>
     ensures line { IfOk result (λ text. IsLine done text) }
     ensures memory { IfErr result (λ e. e ≡ SessionError.NoMemory) }
 {
     match done {
         Ok(line) => Ok(Some(line)),
-        Err(Refusal::NoMemory) => Err(SessionError::NoMemory),
-        Err(refusal) => Ok(Some(refusal.line(alloc)?)),
+        Err(HandlerError::NoMemory) => Err(SessionError::NoMemory),
+        Err(why) => Ok(Some(refusal_line(alloc, &why)?)),
     }
 }
 

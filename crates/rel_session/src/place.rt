@@ -1,21 +1,21 @@
 //! Where the node of a session lives.
-ghost use Rattle.std.specs.Prelude.{◌≡◌, true, false, string_bytes, IfOk, IsErr};
-ghost use Rattle.rel_files.specs.Release.{release_of};
-ghost use Rattle.rel_handler.specs.Files.{IsRelFile};
-ghost use Rattle.rel_records.specs.Limits.{is_small};
+ghost use Rattle.std.specs.Prelude.{◌≡◌, ◌⊎◌, false, Ok, Err, string_bytes, IfOk, IsErr, MatchResult};
 ghost use Rattle.rel_handler.specs.State.{is_dead, list_in};
+ghost use Rattle.rel_handler.specs.Unpacking.{IsOfFiles};
 ghost use Rattle.rel_list.specs.Releases.{running};
-ghost use Rattle.rel_unpack.specs.Release.{found_of};
+ghost use Rattle.rel_unpack.specs.Release.{Found, ReleaseAt};
+ghost use Rattle.session_input.specs.Commands.Command.{create};
 ghost use Rattle.rel_session.specs.Node.{Place as SomePlace};
 ghost use Rattle.rel_session.specs.Refusals.{boot_line};
-ghost use Rattle.rel_session.specs.Transition.{MakesNode, Boots, listed, ok_line, version_of};
+ghost use Rattle.rel_session.specs.Transition.{Transition, Boots, listed, ok_line, version_of};
 
 use crate::listing::listing;
-use crate::refusal::Refusal;
+use crate::refusal::refusal_line;
+use file_source::Files;
 use rel_disk::Disk;
-use rel_files::RelFile;
-use rel_handler::{BootError, Handler};
+use rel_handler::{BootError, Handler, HandlerError};
 use rel_list::ReleaseList;
+use rel_unpack::read_release;
 use std::alloc::{AllocError, Global};
 
 /// A disk, and the node on it if one was made or booted.
@@ -39,25 +39,32 @@ impl<D: Disk> Place<D> {
         }
     }
 
-    /// Makes a node with the release of this file as its permanent one. The answer tells its version.
-    pub fn make(self, alloc: Global, file: RelFile) -> (Place<D>, Result<String, Refusal>)
-        requires sound { IsSoundPlace D.seen D.may_leave self }
-        requires file { IsRelFile file }
-        requires small { is_small (release_of file.release) ≡ true }
+    /// Makes a node with the release in the file of this path as its permanent one. The answer tells its version.
+    pub fn create<F: Files>(
+        self,
+        alloc: Global,
+        files: &F,
+        path: &str,
+    ) -> (Place<D>, Result<String, HandlerError>)
+        requires { IsSoundPlace D.seen D.may_leave self }
         ensures sound { IsSoundPlace D.seen D.may_leave result.0 }
-        ensures made { Answers D.Disk (λ p a. MakesNode p (found_of file) a)
+        ensures created { Answers D.Disk
+            (λ p a. Transition (F.gives files.now) p (create path.now) a)
             result.1 self result.0 }
     {
         let disk = match self {
             Place::Idle(disk) => disk,
-            Place::Made(handler) => return (Place::Made(handler), Err(Refusal::Exists)),
+            Place::Made(handler) => {
+                let why = existing(alloc, files, path);
+                return (Place::Made(handler), Err(why));
+            }
         };
-        let Ok(line) = ok_line(alloc, file.release.vsn.as_str()) else {
-            return (Place::Idle(disk), Err(Refusal::NoMemory));
-        };
-        match Handler::create(alloc, disk, file) {
-            Ok(handler) => (Place::Made(handler), Ok(line)),
-            Err((error, disk)) => (Place::Idle(disk), Err(Refusal::from(error))),
+        match Handler::create(alloc, disk, files, path) {
+            Ok(handler) => {
+                let created = answer_of(running_line(alloc, &handler));
+                (Place::Made(handler), created)
+            }
+            Err((error, disk)) => (Place::Idle(disk), Err(error)),
         }
     }
 
@@ -69,7 +76,7 @@ impl<D: Disk> Place<D> {
     {
         match rel_handler::boot(alloc, self.into_disk()) {
             Ok(handler) => {
-                let line = booted_line(alloc, &handler);
+                let line = running_line(alloc, &handler);
                 (Place::Made(handler), line)
             }
             Err((error, disk)) => (Place::Idle(disk), refused_line(alloc, error)),
@@ -82,17 +89,37 @@ impl<D: Disk> Place<D> {
             (p : SomePlace) → IsAt D.Disk self.now p → string_bytes text ≡ listed p) }
     {
         let Place::Made(handler) = self else {
-            return Refusal::Dead.line(alloc);
+            return refusal_line(alloc, &HandlerError::Dead);
         };
         match handler.which_releases() {
             Ok(list) => listing(alloc, list),
-            Err(_) => Refusal::Dead.line(alloc),
+            Err(error) => refusal_line(alloc, &error),
         }
     }
 }
 
-/// The line that tells of a node that was booted: the version of the release that runs.
-fn booted_line<D: Disk>(alloc: Global, handler: &Handler<D>) -> Result<String, AllocError>
+/// Why no node is made where there is one: its file is read first.
+fn existing<F: Files>(alloc: Global, files: &F, path: &str) -> HandlerError
+    ensures { IsOfFiles (F.gives files.now) path.now result
+        ⊎ ((result ≡ HandlerError.Exists)
+        × ((found : Found) × ReleaseAt (F.gives files.now) path.now (Ok found))) }
+{
+    match read_release(alloc, files, path) {
+        Ok(_file) => HandlerError::Exists,
+        Err(error) => HandlerError::from(error),
+    }
+}
+
+/// A line as an answer.
+pub(crate) fn answer_of(line: Result<String, AllocError>) -> Result<String, HandlerError>
+    ensures same { MatchResult line (λ text. result ≡ Ok text)
+        (λ _. result ≡ Err HandlerError.NoMemory) }
+{
+    Ok(line?)
+}
+
+/// The line that tells the version of the release that runs.
+fn running_line<D: Disk>(alloc: Global, handler: &Handler<D>) -> Result<String, AllocError>
     requires { is_dead handler.now ≡ false }
     ensures { IfOk result (λ text. string_bytes text
         ≡ ok_line (version_of (running (list_in handler.now)))) }
@@ -100,18 +127,17 @@ fn booted_line<D: Disk>(alloc: Global, handler: &Handler<D>) -> Result<String, A
     let Ok(list) = handler.which_releases() else {
         unreachable!();
     };
-    running_line(alloc, list)
+    ok_line(alloc, running_version(list))
 }
 
-/// The line of the release that runs.
-fn running_line(alloc: Global, list: &ReleaseList) -> Result<String, AllocError>
-    ensures { IfOk result (λ text. string_bytes text ≡ ok_line (version_of (running list.now))) }
+/// The version of the release that runs, and nothing where none does.
+fn running_version(list: &ReleaseList) -> &str
+    ensures { result.now ≡ version_of (running list.now) }
 {
-    let vsn = match list.running() {
+    match list.running() {
         Some(release) => release.vsn.as_str(),
         None => "",
-    };
-    ok_line(alloc, vsn)
+    }
 }
 
 /// The line that tells a version.

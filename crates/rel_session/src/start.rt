@@ -7,21 +7,20 @@ ghost use Rattle.rel_session.specs.Transition.Action.{tells_start};
 ghost use Rattle.rel_session.specs.declared.place.Place.TheVariants.{Made};
 
 use crate::place::Place;
-use crate::refusal::Refusal;
 use rel_disk::Disk;
-use rel_handler::Handler;
+use rel_handler::{Handler, HandlerError};
 use start_record::Start;
 use std::alloc::{AllocError, Global};
 
 impl<D: Disk> Place<D> {
     /// What the node starts, as its start record tells it.
-    pub fn start(self, alloc: Global) -> (Place<D>, Result<String, Refusal>)
+    pub fn start(self, alloc: Global) -> (Place<D>, Result<String, HandlerError>)
         requires { IsSoundPlace D.seen D.may_leave self }
         ensures sound { IsSoundPlace D.seen D.may_leave result.0 }
         ensures told { Answers D.Disk (λ p a. Acts p tells_start a) result.1 self result.0 }
     {
         match self {
-            Place::Idle(disk) => (Place::Idle(disk), Err(Refusal::Dead)),
+            Place::Idle(disk) => (Place::Idle(disk), Err(HandlerError::Dead)),
             Place::Made(mut handler) => {
                 let told = start(alloc, &mut handler);
                 (Place::Made(handler), told)
@@ -31,14 +30,14 @@ impl<D: Disk> Place<D> {
 }
 
 /// Has a node tell what it starts.
-fn start<D: Disk>(alloc: Global, handler: &mut Handler<D>) -> Result<String, Refusal>
+fn start<D: Disk>(alloc: Global, handler: &mut Handler<D>) -> Result<String, HandlerError>
     requires { IsSound D.seen D.may_leave handler.old }
     ensures sound { IsSound D.seen D.may_leave handler.new }
     ensures told { Answers D.Disk (λ p a. Acts p tells_start a) result
         (Made handler.old) (Made handler.new) }
 {
     if handler.is_dead() {
-        return Err(Refusal::Dead);
+        return Err(HandlerError::Dead);
     }
     let start = handler.start(alloc)?;
     let line = start_line(alloc, &start)?;

@@ -1,23 +1,22 @@
 -- The libraries of a release's applications, from their files.
-use Rattle.std.specs.Prelude.{◌≡◌, ℕ, Bool, true, false, ◌&&◌, List, Option, None, Some, if◌then◌else◌, Ok, Err}
+use Rattle.std.specs.Prelude.{◌≡◌, ℕ, Bool, true, ◌&&◌, List, Option, None, Some, if◌then◌else◌, Ok, Err}
 use Rattle.std.specs.Str.{bytes_eq}
-use Rattle.file_source.specs.declared.files.FilesError.TheVariants.{Missing}
 use Rattle.rel_files.specs.Kind.{HasFault}
 use Rattle.rel_files.specs.Release.{Application}
 use Rattle.app_file.specs.File.{Specification, SaysApp, app_files}
 use Rattle.mod_table.specs.File.{SaysWith, name_of, mod_files}
 use Rattle.library.specs.Library.{Library, TableTerm, is_same_library}
-use Rattle.rel_unpack.specs.Refusal.{Refusal}
-use Rattle.rel_unpack.specs.Refusal.Refusal.{missing_file, vsn_mismatch, lib_differs}
+use Rattle.rel_unpack.specs.Refusal.{IsFault}
+use Rattle.rel_unpack.specs.Refusal.Refusal.{vsn_mismatch, lib_differs}
 use Rattle.rel_unpack.specs.Order.{Outcome, Then, Each}
 use Rattle.rel_unpack.specs.Paths.{app_path, mod_path}
-use Rattle.rel_unpack.specs.Source.{Source, Form, FileSays}
+use Rattle.rel_unpack.specs.Source.{Source, Form, FileSays, IfThere}
 
 abbrev pub app_form : Form Specification
-app_form = record { says = λ bytes s. SaysApp bytes s; fails = λ bytes f. HasFault app_files bytes f }
+app_form = record { says = λ bytes s. SaysApp bytes s; fails = λ bytes t. IsFault (HasFault app_files bytes) t }
 
 abbrev pub mod_form : Form TableTerm
-mod_form = record { says = λ bytes t. SaysWith bytes t.term t.table; fails = λ bytes f. HasFault mod_files bytes f }
+mod_form = record { says = λ bytes t. SaysWith bytes t.term t.table; fails = λ bytes t. IsFault (HasFault mod_files bytes) t }
 
 -- it is of the name and the version that the release says
 abbrev pub is_named : Application → Specification → Bool
@@ -36,17 +35,9 @@ abbrev pub TableAt : Source → Application → List ℕ → Outcome TableTerm
 TableAt source a m =
     Then (FileSays mod_form source (mod_path a m)) (λ t r. r ≡ (if is_of m t then Ok t else Err (vsn_mismatch (mod_path a m))))
 
--- there is no file
-abbrev pub is_missing : Refusal → Bool
-is_missing (missing_file p) = true
-is_missing e = false
-
 -- what a module has: without a file it has no table
 abbrev pub ModuleAt : Source → Application → List ℕ → Outcome (Option TableTerm)
-ModuleAt source a m (Ok (Some t)) = TableAt source a m (Ok t)
-ModuleAt source a m (Ok None) = source (mod_path a m) (Err Missing)
-ModuleAt source a m (Err (missing_file p)) = ⊥
-ModuleAt source a m (Err e) = TableAt source a m (Err e)
+ModuleAt source a m = IfThere source (mod_path a m) (TableAt source a m)
 
 -- the library of an application, from its files
 abbrev pub LibraryAt : Source → Application → Outcome Library

@@ -1,6 +1,6 @@
 -- Why a release isn't taken.
-use Rattle.std.specs.Prelude.{ℕ, List, string_bytes}
-use Rattle.rel_files.specs.Fault.{Fault, fault_of}
+use Rattle.std.specs.Prelude.{ℕ, Bool, true, false, List, codes, string_bytes}
+use Rattle.rel_files.specs.Fault.{Fault, fault_of, file_fault_text}
 use Rattle.rel_unpack.specs.declared.error.FileTrouble.{FileTrouble}
 use Rattle.rel_unpack.specs.declared.error.FileTrouble.TheVariants as trouble
 use Rattle.rel_unpack.specs.declared.error.UnpackError.{UnpackError}
@@ -10,6 +10,7 @@ use Rattle.rel_unpack.specs.declared.error.UnpackError.TheVariants as memory
 pub data Trouble : Type 0 where
   unreadable : Trouble
   faulty : Fault → Trouble
+  misshapen : Trouble
 
 -- why a release isn't taken
 pub data Refusal : Type 0 where
@@ -23,6 +24,13 @@ pub data Refusal : Type 0 where
 abbrev pub trouble_of : FileTrouble → Trouble
 trouble_of trouble.Unreadable = unreadable
 trouble_of (trouble.Fault f) = faulty (fault_of f)
+trouble_of trouble.Misshapen = misshapen
+
+-- how it is shown
+abbrev pub trouble_text : Trouble → List ℕ
+trouble_text unreadable = codes "Unreadable"
+trouble_text (faulty f) = file_fault_text f
+trouble_text misshapen = codes "BadShape"
 
 -- a refusal without where it lies in memory
 abbrev pub refusal_of : UnpackError → Refusal
@@ -32,3 +40,13 @@ refusal_of (memory.VsnMismatch path) = vsn_mismatch (string_bytes path)
 refusal_of (memory.LibDiffers name) = lib_differs (string_bytes name)
 refusal_of memory.TooMany = too_many
 refusal_of memory.NoMemory = no_memory
+
+-- there is no file
+abbrev pub is_missing : Refusal → Bool
+is_missing (missing_file p) = true
+is_missing e = false
+
+-- the file has a fault that says where it lies, and this holds of it
+abbrev pub IsFault : (Fault → Type 0) → Trouble → Type 0
+IsFault P (faulty f) = P f
+IsFault P t = ⊥

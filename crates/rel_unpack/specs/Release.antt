@@ -4,6 +4,7 @@ use Rattle.erl_term.specs.Value.{Value, value_of}
 use Rattle.rel_files.specs.File.{HasFileTerm, IsReleaseTerm, HasFault}
 use Rattle.rel_files.specs.Release.{Release, release_of}
 use Rattle.rel_files.specs.declared.reader.RelFile.{RelFile}
+use Rattle.rel_unpack.specs.Refusal.{IsFault}
 use Rattle.rel_unpack.specs.Refusal.Refusal.{too_many}
 use Rattle.rel_unpack.specs.Order.{Outcome, Then}
 use Rattle.rel_unpack.specs.Source.{Source, Form, FileSays}
@@ -17,7 +18,7 @@ abbrev pub found_of : RelFile → Found
 found_of f = record { release = release_of f.release; term = value_of f.term }
 
 abbrev pub rel_form : Form Found
-rel_form = record { says = λ bytes f. HasFileTerm bytes f.term × IsReleaseTerm f.term f.release; fails = λ bytes e. HasFault bytes e }
+rel_form = record { says = λ bytes f. HasFileTerm bytes f.term × IsReleaseTerm f.term f.release; fails = λ bytes t. IsFault (HasFault bytes) t }
 
 -- a release has no more applications than it may have
 abbrev pub is_small : Release → Bool

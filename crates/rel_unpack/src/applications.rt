@@ -86,7 +86,7 @@ fn read_library<F: Files>(alloc: Global, files: &F, app: &RelApp) -> Result<Libr
     ensures { Answers library_of
         (LibraryAt (F.gives files.now) (application_of app.now)) result }
 {
-    let specification = read_app_file(alloc, files, app)?;
+    let specification = read_application(alloc, files, app)?;
     let tables = read_tables(alloc, files, app, specification.modules.as_slice())?;
     Ok(Library {
         app: specification,
@@ -94,8 +94,12 @@ fn read_library<F: Files>(alloc: Global, files: &F, app: &RelApp) -> Result<Libr
     })
 }
 
-// What the file of an application says.
-fn read_app_file<F: Files>(alloc: Global, files: &F, app: &RelApp) -> Result<App, UnpackError>
+/// What the file of an application says.
+pub fn read_application<F: Files>(
+    alloc: Global,
+    files: &F,
+    app: &RelApp,
+) -> Result<App, UnpackError>
     ensures { Answers specification_of
         (AppAt (F.gives files.now) (application_of app.now)) result }
 {

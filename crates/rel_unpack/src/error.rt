@@ -3,18 +3,36 @@ ghost use Rattle.std.specs.Prelude.{◌≡◌};
 
 use rel_files::FileFault;
 use std::alloc::{AllocError, AllocFailed};
+use std::fmt::{self, Display, Formatter};
 use thiserror::Error;
 
-/// What is wrong with a file that is there.
-#[derive(Debug, Drop, Error)]
+/// What is wrong with a file that is there. It is shown by its name, and a fault by its place too where it has one.
+#[derive(Debug, Drop)]
 pub enum FileTrouble {
     /// It can't be read.
-    #[error("Unreadable")]
     Unreadable,
     /// Its bytes have this fault.
-    #[error("{0}")]
     Fault(FileFault),
+    /// It hasn't one term, or one that isn't of its kind's shape. This fault has no place.
+    Misshapen,
 }
+
+impl Display for FileTrouble {
+    ghost use Rattle.std.specs.Prelude.{Some};
+    ghost use Rattle.rel_unpack.specs.Refusal.{trouble_of, trouble_text};
+
+    ghost output = { λ t. Some (trouble_text (trouble_of t)) };
+
+    fn fmt<W: fmt::Write>(&self, f: &mut Formatter<W>) -> fmt::Result {
+        match self {
+            FileTrouble::Unreadable => f.write_str("Unreadable"),
+            FileTrouble::Fault(fault) => write!(f, "{fault}"),
+            FileTrouble::Misshapen => f.write_str("BadShape"),
+        }
+    }
+}
+
+impl std::error::Error for FileTrouble {}
 
 /// Why a release isn't taken.
 #[derive(Debug, Drop, Error)]

@@ -15,6 +15,7 @@ mod release;
 mod source;
 mod tables;
 
-pub use applications::{Libraries, read_libraries};
+pub use applications::{Libraries, read_application, read_libraries};
 pub use error::{FileTrouble, UnpackError};
 pub use release::{MOST_APPLICATIONS, is_small, read_release};
+pub use source::{read_bytes, unless_missing};

@@ -1,8 +1,8 @@
 //! The bytes of a source's files.
-ghost use Rattle.std.specs.Prelude.{◌≡◌, ◌≢◌};
+ghost use Rattle.std.specs.Prelude.{◌≡◌, ◌≢◌, None, true, false, MatchResult};
 ghost use Rattle.rel_files.specs.Fault.{fault_of};
 ghost use Rattle.rel_unpack.specs.Order.{Answers};
-ghost use Rattle.rel_unpack.specs.Refusal.{refusal_of};
+ghost use Rattle.rel_unpack.specs.Refusal.{refusal_of, is_missing};
 ghost use Rattle.rel_unpack.specs.Refusal.Refusal.{bad_file};
 ghost use Rattle.rel_unpack.specs.Refusal.Trouble.{faulty};
 ghost use Rattle.rel_unpack.specs.Source.{HasBytes};
@@ -12,12 +12,8 @@ use file_source::{Files, FilesError};
 use rel_files::FileFault;
 use std::alloc::Global;
 
-// The bytes of the file of a path.
-pub(crate) fn read_bytes<F: Files>(
-    alloc: Global,
-    files: &F,
-    path: &str,
-) -> Result<Vec<u8>, UnpackError>
+/// The bytes of the file of a path.
+pub fn read_bytes<F: Files>(alloc: Global, files: &F, path: &str) -> Result<Vec<u8>, UnpackError>
     ensures { Answers (λ bytes. bytes.items) (HasBytes (F.gives files.now) path.now) result }
 {
     match files.read(alloc, path) {
@@ -43,5 +39,17 @@ pub(crate) fn refusal_for(alloc: Global, path: &str, fault: FileFault) -> Unpack
             Ok(path) => UnpackError::BadFile(path, FileTrouble::Fault(fault)),
             Err(_) => UnpackError::NoMemory,
         },
+    }
+}
+
+/// What isn't read for want of its file is none.
+pub fn unless_missing<T: Drop>(error: UnpackError) -> Result<Option<T>, UnpackError>
+    ensures { MatchResult result
+        (λ found. (found ≡ None) × (is_missing (refusal_of error) ≡ true))
+        (λ e. (e ≡ error) × (is_missing (refusal_of error) ≡ false)) }
+{
+    match error {
+        UnpackError::MissingFile(_) => Ok(None),
+        other => Err(other),
     }
 }

@@ -1,16 +1,15 @@
 //! The tables of an application's modules.
-ghost use Rattle.std.specs.Prelude.{◌≡◌, None, true, false, MatchResult, map, string_bytes};
+ghost use Rattle.std.specs.Prelude.{◌≡◌, map, string_bytes};
 ghost use Rattle.std.specs.Option.{option_map};
 ghost use Rattle.library.specs.InMemory.{table_term_of};
 ghost use Rattle.rel_files.specs.Release.{application_of};
-ghost use Rattle.rel_unpack.specs.Applications.{ModuleAt, TableAt, is_missing, is_of, mod_form};
+ghost use Rattle.rel_unpack.specs.Applications.{ModuleAt, TableAt, is_of, mod_form};
 ghost use Rattle.rel_unpack.specs.Order.{Answers, Each};
-ghost use Rattle.rel_unpack.specs.Refusal.{refusal_of};
 ghost use Rattle.rel_unpack.specs.Source.{FileSays};
 
 use crate::error::UnpackError;
 use crate::paths::mod_path;
-use crate::source::{read_bytes, refusal_for};
+use crate::source::{read_bytes, refusal_for, unless_missing};
 use file_source::Files;
 use mod_table::{ModFile, read_mod_file};
 use rel_files::RelApp;
@@ -47,18 +46,6 @@ fn read_module<F: Files>(
     match read_table(alloc, files, app, name) {
         Ok(file) => Ok(Some(file)),
         Err(error) => unless_missing(error),
-    }
-}
-
-// A module whose file isn't there has no table.
-fn unless_missing(error: UnpackError) -> Result<Option<ModFile>, UnpackError>
-    ensures { MatchResult result
-        (λ table. (table ≡ None) × (is_missing (refusal_of error) ≡ true))
-        (λ e. (e ≡ error) × (is_missing (refusal_of error) ≡ false)) }
-{
-    match error {
-        UnpackError::MissingFile(_) => Ok(None),
-        other => Err(other),
     }
 }
 

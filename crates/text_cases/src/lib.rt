@@ -4,11 +4,15 @@
 //! its answer behind it. Headings, which begin with `#`, and empty lines are written as they are. So the output alone
 //! reads as a table.
 //!
+//! [`CaseFiles`] are files that a text gives, for libraries that read files.
+//!
 //! In a text `~XX` stands for the byte of these two hexadecimal digits, and `~(N TEXT)` for N copies of TEXT.
 #![tactic(auto)]
 
 mod cases;
+mod files;
 mod text;
 
 pub use cases::answer_cases;
+pub use files::CaseFiles;
 pub use text::bytes_of;

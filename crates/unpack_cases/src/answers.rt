@@ -1,8 +1,9 @@
 //! The answer to a case.
-use crate::source::{CaseFiles, CaseLibrary};
+use crate::there::CaseLibrary;
 use library::{Library, library_of_term};
 use rel_unpack::{UnpackError, read_libraries, read_release};
 use std::alloc::{AllocError, Global};
+use text_cases::CaseFiles;
 
 /// The answer in one of four modes. A text is a line for each file: its path, a blank and its bytes. The release is that of
 /// the file `r.rel`.

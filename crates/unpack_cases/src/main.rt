@@ -2,7 +2,7 @@
 #![tactic(auto)]
 
 mod answers;
-mod source;
+mod there;
 
 use crate::answers::answer;
 use std::io;

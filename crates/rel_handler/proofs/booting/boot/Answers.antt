@@ -1,4 +1,4 @@
-use Rattle.std.proofs.Common.{◌⊎◌, inr, sym, ◌∙◌, subst, ap}
+use Rattle.std.proofs.Common.{◌⊎◌, inr, sym, ◌∙◌, subst}
 use Rattle.rel_disk.specs.Moments.{LeavesOnly}
 use Rattle.rel_disk.proofs.Moments.{weakened}
 use Rattle.rel_store.proofs.OnlyReads.{read_on}

@@ -1,11 +1,10 @@
-use Rattle.std.proofs.Common.{rules, refl, sym, ap, ◌∙◌, subst}
+use Rattle.std.proofs.Common.{rules, sym, ap, ◌∙◌, subst}
 use Rattle.rel_session.specs.InMemory.{Answers}
 use Rattle.rel_session.specs.Node.{Place, Reply}
-use Rattle.rel_session.specs.Refusals.{handler_refusal}
 use Rattle.rel_session.specs.Transition.{Acts, installation, installed_line}
 use Rattle.rel_session.specs.Transition.Action.{changes_node}
 use Rattle.rel_session.specs.declared.place.Place.TheVariants as memory
-use Rattle.rel_session.specs.declared.refusal.Refusal.TheVariants as refusal
+use Rattle.rel_handler.specs.declared.error.HandlerError.TheVariants as handler_error
 use Rattle.rel_session.proofs.DeviceLemmas.{IsDevice}
 use Rattle.rel_session.proofs.CommitReplies.{changes, changes_untold, changes_none}
 use Rattle.rel_session.proofs.Replies.{told_so, changes_dead, idle_changes}
@@ -23,8 +22,8 @@ returns-in_err-installed-clause-installed g c =
     let new = c.install_release.new.self in
     let e = c.in_err-installed.field-0.0 in
     let Does : Place → Reply → Type 0 = λ p a. Acts p (changes_node (installation c.args.vsn.now)) a in
-    subst (λ r. Answers g.D.Disk Does r (memory.Made h) (memory.Made new)) (sym (told_so c.from_residual.result (handler_refusal e) c.from_residual.ensures.1))
-    (changes_none g.D.Disk laws Does h (search rules) (installation c.args.vsn.now) (λ events end a is. is) new c.in_err-installed.ensures.commits e (handler_refusal e) c.in_err-installed.ensures.refused refl)
+    subst (λ r. Answers g.D.Disk Does r (memory.Made h) (memory.Made new)) (sym (told_so c.from_residual.result e c.from_residual.ensures.1))
+    (changes_none g.D.Disk laws Does h (search rules) (installation c.args.vsn.now) (λ events end a is. is) new c.in_err-installed.ensures.commits e c.in_err-installed.ensures.refused)
 
 -- memory was refused for the answer
 pub returns-in_err-line-clause-installed : goal.returns-in_err-line-clause-installed
@@ -33,7 +32,7 @@ returns-in_err-line-clause-installed g c =
     let h = c.args.handler.now in
     let new = c.install_release.new.self in
     let Does : Place → Reply → Type 0 = λ p a. Acts p (changes_node (installation c.args.vsn.now)) a in
-    subst (λ r. Answers g.D.Disk Does r (memory.Made h) (memory.Made new)) (sym (told_so c.from_residual-in_err-line.result refusal.NoMemory c.from_residual-in_err-line.ensures.1))
+    subst (λ r. Answers g.D.Disk Does r (memory.Made h) (memory.Made new)) (sym (told_so c.from_residual-in_err-line.result handler_error.NoMemory c.from_residual-in_err-line.ensures.1))
     (changes_untold g.D.Disk laws Does h (search rules) (installation c.args.vsn.now) (λ events end a is. is) new c.in_ok-installed.ensures.commits c.in_ok-installed.ensures.works c.in_ok-installed.ensures.done)
 
 pub returns-clause-installed : goal.returns-clause-installed

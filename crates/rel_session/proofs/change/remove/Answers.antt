@@ -1,11 +1,10 @@
-use Rattle.std.proofs.Common.{rules, refl, sym, subst}
+use Rattle.std.proofs.Common.{rules, sym, subst}
 use Rattle.rel_session.specs.InMemory.{Answers}
 use Rattle.rel_session.specs.Node.{Place, Reply}
-use Rattle.rel_session.specs.Refusals.{handler_refusal}
 use Rattle.rel_session.specs.Transition.{Acts, removal}
 use Rattle.rel_session.specs.Transition.Action.{changes_node}
 use Rattle.rel_session.specs.declared.place.Place.TheVariants as memory
-use Rattle.rel_session.specs.declared.refusal.Refusal.TheVariants as refusal
+use Rattle.rel_handler.specs.declared.error.HandlerError.TheVariants as handler_error
 use Rattle.rel_session.proofs.DeviceLemmas.{IsDevice}
 use Rattle.rel_session.proofs.CommitReplies.{changes, changes_none}
 use Rattle.rel_session.proofs.Replies.{told_so, changes_no_memory, changes_dead, idle_changes}
@@ -23,8 +22,8 @@ returns-in_err-remove_release-clause-removed g c =
     let new = c.remove_release.new.self in
     let e = c.in_err-remove_release.field-0.0 in
     let Does : Place → Reply → Type 0 = λ p a. Acts p (changes_node (removal c.args.vsn.now)) a in
-    subst (λ r. Answers g.D.Disk Does r (memory.Made h) (memory.Made new)) (sym (told_so c.from_residual-in_err-remove_release.result (handler_refusal e) c.from_residual-in_err-remove_release.ensures.1))
-    (changes_none g.D.Disk laws Does h (search rules) (removal c.args.vsn.now) (λ events end a is. is) new c.in_err-remove_release.ensures.commits e (handler_refusal e) c.in_err-remove_release.ensures.refused refl)
+    subst (λ r. Answers g.D.Disk Does r (memory.Made h) (memory.Made new)) (sym (told_so c.from_residual-in_err-remove_release.result e c.from_residual-in_err-remove_release.ensures.1))
+    (changes_none g.D.Disk laws Does h (search rules) (removal c.args.vsn.now) (λ events end a is. is) new c.in_err-remove_release.ensures.commits e c.in_err-remove_release.ensures.refused)
 
 -- memory was refused for the answer
 pub returns-in_err-line-clause-removed : goal.returns-in_err-line-clause-removed
@@ -32,7 +31,7 @@ returns-in_err-line-clause-removed g c =
     let laws : IsDevice g.D.Disk = record { reads_an_image = g.met.D.Disk.reads_an_image; counts_now = g.met.D.Disk.counts_now; only_now = g.met.D.Disk.only_now } in
     let h = c.args.handler.now in
     let Does : Place → Reply → Type 0 = λ p a. Acts p (changes_node (removal c.args.vsn.now)) a in
-    subst (λ r. Answers g.D.Disk Does r (memory.Made h) (memory.Made h)) (sym (told_so c.from_residual.result refusal.NoMemory c.from_residual.ensures.1))
+    subst (λ r. Answers g.D.Disk Does r (memory.Made h) (memory.Made h)) (sym (told_so c.from_residual.result handler_error.NoMemory c.from_residual.ensures.1))
     (changes_no_memory g.D.Disk laws Does (memory.Made h))
 
 pub returns-clause-removed : goal.returns-clause-removed

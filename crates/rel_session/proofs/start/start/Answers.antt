@@ -1,11 +1,10 @@
 use Rattle.std.proofs.Common.{◌++◌, rules, sym, ap, ◌∙◌, subst, codes}
 use Rattle.rel_session.specs.InMemory.{Answers}
 use Rattle.rel_session.specs.Node.{Place, Reply}
-use Rattle.rel_session.specs.Refusals.{handler_refusal}
 use Rattle.rel_session.specs.Transition.{Acts, ok_line}
 use Rattle.rel_session.specs.Transition.Action.{tells_start}
 use Rattle.rel_session.specs.declared.place.Place.TheVariants as memory
-use Rattle.rel_session.specs.declared.refusal.Refusal.TheVariants as refusal
+use Rattle.rel_handler.specs.declared.error.HandlerError.TheVariants as handler_error
 use Rattle.rel_session.proofs.DeviceLemmas.{IsDevice}
 use Rattle.rel_session.proofs.Replies.{told_so, changes_dead, idle_tells}
 use Rattle.rel_session.proofs.StartReplies.{told, untold, told_none}
@@ -23,7 +22,7 @@ returns-in_err-start-clause-told g c =
     let new = c.start.new.self in
     let e = c.in_err-start.field-0.0 in
     let Does : Place → Reply → Type 0 = λ p a. Acts p tells_start a in
-    subst (λ r. Answers g.D.Disk Does r (memory.Made h) (memory.Made new)) (sym (told_so c.from_residual.result (handler_refusal e) c.from_residual.ensures.1))
+    subst (λ r. Answers g.D.Disk Does r (memory.Made h) (memory.Made new)) (sym (told_so c.from_residual.result e c.from_residual.ensures.1))
     (told_none g.D.Disk laws h new (search rules) c.in_err-start.ensures.read e c.in_err-start.ensures.refused)
 
 -- memory was refused for the answer
@@ -33,7 +32,7 @@ returns-in_err-line-clause-told g c =
     let h = c.args.handler.now in
     let new = c.start.new.self in
     let Does : Place → Reply → Type 0 = λ p a. Acts p tells_start a in
-    subst (λ r. Answers g.D.Disk Does r (memory.Made h) (memory.Made new)) (sym (told_so c.from_residual-in_err-line.result refusal.NoMemory c.from_residual-in_err-line.ensures.1))
+    subst (λ r. Answers g.D.Disk Does r (memory.Made h) (memory.Made new)) (sym (told_so c.from_residual-in_err-line.result handler_error.NoMemory c.from_residual-in_err-line.ensures.1))
     (untold g.D.Disk laws h new (search rules) c.in_ok-start.ensures.read c.in_ok-start.ensures.works)
 
 pub returns-clause-told : goal.returns-clause-told

@@ -1,74 +1,22 @@
-use Rattle.std.proofs.Common.{◌≡◌, true, false, rules, refl, sym, ap, ◌∙◌, subst}
-use Rattle.rel_files.specs.Release.{release_of}
-use Rattle.rel_records.specs.Limits.{is_small}
-use Rattle.rel_handler.proofs.Boots.{unwritten, nothing_begun, sound_so, begins_at, begins, made_new}
-use Rattle.rel_handler.specs.Image.{IsStarted, start_slot}
-use Rattle.rel_handler.proofs.Images.{each_image, started_new, has_a_store}
+use Rattle.rel_unpack.specs.Release.{found_of}
+use Rattle.rel_handler.proofs.Images.{has_a_store}
+use Rattle.rel_handler.proofs.ReleaseLemmas.{made_so, not_made_so}
 use Rattle.rel_handler.proofs.handler.Handler.create.Goals as goal
 
-pub returns-in-Ok-create-clause-sound : goal.returns-in-Ok-create-clause-sound
-returns-in-Ok-create-clause-sound g c =
-    let small : is_small (release_of c.args.file.release) ≡ true = search rules in
-    let spelled = rw (sym c.as_bytes.ensures.value) at c.in-Ok.ensures.spells in
-    sound_so g.D.Disk.seen g.D.Disk.may_leave c.in-Ok-create.store c.in-Ok.new.list c.in-Ok-create.ensures.settled (made_new (release_of c.args.file.release) c.as_bytes.result.now _ c.in-Ok.new.list small spelled c.in-Ok-create.ensures.records c.in-Ok.ensures.list)
-    (λ d now. subst (λ l. IsStarted l d) (sym c.in-Ok.ensures.list)
-    (started_new (release_of c.args.file.release) c.as_bytes-2.result.now d c.requires.says.versions (c.as_bytes-2.ensures.value ∙ c.in-Ok.ensures.start)
-    (ap (λ l. start_slot l) (c.in-Ok-create.ensures.settled.durable d now) ∙ c.in-Ok-create.ensures.start)))
+-- the release of the path was made a node, or not
+pub returns-in-Ok-clause-made : goal.returns-in-Ok-clause-made
+returns-in-Ok-clause-made g c =
+    made_so g.D.Disk (g.F.Files.gives c.args.files.now) c.args.path.now (found_of c.in-Ok.file) c.in-Ok.ensures.found c.args.disk c.make.result
+    c.make.ensures.list c.make.ensures.acknowledged c.make.ensures.start c.make.ensures.fits c.make.ensures.end c.make.ensures.begun
 
-pub returns-in-Ok-create-clause-acknowledged : goal.returns-in-Ok-create-clause-acknowledged
-returns-in-Ok-create-clause-acknowledged g c = λ d now.
-    let small : is_small (release_of c.args.file.release) ≡ true = search rules in
-    let spelled = rw (sym c.as_bytes.ensures.value) at c.in-Ok.ensures.spells in
-    each_image g.D.Disk.seen g.D.Disk.may_leave c.in-Ok-create.store c.in-Ok.new.list c.in-Ok-create.ensures.settled (made_new (release_of c.args.file.release) c.as_bytes.result.now _ c.in-Ok.new.list small spelled c.in-Ok-create.ensures.records c.in-Ok.ensures.list) d now
-
-pub returns-in-Ok-create-clause-any_moment : goal.returns-in-Ok-create-clause-any_moment
-returns-in-Ok-create-clause-any_moment g c =
-    let small : is_small (release_of c.args.file.release) ≡ true = search rules in
-    let spelled = rw (sym c.as_bytes.ensures.value) at c.in-Ok.ensures.spells in
-    begins g.D.Disk.seen g.D.Disk.may_leave g.D.Disk.moment g.D.Disk.left_since (release_of c.args.file.release) c.as_bytes.result.now c.as_bytes-2.result.now small c.requires.says.versions (c.as_bytes-2.ensures.value ∙ c.in-Ok.ensures.start) spelled c.args.disk _ c.in-Ok-create.ensures.any_moment
-
-pub returns-in-Ok-create-clause-begun : goal.returns-in-Ok-create-clause-begun
-returns-in-Ok-create-clause-begun g c =
-    let small : is_small (release_of c.args.file.release) ≡ true = search rules in
-    let spelled = rw (sym c.as_bytes.ensures.value) at c.in-Ok.ensures.spells in
-    let (at, begun) = c.in-Ok-create.ensures.begun in
-    (at, begins_at g.D.Disk.seen g.D.Disk.may_leave g.D.Disk.moment g.D.Disk.left_since (release_of c.args.file.release) c.as_bytes.result.now c.as_bytes-2.result.now small c.requires.says.versions (c.as_bytes-2.ensures.value ∙ c.in-Ok.ensures.start) spelled c.args.disk _ at begun)
-
-pub returns-clause-any_moment : goal.returns-clause-any_moment
-returns-clause-any_moment g c =
-    let small : is_small (release_of c.args.file.release) ≡ true = search rules in
-    let spelled = rw (sym c.as_bytes.ensures.value) at c.in-Ok.ensures.spells in
-    begins g.D.Disk.seen g.D.Disk.may_leave g.D.Disk.moment g.D.Disk.left_since (release_of c.args.file.release) c.as_bytes.result.now c.as_bytes-2.result.now small c.requires.says.versions (c.as_bytes-2.ensures.value ∙ c.in-Ok.ensures.start) spelled c.args.disk _ c.in-Err.ensures.any_moment
+pub returns-in-Ok-clause-refused : goal.returns-in-Ok-clause-refused
+returns-in-Ok-clause-refused g c =
+    not_made_so g.D.Disk (g.F.Files.gives c.args.files.now) c.args.path.now (found_of c.in-Ok.file) c.in-Ok.ensures.found c.args.disk c.make.result
+    c.make.ensures.any_moment c.make.ensures.refused
 
 -- no node is made over one
-pub returns-in-Ok-create-clause-node : goal.returns-in-Ok-create-clause-node
-returns-in-Ok-create-clause-node g c = has_a_store (g.D.Disk.seen c.args.disk)
+pub returns-in-Ok-clause-node : goal.returns-in-Ok-clause-node
+returns-in-Ok-clause-node g c = has_a_store (g.D.Disk.seen c.args.disk)
 
-pub returns-clause-node : goal.returns-clause-node
-returns-clause-node g c = has_a_store (g.D.Disk.seen c.args.disk)
-
--- nothing was written yet
-pub returns-then-not-is_small-clause-any_moment : goal.returns-then-not-is_small-clause-any_moment
-returns-then-not-is_small-clause-any_moment g c = nothing_begun g.D.Disk.seen g.D.Disk.may_leave g.D.Disk.moment g.D.Disk.left_since c.args.disk (g.met.D.Disk.only_now c.args.disk) _
-
-pub returns-then-not-is_small-clause-taken : goal.returns-then-not-is_small-clause-taken
-returns-then-not-is_small-clause-taken g c = λ magic. (unwritten g.D.Disk.seen g.D.Disk.may_leave g.D.Disk.moment g.D.Disk.left_since c.args.disk (g.met.D.Disk.only_now c.args.disk), refl)
-
-pub returns-in_default-clause-any_moment : goal.returns-in_default-clause-any_moment
-returns-in_default-clause-any_moment g c = nothing_begun g.D.Disk.seen g.D.Disk.may_leave g.D.Disk.moment g.D.Disk.left_since c.args.disk (g.met.D.Disk.only_now c.args.disk) _
-
-pub returns-in_default-clause-taken : goal.returns-in_default-clause-taken
-returns-in_default-clause-taken g c = λ magic. (unwritten g.D.Disk.seen g.D.Disk.may_leave g.D.Disk.moment g.D.Disk.left_since c.args.disk (g.met.D.Disk.only_now c.args.disk), refl)
-
-pub returns-then-not-is_small-clause-refused : goal.returns-then-not-is_small-clause-refused
-returns-then-not-is_small-clause-refused g c =
-    let small : is_small (release_of c.args.file.release) ≡ false = search rules in
-    (small, unwritten g.D.Disk.seen g.D.Disk.may_leave g.D.Disk.moment g.D.Disk.left_since c.args.disk (g.met.D.Disk.only_now c.args.disk))
-
-pub returns-in_default-clause-refused : goal.returns-in_default-clause-refused
-returns-in_default-clause-refused g c =
-    let small : is_small (release_of c.args.file.release) ≡ true = search rules in
-    (small, unwritten g.D.Disk.seen g.D.Disk.may_leave g.D.Disk.moment g.D.Disk.left_since c.args.disk (g.met.D.Disk.only_now c.args.disk))
-
-pub returns-clause-taken : goal.returns-clause-taken
-returns-clause-taken g c = c.in-Err.ensures.taken
+pub returns-in-Err-clause-node : goal.returns-in-Err-clause-node
+returns-in-Err-clause-node g c = has_a_store (g.D.Disk.seen c.args.disk)

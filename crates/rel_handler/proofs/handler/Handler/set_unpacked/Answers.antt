@@ -1,43 +1,24 @@
-use Rattle.std.proofs.Common.{◌≡◌, sym, ap, ◌∙◌, subst, length}
-use Rattle.std.specs.Prelude.{OnOk, IfErr}
-use Rattle.rel_files.specs.Release.{release_of}
-use Rattle.rel_list.specs.Event.Event.{unpacked}
-use Rattle.rel_handler.specs.Commits.{Commits, IsDone}
-use Rattle.rel_handler.specs.Files.{unpacked_size}
-use Rattle.rel_handler.specs.Refusals.{CommandRefused}
-use Rattle.rel_handler.specs.State.{list_in}
-use Rattle.rel_handler.proofs.CommandLemmas.{refused_by_list}
-use Rattle.rel_handler.proofs.Commits.{unchanged, unpacked_told}
+use Rattle.std.proofs.Common.{inl, inr, rules}
+use Rattle.rel_handler.specs.declared.error.HandlerError.TheVariants.{NoMemory}
+use Rattle.rel_handler.specs.Unpacking.{UnpackingRefused}
+use Rattle.rel_unpack.specs.Release.{found_of}
+use Rattle.rel_handler.proofs.Commits.{refuses_with}
+use Rattle.rel_handler.proofs.ReleaseLemmas.{no_memory, unchanged_handler}
 use Rattle.rel_handler.proofs.handler.Handler.set_unpacked.Goals as goal
 
--- the list doesn't allow it
-pub returns-in-Some-clause-commits : goal.returns-in-Some-clause-commits
-returns-in-Some-clause-commits g c = unchanged g.D.Disk c.args.self.now c.requires.sound (g.met.D.Disk.only_now _) (unpacked (release_of c.args.file.release)) (unpacked_size c.args.file)
+-- no memory for the version
+pub returns-in_err-vsn-clause-refused : goal.returns-in_err-vsn-clause-refused
+returns-in_err-vsn-clause-refused g c =
+    let h = c.args.self.now in
+    let source = g.F.Files.gives c.args.files.now in
+    refuses_with (UnpackingRefused g.D.Disk source c.args.path.now h h) c.from_residual-in_err-vsn.result NoMemory c.from_residual-in_err-vsn.ensures
+    (inr (inl (no_memory source c.args.path.now, (search rules), unchanged_handler h)))
 
-pub returns-in-Some-clause-refused : goal.returns-in-Some-clause-refused
-returns-in-Some-clause-refused g c = refused_by_list g.D.Disk.failures c.args.self.now (release_of c.args.file.release) (unpacked_size c.args.file) c.in-Some.why c.if-self.false c.in-Some.ensures
-
--- no memory for its record
-pub returns-in_err-body-clause-commits : goal.returns-in_err-body-clause-commits
-returns-in_err-body-clause-commits g c = unchanged g.D.Disk c.args.self.now c.requires.sound (g.met.D.Disk.only_now _) (unpacked (release_of c.args.file.release)) (unpacked_size c.args.file)
-
--- the record tells the event
-pub commit-requires-clause-told : goal.commit-requires-clause-told
-commit-requires-clause-told g c =
-    unpacked_told (release_of c.args.file.release) (list_in c.args.self.now) c.in_default.ensures.0 c.as_str.result.now
-    (rw (sym c.as_str.ensures.value) at c.in_ok-body.ensures.spells (release_of c.args.file.release) c.requires.file.says) c.in_default.ensures.1
-
-pub returns-clause-commits : goal.returns-clause-commits
-returns-clause-commits g c =
-    let long : length c.as_str.result.now ≡ unpacked_size c.args.file = ap length (c.as_str.ensures.value ∙ c.in_ok-body.ensures.body (release_of c.args.file.release)) in
-    subst (λ n. Commits g.D.Disk (unpacked (release_of c.args.file.release)) n c.args.self.now c.commit.new.self) long c.commit.ensures.commits
-
-pub returns-clause-done : goal.returns-clause-done
-returns-clause-done g c =
-    let long : length c.as_str.result.now ≡ unpacked_size c.args.file = ap length (c.as_str.ensures.value ∙ c.in_ok-body.ensures.body (release_of c.args.file.release)) in
-    subst (λ n. OnOk c.commit.result (IsDone g.D.Disk (unpacked (release_of c.args.file.release)) n c.args.self.now c.commit.new.self)) long c.commit.ensures.done
-
-pub returns-clause-refused : goal.returns-clause-refused
-returns-clause-refused g c =
-    let long : length c.as_str.result.now ≡ unpacked_size c.args.file = ap length (c.as_str.ensures.value ∙ c.in_ok-body.ensures.body (release_of c.args.file.release)) in
-    subst (λ n. IfErr c.commit.result (CommandRefused g.D.Disk.failures (unpacked (release_of c.args.file.release)) n c.args.self.now c.commit.new.self)) long c.commit.ensures.refused
+-- the node refused the release
+pub returns-in_err-take_in-clause-refused : goal.returns-in_err-take_in-clause-refused
+returns-in_err-take_in-clause-refused g c =
+    let h = c.args.self.now in
+    let source = g.F.Files.gives c.args.files.now in
+    let why = c.in_err-take_in.field-0.0 in
+    refuses_with (UnpackingRefused g.D.Disk source c.args.path.now h c.take_in.new.self) c.from_residual-in_err-take_in.result why c.from_residual-in_err-take_in.ensures
+    (inr (inr (record { found = found_of c.in_ok-file.file; read = c.in_ok-file.ensures.found; commits = c.in_err-take_in.ensures.commits; refused = c.in_err-take_in.ensures.refused })))

@@ -7,7 +7,7 @@ pub returns-in-Ok-clause-booted : goal.returns-in-Ok-clause-booted
 returns-in-Ok-clause-booted g c =
     let laws : IsDevice g.D.Disk = record { reads_an_image = g.met.D.Disk.reads_an_image; counts_now = g.met.D.Disk.counts_now; only_now = g.met.D.Disk.only_now } in
     boots g.D.Disk laws c.args.self c.into_disk.result c.into_disk.ensures c.in-Ok.handler c.in-Ok.ensures.works (record { image_of = c.in-Ok.ensures.image.0; ends = sym c.in-Ok.ensures.end }) c.in-Ok.ensures.image.1
-    c.in-Ok.ensures.acknowledged (c.in-Ok.ensures.sound.started c.in-Ok.ensures.works) c.in-Ok.ensures.only c.in-Ok.ensures.any_moment c.in-Ok.ensures.stored c.in-Ok.ensures.counted c.booted_line-line.result c.booted_line-line.ensures
+    c.in-Ok.ensures.acknowledged (c.in-Ok.ensures.sound.started c.in-Ok.ensures.works) c.in-Ok.ensures.only c.in-Ok.ensures.any_moment c.in-Ok.ensures.stored c.in-Ok.ensures.counted c.running_line-line.result c.running_line-line.ensures
 
 pub returns-in-Err-clause-booted : goal.returns-in-Err-clause-booted
 returns-in-Err-clause-booted g c =

@@ -3,7 +3,7 @@ use Rattle.rel_session.specs.Node.{Place, Reply}
 use Rattle.rel_session.specs.Transition.{Acts, permanence}
 use Rattle.rel_session.specs.Transition.Action.{changes_node}
 use Rattle.rel_session.specs.declared.place.Place.TheVariants as memory
-use Rattle.rel_session.specs.declared.refusal.Refusal.TheVariants as refusal
+use Rattle.rel_handler.specs.declared.error.HandlerError.TheVariants as handler_error
 use Rattle.rel_session.proofs.DeviceLemmas.{IsDevice}
 use Rattle.rel_session.proofs.Replies.{from_there, changes_nowhere, idle_changes}
 use Rattle.rel_session.proofs.place.Place.make_permanent.Goals as goal
@@ -13,7 +13,7 @@ returns-in-Idle-clause-committed g c =
     let laws : IsDevice g.D.Disk = record { reads_an_image = g.met.D.Disk.reads_an_image; counts_now = g.met.D.Disk.counts_now; only_now = g.met.D.Disk.only_now } in
     let there = memory.Idle c.in-Idle.disk in
     let Does : Place → Reply → Type 0 = λ p a. Acts p (changes_node (permanence c.args.vsn.now)) a in
-    from_there g.D.Disk laws Does (Err refusal.Dead) c.args.self there there c.in-Idle.is
+    from_there g.D.Disk laws Does (Err handler_error.Dead) c.args.self there there c.in-Idle.is
     (changes_nowhere g.D.Disk laws Does (idle_changes g.D.Disk laws (permanence c.args.vsn.now)) c.in-Idle.disk)
 
 pub returns-in-Made-clause-committed : goal.returns-in-Made-clause-committed

@@ -5,7 +5,7 @@ use Rattle.rel_session.specs.Node.{Place, Reply}
 use Rattle.rel_session.specs.Transition.{Acts, IsStopped}
 use Rattle.rel_session.specs.Transition.Action.{reboots_node}
 use Rattle.rel_session.specs.declared.place.Place.TheVariants as memory
-use Rattle.rel_session.specs.declared.refusal.Refusal.TheVariants as refusal
+use Rattle.rel_handler.specs.declared.error.HandlerError.TheVariants as handler_error
 use Rattle.rel_handler.specs.Taking.{change_size}
 use Rattle.rel_list.specs.Event.Event.{reboot_old as rebooting}
 use Rattle.rel_session.proofs.CommitReplies.{commits_none}
@@ -19,7 +19,7 @@ returns-in-Idle-clause-rebooted g c =
     let laws : IsDevice g.D.Disk = record { reads_an_image = g.met.D.Disk.reads_an_image; counts_now = g.met.D.Disk.counts_now; only_now = g.met.D.Disk.only_now } in
     let there = memory.Idle c.in-Idle.disk in
     let Does : Place → Reply → Type 0 = λ p a. Acts p (reboots_node c.args.vsn.now) a in
-    inl (from_there g.D.Disk laws Does (Err refusal.Dead) c.args.self there there c.in-Idle.is
+    inl (from_there g.D.Disk laws Does (Err handler_error.Dead) c.args.self there there c.in-Idle.is
     (changes_nowhere g.D.Disk laws Does (idle_reboots g.D.Disk laws c.args.vsn.now) c.in-Idle.disk))
 
 pub returns-then-is_dead-clause-rebooted : goal.returns-then-is_dead-clause-rebooted
@@ -27,7 +27,7 @@ returns-then-is_dead-clause-rebooted g c =
     let laws : IsDevice g.D.Disk = record { reads_an_image = g.met.D.Disk.reads_an_image; counts_now = g.met.D.Disk.counts_now; only_now = g.met.D.Disk.only_now } in
     let there = memory.Made c.in-Made.handler in
     let Does : Place → Reply → Type 0 = λ p a. Acts p (reboots_node c.args.vsn.now) a in
-    inl (from_there g.D.Disk laws Does (Err refusal.Dead) c.args.self there there c.in-Made.is
+    inl (from_there g.D.Disk laws Does (Err handler_error.Dead) c.args.self there there c.in-Made.is
     (changes_dead g.D.Disk laws Does (idle_reboots g.D.Disk laws c.args.vsn.now) c.in-Made.handler (search rules)))
 
 -- it was not committed
@@ -38,8 +38,8 @@ returns-in-Err-clause-rebooted g c =
     let h = c.in-Made.handler in
     let new = c.reboot_old_release.new.self in
     let Does : Place → Reply → Type 0 = λ p a. Acts p (reboots_node vsn) a in
-    inl (from_there g.D.Disk laws Does (Err c.from.result) c.args.self (memory.Made h) (memory.Made new) c.in-Made.is
-    (commits_none g.D.Disk laws Does h (search rules) (rebooting vsn) (change_size (rebooting vsn)) (IsRebooted vsn) (λ events end a is. is) new c.in-Err.ensures.commits c.in-Err.error c.from.result c.in-Err.ensures.refused c.from.ensures))
+    inl (from_there g.D.Disk laws Does (Err c.in-Err.error) c.args.self (memory.Made h) (memory.Made new) c.in-Made.is
+    (commits_none g.D.Disk laws Does h (search rules) (rebooting vsn) (change_size (rebooting vsn)) (IsRebooted vsn) (λ events end a is. is) new c.in-Err.ensures.commits c.in-Err.error c.in-Err.ensures.refused))
 
 -- it was, and the node was booted
 pub returns-in-Ok-clause-rebooted : goal.returns-in-Ok-clause-rebooted

@@ -6,7 +6,7 @@ use Rattle.rel_unpack.specs.Source.{FileSays}
 use Rattle.rel_unpack.specs.Paths.{app_path}
 use Rattle.rel_unpack.specs.Applications.{app_form, is_named}
 use Rattle.rel_unpack.proofs.Steps.{passes, fails_test}
-use Rattle.rel_unpack.proofs.applications.read_app_file.Goals as goal
+use Rattle.rel_unpack.proofs.applications.read_application.Goals as goal
 
 pub returns-then-is_named : goal.returns-then-is_named
 returns-then-is_named g c =

@@ -1,0 +1,3 @@
+pub mod Appups
+pub mod Releases
+pub mod Relup
