@@ -8,4 +8,5 @@ pub mod TokenTexts
 pub mod QuotedTexts
 pub mod ReadBack
 pub mod Limits
+pub mod Lines
 pub mod Members

@@ -12,3 +12,4 @@ pub use Rattle.erl_reader.specs.Answers
 pub mod Printing
 pub mod Within
 pub mod Limits
+pub mod Lines

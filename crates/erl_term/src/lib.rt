@@ -5,8 +5,8 @@
 //! `read_terms` gives the terms of a text exactly where it reads as them, and else its first fault; `read_record` gives the
 //! one term of a record's body.
 //! The functions of `laws` say of these definitions that no text has two readings or two faults, that none both reads and
-//! has a fault, and that each has one of the two; that a term is what its own bytes spell; and that what is read has short
-//! atoms, and at most one bracket more when it is printed (specs/Limits).
+//! has a fault, and that each has one of the two; that a term is what its own bytes spell; that what is read has short
+//! atoms, and at most one bracket more when it is printed (specs/Limits); and that a term is printed on one line.
 //!
 //! Only tested: that a term is printed where memory is there. Trusted: the toolchain alone.
 #![tactic(auto)]

@@ -17,9 +17,7 @@ use Rattle.rel_handler.specs.Taking.{commanded}
 use Rattle.rel_handler.proofs.CommandLemmas.{IsListAnswer, of_command}
 use Rattle.session_input.specs.Commands.{Command}
 use Rattle.rel_unpack.specs.Release.{Found}
-use Rattle.rel_unpack.specs.Source.{Source}
-use Rattle.rel_session.specs.Files.{GivesOne}
-use Rattle.rel_session.specs.LawsBelow.{FileLaws}
+use Rattle.rel_unpack.specs.Source.{Source, GivesOne}
 use Rattle.rel_session.specs.Node.{Place, Outcome, Reply, reply, nothing, done, failed_with, releases_after, behind}
 use Rattle.rel_session.specs.Node.Place.{raw, closed, running, dead}
 use Rattle.rel_session.specs.Refusals.{refusal_of, refusal_line, boot_line}
@@ -209,8 +207,8 @@ acts (raw x) tells_start a is = effect_as (tells of_bytes) a _ is refl
 acts (closed s) tells_start a is = effect_as (tells at_rest) a _ is refl
 acts (dead s) tells_start a is = effect_as (tells fails) a _ is refl
 
-pub one_effect : FileLaws → (source : Source) → GivesOne source → (p q : Place) (c : Command) (a b : Reply) → kind_of p ≡ kind_of q → a.answer ≡ b.answer → Transition.Transition source p c a → Transition.Transition source q c b → effect_of a ≡ effect_of b
-one_effect texts source one p q c a b kinds same (x, comes, is) (y, comes_too, also) = go (one_action texts source one p q c x y kinds comes comes_too)
+pub one_effect : (source : Source) → GivesOne source → (p q : Place) (c : Command) (a b : Reply) → kind_of p ≡ kind_of q → a.answer ≡ b.answer → Transition.Transition source p c a → Transition.Transition source q c b → effect_of a ≡ effect_of b
+one_effect source one p q c a b kinds same (x, comes, is) (y, comes_too, also) = go (one_action source one p q c x y kinds comes comes_too)
   where
     go : (x ≡ y) ⊎ ((x ≡ answers (Transition.listed p)) × (y ≡ answers (Transition.listed q))) → effect_of a ≡ effect_of b
     go (inl one) =

@@ -19,9 +19,9 @@ use Rattle.session_input.specs.Commands.Command.{quit}
 use Rattle.session_input.specs.Feed.{Feed}
 use Rattle.session_input.specs.Feed.Feed.{over, cut, next}
 use Rattle.rel_unpack.specs.Release.{Found}
-use Rattle.rel_unpack.specs.Source.{Source}
-use Rattle.rel_session.specs.Files.{Files, files_behind, source_of, GivesEach}
-use Rattle.rel_session.specs.LawsBelow.{FileLaws, BootLaws}
+use Rattle.rel_unpack.specs.Source.{Source, GivesEach}
+use Rattle.rel_session.specs.Files.{Files, files_behind, source_of}
+use Rattle.rel_session.specs.LawsBelow.{BootLaws}
 use Rattle.rel_session.specs.Node.{Place, Reply, reply, nothing, releases_after, list_or_none, behind}
 use Rattle.rel_session.specs.Node.Place.{raw, closed, running, dead}
 use Rattle.rel_session.specs.Refusals.{boot_line}
@@ -164,10 +164,10 @@ one_more base files p c rest a is works behind = record {
   right = replies_next base files p c rest behind.ending a behind.replies is behind.right;
 }
 
-each : FileLaws → BootLaws → (base : Source) → GivesEach base → (files : Files) (p : Place) (commands : Feed Command) → IsFair p → HasAnswer base files p commands
-each texts laws base some files p over fair = record { ending = ended; whole = λ e. cc e; replies = []; works = tt; right = refl }
-each texts laws base some files p cut fair = record { ending = cut_off; whole = λ e. cc e; replies = []; works = tt; right = refl }
-each texts laws base some files p (next c rest) fair = by_action (some_action texts (source_of base files) (gives_each base files some) p c) (λ next_files q there. each texts laws base some next_files q rest there)
+each : BootLaws → (base : Source) → GivesEach base → (files : Files) (p : Place) (commands : Feed Command) → IsFair p → HasAnswer base files p commands
+each laws base some files p over fair = record { ending = ended; whole = λ e. cc e; replies = []; works = tt; right = refl }
+each laws base some files p cut fair = record { ending = cut_off; whole = λ e. cc e; replies = []; works = tt; right = refl }
+each laws base some files p (next c rest) fair = by_action (some_action (source_of base files) (gives_each base files some) p c) (λ next_files q there. each laws base some next_files q rest there)
   where
     by_action : (c ≡ quit) ⊎ ((does : Transition.Action) × Transition.ComesTo (source_of base files) p c does) → ((next_files : Files) (q : Place) → IsFair q → HasAnswer base next_files q rest) → HasAnswer base files p (next c rest)
     by_action (inl is) behind = record { ending = ended; whole = λ e. cc e; replies = []; works = tt; right = (is, refl) }
@@ -181,5 +181,5 @@ fair_place (closed s) sure (list, after) = subst (λ t. IsFair (closed t)) (sym 
 fair_place (running events end) sure (list, after) = runs events end list after
 fair_place (dead s) sure has = absurd sure
 
-pub each_has_an_answer : FileLaws → BootLaws → (base : Source) → EachHasAnAnswer base
-each_has_an_answer texts laws base some files p commands sure has = each texts laws base some files p commands (fair_place p sure has)
+pub each_has_an_answer : BootLaws → (base : Source) → EachHasAnAnswer base
+each_has_an_answer laws base some files p commands sure has = each laws base some files p commands (fair_place p sure has)

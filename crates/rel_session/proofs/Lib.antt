@@ -9,6 +9,7 @@ pub mod CreationReplies
 pub mod UnpackingReplies
 pub mod StartReplies
 pub mod RebootReplies
+pub mod RelupReplies
 pub mod ReplyTexts
 pub mod LoopLemmas
 pub mod GivenFiles

@@ -1,8 +1,11 @@
 -- The paths of an input's commands lie within its lines, and the versions of a store are those of its records.
-use Rattle.std.proofs.Common.{◌≡◌, ℕ, Bool, true, false, not, List, [], ◌∷◌, ◌++◌, length, codes, Some, None, inl, inr, refl, sym, ap, ◌∙◌, subst}
+use Rattle.std.proofs.Common.{◌≡◌, ℕ, Bool, true, false, not, List, [], ◌∷◌, ◌++◌, length, codes, Option, Some, None, inl, inr, refl, sym, ap, ◌∙◌, subst}
 use Rattle.std.specs.Prelude.{if◌then◌else◌, ◌==◌, nat_lt}
-use Rattle.std.specs.List.{onto_first}
+use Rattle.std.specs.List.{list_all, onto_first, AllByRecursion}
 use Rattle.std.specs.Str.{bytes_eq, is_utf8}
+use Rattle.std.proofs.lemmas.Bool.{and_parts, and_from}
+use Rattle.erl_term.proofs.Lines.{AreLines}
+use Rattle.erl_term.specs.Lines.{is_one_line}
 use Rattle.rel_files.specs.Name.{is_text}
 use Rattle.rel_list.specs.Releases.{Releases}
 use Rattle.rel_list.specs.Event.{list_after}
@@ -10,8 +13,8 @@ use Rattle.rel_records.specs.Lists.{HaveVersions}
 use Rattle.rel_handler.specs.Image.{store_end}
 use Rattle.rel_handler.specs.Events.{Events, MayHave, IsStoredAs, certain}
 use Rattle.rel_handler.proofs.Commits.{have_versions}
-use Rattle.session_input.specs.Commands.{Command, ParsedLine, parse_line, parse_words, parse_command, parse_change, change_named, with_word, without_words, path_in, version_in, is_blank, words_of, is_end, file_of, most_line, put_parsed, commands_of, commands_behind}
-use Rattle.session_input.specs.Commands.Command.{file, create, set_unpacked, install, permanent, remove, reboot_old, boot, start, releases, quit, bad}
+use Rattle.session_input.specs.Commands.{Command, ParsedLine, parse_line, parse_words, parse_command, parse_change, change_named, with_word, without_words, path_of, path_in, paths_of, is_path, relup_of, parse_relup, split_at, version_in, is_blank, words_of, is_end, file_of, most_line, put_parsed, commands_of, commands_behind}
+use Rattle.session_input.specs.Commands.Command.{file, create, set_unpacked, install, permanent, remove, reboot_old, boot, start, releases, relup, quit, bad}
 use Rattle.session_input.specs.Commands.ParsedLine.{blank, file_begins, whole_command}
 use Rattle.rel_session.specs.Device.{Device}
 use Rattle.session_input.specs.Feed.{Feed, bytes_within}
@@ -19,40 +22,40 @@ use Rattle.session_input.specs.Feed.Feed.{over, cut, next}
 use Rattle.session_input.specs.Input.{most_bytes}
 use Rattle.session_input.specs.Lines.{onto, lines_of}
 use Rattle.rel_session.specs.Node.Place.{raw, closed, running, dead}
-use Rattle.rel_session.specs.AnswerLaws.{is_one_line, HasLinePath, HaveLinePaths, ReadsLinePaths, HasVersionsAt, KeepsVersions}
+use Rattle.rel_session.specs.AnswerLaws.{HasLinePath, HaveLinePaths, ReadsLinePaths, HasVersionsAt, KeepsVersions}
 use Rattle.rel_session.specs.RunLaws.{MayBe}
 use Rattle.rel_session.proofs.DeviceLemmas.{IsDevice}
-use Rattle.rel_session.proofs.AnswerLines.{ArePlain, parts, joined}
 
-abbrev AreLines : Feed (List ℕ) → Type 0
-AreLines (next l ls) = (is_one_line l ≡ true) × AreLines ls
-AreLines ls = Unit {0}
+abbrev AreFeedLines : Feed (List ℕ) → Type 0
+AreFeedLines (next l ls) = (is_one_line l ≡ true) × AreFeedLines ls
+AreFeedLines ls = Unit {0}
 
-onto_plain : (x : ℕ) (ls : Feed (List ℕ)) → not (x == 10) ≡ true → AreLines ls → AreLines (onto x ls)
-onto_plain x over plain lines = (joined (not (x == 10)) true plain refl, tt)
+onto_plain : (x : ℕ) (ls : Feed (List ℕ)) → not (x == 10) ≡ true → AreFeedLines ls → AreFeedLines (onto x ls)
+onto_plain x over plain lines = (and_from (not (x == 10)) true plain refl, tt)
 onto_plain x cut plain lines = tt
-onto_plain x (next l ls) plain (line, lines) = (joined (not (x == 10)) (is_one_line l) plain line, lines)
+onto_plain x (next l ls) plain (line, lines) = (and_from (not (x == 10)) (is_one_line l) plain line, lines)
 
-lines_plain : (bs : Feed ℕ) → AreLines (lines_of bs)
+lines_plain : (bs : Feed ℕ) → AreFeedLines (lines_of bs)
 lines_plain over = tt
 lines_plain cut = tt
 lines_plain (next x xs) = go (x == 10) refl (lines_plain xs)
   where
-    go : (b : Bool) → (x == 10) ≡ b → AreLines (lines_of xs) → AreLines (if b then next [] (lines_of xs) else onto x (lines_of xs))
+    go : (b : Bool) → (x == 10) ≡ b → AreFeedLines (lines_of xs) → AreFeedLines (if b then next [] (lines_of xs) else onto x (lines_of xs))
     go true is lines = (refl, lines)
     go false is lines = onto_plain x (lines_of xs) (ap not is) lines
 
-split_plain : (l : List ℕ) → is_one_line l ≡ true → ArePlain (words_of l)
-split_plain [] line = (refl, tt)
-split_plain (x ∷ l) line =
-    let (first, more) = parts (not (x == 10)) (is_one_line l) line in
-    go (x == 32) (words_of l) first (split_plain l more)
+-- the parts of a line
+split_plain : (separator : ℕ) (l : List ℕ) → is_one_line l ≡ true → AreLines (split_at separator l)
+split_plain separator [] line = (refl, tt)
+split_plain separator (x ∷ l) line =
+    let (first, more) = and_parts (not (x == 10)) (is_one_line l) line in
+    go (x == separator) (split_at separator l) first (split_plain separator l more)
   where
-    front : (ws : List (List ℕ)) → not (x == 10) ≡ true → ArePlain ws → ArePlain (onto_first x ws)
-    front [] plain words = (joined (not (x == 10)) true plain refl, tt)
-    front (w ∷ ws) plain words = (joined (not (x == 10)) (is_one_line w) plain words.0, words.1)
+    front : (ws : List (List ℕ)) → not (x == 10) ≡ true → AreLines ws → AreLines (onto_first x ws)
+    front [] plain words = (and_from (not (x == 10)) true plain refl, tt)
+    front (w ∷ ws) plain words = (and_from (not (x == 10)) (is_one_line w) plain words.0, words.1)
 
-    go : (b : Bool) (ws : List (List ℕ)) → not (x == 10) ≡ true → ArePlain ws → ArePlain (if b then [] ∷ ws else onto_first x ws)
+    go : (b : Bool) (ws : List (List ℕ)) → not (x == 10) ≡ true → AreLines ws → AreLines (if b then [] ∷ ws else onto_first x ws)
     go true ws plain words = (refl, words)
     go false ws plain words = front ws plain words
 
@@ -69,11 +72,11 @@ alone_plain : (words : List (List ℕ)) (c : Command) → HasLinePath c → IsPl
 alone_plain [] c line = line
 alone_plain (word ∷ words) c line = tt
 
-path_plain : (words : List (List ℕ)) (said : List ℕ → ParsedLine) → ArePlain words → ((path : List ℕ) → is_one_line path ≡ true → IsPlainLine (said path)) → IsPlainLine (with_word (path_in words) said)
+path_plain : (words : List (List ℕ)) (said : List ℕ → ParsedLine) → AreLines words → ((path : List ℕ) → is_one_line path ≡ true → IsPlainLine (said path)) → IsPlainLine (with_word (path_in words) said)
 path_plain [] said plain each = tt
-path_plain ([] ∷ words) said plain each = tt
+path_plain ([] ∷ []) said plain each = tt
 path_plain ((b ∷ path) ∷ []) said plain each = each (b ∷ path) plain.0
-path_plain ((b ∷ path) ∷ word ∷ words) said plain each = tt
+path_plain (word ∷ other ∷ words) said plain each = tt
 
 version_plain : (words : List (List ℕ)) (said : List ℕ → ParsedLine) → ((vsn : List ℕ) → IsPlainLine (said vsn)) → IsPlainLine (with_word (version_in words) said)
 version_plain [] said each = tt
@@ -98,7 +101,46 @@ named_plain word vsn =
 change_plain : (word : List ℕ) (words : List (List ℕ)) → IsPlainLine (parse_change word words)
 change_plain word words = version_plain words (λ vsn. whole_command (change_named word vsn)) (named_plain word)
 
-word_plain : (word : List ℕ) (words : List (List ℕ)) → ArePlain words → IsPlainLine (parse_command word words)
+-- the paths of a relup's request
+split_paths : (ws : List (List ℕ)) → AreLines ws → AllByRecursion (λ path. is_one_line path ≡ true) ws
+split_paths [] lines = tt
+split_paths (w ∷ ws) lines = (lines.0, split_paths ws lines.1)
+
+abbrev ArePlainPaths : Option (List (List ℕ)) → Type 0
+ArePlainPaths None = Unit {0}
+ArePlainPaths (Some paths) = AllByRecursion (λ path. is_one_line path ≡ true) paths
+
+paths_plain : (word : List ℕ) → is_one_line word ≡ true → ArePlainPaths (paths_of word)
+paths_plain word line = go (bytes_eq word (codes "-")) (list_all is_path (split_at 44 word))
+  where
+    go : (a b : Bool) → ArePlainPaths (if a then Some [] else if b then Some (split_at 44 word) else None)
+    go true b = tt
+    go false true = split_paths (split_at 44 word) (split_plain 44 word line)
+    go false false = tt
+
+abbrev IsPlainPath : Option (List ℕ) → Type 0
+IsPlainPath None = Unit {0}
+IsPlainPath (Some path) = is_one_line path ≡ true
+
+one_path_plain : (word : List ℕ) → is_one_line word ≡ true → IsPlainPath (path_of word)
+one_path_plain [] line = tt
+one_path_plain (b ∷ path) line = line
+
+between_plain : (new : Option (List ℕ)) (ups downs : Option (List (List ℕ))) → IsPlainPath new → ArePlainPaths ups → ArePlainPaths downs → HasLinePath (relup_of new ups downs)
+between_plain (Some new) (Some ups) (Some downs) p q r = (p, q, r)
+between_plain None ups downs p q r = tt
+between_plain (Some new) None downs p q r = tt
+between_plain (Some new) (Some ups) None p q r = tt
+
+relup_plain : (words : List (List ℕ)) → AreLines words → IsPlainLine (parse_relup words)
+relup_plain [] plain = tt
+relup_plain (new ∷ []) plain = tt
+relup_plain (new ∷ ups ∷ []) plain = tt
+relup_plain (new ∷ ups ∷ downs ∷ []) plain =
+    between_plain (path_of new) (paths_of ups) (paths_of downs) (one_path_plain new plain.0) (paths_plain ups plain.1.0) (paths_plain downs plain.1.1.0)
+relup_plain (new ∷ ups ∷ downs ∷ more ∷ words) plain = tt
+
+word_plain : (word : List ℕ) (words : List (List ℕ)) → AreLines words → IsPlainLine (parse_command word words)
 word_plain word words plain =
     either (bytes_eq word (codes "boot")) (without_words words (whole_command boot)) _ (alone_plain words boot tt)
     (either (bytes_eq word (codes "start")) (without_words words (whole_command start)) _ (alone_plain words start tt)
@@ -106,18 +148,19 @@ word_plain word words plain =
     (either (bytes_eq word (codes "quit")) (without_words words (whole_command quit)) _ (alone_plain words quit tt)
     (either (bytes_eq word (codes "file")) (with_word (path_in words) file_begins) _ (path_plain words file_begins plain (λ path line. tt))
     (either (bytes_eq word (codes "create")) (with_word (path_in words) (λ path. whole_command (create path))) _ (path_plain words (λ path. whole_command (create path)) plain (λ path line. line))
-    (either (bytes_eq word (codes "set_unpacked")) (with_word (path_in words) (λ path. whole_command (set_unpacked path))) _ (path_plain words (λ path. whole_command (set_unpacked path)) plain (λ path line. line)) (change_plain word words)))))))
+    (either (bytes_eq word (codes "set_unpacked")) (with_word (path_in words) (λ path. whole_command (set_unpacked path))) _ (path_plain words (λ path. whole_command (set_unpacked path)) plain (λ path line. line))
+    (either (bytes_eq word (codes "relup")) (parse_relup words) _ (relup_plain words plain) (change_plain word words))))))))
 
-words_plain : (words : List (List ℕ)) → ArePlain words → IsPlainLine (parse_words words)
+words_plain : (words : List (List ℕ)) → AreLines words → IsPlainLine (parse_words words)
 words_plain [] plain = tt
 words_plain (word ∷ words) plain = word_plain word words plain.1
 
 line_plain : (l : List ℕ) → is_one_line l ≡ true → IsPlainLine (parse_line l)
 line_plain l line =
-    either (nat_lt most_line (length l)) (whole_command bad) _ tt (either (is_blank l) blank _ tt (either (is_utf8 l) (parse_words (words_of l)) (whole_command bad) (words_plain (words_of l) (split_plain l line)) tt))
+    either (nat_lt most_line (length l)) (whole_command bad) _ tt (either (is_blank l) blank _ tt (either (is_utf8 l) (parse_words (words_of l)) (whole_command bad) (words_plain (words_of l) (split_plain 32 l line)) tt))
 
 -- the commands of lines, and those behind a file that began
-commands_plain : (ls : Feed (List ℕ)) → AreLines ls → HaveLinePaths (commands_of ls) × ((path bs : List ℕ) → HaveLinePaths (commands_behind path bs ls))
+commands_plain : (ls : Feed (List ℕ)) → AreFeedLines ls → HaveLinePaths (commands_of ls) × ((path bs : List ℕ) → HaveLinePaths (commands_behind path bs ls))
 commands_plain over lines = (tt, λ path bs. (tt, tt))
 commands_plain cut lines = (tt, λ path bs. tt)
 commands_plain (next l ls) (line, lines) =

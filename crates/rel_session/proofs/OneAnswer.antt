@@ -18,10 +18,10 @@ use Rattle.session_input.specs.Commands.Command.{quit}
 use Rattle.session_input.specs.Feed.{Feed}
 use Rattle.session_input.specs.Feed.Feed.{over, cut, next}
 use Rattle.rel_unpack.specs.Release.{Found}
-use Rattle.rel_unpack.specs.Source.{Source}
-use Rattle.rel_session.specs.Files.{Files, files_behind, source_of, GivesOne}
+use Rattle.rel_unpack.specs.Source.{Source, GivesOne}
+use Rattle.rel_session.specs.Files.{Files, files_behind, source_of}
 use Rattle.rel_session.specs.Listing.{listing}
-use Rattle.rel_session.specs.LawsBelow.{FileLaws, BootLaws}
+use Rattle.rel_session.specs.LawsBelow.{BootLaws}
 use Rattle.rel_session.specs.Node.{Place, Outcome, Reply, releases_after, list_or_none, behind}
 use Rattle.rel_session.specs.Node.Place.{raw, closed, running, dead}
 use Rattle.rel_session.specs.Refusals.{boot_line}
@@ -49,8 +49,8 @@ alike_itself (running events end) sure = same_lists events events end refl
 alike_itself (dead s) sure = absurd sure
 
 -- Commands come to the same there.
-same_action : FileLaws → (source : Source) → GivesOne source → (p q : Place) (c : Command) (x y : Transition.Action) → Alike p q → Transition.ComesTo source p c x → Transition.ComesTo source q c y → x ≡ y
-same_action texts source one p q c x y alike comes comes_too = go (one_action texts source one p q c x y (same_kind p q alike) comes comes_too)
+same_action : (source : Source) → GivesOne source → (p q : Place) (c : Command) (x y : Transition.Action) → Alike p q → Transition.ComesTo source p c x → Transition.ComesTo source q c y → x ≡ y
+same_action source one p q c x y alike comes comes_too = go (one_action source one p q c x y (same_kind p q alike) comes comes_too)
   where
     same_kind : (p q : Place) → Alike p q → kind_of p ≡ kind_of q
     same_kind p q (same_bytes b) = refl
@@ -211,9 +211,9 @@ module _ (a b : Reply) (both : Both a b) where
   acts laws p q boots_node alike is also = boots a b both laws p q alike is also
   acts laws p q tells_start alike is also = told p q alike is also
 
-  one_reply : FileLaws → BootLaws → (source : Source) → GivesOne source → (p q : Place) (c : Command) → Alike p q → Transition.Transition source p c a → Transition.Transition source q c b → Same a b
-  one_reply texts laws source single p q c alike (does, comes, is) (again, comes_too, also) =
-      let one = same_action texts source single p q c does again alike comes comes_too in
+  one_reply : BootLaws → (source : Source) → GivesOne source → (p q : Place) (c : Command) → Alike p q → Transition.Transition source p c a → Transition.Transition source q c b → Same a b
+  one_reply laws source single p q c alike (does, comes, is) (again, comes_too, also) =
+      let one = same_action source single p q c does again alike comes comes_too in
       acts laws p q does alike is (subst (λ d. Transition.Acts q d b) (sym one) also)
 
 -- how a session ends where no reply is left
@@ -243,19 +243,19 @@ never_goes_on base files p cut a b r more not_early end right = none_left base f
 never_goes_on base files p (next c rest) a b r more not_early (quitting, end) right =
     let (does, comes, is) = subst (λ d. Transition.Transition (source_of base files) p d r) quitting (next_answered base files p c rest b r more not_early right).0 in comes
 
-one_run : FileLaws → BootLaws → (base : Source) → GivesOne base → (files : Files) (p q : Place) (commands : Feed Command) (a b : Ending) (first second : List Reply) → Alike p q → a ≢ early → b ≢ early → NoneFails first → NoneFails second
+one_run : BootLaws → (base : Source) → GivesOne base → (files : Files) (p q : Place) (commands : Feed Command) (a b : Ending) (first second : List Reply) → Alike p q → a ≢ early → b ≢ early → NoneFails first → NoneFails second
     → Replies base files p commands a first → Replies base files q commands b second → (a ≡ b) × AreSame first second
-one_run texts laws base single files p q commands a b [] [] alike not_a not_b works works_too right right_too = (one_end commands a b (ends base files p commands a not_a right) (ends base files q commands b not_b right_too), tt)
-one_run texts laws base single files p q commands a b [] (s ∷ second) alike not_a not_b works works_too right right_too = absurd (never_goes_on base files q commands a b s second not_b (ends base files p commands a not_a right) right_too)
-one_run texts laws base single files p q commands a b (r ∷ first) [] alike not_a not_b works works_too right right_too = absurd (never_goes_on base files p commands b a r first not_a (ends base files q commands b not_b right_too) right)
-one_run texts laws base single files p q over a b (r ∷ first) (s ∷ second) alike not_a not_b works works_too right right_too = absurd (none_left base files p over a r first (inl refl) right)
-one_run texts laws base single files p q cut a b (r ∷ first) (s ∷ second) alike not_a not_b works works_too right right_too = absurd (none_left base files p cut a r first (inr refl) right)
-one_run texts laws base single files p q (next c rest) a b (r ∷ first) (s ∷ second) alike not_a not_b (works, all) (works_too, all_too) right right_too =
+one_run laws base single files p q commands a b [] [] alike not_a not_b works works_too right right_too = (one_end commands a b (ends base files p commands a not_a right) (ends base files q commands b not_b right_too), tt)
+one_run laws base single files p q commands a b [] (s ∷ second) alike not_a not_b works works_too right right_too = absurd (never_goes_on base files q commands a b s second not_b (ends base files p commands a not_a right) right_too)
+one_run laws base single files p q commands a b (r ∷ first) [] alike not_a not_b works works_too right right_too = absurd (never_goes_on base files p commands b a r first not_a (ends base files q commands b not_b right_too) right)
+one_run laws base single files p q over a b (r ∷ first) (s ∷ second) alike not_a not_b works works_too right right_too = absurd (none_left base files p over a r first (inl refl) right)
+one_run laws base single files p q cut a b (r ∷ first) (s ∷ second) alike not_a not_b works works_too right right_too = absurd (none_left base files p cut a r first (inr refl) right)
+one_run laws base single files p q (next c rest) a b (r ∷ first) (s ∷ second) alike not_a not_b (works, all) (works_too, all_too) right right_too =
     let (is, behind) = next_answered base files p c rest a r first not_a right in
     let (also, behind_too) = next_answered base files q c rest b s second not_b right_too in
-    let (told, outcomes, then) = one_reply r s (works, works_too) texts laws (source_of base files) (gives_one base files single) p q c alike is also in
-    let (end, same) = one_run texts laws base single (files_behind files c) r.after s.after rest a b first second then not_a not_b all all_too behind behind_too in
+    let (told, outcomes, then) = one_reply r s (works, works_too) laws (source_of base files) (gives_one base files single) p q c alike is also in
+    let (end, same) = one_run laws base single (files_behind files c) r.after s.after rest a b first second then not_a not_b all all_too behind behind_too in
     (end, (told, outcomes, same))
 
-pub have_one_answer : FileLaws → BootLaws → (base : Source) → HaveOneAnswer base
-have_one_answer texts laws base single files p commands a b first second sure = one_run texts laws base single files p p commands a b first second (alike_itself p sure)
+pub have_one_answer : BootLaws → (base : Source) → HaveOneAnswer base
+have_one_answer laws base single files p commands a b first second sure = one_run laws base single files p p commands a b first second (alike_itself p sure)

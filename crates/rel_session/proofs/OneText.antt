@@ -3,7 +3,7 @@ use Rattle.std.proofs.Common.{◌≡◌, ◌≢◌, ℕ, List, [], ◌∷◌, �
 use Rattle.rel_unpack.specs.Source.{Source}
 use Rattle.rel_session.specs.AnswerLaws.{AreSame, HaveOneText}
 use Rattle.rel_session.specs.Device.{Device}
-use Rattle.rel_session.specs.LawsBelow.{FileLaws, BootLaws}
+use Rattle.rel_session.specs.LawsBelow.{BootLaws}
 use Rattle.rel_session.specs.Node.{Reply}
 use Rattle.rel_session.specs.Run.{Ending, IsTextOf, answers_of}
 use Rattle.rel_session.specs.Run.Ending.{ended, cut_off, early}
@@ -22,9 +22,9 @@ whole_text ended replies text whole is = is
 whole_text cut_off replies text whole is = is
 whole_text early replies text whole is = absurd (whole refl)
 
-pub have_one_text : FileLaws → BootLaws → {D : Type 0} (v : Device D) (base : Source) → HaveOneText v base
-have_one_text texts laws v base single files p commands a b old new other later text written sure not_a not_b works works_too one two =
+pub have_one_text : BootLaws → {D : Type 0} (v : Device D) (base : Source) → HaveOneText v base
+have_one_text laws v base single files p commands a b old new other later text written sure not_a not_b works works_too one two =
     let fine = fails_only_with_the_device v base files p commands a one.replies old new one.right one.leads works in
     let fine_too = fails_only_with_the_device v base files p commands b two.replies other later two.right two.leads works_too in
-    let (ending, same) = have_one_answer texts laws base single files p commands a b one.replies two.replies sure not_a not_b fine.0 fine_too.0 one.right two.right in
+    let (ending, same) = have_one_answer laws base single files p commands a b one.replies two.replies sure not_a not_b fine.0 fine_too.0 one.right two.right in
     (ending, whole_text a one.replies text not_a one.written ∙ same_text one.replies two.replies same ∙ sym (whole_text b two.replies written not_b two.written))

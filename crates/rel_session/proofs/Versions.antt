@@ -2,6 +2,9 @@
 use Rattle.std.proofs.Common.{◌≡◌, inl, inr, ℕ, Bool, true, false, List, [], ◌∷◌, ◌++◌, length, codes, find, Option, Some, None, Result, Ok, Err, refl, sym, ap, ◌∙◌, subst}
 use Rattle.std.specs.Prelude.{if◌then◌else◌, is_some, bytes_eq}
 use Rattle.std.specs.Option.{option_and_then, option_map, option_or}
+use Rattle.erl_term.proofs.Lines.{append_line}
+use Rattle.erl_term.specs.Lines.{is_one_line}
+use Rattle.rel_unpack.proofs.LineOutcomes.{version_line}
 use Rattle.rel_files.specs.File.{HasVersions}
 use Rattle.rel_files.specs.Release.{Release}
 use Rattle.rel_list.specs.Releases.{Releases, Entry, status_of, has_current, permanent, current, running as running_release}
@@ -27,14 +30,14 @@ use Rattle.rel_session.specs.Node.{Place, Reply, releases_after, list_or_none}
 use Rattle.rel_session.specs.Node.Place.{raw, closed, running, dead}
 use Rattle.rel_session.specs.Refusals.{refusal_of, refusal_line}
 use Rattle.rel_session.specs.Refusals.Refusal.{device, bad_status}
-use Rattle.rel_session.specs.AnswerLaws.{is_one_line, HasLinePath, HasVersionsAt}
+use Rattle.rel_session.specs.AnswerLaws.{HasLinePath, HasVersionsAt}
 use Rattle.rel_session.specs.RunLaws.{MayBe}
 use Rattle.rel_session.specs.Transition
 use Rattle.rel_session.specs.Transition.Action.{answers, makes_node, changes_node, reboots_node, boots_node, tells_start}
-use Rattle.rel_session.proofs.ActionLemmas.{OfEvent, one_line, IsGoodAction, good_action}
+use Rattle.rel_session.proofs.ActionLemmas.{OfEvent, IsGoodAction, good_action}
 use Rattle.rel_session.proofs.ListLemmas.{list_after-more}
 use Rattle.rel_session.proofs.Transitions.{may_have}
-use Rattle.rel_session.proofs.AnswerLines.{IsWhole, ok_whole, done_whole, refusal_whole, boot_line_whole, append_plain}
+use Rattle.rel_session.proofs.AnswerLines.{IsWhole, ok_whole, done_whole, refusal_whole, boot_line_whole}
 
 more_versions : (es : Releases) (e : Entry) → HaveVersions es → HasVersions e.release → HaveVersions (es ++ e ∷ [])
 more_versions [] e all one = (one, tt)
@@ -99,7 +102,7 @@ found_version t (e ∷ es) all = go (t e) (found_version t es all.1)
   where
     go : (b : Bool) → is_one_line (Transition.version_of (option_map (λ (e : Entry). e.release) (find t es))) ≡ true
         → is_one_line (Transition.version_of (option_map (λ (e : Entry). e.release) (if b then Some e else find t es))) ≡ true
-    go true rest = one_line e.release.vsn all.0.own
+    go true rest = version_line e.release.vsn all.0.own
     go false rest = rest
 
 running_version : (es : Releases) → HaveVersions es → is_one_line (Transition.version_of (running_release es)) ≡ true
@@ -155,7 +158,7 @@ changes events end c list o plain of line all =
 
 makes_on : (x : List ℕ) (r : Release) (size : ℕ) (b : Bool) → HasVersions r → (a : Reply) → Transition.MakesOn x r size b a → IsGood a
 makes_on x r size true of a is = good_as a _ is ((λ behind. refl), tt)
-makes_on x r size false of a (inl (fits, is)) = good_as a _ is (ok_whole r.vsn (one_line r.vsn of.own), list_versions (made r ∷ []) booting tt (list_versions [] (made r) of (λ l e. let same : [] ≡ l = cc in subst HaveVersions same tt)))
+makes_on x r size false of a (inl (fits, is)) = good_as a _ is (ok_whole r.vsn (version_line r.vsn of.own), list_versions (made r ∷ []) booting tt (list_versions [] (made r) of (λ l e. let same : [] ≡ l = cc in subst HaveVersions same tt)))
 makes_on x r size false of a (inr (over_it, is)) = good_as a _ is ((λ behind. refl), tt)
 
 makes : (p : Place) (found : Found) → HasVersions found.release → HasVersionsAt p → (a : Reply) → Transition.MakesNode p found a → IsGood a
@@ -205,7 +208,7 @@ start_plain es all = go (permanent es) refl
     go None e = refl
     go (Some r) e =
         let of = permanent_versions es r all e in
-        append_plain r.erts (codes " " ++ r.vsn) (one_line r.erts of.erts) (append_plain (codes " ") r.vsn refl (one_line r.vsn of.own))
+        append_line r.erts (codes " " ++ r.vsn) (version_line r.erts of.erts) (append_line (codes " ") r.vsn refl (version_line r.vsn of.own))
 
 -- each list of these events has versions
 listed_versions : (events : Events) → OfList events → HaveVersions (releases_after events)

@@ -1,17 +1,18 @@
 -- What is so of the answers of whole sessions.
-use Rattle.std.specs.Prelude.{◌≡◌, ◌≢◌, ◌==◌, not, Bool, true, ℕ, List, [], ◌∷◌, None, Some}
-use Rattle.std.specs.List.{list_all}
+use Rattle.std.specs.Prelude.{◌≡◌, ◌≢◌, true, ℕ, List, [], ◌∷◌, None, Some}
+use Rattle.std.specs.List.{AllByRecursion}
+use Rattle.erl_term.specs.Lines.{is_one_line}
 use Rattle.rel_list.specs.Releases.{Releases}
 use Rattle.rel_list.specs.Event.{Event, list_after}
 use Rattle.rel_records.specs.Lists.{HaveVersions}
 use Rattle.rel_handler.specs.Events.{Events, certain}
 use Rattle.session_input.specs.Commands.{Command}
-use Rattle.session_input.specs.Commands.Command.{create, set_unpacked}
+use Rattle.session_input.specs.Commands.Command.{create, set_unpacked, relup}
 use Rattle.rel_session.specs.Device.{Device, HasFailed}
 use Rattle.session_input.specs.Feed.{Feed}
 use Rattle.session_input.specs.Feed.Feed.{next}
-use Rattle.rel_unpack.specs.Source.{Source}
-use Rattle.rel_session.specs.Files.{Files, GivesOne, GivesEach}
+use Rattle.rel_unpack.specs.Source.{Source, GivesOne, GivesEach}
+use Rattle.rel_session.specs.Files.{Files}
 use Rattle.rel_session.specs.Node.{Place, Reply}
 use Rattle.rel_session.specs.Node.Place.{raw, closed, running, dead}
 use Rattle.rel_session.specs.Refusals.{refusal_line}
@@ -91,14 +92,14 @@ EachHasAnAnswer base =
     GivesEach base → (files : Files) (p : Place) (commands : Feed Command)
     → IsCertain p → HasList p → HasAnswer base files p commands
 
--- a text without a newline
-abbrev pub is_one_line : List ℕ → Bool
-is_one_line s = list_all (λ b. not (b == 10)) s
+-- the paths of a command that names some in its answer
+abbrev pub AreLinePaths : List (List ℕ) → Type 0
+AreLinePaths = AllByRecursion (λ path. is_one_line path ≡ true)
 
--- the path of a command that names one in its answer
 abbrev pub HasLinePath : Command → Type 0
 HasLinePath (create path) = is_one_line path ≡ true
 HasLinePath (set_unpacked path) = is_one_line path ≡ true
+HasLinePath (relup new ups downs) = (is_one_line new ≡ true) × AreLinePaths ups × AreLinePaths downs
 HasLinePath c = Unit {0}
 
 -- each path of these commands is one

@@ -1,10 +1,10 @@
 -- The files of a session: those that were given come before those of its source.
-use Rattle.std.specs.Prelude.{◌≡◌, ◌≢◌, ℕ, List, length, nat_lt, if◌then◌else◌, Option, None, Some, Result, Ok, Err}
+use Rattle.std.specs.Prelude.{◌≡◌, ℕ, List, length, nat_lt, if◌then◌else◌, Option, None, Some, Result, Ok, Err}
 use Rattle.std.specs.HashMap.{get_by_text}
 use Rattle.std.specs.Option.{option_map}
 use Rattle.std.specs.Str.{bytes_eq}
 use Rattle.file_source.specs.declared.files.FilesError.{FilesError}
-use Rattle.file_source.specs.declared.files.FilesError.TheVariants.{TooLarge, NoMemory}
+use Rattle.file_source.specs.declared.files.FilesError.TheVariants.{TooLarge}
 use Rattle.rel_unpack.specs.Source.{Source}
 use Rattle.rel_session.specs.declared.given_files.GivenFiles.{GivenFiles}
 use Rattle.session_input.specs.Commands.{Command, File, given_of, most_file}
@@ -40,14 +40,6 @@ GivenOr (Some f) below read = read ≡ read_of f
 -- what reads give where these files were given, and those below are of a source
 abbrev pub source_of : Source → Files → Source
 source_of base files path = GivenOr (files path) (base path)
-
--- each path of the source has one answer at most
-abbrev pub GivesOne : Source → Type 0
-GivesOne source = (path : List ℕ) (a b : Result (List ℕ) FilesError) → source path a → source path b → a ≡ b
-
--- and one at least that is not out of memory
-abbrev pub GivesEach : Source → Type 0
-GivesEach source = (path : List ℕ) → (a : Result (List ℕ) FilesError) × (a ≢ Err NoMemory) × source path a
 
 -- the files in memory
 abbrev pub files_of : GivenFiles → Files

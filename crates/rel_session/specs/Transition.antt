@@ -18,7 +18,8 @@ use Rattle.rel_unpack.specs.Refusal.{Refusal as FilesRefusal}
 use Rattle.rel_unpack.specs.Release.{Found, ReleaseAt}
 use Rattle.rel_unpack.specs.Source.{Source}
 use Rattle.session_input.specs.Commands.{Command}
-use Rattle.session_input.specs.Commands.Command.{file, create, set_unpacked, install, permanent, remove, reboot_old, boot, start, releases, quit, bad}
+use Rattle.relup_command.specs.Answer.{AnswerAt}
+use Rattle.session_input.specs.Commands.Command.{file, create, set_unpacked, install, permanent, remove, reboot_old, boot, start, releases, relup, quit, bad}
 use Rattle.rel_session.specs.Listing.{listing, text_value}
 use Rattle.rel_session.specs.Node.{Place, releases_after, Reply, reply, refused, failed, nothing, done, failed_with, behind}
 use Rattle.rel_session.specs.Node.Place.{raw, closed, running, dead}
@@ -96,6 +97,11 @@ abbrev pub unpacking : Result Found FilesRefusal → Action
 unpacking (Err why) = refuses (refusal_for why)
 unpacking (Ok found) = changes_node (unpacked_change found)
 
+-- `relup`, by what is answered or the first file that isn't taken
+abbrev pub relup_telling : Result (List ℕ) FilesRefusal → Action
+relup_telling (Err why) = refuses (refusal_for why)
+relup_telling (Ok text) = answers text
+
 -- a command that reads its file only where a node runs
 abbrev pub OnNode : Place → (Action → Type 0) → Action → Type 0
 OnNode (running events end) P does = P does
@@ -115,6 +121,8 @@ ComesTo source p (reboot_old vsn) does = does ≡ reboots_node vsn
 ComesTo source p boot does = does ≡ boots_node
 ComesTo source p start does = does ≡ tells_start
 ComesTo source p releases does = does ≡ answers (listed p)
+ComesTo source p (relup new ups downs) does =
+    (found : Result (List ℕ) FilesRefusal) × AnswerAt source new ups downs found × (does ≡ relup_telling found)
 ComesTo source p bad does = does ≡ answers (codes "error session 1 BadCommand\n")
 ComesTo source p quit does = ⊥
 

@@ -1,27 +1,11 @@
 //! Laws of sessions. Each function does nothing: its contract is the law, and the laws that it calls are what it rests on.
 ghost use Rattle.rel_session.specs.AnswerLaws.{FailsOnlyWithTheDevice, TellsDoubt, HaveOneAnswer, HaveOneText, EachHasAnAnswer, TellsOneRun, ReadsLinePaths, KeepsVersions};
-ghost use Rattle.rel_session.specs.LawsBelow.{FileLaws, BootLaws};
+ghost use Rattle.rel_session.specs.LawsBelow.{BootLaws};
 ghost use Rattle.rel_session.specs.RunLaws.{EachKeeps, IsOfAccepted, LosesNothing, BeginsWhereOneEnded, BeginsBehindACrash, LosesNothingEver, BeginsWithAMaking};
 
-use erl_reader::laws::no_text_has_two_readings;
 use file_source::Files;
 use rel_disk::Disk;
-use rel_files::laws::{
-    a_file_has_one_fault, each_file_says_a_release_or_has_a_fault,
-    no_file_says_a_release_and_has_a_fault, no_file_says_two_releases,
-};
 use rel_handler::laws::a_disk_boots_or_is_refused;
-
-/// A release file says one release or has one fault.
-fn a_file_says_one_thing()
-    ensures { FileLaws }
-{
-    no_text_has_two_readings();
-    no_file_says_two_releases();
-    a_file_has_one_fault();
-    no_file_says_a_release_and_has_a_fault();
-    each_file_says_a_release_or_has_a_fault();
-}
 
 /// A disk stands for one list, or a boot refuses it.
 fn a_disk_stands_for_one_list()
@@ -63,7 +47,6 @@ pub fn an_input_has_one_answer<D: Disk, F: Files>()
     ensures written { (files : F) → HaveOneText D.Disk (F.gives files) }
     ensures some { (files : F) → EachHasAnAnswer (F.gives files) }
 {
-    a_file_says_one_thing();
     a_disk_stands_for_one_list();
 }
 
@@ -81,6 +64,4 @@ pub fn a_text_tells_one_run<D: Disk, F: Files>()
     // The paths of an input's commands and the versions of a store are as it asks.
     ensures paths { ReadsLinePaths }
     ensures versions { KeepsVersions D.Disk }
-{
-    a_file_says_one_thing();
-}
+{}

@@ -1,7 +1,8 @@
 //! The node of a session.
-ghost use Rattle.std.specs.Prelude.{◌≡◌, codes, None, Some, Ok, Err, string_bytes, IfOk, IfErr, OnOk, MatchResult};
+ghost use Rattle.std.specs.Prelude.{◌≡◌, codes, None, Some, Ok, Err, map, string_bytes, IfOk, IfErr, OnOk, MatchResult};
+ghost use Rattle.rel_handler.specs.Unpacking.{told_files};
 ghost use Rattle.session_input.specs.Commands.{command_of, given_of};
-ghost use Rattle.session_input.specs.Commands.Command.{file as file_given, create, set_unpacked, install, permanent, remove, reboot_old, boot, start};
+ghost use Rattle.session_input.specs.Commands.Command.{file as file_given, create, set_unpacked, install, permanent, remove, reboot_old, boot, start, relup};
 ghost use Rattle.rel_session.specs.Files.{files_of, no_files, give};
 ghost use Rattle.rel_session.specs.InMemory.{IsLine, IsText};
 ghost use Rattle.rel_session.specs.Transition.{Acts, installation, permanence, removal};
@@ -14,6 +15,8 @@ use crate::refusal::refusal_line;
 use file_source::Files;
 use rel_disk::Disk;
 use rel_handler::HandlerError;
+use rel_unpack::UnpackError;
+use relup_command::relup_answer;
 use session_input::{Command, GivenFile, SessionError};
 use std::alloc::{AllocError, Global};
 
@@ -69,6 +72,7 @@ impl<D: Disk> Node<D> {
             Command::RebootOld(vsn) => self.reboot_old(alloc, vsn.as_str()),
             Command::Boot => self.boot(alloc),
             Command::Start => self.start(alloc),
+            Command::Relup(new, ups, downs) => self.relup(alloc, base, new.as_str(), &ups, &downs),
             Command::Releases => {
                 let lines = self.place.releases(alloc);
                 (self, text_of(lines))
@@ -140,6 +144,31 @@ impl<D: Disk> Node<D> {
         };
         let (place, unpacked) = place.set_unpacked(alloc, &source, path);
         (Node { place, files }, line_of(alloc, unpacked))
+    }
+
+    /// Makes the relup of the release in the file of the path `new`, up from those of `ups` and down to those of `downs`. It
+    /// asks nothing of the node.
+    fn relup<F: Files>(
+        self,
+        alloc: Global,
+        base: &F,
+        new: &str,
+        ups: &[String],
+        downs: &[String],
+    ) -> (Node<D>, Result<Option<String>, SessionError>)
+        ensures place { result.0.place ≡ self.place }
+        ensures followed { FollowsCommand D.Disk (F.gives base.now)
+            (relup new.now (map string_bytes ups.now) (map string_bytes downs.now))
+            result.1 self result.0 }
+        ensures memory { IfErr result.1 (λ e. e ≡ SessionError.NoMemory) }
+    {
+        let Node { place, files } = self;
+        let source = SessionFiles {
+            given: &files,
+            base,
+        };
+        let made = relup_answer(alloc, &source, new, ups, downs);
+        (Node { place, files }, line_of(alloc, answer_of_files(made)))
     }
 
     /// Installs the release of this version.
@@ -254,6 +283,14 @@ fn line_of(
         Err(HandlerError::NoMemory) => Err(SessionError::NoMemory),
         Err(why) => Ok(Some(refusal_line(alloc, &why)?)),
     }
+}
+
+/// What files gave, as an answer of the node.
+fn answer_of_files(made: Result<String, UnpackError>) -> Result<String, HandlerError>
+    ensures same { MatchResult made (λ text. result ≡ Ok text)
+        (λ why. result ≡ Err (told_files why)) }
+{
+    Ok(made?)
 }
 
 /// A line as a text of a session.

@@ -12,6 +12,8 @@ mod installations;
 #[cfg(test)]
 mod limits;
 #[cfg(test)]
+mod relups;
+#[cfg(test)]
 mod sessions;
 #[cfg(test)]
 mod sources;

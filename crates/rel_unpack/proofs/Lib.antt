@@ -1,2 +1,5 @@
 pub mod Turns
 pub mod Steps
+pub mod OneOutcome
+pub mod SomeOutcome
+pub mod LineOutcomes

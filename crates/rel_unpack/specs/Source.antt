@@ -1,5 +1,5 @@
 -- What the files of a source say.
-use Rattle.std.specs.Prelude.{◌≡◌, ℕ, List, Option, Some, None, Result, Ok, Err}
+use Rattle.std.specs.Prelude.{◌≡◌, ◌≢◌, ℕ, List, Option, Some, None, Result, Ok, Err}
 use Rattle.file_source.specs.declared.files.FilesError.{FilesError}
 use Rattle.file_source.specs.declared.files.FilesError.TheVariants as files
 use Rattle.rel_unpack.specs.Refusal.{Trouble}
@@ -10,6 +10,14 @@ use Rattle.rel_unpack.specs.Order.{Outcome, Then}
 -- what a read of each path may give
 abbrev pub Source : Type 1
 Source = List ℕ → Result (List ℕ) FilesError → Type 0
+
+-- each path of the source has one answer at most
+abbrev pub GivesOne : Source → Type 0
+GivesOne source = (path : List ℕ) (a b : Result (List ℕ) FilesError) → source path a → source path b → a ≡ b
+
+-- and one at least that is not out of memory
+abbrev pub GivesEach : Source → Type 0
+GivesEach source = (path : List ℕ) → (a : Result (List ℕ) FilesError) × (a ≢ Err files.NoMemory) × source path a
 
 -- the bytes of the file of a path
 abbrev pub HasBytes : Source → List ℕ → Outcome (List ℕ)

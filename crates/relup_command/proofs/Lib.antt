@@ -1,1 +1,4 @@
 pub mod AppupLemmas
+pub mod AnswerLemmas
+pub mod RelupOutcomes
+pub mod AnswerLines

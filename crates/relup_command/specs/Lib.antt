@@ -1,3 +1,4 @@
 pub mod Appups
 pub mod Releases
 pub mod Relup
+pub mod Answer

@@ -3,15 +3,18 @@
 //! [`make_relup_of_files`] reads the `.rel` file of a release and the `.app` files of its applications, then those of the
 //! releases that it comes from and goes back to, and last the release's appups. It answers the relup that the translation of
 //! `relup_translate` gives of these, the first refusal of a file, or the fault of the appups (clauses `made`, `refused`).
+//! [`relup_answer`] tells it in lines, as a session answers.
 //!
 //! Only tested (`relup_command_cases`): that files are read where memory is there. Trusted: the toolchain alone.
 #![tactic(auto)]
 
+mod answer;
 mod appups;
 mod error;
 mod releases;
 mod relup;
 
+pub use answer::relup_answer;
 pub use error::RelupError;
 pub use releases::MOST_MODULES;
 pub use relup::make_relup_of_files;

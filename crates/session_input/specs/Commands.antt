@@ -1,5 +1,5 @@
 -- The commands of an input.
-use Rattle.std.specs.Prelude.{◌≡◌, ℕ, ◌<◌, ◌≤◌, Bool, List, [], ◌∷◌, ◌++◌, Option, None, Some, length, nat_lt, nat_le, ◌==◌, if◌then◌else◌, codes, string_bytes}
+use Rattle.std.specs.Prelude.{◌≡◌, ℕ, ◌<◌, ◌≤◌, Bool, List, [], ◌∷◌, ◌++◌, Option, None, Some, length, map, nat_lt, nat_le, ◌==◌, if◌then◌else◌, codes, string_bytes}
 use Rattle.std.specs.List.{list_all, slice_split}
 use Rattle.std.specs.Str.{bytes_eq, is_utf8}
 use Rattle.rel_files.specs.Name.{is_text}
@@ -37,6 +37,7 @@ pub data Command : Type 0 where
   boot : Command
   start : Command
   releases : Command
+  relup : List ℕ → List (List ℕ) → List (List ℕ) → Command
   quit : Command
   bad : Command
 
@@ -51,8 +52,12 @@ abbrev pub without_words : List (List ℕ) → ParsedLine → ParsedLine
 without_words [] parsed = parsed
 without_words words parsed = whole_command bad
 
+abbrev pub path_of : List ℕ → Option (List ℕ)
+path_of [] = None
+path_of (b ∷ path) = Some (b ∷ path)
+
 abbrev pub path_in : List (List ℕ) → Option (List ℕ)
-path_in ((b ∷ path) ∷ []) = Some (b ∷ path)
+path_in (word ∷ []) = path_of word
 path_in words = None
 
 abbrev pub version_in : List (List ℕ) → Option (List ℕ)
@@ -77,12 +82,38 @@ change_named word vsn =
 abbrev pub parse_change : List ℕ → List (List ℕ) → ParsedLine
 parse_change word words = with_word (version_in words) (λ vsn. whole_command (change_named word vsn))
 
+-- what stands between single separators
+abbrev pub split_at : ℕ → List ℕ → List (List ℕ)
+split_at separator text = slice_split (λ b. b == separator) text
+
+-- a path is not empty
+abbrev pub is_path : List ℕ → Bool
+is_path word = nat_lt 0 (length word)
+
+-- the paths that a word has between its commas, none of them empty; a hyphen alone stands for none
+abbrev pub paths_of : List ℕ → Option (List (List ℕ))
+paths_of word =
+    if bytes_eq word (codes "-") then Some []
+    else if list_all is_path (split_at 44 word) then Some (split_at 44 word)
+    else None
+
+-- a relup's request, where each of its words was of its kind
+abbrev pub relup_of : Option (List ℕ) → Option (List (List ℕ)) → Option (List (List ℕ)) → Command
+relup_of (Some new) (Some ups) (Some downs) = relup new ups downs
+relup_of new ups downs = bad
+
+-- what the word of such a request says with the words behind it
+abbrev pub parse_relup : List (List ℕ) → ParsedLine
+parse_relup (new ∷ ups ∷ downs ∷ []) = whole_command (relup_of (path_of new) (paths_of ups) (paths_of downs))
+parse_relup words = whole_command bad
+
 -- what the word of a command on a file says with the words behind it
 abbrev pub parse_path_command : List ℕ → List (List ℕ) → ParsedLine
 parse_path_command word words =
     if bytes_eq word (codes "file") then with_word (path_in words) file_begins
     else if bytes_eq word (codes "create") then with_word (path_in words) (λ path. whole_command (create path))
     else if bytes_eq word (codes "set_unpacked") then with_word (path_in words) (λ path. whole_command (set_unpacked path))
+    else if bytes_eq word (codes "relup") then parse_relup words
     else parse_change word words
 
 -- what a command's word says with the words behind it
@@ -101,7 +132,7 @@ parse_words (word ∷ words) = parse_command word words
 
 -- what stands between single spaces
 abbrev pub words_of : List ℕ → List (List ℕ)
-words_of line = slice_split (λ b. b == 32) line
+words_of line = split_at 32 line
 
 abbrev pub is_blank : List ℕ → Bool
 is_blank line = list_all (λ b. nat_le b 32) line
@@ -154,6 +185,7 @@ command_of (memory.RebootOld v) = reboot_old (string_bytes v)
 command_of memory.Boot = boot
 command_of memory.Start = start
 command_of memory.Releases = releases
+command_of (memory.Relup n u d) = relup (string_bytes n) (map string_bytes u.items) (map string_bytes d.items)
 command_of memory.Quit = quit
 command_of memory.Bad = bad
 

@@ -24,6 +24,8 @@ pub enum Command {
     Start,
     /// Lists the node's releases.
     Releases,
+    /// Makes the relup of the release of a file, up from those of the second files and down to those of the third.
+    Relup(String, Vec<String>, Vec<String>),
     /// Ends the session.
     Quit,
     /// A line that says no command, or a file without its end.

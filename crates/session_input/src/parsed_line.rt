@@ -1,11 +1,12 @@
 //! What a line says where a command may stand.
 ghost use Rattle.std.specs.Prelude.{◌≡◌, ℕ, List, map, string_bytes, IfOk, MatchOption};
+ghost use Rattle.std.specs.List.{list_all};
 ghost use Rattle.std.specs.Option.{option_map};
-ghost use Rattle.session_input.specs.Commands.{command_of, is_blank as blank, path_in as path_of, version_in as version_of, change_named as named_change};
+ghost use Rattle.session_input.specs.Commands.{command_of, is_blank as blank, is_path, path_in as path_within, path_of, paths_of, relup_of, version_in as version_of, change_named as named_change};
 
 use crate::command::Command;
 use crate::line::Line;
-use crate::words::words_in;
+use crate::words::split_at;
 use rel_files::text::is_version;
 use std::alloc::{AllocError, Global};
 
@@ -25,7 +26,7 @@ pub enum ParsedLine {
 
 impl ParsedLine {
     ghost use Rattle.session_input.specs.ParsedLine.{parsed_line_of};
-    ghost use Rattle.session_input.specs.Commands.{parse_line, parse_words, parse_command, parse_path_command, parse_change, without_words, command_of, words_of, most_line};
+    ghost use Rattle.session_input.specs.Commands.{parse_line, parse_words, parse_command, parse_path_command, parse_relup, parse_change, without_words, command_of, words_of, most_line};
     ghost use Rattle.session_input.specs.Commands.Command.{bad};
     ghost use Rattle.session_input.specs.Commands.ParsedLine.{whole_command};
     ghost use Rattle.session_input.specs.Lines.{IsKept};
@@ -50,7 +51,7 @@ impl ParsedLine {
     fn of_text(alloc: Global, text: &str) -> Result<ParsedLine, AllocError>
         ensures { IfOk result (λ parsed. parsed_line_of parsed ≡ parse_words (words_of text.now)) }
     {
-        let words = words_in(alloc, text)?;
+        let words = split_at(alloc, text, ' ')?;
         ParsedLine::of_words(alloc, words.as_slice())
     }
 
@@ -92,8 +93,23 @@ impl ParsedLine {
             "set_unpacked" => Ok(ParsedLine::of_option(path_in(alloc, words)?.map(
                 Command::SetUnpacked,
             ))),
+            "relup" => ParsedLine::of_relup(alloc, words),
             _ => ParsedLine::of_change(alloc, word, words),
         }
+    }
+
+    // What the word of a relup's request says with the words behind it.
+    fn of_relup(alloc: Global, words: &[&str]) -> Result<ParsedLine, AllocError>
+        ensures { IfOk result (λ parsed.
+            parsed_line_of parsed ≡ parse_relup (map (λ word. word.now) words.now)) }
+    {
+        let [new, ups, downs] = words else {
+            return Ok(ParsedLine::Command(Command::Bad));
+        };
+        let new = path_of(alloc, new)?;
+        let ups = paths_of(alloc, ups)?;
+        let downs = paths_of(alloc, downs)?;
+        Ok(ParsedLine::Command(relup_of(new, ups, downs)))
     }
 
     // What the word of a command on a listed release says with the words behind it.
@@ -147,12 +163,72 @@ fn change_named(word: &str, vsn: String) -> Command
 // The path that these words are: one word, and not an empty one.
 fn path_in(alloc: Global, words: &[&str]) -> Result<Option<String>, AllocError>
     ensures { IfOk result (λ path.
-        option_map string_bytes path ≡ path_of (map (λ word. word.now) words.now)) }
+        option_map string_bytes path ≡ path_within (map (λ word. word.now) words.now)) }
 {
     match words {
-        [""] => Ok(None),
-        [path] => Ok(Some(String::from_str(alloc, path)?)),
+        [word] => path_of(alloc, word),
         _ => Ok(None),
+    }
+}
+
+// The path that a word is, if it isn't empty.
+fn path_of(alloc: Global, word: &str) -> Result<Option<String>, AllocError>
+    ensures { IfOk result (λ path. option_map string_bytes path ≡ path_of word.now) }
+{
+    match word {
+        "" => Ok(None),
+        path => Ok(Some(String::from_str(alloc, path)?)),
+    }
+}
+
+// The paths that a word has between its commas, if none of them is empty. A hyphen alone stands for none.
+fn paths_of(alloc: Global, word: &str) -> Result<Option<Vec<String>>, AllocError>
+    ensures { IfOk result (λ paths.
+        option_map (λ v. map string_bytes v.items) paths ≡ paths_of word.now) }
+{
+    if word == "-" {
+        return Ok(Some(Vec::new(alloc)));
+    }
+    let paths = split_at(alloc, word, ',')?;
+    if are_paths(&paths) {
+        Ok(Some(copies(alloc, &paths)?))
+    } else {
+        Ok(None)
+    }
+}
+
+// Whether none of them is empty.
+fn are_paths(words: &[&str]) -> bool
+    ensures { result ≡ list_all is_path (map (λ word. word.now) words.now) }
+{
+    for word in words {
+        if word.is_empty() {
+            return false;
+        }
+    }
+    true
+}
+
+fn copies(alloc: Global, texts: &[&str]) -> Result<Vec<String>, AllocError>
+    ensures { IfOk result (λ v.
+        map string_bytes v.items ≡ map (λ text. text.now) texts.now) }
+{
+    let mut copies = Vec::with_capacity(alloc, texts.len())?;
+    for text in texts {
+        copies.push(String::from_str(alloc, text)?)?;
+    }
+    Ok(copies)
+}
+
+// The request of a relup, or a bad command where one of its words was not of its kind.
+fn relup_of(new: Option<String>, ups: Option<Vec<String>>, downs: Option<Vec<String>>) -> Command
+    ensures { command_of result ≡ relup_of (option_map string_bytes new)
+        (option_map (λ v. map string_bytes v.items) ups)
+        (option_map (λ v. map string_bytes v.items) downs) }
+{
+    match (new, ups, downs) {
+        (Some(new), Some(ups), Some(downs)) => Command::Relup(new, ups, downs),
+        _ => Command::Bad,
     }
 }
 

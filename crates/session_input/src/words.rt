@@ -1,19 +1,21 @@
-//! The words of a line.
-ghost use Rattle.std.specs.Prelude.{◌≡◌, map, IfOk};
-ghost use Rattle.session_input.specs.Commands.{words_of};
+//! The words of a line, and the parts of a word.
+ghost use Rattle.std.specs.Prelude.{◌≡◌, ◌<◌, map, IfOk};
+ghost use Rattle.session_input.specs.Commands.{split_at};
 
 use std::alloc::{AllocError, Global};
 
-/// What stands between single spaces. Two spaces in a row have an empty word between them.
-pub fn words_in(alloc: Global, line: &str) -> Result<Vec<&str>, AllocError>
-    ensures { IfOk result (λ words. map (λ word. word.now) words.items ≡ words_of line.now) }
+/// What stands between single separators, characters of ASCII. Two of them in a row have an empty text between them.
+pub fn split_at(alloc: Global, text: &str, separator: char) -> Result<Vec<&str>, AllocError>
+    requires { separator < 128 }
+    ensures { IfOk result (λ parts.
+        map (λ part. part.now) parts.items ≡ split_at separator text.now) }
 {
-    let mut words = Vec::new(alloc);
-    let mut rest = line;
-    while let Some((word, more)) = rest.split_once(' ') {
-        words.push(word)?;
+    let mut parts = Vec::new(alloc);
+    let mut rest = text;
+    while let Some((part, more)) = rest.split_once(separator) {
+        parts.push(part)?;
         rest = more;
     }
-    words.push(rest)?;
-    Ok(words)
+    parts.push(rest)?;
+    Ok(parts)
 }

@@ -4,7 +4,7 @@ use Rattle.rel_session.proofs.DeviceLemmas.{IsDevice}
 use Rattle.rel_session.proofs.laws.a_text_tells_one_run.Goals as goal
 
 pub returns-clause-one : goal.returns-clause-one
-returns-clause-one g c = λ files. tells_one_run c.a_file_says_one_thing.ensures (g.F.Files.gives files)
+returns-clause-one g c = λ files. tells_one_run (g.F.Files.gives files)
 
 pub returns-clause-paths : goal.returns-clause-paths
 returns-clause-paths g c = reads_line_paths

@@ -1,0 +1,207 @@
+-- What files say has one outcome at most, where each path of their source has one answer.
+use Rattle.std.proofs.Common.{◌≡◌, ◌≢◌, ◌⊎◌, inl, inr, ℕ, true, false, List, [], ◌∷◌, Option, Some, None, Result, Ok, Err, refl, sym, ap, ◌∙◌, subst}
+use Rattle.erl_reader.proofs.Exact.{one_reading}
+use Rattle.erl_reader.specs.Grammar.{Reading}
+use Rattle.file_source.specs.declared.files.FilesError.{FilesError}
+use Rattle.file_source.specs.declared.files.FilesError.TheVariants as read
+use Rattle.rel_files.proofs.OneFault.{one_file_fault, never_says_and_fails, says_one}
+use Rattle.rel_files.proofs.OneTermFiles as kind
+use Rattle.rel_files.specs.Fault.{Fault}
+use Rattle.rel_files.specs.Release.{Application}
+use Rattle.app_file.specs.File.{app_files}
+use Rattle.rel_unpack.specs.Applications.{AppAt, app_form}
+use Rattle.rel_unpack.specs.Order.{Outcome, Then, Each}
+use Rattle.rel_unpack.specs.Refusal.{Refusal, Trouble, IsFault, is_missing}
+use Rattle.rel_unpack.specs.Refusal.Refusal.{missing_file, bad_file, vsn_mismatch, lib_differs, too_many, no_memory}
+use Rattle.rel_unpack.specs.Refusal.Trouble.{unreadable, faulty, misshapen}
+use Rattle.rel_unpack.specs.Release.{ReleaseAt, rel_form}
+use Rattle.rel_unpack.specs.Source.{Source, Form, GivesOne, HasBytes, HasValue, FileSays, IfThere}
+
+abbrev pub IsOne : {X : Type 0} → Outcome X → Type 0
+IsOne {X} P = (a b : Result X Refusal) → P a → P b → a ≡ b
+
+-- This is the outcome.
+pub one_outcome : {X : Type 0} (x : Result X Refusal) → IsOne (λ r. r ≡ x)
+one_outcome x r s is also = is ∙ sym also
+
+-- First this, and then that.
+module _ {A B : Type 0} (P : Outcome A) (Q : A → Outcome B) (one : IsOne P) (next : (a : A) → IsOne (Q a)) where
+  same : (x y : A) → P (Ok x) → P (Ok y) → x ≡ y
+  same x y p q = let e : Ok x ≡ Ok y = one (Ok x) (Ok y) p q in cc
+
+  never : (x : A) (e : Refusal) → P (Ok x) → P (Err e) → ⊥
+  never x e p q = let d : Ok x ≡ Err e = one (Ok x) (Err e) p q in cc
+
+  behind : (x y : A) (r s : Result B Refusal) → P (Ok x) → P (Ok y) → Q x r → Q y s → r ≡ s
+  behind x y r s p q here there = next x r s here (subst (λ a. Q a s) (sym (same x y p q)) there)
+
+  pub one_then : IsOne (Then P Q)
+  one_then (Ok b) (Ok c) (x, p, q) (y, p', q') = behind x y (Ok b) (Ok c) p p' q q'
+  one_then (Ok b) (Err e) (x, p, q) (inl p') = absurd (never x e p p')
+  one_then (Ok b) (Err e) (x, p, q) (inr (y, p', q')) = behind x y (Ok b) (Err e) p p' q q'
+  one_then (Err e) (Ok b) (inl p) (y, p', q') = absurd (never y e p' p)
+  one_then (Err e) (Ok b) (inr (x, p, q)) (y, p', q') = behind x y (Err e) (Ok b) p p' q q'
+  one_then (Err e) (Err f) (inl p) (inl p') = let d : Err e ≡ Err f = one (Err e) (Err f) p p' in cc
+  one_then (Err e) (Err f) (inl p) (inr (y, p', q')) = absurd (never y e p' p)
+  one_then (Err e) (Err f) (inr (x, p, q)) (inl p') = absurd (never x f p p')
+  one_then (Err e) (Err f) (inr (x, p, q)) (inr (y, p', q')) = behind x y (Err e) (Err f) p p' q q'
+
+-- Each in turn.
+pub one_each : {A B : Type 0} (P : A → Outcome B) → ((a : A) → IsOne (P a)) → (as' : List A) → IsOne (Each P as')
+one_each P one [] r s is also = is ∙ sym also
+one_each P one (a ∷ as') r s is also =
+    one_then (P a) (λ b. Then (Each P as') (λ bs t. t ≡ Ok (b ∷ bs))) (one a)
+    (λ b. one_then (Each P as') (λ bs t. t ≡ Ok (b ∷ bs)) (one_each P one as') (λ bs. one_outcome (Ok (b ∷ bs)))) r s is also
+
+-- what a read comes to
+abbrev outcome_of : List ℕ → Result (List ℕ) FilesError → Result (List ℕ) Refusal
+outcome_of path (Ok bs) = Ok bs
+outcome_of path (Err read.Missing) = Err (missing_file path)
+outcome_of path (Err read.Unreadable) = Err (bad_file path unreadable)
+outcome_of path (Err read.TooLarge) = Err too_many
+outcome_of path (Err read.NoMemory) = Err no_memory
+
+was_read : (source : Source) (path : List ℕ) (r : Result (List ℕ) Refusal) → HasBytes source path r → (a : Result (List ℕ) FilesError) × source path a × (r ≡ outcome_of path a)
+was_read source path (Ok bs) has = (Ok bs, has, refl)
+was_read source path (Err (missing_file p)) (is, has) = (Err read.Missing, has, ap (λ q. Err (missing_file q)) is)
+was_read source path (Err (bad_file p unreadable)) (is, has) = (Err read.Unreadable, has, ap (λ q. Err (bad_file q unreadable)) is)
+was_read source path (Err (bad_file p (faulty f))) has = absurd has
+was_read source path (Err (bad_file p misshapen)) has = absurd has
+was_read source path (Err (vsn_mismatch p)) has = absurd has
+was_read source path (Err (lib_differs p)) has = absurd has
+was_read source path (Err too_many) has = (Err read.TooLarge, has, refl)
+was_read source path (Err no_memory) has = absurd has
+
+one_bytes : (source : Source) → GivesOne source → (path : List ℕ) → IsOne (HasBytes source path)
+one_bytes source one path r s has also =
+    let (a, reads, is) = was_read source path r has in
+    let (b, reads_too, is_too) = was_read source path s also in
+    is ∙ ap (outcome_of path) (one path a b reads reads_too) ∙ sym is_too
+
+-- Bytes say one thing of a kind, or have one trouble.
+pub record SaysOne {X : Type 0} (form : Form X) : Type 0 where
+  pub one_value : (bytes : List ℕ) (x y : X) → form.says bytes x → form.says bytes y → x ≡ y
+  pub one_trouble : (bytes : List ℕ) (t u : Trouble) → form.fails bytes t → form.fails bytes u → t ≡ u
+  pub never_both : (bytes : List ℕ) (x : X) (t : Trouble) → form.says bytes x → form.fails bytes t → ⊥
+
+-- A file that is there was read, and not missing.
+abbrev IsThere : Source → List ℕ → Type 0
+IsThere source path = (a : Result (List ℕ) FilesError) × source path a × (a ≢ Err read.Missing)
+
+module _ {X : Type 0} (form : Form X) (laws : SaysOne form) (source : Source) (one : GivesOne source) (path : List ℕ) where
+  -- what the bytes come to
+  abbrev Told : List ℕ → Result X Refusal → Type 0
+  Told bs r = ((x : X) × form.says bs x × (r ≡ Ok x)) ⊎ ((t : Trouble) × form.fails bs t × (r ≡ Err (bad_file path t)))
+
+  was_told : (bs : List ℕ) (r : Result X Refusal) → HasValue form path bs r → Told bs r
+  was_told bs (Ok x) says = inl (x, says, refl)
+  was_told bs (Err (bad_file p t)) (is, has) = inr (t, has, ap (λ q. Err (bad_file q t)) is)
+  was_told bs (Err (missing_file p)) has = absurd has
+  was_told bs (Err (vsn_mismatch p)) has = absurd has
+  was_told bs (Err (lib_differs p)) has = absurd has
+  was_told bs (Err too_many) has = absurd has
+  was_told bs (Err no_memory) has = absurd has
+
+  one_told : (bs : List ℕ) (r s : Result X Refusal) → Told bs r → Told bs s → r ≡ s
+  one_told bs r s (inl (x, says, is)) (inl (y, says_too, also)) = is ∙ ap (λ (z : X). Ok z) (laws.one_value bs x y says says_too) ∙ sym also
+  one_told bs r s (inl (x, says, is)) (inr (t, has, also)) = absurd (laws.never_both bs x t says has)
+  one_told bs r s (inr (t, has, is)) (inl (x, says, also)) = absurd (laws.never_both bs x t says has)
+  one_told bs r s (inr (t, has, is)) (inr (u, has_too, also)) = is ∙ ap (λ (z : Trouble). Err (bad_file path z)) (laws.one_trouble bs t u has has_too) ∙ sym also
+
+  one_value : (bs : List ℕ) → IsOne (HasValue form path bs)
+  one_value bs r s has also = one_told bs r s (was_told bs r has) (was_told bs s also)
+
+  pub one_file : IsOne (FileSays form source path)
+  one_file = one_then (HasBytes source path) (HasValue form path) (one_bytes source one path) one_value
+
+  -- A file that says something, or is refused for something else than that it is missing, is there.
+  refused_there : (e : Refusal) → is_missing e ≡ false → HasBytes source path (Err e) → IsThere source path
+  refused_there e other has =
+      let (a, reads, is) = was_read source path (Err e) has in
+      (a, reads, λ missing. let same : Err e ≡ Err (missing_file path) = is ∙ ap (outcome_of path) missing in let is_one : e ≡ missing_file path = cc in let never : true ≡ false = sym (ap is_missing is_one) ∙ other in cc)
+
+  refusal_there : (e : Refusal) → is_missing e ≡ false → FileSays form source path (Err e) → IsThere source path
+  refusal_there e other (inl has) = refused_there e other has
+  refusal_there e other (inr (bs, reads, has)) = (Ok bs, reads, λ never. cc never)
+
+  -- what is read of a file, if there is one
+  abbrev Case : Result (Option X) Refusal → Type 0
+  Case r = (source path (Err read.Missing) × (r ≡ Ok None))
+      ⊎ (((x : X) × FileSays form source path (Ok x) × IsThere source path × (r ≡ Ok (Some x)))
+      ⊎ ((e : Refusal) × FileSays form source path (Err e) × IsThere source path × (r ≡ Err e)))
+
+  refusal_case : (e : Refusal) → is_missing e ≡ false → FileSays form source path (Err e) → Case (Err e)
+  refusal_case e other says = inr (inr (e, says, refusal_there e other says, refl))
+
+  was_there : (r : Result (Option X) Refusal) → IfThere source path (FileSays form source path) r → Case r
+  was_there (Ok None) missing = inl (missing, refl)
+  was_there (Ok (Some x)) (bs, reads, says) = inr (inl (x, (bs, reads, says), (Ok bs, reads, λ never. cc never), refl))
+  was_there (Err (missing_file p)) says = absurd says
+  was_there (Err (bad_file p t)) says = refusal_case (bad_file p t) refl says
+  was_there (Err (vsn_mismatch p)) says = refusal_case (vsn_mismatch p) refl says
+  was_there (Err (lib_differs p)) says = refusal_case (lib_differs p) refl says
+  was_there (Err too_many) says = refusal_case too_many refl says
+  was_there (Err no_memory) says = refusal_case no_memory refl says
+
+  not_missing : source path (Err read.Missing) → IsThere source path → ⊥
+  not_missing missing (a, reads, other) = other (one path a (Err read.Missing) reads missing)
+
+  one_case : (r s : Result (Option X) Refusal) → Case r → Case s → r ≡ s
+  one_case r s (inl (missing, is)) (inl (again, also)) = is ∙ sym also
+  one_case r s (inl (missing, is)) (inr (inl (x, says, there, also))) = absurd (not_missing missing there)
+  one_case r s (inl (missing, is)) (inr (inr (e, says, there, also))) = absurd (not_missing missing there)
+  one_case r s (inr (inl (x, says, there, is))) (inl (missing, also)) = absurd (not_missing missing there)
+  one_case r s (inr (inr (e, says, there, is))) (inl (missing, also)) = absurd (not_missing missing there)
+  one_case r s (inr (inl (x, says, there, is))) (inr (inl (y, says_too, there_too, also))) =
+      let same : Ok x ≡ Ok y = one_file (Ok x) (Ok y) says says_too in
+      let one_value : x ≡ y = cc in
+      is ∙ ap (λ (z : X). Ok (Some z)) one_value ∙ sym also
+  one_case r s (inr (inl (x, says, there, is))) (inr (inr (e, says_too, there_too, also))) = let never : Ok x ≡ Err e = one_file (Ok x) (Err e) says says_too in absurd cc
+  one_case r s (inr (inr (e, says, there, is))) (inr (inl (x, says_too, there_too, also))) = let never : Err e ≡ Ok x = one_file (Err e) (Ok x) says says_too in absurd cc
+  one_case r s (inr (inr (e, says, there, is))) (inr (inr (f, says_too, there_too, also))) =
+      let same : Err e ≡ Err f = one_file (Err e) (Err f) says says_too in
+      let one_refusal : e ≡ f = cc in
+      is ∙ ap (λ (z : Refusal). Err z) one_refusal ∙ sym also
+
+  pub one_if_there : IsOne (IfThere source path (FileSays form source path))
+  one_if_there r s is also = one_case r s (was_there r is) (was_there s also)
+
+-- A fault that says where it lies is one trouble.
+faults_one : (P : Fault → Type 0) → ((f g : Fault) → P f → P g → f ≡ g) → (t u : Trouble) → IsFault P t → IsFault P u → t ≡ u
+faults_one P one (faulty f) (faulty g) has also = ap (λ x. faulty x) (one f g has also)
+faults_one P one unreadable u has also = absurd has
+faults_one P one misshapen u has also = absurd has
+faults_one P one (faulty f) unreadable has also = absurd also
+faults_one P one (faulty f) misshapen has also = absurd also
+
+some_fault : {A : Type 0} (P : Fault → Type 0) → ((f : Fault) → P f → A) → (t : Trouble) → IsFault P t → A
+some_fault P then (faulty f) has = then f has
+some_fault P then unreadable has = absurd has
+some_fault P then misshapen has = absurd has
+
+-- The kinds of files of a release.
+says_one_release : SaysOne rel_form
+says_one_release = record {
+  one_value = λ bs f g says also.
+      let ((r, reads, is), of) = says in
+      let ((s, reads_too, is_too), of_too) = also in
+      let readings : r ∷ [] ≡ s ∷ [] = one_reading 64 bs (r ∷ []) (s ∷ []) reads reads_too in
+      let terms : f.term ≡ g.term = sym is ∙ (let same : r ≡ s = cc in ap (λ (x : Reading). x.term) same) ∙ is_too in
+      let releases : f.release ≡ g.release = says_one bs f.release g.release (f.term, says.0, of) (g.term, also.0, of_too) in
+      λ k. record { release = releases k; term = terms k };
+  one_trouble = λ bs. faults_one _ (one_file_fault bs);
+  never_both = λ bs f t says has. some_fault _ (λ e is. never_says_and_fails bs f.release e (f.term, says.0, says.1) is) t has;
+}
+
+says_one_application : SaysOne app_form
+says_one_application = record {
+  one_value = kind.says_one app_files;
+  one_trouble = λ bs. faults_one _ (kind.one_fault app_files bs);
+  never_both = λ bs s t says has. some_fault _ (λ e is. kind.never_says_and_fails app_files bs s e says is) t has;
+}
+
+pub one_release : (source : Source) → GivesOne source → (path : List ℕ) → IsOne (ReleaseAt source path)
+one_release source one path = one_then (FileSays rel_form source path) _ (one_file rel_form says_one_release source one path) (λ f. one_outcome _)
+
+pub one_application : (source : Source) → GivesOne source → (a : Application) → IsOne (AppAt source a)
+one_application source one a = one_then (FileSays app_form source _) _ (one_file app_form says_one_application source one _) (λ s. one_outcome _)

@@ -1,0 +1,33 @@
+-- What is answered to the request of a relup.
+use Rattle.std.specs.Prelude.{◌≡◌, ℕ, List, ◌++◌, codes, Result, Ok, Err}
+use Rattle.erl_term.specs.Printing.{text_of}
+use Rattle.rel_unpack.specs.Order.{Outcome, Then}
+use Rattle.rel_unpack.specs.Source.{Source}
+use Rattle.relup_file.specs.Form.{relup_term}
+use Rattle.relup_file.specs.Instruction.{RelupForm}
+use Rattle.relup_translate.specs.Fault.{FaultForm}
+use Rattle.relup_translate.specs.Fault.FaultForm.{no_appup, no_entry, unknown_module, regex_version, needs_new_emulator, unsupported}
+use Rattle.relup_translate.specs.Translation.{translation}
+use Rattle.relup_command.specs.Releases.{ReleasesAt}
+
+-- why the appups give no relup: the number, the name and the detail of their fault
+abbrev pub fault_line : FaultForm → List ℕ
+fault_line (no_appup app) = codes "error relup 1 NoAppup " ++ (app ++ codes "\n")
+fault_line (no_entry app vsn) = codes "error relup 2 NoEntry " ++ (app ++ (codes " " ++ (vsn ++ codes "\n")))
+fault_line (unknown_module name) = codes "error relup 3 UnknownModule " ++ (name ++ codes "\n")
+fault_line (regex_version app) = codes "error relup 4 RegexVersion " ++ (app ++ codes "\n")
+fault_line needs_new_emulator = codes "error relup 5 NeedsNewEmulator\n"
+fault_line (unsupported app) = codes "error relup 6 Unsupported " ++ (app ++ codes "\n")
+
+-- a relup in one line, as its file has it, and then `ok`
+abbrev pub relup_lines : RelupForm → List ℕ
+relup_lines r = text_of (relup_term r) ++ codes ".\nok\n"
+
+abbrev pub translation_lines : Result RelupForm FaultForm → List ℕ
+translation_lines (Ok r) = relup_lines r
+translation_lines (Err f) = fault_line f
+
+-- the answer, or the first file that isn't taken
+abbrev pub AnswerAt : Source → List ℕ → List (List ℕ) → List (List ℕ) → Outcome (List ℕ)
+AnswerAt source new ups downs =
+    Then (ReleasesAt source new ups downs) (λ all r. r ≡ Ok (translation_lines (translation all.new all.ups all.downs)))
