@@ -1,5 +1,5 @@
 -- What commands come to: each to one action, and to one at least, whose texts are whole lines.
-use Rattle.std.proofs.Common.{◌≡◌, ◌⊎◌, inl, inr, ℕ, true, List, [], ◌∷◌, Result, Ok, Err, refl, sym, ap, ◌∙◌, subst}
+use Rattle.std.proofs.Common.{◌≡◌, ◌⊎◌, inl, inr, ℕ, true, List, Result, Ok, Err, refl, sym, ap, ◌∙◌, subst}
 use Rattle.erl_term.specs.Lines.{is_one_line}
 use Rattle.rel_files.specs.File.{HasVersions}
 use Rattle.rel_list.specs.Releases.{Releases, running as running_release}
@@ -15,7 +15,7 @@ use Rattle.rel_unpack.specs.Release.{Found}
 use Rattle.rel_unpack.specs.Refusal.{Refusal}
 use Rattle.rel_unpack.specs.Refusal.Refusal.{missing_file, bad_file, vsn_mismatch, lib_differs, too_many, no_memory}
 use Rattle.rel_unpack.specs.Source.{Source, GivesOne, GivesEach}
-use Rattle.relup_command.proofs.AnswerLines.{IsLineAnswer, good_answer}
+use Rattle.relup_command.proofs.RelupLines.{IsLineAnswer, good_answer}
 use Rattle.relup_command.proofs.RelupOutcomes.{one_answer, some_answer}
 use Rattle.rel_session.specs.Node.{Place, releases_after}
 use Rattle.rel_session.specs.Node.Place.{raw, closed, running, dead}

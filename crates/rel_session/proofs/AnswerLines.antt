@@ -1,5 +1,5 @@
 -- Where an answer ends in a text.
-use Rattle.std.proofs.Common.{◌≡◌, ℕ, ◌+◌, Bool, true, false, not, List, [], ◌∷◌, ◌++◌, length, map, codes, Result, Ok, Err, refl, sym, ap, ◌∙◌, subst, append_assoc}
+use Rattle.std.proofs.Common.{◌≡◌, ℕ, Bool, true, false, not, List, [], ◌∷◌, ◌++◌, length, map, codes, Result, Ok, Err, refl, sym, ap, ◌∙◌, subst, append_assoc}
 use Rattle.std.specs.Prelude.{if◌then◌else◌, ◌==◌}
 use Rattle.std.specs.List.{flat_map}
 use Rattle.std.specs.Fmt.{decimal}
@@ -20,7 +20,7 @@ use Rattle.relup_file.specs.Form.{triple_term, text_term, entry_term}
 use Rattle.relup_file.specs.Instruction.{RelupForm}
 use Rattle.relup_translate.specs.Fault.{FaultForm}
 use Rattle.relup_translate.specs.Fault.FaultForm.{no_appup, no_entry, unknown_module, regex_version, needs_new_emulator, unsupported}
-use Rattle.relup_command.proofs.AnswerLines.{TellsLineFault, IsLineTranslation}
+use Rattle.relup_command.proofs.RelupLines.{TellsLineFault, IsLineTranslation}
 use Rattle.relup_command.specs.Answer.{fault_line, relup_lines, translation_lines}
 use Rattle.rel_list.specs.Releases.{Releases, Entry}
 use Rattle.rel_list.specs.Status.{status_word}

@@ -1,7 +1,7 @@
 -- The paths of an input's commands lie within its lines, and the versions of a store are those of its records.
 use Rattle.std.proofs.Common.{◌≡◌, ℕ, Bool, true, false, not, List, [], ◌∷◌, ◌++◌, length, codes, Option, Some, None, inl, inr, refl, sym, ap, ◌∙◌, subst}
 use Rattle.std.specs.Prelude.{if◌then◌else◌, ◌==◌, nat_lt}
-use Rattle.std.specs.List.{list_all, onto_first, AllByRecursion}
+use Rattle.std.specs.List.{list_all, onto_first}
 use Rattle.std.specs.Str.{bytes_eq, is_utf8}
 use Rattle.std.proofs.lemmas.Bool.{and_parts, and_from}
 use Rattle.erl_term.proofs.Lines.{AreLines}
@@ -14,8 +14,9 @@ use Rattle.rel_handler.specs.Image.{store_end}
 use Rattle.rel_handler.specs.Events.{Events, MayHave, IsStoredAs, certain}
 use Rattle.rel_handler.proofs.Commits.{have_versions}
 use Rattle.session_input.specs.Commands.{Command, ParsedLine, parse_line, parse_words, parse_command, parse_change, change_named, with_word, without_words, path_of, path_in, paths_of, is_path, relup_of, parse_relup, split_at, version_in, is_blank, words_of, is_end, file_of, most_line, put_parsed, commands_of, commands_behind}
-use Rattle.session_input.specs.Commands.Command.{file, create, set_unpacked, install, permanent, remove, reboot_old, boot, start, releases, relup, quit, bad}
+use Rattle.session_input.specs.Commands.Command.{file, create, set_unpacked, install, permanent, remove, reboot_old, boot, start, releases, quit, bad}
 use Rattle.session_input.specs.Commands.ParsedLine.{blank, file_begins, whole_command}
+use Rattle.relup_command.specs.Answer.{AreLinePaths}
 use Rattle.rel_session.specs.Device.{Device}
 use Rattle.session_input.specs.Feed.{Feed, bytes_within}
 use Rattle.session_input.specs.Feed.Feed.{over, cut, next}
@@ -102,13 +103,13 @@ change_plain : (word : List ℕ) (words : List (List ℕ)) → IsPlainLine (pars
 change_plain word words = version_plain words (λ vsn. whole_command (change_named word vsn)) (named_plain word)
 
 -- the paths of a relup's request
-split_paths : (ws : List (List ℕ)) → AreLines ws → AllByRecursion (λ path. is_one_line path ≡ true) ws
+split_paths : (ws : List (List ℕ)) → AreLines ws → AreLinePaths ws
 split_paths [] lines = tt
 split_paths (w ∷ ws) lines = (lines.0, split_paths ws lines.1)
 
 abbrev ArePlainPaths : Option (List (List ℕ)) → Type 0
 ArePlainPaths None = Unit {0}
-ArePlainPaths (Some paths) = AllByRecursion (λ path. is_one_line path ≡ true) paths
+ArePlainPaths (Some paths) = AreLinePaths paths
 
 paths_plain : (word : List ℕ) → is_one_line word ≡ true → ArePlainPaths (paths_of word)
 paths_plain word line = go (bytes_eq word (codes "-")) (list_all is_path (split_at 44 word))

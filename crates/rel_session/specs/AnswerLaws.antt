@@ -1,6 +1,5 @@
 -- What is so of the answers of whole sessions.
 use Rattle.std.specs.Prelude.{◌≡◌, ◌≢◌, true, ℕ, List, [], ◌∷◌, None, Some}
-use Rattle.std.specs.List.{AllByRecursion}
 use Rattle.erl_term.specs.Lines.{is_one_line}
 use Rattle.rel_list.specs.Releases.{Releases}
 use Rattle.rel_list.specs.Event.{Event, list_after}
@@ -8,6 +7,7 @@ use Rattle.rel_records.specs.Lists.{HaveVersions}
 use Rattle.rel_handler.specs.Events.{Events, certain}
 use Rattle.session_input.specs.Commands.{Command}
 use Rattle.session_input.specs.Commands.Command.{create, set_unpacked, relup}
+use Rattle.relup_command.specs.Answer.{AreLinePaths}
 use Rattle.rel_session.specs.Device.{Device, HasFailed}
 use Rattle.session_input.specs.Feed.{Feed}
 use Rattle.session_input.specs.Feed.Feed.{next}
@@ -93,9 +93,6 @@ EachHasAnAnswer base =
     → IsCertain p → HasList p → HasAnswer base files p commands
 
 -- the paths of a command that names some in its answer
-abbrev pub AreLinePaths : List (List ℕ) → Type 0
-AreLinePaths = AllByRecursion (λ path. is_one_line path ≡ true)
-
 abbrev pub HasLinePath : Command → Type 0
 HasLinePath (create path) = is_one_line path ≡ true
 HasLinePath (set_unpacked path) = is_one_line path ≡ true

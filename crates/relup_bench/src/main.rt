@@ -1,8 +1,8 @@
 //! What it takes to make a relup of many modules, and in which order they come.
 //!
-//! `relup_bench` makes relups of an application with 100, 1,000 and 4,000 updated modules: without dependencies, in a chain, in
-//! a cycle and in a star. Of each it writes which modules are suspended first and last, and which are loaded first and last,
-//! and on standard error the microseconds of processor time.
+//! `relup_bench` makes relups up and down between two versions of an application with 100, 1,000 and 4,000 updated modules:
+//! without dependencies, in a chain, in a cycle and in a star. Of each it writes which modules are suspended first and last,
+//! and which are loaded first and last, and on standard error the microseconds of processor time.
 #![tactic(auto)]
 
 mod releases;
@@ -10,7 +10,7 @@ mod shape;
 
 use crate::releases::release;
 use crate::shape::Shape;
-use relup_file::{Instr, Relup, Suspension};
+use relup_file::{Direction, Instr, Relup, RelupEntry, Suspension};
 use relup_translate::{RelupRelease, make_relup};
 use std::alloc::Global;
 use std::io;
@@ -52,50 +52,79 @@ fn name_of(suspension: Option<&Suspension>) -> &str {
     }
 }
 
-fn write_orders(rt: &HostRuntime, shape: Shape, count: usize, relup: &Relup) -> io::Result<()> {
-    for entry in &relup.ups {
-        let suspensions = suspensions(&entry.script);
-        println!(rt;
-            "{} {count}: suspends {} to {}, loads {} to {}",
-            shape.name(),
-            name_of(suspensions.first()),
-            name_of(suspensions.last()),
-            first_load(&entry.script),
-            last_load(&entry.script)
-        )?;
+fn entries(direction: Direction, relup: &Relup) -> &[RelupEntry] {
+    match direction {
+        Direction::Up => relup.ups.as_slice(),
+        Direction::Down => relup.downs.as_slice(),
     }
-    Ok(())
 }
 
-fn made(alloc: Global, new: &RelupRelease, old: RelupRelease) -> Option<Relup> {
-    let mut ups = Vec::new(alloc);
-    ups.push(old).ok()?;
-    make_relup(alloc, new, &ups, &[]).ok()
+fn name_of_direction(direction: Direction) -> &'static str {
+    match direction {
+        Direction::Up => "up",
+        Direction::Down => "down",
+    }
 }
 
-fn measure(rt: &HostRuntime, shape: Shape, count: usize) -> io::Result<()> {
-    let Ok(new) = release(rt.alloc(), shape, count, "2") else {
+fn write_orders(rt: &HostRuntime, kind: &str, count: usize, entry: &RelupEntry) -> io::Result<()> {
+    let suspensions = suspensions(&entry.script);
+    println!(rt;
+        "{kind} {count}: suspends {} to {}, loads {} to {}",
+        name_of(suspensions.first()),
+        name_of(suspensions.last()),
+        first_load(&entry.script),
+        last_load(&entry.script)
+    )
+}
+
+fn made(
+    alloc: Global,
+    direction: Direction,
+    new: &RelupRelease,
+    old: RelupRelease,
+) -> Option<Relup> {
+    let mut others = Vec::new(alloc);
+    others.push(old).ok()?;
+    match direction {
+        Direction::Up => make_relup(alloc, new, &others, &[]).ok(),
+        Direction::Down => make_relup(alloc, new, &[], &others).ok(),
+    }
+}
+
+fn measure(rt: &HostRuntime, direction: Direction, shape: Shape, count: usize) -> io::Result<()> {
+    let Ok(new) = release(rt.alloc(), direction, shape, count, "2") else {
         return Ok(());
     };
-    let Ok(old) = release(rt.alloc(), shape, count, "1") else {
+    let Ok(old) = release(rt.alloc(), direction, shape, count, "1") else {
         return Ok(());
     };
     let start = rt.thread_cpu_time()?;
-    let relup = made(rt.alloc(), &new, old);
+    let relup = made(rt.alloc(), direction, &new, old);
     let end = rt.thread_cpu_time()?;
+    let Ok(kind) = format!(in rt.alloc(); "{} {}", shape.name(), name_of_direction(direction))
+    else {
+        return Ok(());
+    };
     if let Some(relup) = relup {
-        write_orders(rt, shape, count, &relup)?;
+        for entry in entries(direction, &relup) {
+            write_orders(rt, kind.as_str(), count, entry)?;
+        }
     }
     let taken = end.as_micros().saturating_sub(start.as_micros());
-    eprintln!(rt; "{} {count} {taken}", shape.name())
+    eprintln!(rt; "{kind} {count} {taken}")
+}
+
+fn measure_all(rt: &HostRuntime, direction: Direction, count: usize) -> io::Result<()> {
+    measure(rt, direction, Shape::Free, count)?;
+    measure(rt, direction, Shape::Chain, count)?;
+    measure(rt, direction, Shape::Cycle, count)?;
+    measure(rt, direction, Shape::Star, count)
 }
 
 fn main(rt: HostRuntime) -> io::Result<()> {
     for count in [100, 1000, 4000] {
-        measure(&rt, Shape::Free, count)?;
-        measure(&rt, Shape::Chain, count)?;
-        measure(&rt, Shape::Cycle, count)?;
-        measure(&rt, Shape::Star, count)?;
+        measure_all(&rt, Direction::Up, count)?;
+        measure_all(&rt, Direction::Down, count)?;
     }
     Ok(())
 }

@@ -4,8 +4,8 @@ ghost use Rattle.std.specs.Prelude.{◌<◌};
 use crate::shape::Shape;
 use appup_file::{Appup, AppupEntry, AppupInstr, ModType, OtherVersion, StateChange, Update};
 use rel_files::StartType;
-use relup_file::{PurgeMode, Timeout};
-use relup_translate::{RelupApp, RelupRelease};
+use relup_file::{Direction, PurgeMode, Timeout};
+use relup_translate::{ModuleNames, RelupApp, RelupRelease};
 use std::alloc::{AllocError, Global};
 
 fn module(alloc: Global, number: usize) -> Result<String, AllocError> {
@@ -35,26 +35,43 @@ fn update(
     }))
 }
 
-fn appup(alloc: Global, shape: Shape, count: usize, vsn: &str) -> Result<Appup, AllocError> {
+// The appup of a version, by which version 1 is left, or reached again.
+fn appup(
+    alloc: Global,
+    direction: Direction,
+    shape: Shape,
+    count: usize,
+    vsn: &str,
+) -> Result<Appup, AllocError> {
     let mut instrs = Vec::new(alloc);
     for number in 0..count {
         instrs.push(update(alloc, shape, number, count)?)?;
     }
-    let mut ups = Vec::new(alloc);
-    ups.push(AppupEntry {
+    let mut entries = Vec::new(alloc);
+    entries.push(AppupEntry {
         vsn: OtherVersion::Text(String::from_str(alloc, "1")?),
         instrs,
     })?;
-    Ok(Appup {
-        vsn: String::from_str(alloc, vsn)?,
-        ups,
-        downs: Vec::new(alloc),
-    })
+    let vsn = String::from_str(alloc, vsn)?;
+    let none = Vec::new(alloc);
+    match direction {
+        Direction::Up => Ok(Appup {
+            vsn,
+            ups: entries,
+            downs: none,
+        }),
+        Direction::Down => Ok(Appup {
+            vsn,
+            ups: none,
+            downs: entries,
+        }),
+    }
 }
 
-/// The release with the application in a version, which its appup reaches from version 1.
+/// The release with the application in a version, which its appup reaches from version 1, or leaves for it.
 pub(crate) fn release(
     alloc: Global,
+    direction: Direction,
     shape: Shape,
     count: usize,
     vsn: &str,
@@ -68,8 +85,8 @@ pub(crate) fn release(
         name: String::from_str(alloc, "app")?,
         vsn: String::from_str(alloc, vsn)?,
         start: StartType::Permanent,
-        modules,
-        appup: Some(appup(alloc, shape, count, vsn)?),
+        modules: ModuleNames::new(alloc, modules)?,
+        appup: Some(appup(alloc, direction, shape, count, vsn)?),
     })?;
     Ok(RelupRelease {
         vsn: String::from_str(alloc, vsn)?,

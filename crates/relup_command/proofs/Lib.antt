@@ -1,4 +1,4 @@
 pub mod AppupLemmas
 pub mod AnswerLemmas
 pub mod RelupOutcomes
-pub mod AnswerLines
+pub mod RelupLines

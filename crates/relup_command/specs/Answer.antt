@@ -1,5 +1,7 @@
 -- What is answered to the request of a relup.
-use Rattle.std.specs.Prelude.{◌≡◌, ℕ, List, ◌++◌, codes, Result, Ok, Err}
+use Rattle.std.specs.Prelude.{◌≡◌, ℕ, true, List, ◌++◌, codes, Result, Ok, Err}
+use Rattle.std.specs.List.{AllByRecursion}
+use Rattle.erl_term.specs.Lines.{is_one_line}
 use Rattle.erl_term.specs.Printing.{text_of}
 use Rattle.rel_unpack.specs.Order.{Outcome, Then}
 use Rattle.rel_unpack.specs.Source.{Source}
@@ -31,3 +33,7 @@ translation_lines (Err f) = fault_line f
 abbrev pub AnswerAt : Source → List ℕ → List (List ℕ) → List (List ℕ) → Outcome (List ℕ)
 AnswerAt source new ups downs =
     Then (ReleasesAt source new ups downs) (λ all r. r ≡ Ok (translation_lines (translation all.new all.ups all.downs)))
+
+-- Paths in a request of one line are within a line.
+abbrev pub AreLinePaths : List (List ℕ) → Type 0
+AreLinePaths = AllByRecursion (λ path. is_one_line path ≡ true)

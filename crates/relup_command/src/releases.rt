@@ -1,5 +1,5 @@
 //! The releases that a relup is made of, from their files.
-ghost use Rattle.std.specs.Prelude.{◌≡◌, map, string_bytes};
+ghost use Rattle.std.specs.Prelude.{◌≡◌, IfOk, map, string_bytes};
 ghost use Rattle.app_file.specs.InMemory.{specification_of};
 ghost use Rattle.rel_files.specs.Release.{application_of, release_of};
 ghost use Rattle.rel_unpack.specs.Order.{Answers, Each};
@@ -11,8 +11,8 @@ use app_file::App;
 use file_source::Files;
 use rel_files::{Rel, RelApp, StartType};
 use rel_unpack::{UnpackError, read_application, read_release};
-use relup_translate::{RelupApp, RelupRelease};
-use std::alloc::Global;
+use relup_translate::{ModuleNames, RelupApp, RelupRelease};
+use std::alloc::{AllocError, Global};
 
 /// How many modules an application has at most.
 pub const MOST_MODULES: usize = 1_024;
@@ -114,22 +114,23 @@ fn read_app<F: Files>(alloc: Global, files: &F, app: &RelApp) -> Result<RelupApp
 {
     let found = read_application(alloc, files, app)?;
     if has_few_modules(&found) {
-        Ok(relup_app(app.start, found))
+        Ok(relup_app(alloc, app.start, found)?)
     } else {
         Err(UnpackError::TooMany)
     }
 }
 
-fn relup_app(start: StartType, found: App) -> RelupApp
-    ensures { relup_app_of result ≡ relup_app start (specification_of found) }
+fn relup_app(alloc: Global, start: StartType, found: App) -> Result<RelupApp, AllocError>
+    ensures { IfOk result (λ app.
+        relup_app_of app ≡ relup_app start (specification_of found)) }
 {
-    RelupApp {
+    Ok(RelupApp {
         name: found.name,
         vsn: found.vsn,
         start,
-        modules: found.modules,
+        modules: ModuleNames::new(alloc, found.modules)?,
         appup: None,
-    }
+    })
 }
 
 // It has no more modules than it may have.

@@ -1,2 +1,4 @@
 pub mod PartLemmas
 pub mod AppendLemmas
+pub mod FirstLemmas
+pub mod NameLemmas

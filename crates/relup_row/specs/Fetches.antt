@@ -1,6 +1,6 @@
 -- Which modules a script fetches, and from which applications.
-use Rattle.std.specs.Prelude.{ℕ, Bool, not, ◌&&◌, List, [], ◌∷◌, ◌++◌, map, Option, option_map, if◌then◌else◌}
-use Rattle.std.specs.List.{list_any}
+use Rattle.std.specs.Prelude.{ℕ, Bool, not, List, [], ◌∷◌, map, Option, option_map}
+use Rattle.std.specs.List.{filter}
 use Rattle.std.specs.Str.{bytes_eq}
 use Rattle.relup_file.specs.Instruction.{FetchForm, Instruction}
 use Rattle.relup_file.specs.Instruction.Instruction.{load_object_code}
@@ -18,33 +18,32 @@ mention_of m = record { name = m.name.now; app = relup_app_of m.app.now }
 abbrev pub mention : RelupReleaseForm → List ℕ → Option MentionForm
 mention target name = option_map (λ (a : RelupAppForm). record { name = name; app = a }) (owner name target)
 
--- whether one of these is of an application
-abbrev pub mentions_app : List ℕ → List MentionForm → Bool
-mentions_app app = list_any (λ (m : MentionForm). bytes_eq m.app.name app)
+abbrev pub module_of : MentionForm → List ℕ
+module_of m = m.name
 
-abbrev pub mentions_module : List ℕ → List MentionForm → Bool
-mentions_module name = list_any (λ (m : MentionForm). bytes_eq m.name name)
+abbrev pub app_of : MentionForm → List ℕ
+app_of m = m.app.name
 
--- the modules of an application among these, each where it is first mentioned, behind those
-abbrev pub modules_of : List ℕ → List MentionForm → List MentionForm → List (List ℕ)
-modules_of app before [] = []
-modules_of app before (m ∷ ms) =
-    if bytes_eq m.app.name app && not (mentions_module m.name before) then m.name ∷ modules_of app (before ++ (m ∷ [])) ms
-    else modules_of app (before ++ (m ∷ [])) ms
+-- whether another mention is not of the same
+abbrev pub differs : (MentionForm → List ℕ) → MentionForm → MentionForm → Bool
+differs key m n = not (bytes_eq (key m) (key n))
 
--- the modules of an application's library that are mentioned
+-- the first mention of each
+abbrev pub firsts : (MentionForm → List ℕ) → List MentionForm → List MentionForm
+firsts key [] = []
+firsts key (m ∷ ms) = m ∷ filter (differs key m) (firsts key ms)
+
+-- the modules among these that an application has
+abbrev pub modules_in : List ℕ → List MentionForm → List (List ℕ)
+modules_in app ms = map module_of (filter (λ (m : MentionForm). bytes_eq m.app.name app) ms)
+
+-- what is fetched of an application's library
 abbrev pub fetch : List MentionForm → RelupAppForm → FetchForm
-fetch all a = record { app = a.name; vsn = a.vsn; modules = modules_of a.name [] all }
+fetch ms a = record { app = a.name; vsn = a.vsn; modules = modules_in a.name ms }
 
--- one for each application where it is first mentioned among these, behind those
-abbrev pub fetches_behind : List MentionForm → List MentionForm → List MentionForm → List FetchForm
-fetches_behind all before [] = []
-fetches_behind all before (m ∷ ms) =
-    if mentions_app m.app.name before then fetches_behind all (before ++ (m ∷ [])) ms
-    else fetch all m.app ∷ fetches_behind all (before ++ (m ∷ [])) ms
-
+-- Each module is fetched once, by one fetch for each application, both in the order in which they are first mentioned.
 abbrev pub fetches : List MentionForm → List FetchForm
-fetches ms = fetches_behind ms [] ms
+fetches ms = map (λ (m : MentionForm). fetch (firsts module_of ms) m.app) (firsts app_of ms)
 
 abbrev pub fetching : List MentionForm → List Instruction
 fetching ms = map load_object_code (fetches ms)

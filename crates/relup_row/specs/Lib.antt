@@ -1,3 +1,4 @@
+pub mod Modules
 pub mod Release
 pub mod Fetches
 pub mod Script

@@ -1,5 +1,5 @@
 -- What a relup's making needs to know of releases, without where it lies in memory.
-use Rattle.std.specs.Prelude.{ℕ, Bool, List, Option, map, string_bytes}
+use Rattle.std.specs.Prelude.{ℕ, List, Option, map, string_bytes}
 use Rattle.std.specs.Option.{option_map}
 use Rattle.std.specs.List.{find}
 use Rattle.std.specs.Str.{bytes_eq}
@@ -36,7 +36,7 @@ relup_app_of a = record {
   name = string_bytes a.name;
   vsn = string_bytes a.vsn;
   start = a.start;
-  modules = map string_bytes a.modules.items;
+  modules = a.modules;
   appup = option_map appup_of a.appup;
 }
 

@@ -3,9 +3,9 @@ ghost use Rattle.std.specs.Prelude.{◌≡◌, map, string_bytes};
 ghost use Rattle.std.specs.Option.{option_map};
 ghost use Rattle.relup_row.specs.Release.{relup_app_of, relup_release_of, way_of, way_between, app_named, owner};
 
+use crate::modules::ModuleNames;
 use appup_file::Appup;
 use rel_files::StartType;
-use relup_block::is_among;
 use relup_file::Direction;
 
 /// An application of a release.
@@ -15,8 +15,7 @@ pub struct RelupApp {
     pub vsn: String,
     /// How the release starts it.
     pub start: StartType,
-    /// In the order of its `.app` file.
-    pub modules: Vec<String>,
+    pub modules: ModuleNames,
     /// Its appup file, where it has one. That of a lower release isn't asked.
     pub appup: Option<Appup>,
 }
@@ -80,7 +79,7 @@ impl RelupRelease {
             ≡ owner name.now (relup_release_of self.now) }
     {
         for app in &self.apps {
-            if is_among(name, &app.modules) {
+            if app.modules.has(name) {
                 return Some(app);
             }
         }

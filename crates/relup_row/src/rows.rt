@@ -58,7 +58,7 @@ pub fn push_app_modules<'a>(
         (app_modules name.now (relup_release_of target.now))) }
 {
     match target.app_named(name) {
-        Some(app) => push_modules(target, &app.modules, out),
+        Some(app) => push_modules(target, app.modules.as_slice(), out),
         None => Ok(()),
     }
 }

@@ -50,8 +50,8 @@ fn push_leaving(alloc: Global, app: &RelupApp, out: &mut Vec<Instr>) -> Result<(
     ensures { OnOk result
         (Appends out.old.items out.new.items (leaving (relup_app_of app.now).modules)) }
 {
-    push_removals(alloc, &app.modules, out)?;
-    out.push(Instr::Purge(copy_names(alloc, &app.modules)?))?;
+    push_removals(alloc, app.modules.as_slice(), out)?;
+    out.push(Instr::Purge(copy_names(alloc, app.modules.as_slice())?))?;
     Ok(())
 }
 
@@ -71,7 +71,7 @@ fn push_coming(
     ensures { OnOk result
         (Appends out.old.items out.new.items (coming start (relup_app_of app.now))) }
 {
-    push_loads(alloc, &app.modules, out)?;
+    push_loads(alloc, app.modules.as_slice(), out)?;
     push_start(alloc, start, app.name.as_str(), out)
 }
 

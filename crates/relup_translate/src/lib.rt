@@ -22,4 +22,4 @@ mod script;
 
 pub use error::TranslateError;
 pub use relup::make_relup;
-pub use relup_row::{RelupApp, RelupRelease};
+pub use relup_row::{ModuleNames, RelupApp, RelupRelease};

@@ -10,7 +10,6 @@ ghost use Rattle.relup_translate.specs.Translation.{known, target_has_module, ta
 
 use crate::fault::TranslationFault;
 use appup_file::{Appup, AppupInstr, EntryFault};
-use relup_block::is_among;
 use relup_file::{Direction, Instr};
 use relup_row::{RelupApp, RelupRelease, Way};
 
@@ -84,7 +83,7 @@ fn deleted_fault<'a>(left: &RelupApp, name: &'a str) -> Option<TranslationFault<
     ensures { option_map fault_of result ≡ deleted_fault (relup_app_of left.now) name.now }
 {
     known(
-        is_among(name, &left.modules),
+        left.modules.has(name),
         TranslationFault::UnknownModule(name),
     )
 }

@@ -4,7 +4,7 @@ use erl_term::Term;
 use rel_files::parts::{four_in, list_in, pair_in};
 use rel_files::start_of;
 use relup_file::members::{modules_in, triple_in, version_in, word_in};
-use relup_translate::{RelupApp, RelupRelease};
+use relup_translate::{ModuleNames, RelupApp, RelupRelease};
 use std::alloc::{AllocError, Global};
 
 // The releases of a list, without terms that say none.
@@ -67,7 +67,7 @@ fn app_in(alloc: Global, term: &Term) -> Result<Option<RelupApp>, AllocError> {
         name,
         vsn,
         start,
-        modules,
+        modules: ModuleNames::new(alloc, modules)?,
         appup: appup_or_none(alloc, appup),
     }))
 }

@@ -13,10 +13,10 @@ returns-in_err-found g c =
     passed_on relup_app_of (RelupAppAt (g.F.Files.gives c.args.files.now) (application_of c.args.app.now)) c.in_err-found.field-0.0 c.from_residual.result
     c.from_residual.ensures.0 c.from_residual.ensures.1 (λ ne. inl (c.in_err-found.ensures ne))
 
-pub returns-then-has_few_modules : goal.returns-then-has_few_modules
-returns-then-has_few_modules g c =
+pub returns-in_ok-relup_app : goal.returns-in_ok-relup_app
+returns-in_ok-relup_app g c =
     let s = specification_of c.in_ok-found.found in
-    (s, c.in_ok-found.ensures, ap Ok c.relup_app.ensures ∙ sym (ap (λ (b : Bool). if b then Ok (relup_app c.args.app.now.start s) else Err too_many) (sym c.has_few_modules.ensures ∙ c.if-has_few_modules.true)))
+    (s, c.in_ok-found.ensures, ap Ok c.in_ok-relup_app.ensures ∙ sym (ap (λ (b : Bool). if b then Ok (relup_app c.args.app.now.start s) else Err too_many) (sym c.has_few_modules.ensures ∙ c.if-has_few_modules.true)))
 
 pub returns-else-has_few_modules : goal.returns-else-has_few_modules
 returns-else-has_few_modules g c = λ ne.

@@ -1,5 +1,5 @@
 -- The answer to the request of a relup is told in whole lines: a relup in one line, and then `ok`, or a fault in one line.
-use Rattle.std.proofs.Common.{◌≡◌, ◌⊎◌, ℕ, Bool, true, false, List, [], ◌∷◌, ◌++◌, find, codes, Option, Some, None, Result, Ok, Err, refl, ◌∙◌, subst}
+use Rattle.std.proofs.Common.{◌≡◌, ℕ, Bool, true, false, List, [], ◌∷◌, ◌++◌, find, codes, Option, Some, None, Result, Ok, Err, refl, subst}
 use Rattle.std.specs.List.{AllByRecursion, AllZip}
 use Rattle.std.specs.Option.{option_and_then, option_or}
 use Rattle.std.specs.Prelude.{if◌then◌else◌, is_some}
@@ -11,7 +11,6 @@ use Rattle.app_file.specs.File.{Specification}
 use Rattle.relup_file.specs.declared.instruction.Direction.{Direction}
 use Rattle.relup_file.specs.declared.instruction.Direction.TheVariants.{Up, Down}
 use Rattle.relup_file.specs.Instruction.{Instruction, RelupForm}
-use Rattle.relup_file.specs.Instruction.Instruction.{point_of_no_return, restart_new_emulator}
 use Rattle.appup_file.proofs.TermLemmas.{says_its_term}
 use Rattle.appup_file.specs.Form.{IsAppupInstruction, IsEntryTerm, Spells}
 use Rattle.appup_file.specs.Instruction.{AppupInstruction, AppupEntryForm, AppupForm, VersionForm}
@@ -30,7 +29,7 @@ use Rattle.relup_block.specs.Order.{is_among}
 use Rattle.relup_translate.specs.Fault.{FaultForm}
 use Rattle.relup_translate.specs.Fault.FaultForm.{no_appup, no_entry, unknown_module, regex_version, needs_new_emulator, unsupported}
 use Rattle.relup_translate.specs.Translation.{known, instruction_fault, low_level_fault, first_fault, counting, counting_appup, searched, found, between_versions, if_other, row_fault, app_fault, way_fault, release_fault, fault_between, relup_between, unless_fault, translation}
-use Rattle.relup_command.specs.Answer.{AnswerAt, translation_lines}
+use Rattle.relup_command.specs.Answer.{AnswerAt, translation_lines, AreLinePaths}
 use Rattle.relup_command.specs.Appups.{AppupAt, WithAppup, appup_form, appup_path, with_appup}
 use Rattle.relup_command.specs.Releases.{Releases, RelupAppAt, RelupReleaseAt, ReleasesAt, WithAppups, has_few_modules, relup_app, relup_release}
 
@@ -106,9 +105,6 @@ good_with_appups source r of =
     let whole : List RelupAppForm → RelupReleaseForm = λ apps. record { vsn = r.vsn; erts = r.erts; apps = apps } in
     good_then (Each (WithAppup source) r.apps) (λ apps s. s ≡ Ok (whole apps)) (AllByRecursion IsLineApp) AreLineApps
     (good_each (WithAppup source) IsLineApp IsLineApp (good_with_appup source) r.apps of) (λ apps are. good_outcome AreLineApps (Ok (whole apps)) are)
-
-abbrev pub AreLinePaths : List (List ℕ) → Type 0
-AreLinePaths = AllByRecursion (λ path. is_one_line path ≡ true)
 
 good_releases : (source : Source) (new : List ℕ) (ups downs : List (List ℕ)) → is_one_line new ≡ true → AreLinePaths ups → AreLinePaths downs → AreGood (ReleasesAt source new ups downs) AreLineReleases
 good_releases source new ups downs line lines back_lines =
