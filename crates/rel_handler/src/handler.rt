@@ -91,8 +91,8 @@ impl<D: Disk> Handler<D> {
     /// Makes the current release, of this version, the permanent one: the list is committed, then the start record. At `Ok`
     /// both are acknowledged (`done`; `sound` of `commits` has `started`).
     ///
-    /// Refusals, in this order: `Dead`, `NoSuchRelease`, `BadStatus`, `Full`; `NoMemory` as of `set_unpacked`. After a `Device` the
-    /// list has the event or not, and the start record is the old one or the new.
+    /// Refusals, in this order: `Dead`, `NoSuchRelease`, `BadStatus`, `Full`; `NoMemory` as of `set_unpacked`. After a
+    /// `Device` the list has the event or not, and the start record is the old one or the new.
     pub fn make_permanent(&mut self, alloc: Global, vsn: &str) -> Result<(), HandlerError>
         requires { IsSound D.seen D.may_leave self.old }
         ensures commits { Commits D.Disk (made_permanent vsn.now)

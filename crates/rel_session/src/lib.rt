@@ -9,9 +9,10 @@
 //!   of the events so far that holds every acknowledged one;
 //! - specs/Session: what is written, and how a session ends.
 //!
-//! The commands come from `session_input`. A release is read by `rel_unpack`, from the files that were given in the session
-//! and behind them those of a source. A failed read, a failed write and an input that is too long are reported only
-//! where one was. At most 16,777,216 bytes of the input are taken, and each answer is written once its command was read.
+//! The commands come from `session_input`. A release is read by `rel_unpack`, and `relup` is answered by `relup_command`,
+//! from the files that were given in the session and behind them those of a source. A failed read, a failed write and an
+//! input that is too long are reported only where one was. At most 16,777,216 bytes of the input are taken, and each answer
+//! is written once its command was read.
 //!
 //! The functions of [`laws`] say what follows for whole runs. docs/ARCHITECTURE.md tells what a further command takes.
 //!
