@@ -1,5 +1,5 @@
 //! The table of a worker.
-ghost use Rattle.std.specs.Prelude.{◌≡◌, IfOk, map};
+ghost use Rattle.std.specs.Prelude.{◌≡◌, IfOk, length, map};
 ghost use Rattle.std.specs.List.{list_all};
 ghost use Rattle.std.specs.Option.{option_map};
 ghost use Rattle.erl_term.specs.Value.{members_of, value_of};
@@ -64,6 +64,13 @@ impl Worker {
         ensures { result ≡ self.now.first }
     {
         self.first
+    }
+
+    /// How many rows it has.
+    pub fn row_count(&self) -> usize
+        ensures { result ≡ length self.now.rows }
+    {
+        self.rows.len()
     }
 
     /// What comes of a call in this state, with this input. It takes no memory.

@@ -1,0 +1,29 @@
+//! What is wrong with a release as a whole.
+ghost use Rattle.std.specs.Prelude.{◌≡◌};
+ghost use Rattle.rel_check.specs.declared.fault.ReleaseFault.TheVariants.{NoMemory};
+
+use crate::Named;
+use std::alloc::AllocError;
+
+/// What is wrong with a release as a whole. Of several faults the one that stands first here is reported.
+#[derive(Clone, Copy, Debug)]
+pub enum ReleaseFault<'a> {
+    /// This module of this application stands in one before it too: its `.app` file has a duplicate.
+    ModuleTwice(Named<'a>),
+    /// Two children in the tables of this application have this id: its `.app` file has a duplicate.
+    IdTwice(Named<'a>),
+    /// This module has no table, or not one of the kind that a child or a top asks for.
+    NoTable(&'a str),
+    /// A limit is passed.
+    TooMany,
+    /// No memory was left. It says nothing of the release.
+    NoMemory,
+}
+
+impl<'a> From<AllocError> for ReleaseFault<'a> {
+    ghost from_gives = { λ _ f. f ≡ NoMemory };
+
+    fn from(_: AllocError) -> ReleaseFault<'a> {
+        ReleaseFault::NoMemory
+    }
+}
