@@ -7,3 +7,4 @@ pub mod RepairLemmas
 mod BadRecords
 pub mod Commits
 pub mod ReleaseLemmas
+pub mod CreationLemmas

@@ -1,24 +1,27 @@
 -- A release is taken from the file of a path: into a node, or as the first one of a new node.
-use Rattle.std.specs.Prelude.{◌≡◌, ◌≢◌, ◌⊎◌, ℕ, List, [], ◌∷◌, true, false, Ok, Err}
+use Rattle.std.specs.Prelude.{◌≡◌, ◌≢◌, ◌⊎◌, ℕ, List, [], ◌∷◌, true, false, is_some, if◌then◌else◌, Option, None, Some, Result, Ok, Err}
 use Rattle.rel_disk.specs.declared.disk.Disk.{Ghosts}
+use Rattle.rel_disk.specs.Moments.{HasFailed}
 use Rattle.rel_list.specs.declared.status.Status.TheVariants.{Permanent}
-use Rattle.rel_list.specs.Releases.{entry}
+use Rattle.library.specs.Library.{Library}
+use Rattle.rel_list.specs.Releases.{Releases, entry, status_of}
 use Rattle.rel_list.specs.Event.Event.{made, unpacked}
 use Rattle.rel_store.specs.Layout.{slot_with}
 use Rattle.rel_unpack.specs.declared.error.UnpackError.{UnpackError}
 use Rattle.rel_unpack.specs.declared.error.UnpackError.TheVariants as files
-use Rattle.rel_unpack.specs.Refusal.{refusal_of}
-use Rattle.rel_unpack.specs.Release.{Found, ReleaseAt}
+use Rattle.rel_unpack.specs.Applications.{Shelf}
+use Rattle.rel_unpack.specs.Refusal.{Refusal, refusal_of}
 use Rattle.rel_unpack.specs.Source.{Source}
+use Rattle.rel_unpack.specs.Unpacking.{Brought, BroughtAt}
 use Rattle.rel_handler.specs.Commits.{Commits, IsDone}
 use Rattle.rel_handler.specs.Events.{doubted}
 use Rattle.rel_handler.specs.Files.{made_size, start_text, unpacked_size}
-use Rattle.rel_handler.specs.Image.{IsImageAt, end_behind, first_end, HasSpace}
+use Rattle.rel_handler.specs.Image.{IsImageAt, end_behind, first_end, holds_a_store, HasSpace}
 use Rattle.rel_handler.specs.Moments.{Begins, BeginsAt, WritesNothing}
 use Rattle.rel_handler.specs.Refusals.{CommandRefused, MakingRefused}
 use Rattle.rel_handler.specs.State.{disk_in, list_in, is_dead, end_in, start_in, IsSame}
 use Rattle.rel_handler.specs.declared.error.HandlerError.{HandlerError}
-use Rattle.rel_handler.specs.declared.error.HandlerError.TheVariants.{MissingFile, BadFile, VsnMismatch, LibDiffers, TooMany, NoMemory, Dead}
+use Rattle.rel_handler.specs.declared.error.HandlerError.TheVariants.{MissingFile, BadFile, VsnMismatch, LibDiffers, NoTable, TooMany, NoMemory, Dead, Device, Exists}
 use Rattle.rel_handler.specs.declared.handler.Handler.{Handler}
 
 -- what is told of a release that isn't taken for its files
@@ -27,61 +30,121 @@ told_files (files.MissingFile path) = MissingFile path
 told_files (files.BadFile path trouble) = BadFile path trouble
 told_files (files.VsnMismatch path) = VsnMismatch path
 told_files (files.LibDiffers app) = LibDiffers app
+told_files (files.NoTable name) = NoTable name
 told_files files.TooMany = TooMany
 told_files files.NoMemory = NoMemory
 
--- The files are why: of this path they give that refusal and no release, or memory was refused in reading them.
+-- the libraries that are there, which a release's own have to be the same as: a node keeps none yet
+abbrev pub none_there : Shelf
+none_there name vsn = None
+
+-- what the path of a release brings to a node
+abbrev pub Brings : Source → List ℕ → Result Brought Refusal → Type 0
+Brings source path = BroughtAt source none_there path
+
+-- The release's file is why: of this path it gives that refusal and no release, or memory was refused in reading.
 pub record IsOfFiles (source : Source) (path : List ℕ) (e : HandlerError) : Type 0 where
   pub error : UnpackError
   pub told : e ≡ told_files error
-  pub read : error ≢ files.NoMemory → ReleaseAt source path (Err (refusal_of error))
+  pub read : error ≢ files.NoMemory → Brings source path (Err (refusal_of error))
 
--- The release of the path was taken in, and this is its version.
+-- It brings its libraries.
+abbrev pub HasLibraries : Brought → Type 0
+HasLibraries b = (ls : List Library) × (b.libraries ≡ Ok ls)
+
+-- The files of its applications give none, and that is why: this is their first refusal.
+pub record IsOfLibraries (b : Brought) (e : HandlerError) : Type 0 where
+  pub error : UnpackError
+  pub told : e ≡ told_files error
+  pub refused : b.libraries ≡ Err (refusal_of error)
+
+-- why libraries aren't brought
+abbrev pub libraries_refusal : Result (List Library) Refusal → Option Refusal
+libraries_refusal (Ok ls) = None
+libraries_refusal (Err why) = Some why
+
+-- Why a node with this list doesn't take what is brought, for the files of its applications; a version that is listed is
+-- refused before.
+abbrev pub files_refusal : Brought → Releases → Option Refusal
+files_refusal b es = if is_some (status_of b.found.release.vsn es) then None else libraries_refusal b.libraries
+
+-- What the path brings was taken in, and this is its version.
 pub record IsUnpacked {D : Type 0} (v : Ghosts D) (source : Source) (path : List ℕ) (old new : Handler D) (vsn : List ℕ) : Type 0 where
-  pub found : Found
-  pub read : ReleaseAt source path (Ok found)
-  pub commits : Commits v (unpacked found.release) (unpacked_size found) old new
-  pub done : IsDone v (unpacked found.release) (unpacked_size found) old new
+  pub brought : Brought
+  pub read : Brings source path (Ok brought)
+  pub libraries : HasLibraries brought
+  pub commits : Commits v (unpacked brought.found.release) (unpacked_size brought.found) old new
+  pub done : IsDone v (unpacked brought.found.release) (unpacked_size brought.found) old new
   pub works : is_dead new ≡ false
   pub start : start_in v.seen new ≡ start_in v.seen old
-  pub version : vsn ≡ found.release.vsn
+  pub version : vsn ≡ brought.found.release.vsn
 
--- The release of the path was found, and its event was not acknowledged.
+-- Its files are why what the path brings wasn't taken in.
+pub record IsBarred {D : Type 0} (source : Source) (path : List ℕ) (old new : Handler D) (e : HandlerError) : Type 0 where
+  pub brought : Brought
+  pub read : Brings source path (Ok brought)
+  pub alive : is_dead old ≡ false
+  pub fresh : status_of brought.found.release.vsn (list_in old) ≡ None
+  pub of_libraries : IsOfLibraries brought e
+  pub same : IsSame old new
+
+-- Its files are not why, and its event was not acknowledged.
 pub record IsNotUnpacked {D : Type 0} (v : Ghosts D) (source : Source) (path : List ℕ) (old new : Handler D) (e : HandlerError) : Type 0 where
-  pub found : Found
-  pub read : ReleaseAt source path (Ok found)
-  pub commits : Commits v (unpacked found.release) (unpacked_size found) old new
-  pub refused : CommandRefused v.failures (unpacked found.release) (unpacked_size found) old new e
+  pub brought : Brought
+  pub read : Brings source path (Ok brought)
+  pub free : files_refusal brought (list_in old) ≡ None
+  pub commits : Commits v (unpacked brought.found.release) (unpacked_size brought.found) old new
+  pub refused : CommandRefused v.failures (unpacked brought.found.release) (unpacked_size brought.found) old new e
 
--- Why no release of the path was taken in: the handler was dead, or the files, or the node refused the release.
+-- Why no release of the path was taken in: the handler was dead; its file; the files of its applications; or the node.
 abbrev pub UnpackingRefused : {D : Type 0} → Ghosts D → Source → List ℕ → Handler D → Handler D → HandlerError → Type 0
 UnpackingRefused v source path old new e =
     ((e ≡ Dead) × (is_dead old ≡ true) × IsSame old new)
-    ⊎ ((IsOfFiles source path e × (is_dead old ≡ false) × IsSame old new) ⊎ IsNotUnpacked v source path old new e)
+    ⊎ ((IsOfFiles source path e × (is_dead old ≡ false) × IsSame old new)
+    ⊎ (IsBarred source path old new e ⊎ IsNotUnpacked v source path old new e))
 
--- A node was made on a disk with the release of the path as its permanent one. From now on each crash leaves a disk that
--- stands for its list. A crash at any moment from the first sync on leaves no store, or one that stands for that list.
+-- A node was made on a disk with what the path brings, its release the permanent one. From now on each crash leaves a disk
+-- that stands for its list. A crash at any moment from the first sync on leaves no store, or one that stands for that list.
 pub record IsMade {D : Type 0} (v : Ghosts D) (source : Source) (path : List ℕ) (disk : D) (handler : Handler D) : Type 0 where
-  pub found : Found
-  pub read : ReleaseAt source path (Ok found)
-  pub list : list_in handler ≡ entry found.release Permanent ∷ []
+  pub brought : Brought
+  pub read : Brings source path (Ok brought)
+  pub libraries : HasLibraries brought
+  pub list : list_in handler ≡ entry brought.found.release Permanent ∷ []
   pub acknowledged : (c : List ℕ) → v.may_leave (disk_in handler) c → IsImageAt c (list_in handler) (end_in handler)
-  pub start : start_in v.seen handler ≡ slot_with (start_text found.release)
-  pub fits : HasSpace first_end (made_size found)
-  pub end : end_in handler ≡ end_behind first_end (made_size found)
+  pub start : start_in v.seen handler ≡ slot_with (start_text brought.found.release)
+  pub fits : HasSpace first_end (made_size brought.found)
+  pub end : end_in handler ≡ end_behind first_end (made_size brought.found)
   pub synced : D
-  pub begun : BeginsAt v.seen v.may_leave v.moment v.left_since (doubted [] (made found.release)) disk (disk_in handler) synced
+  pub begun : BeginsAt v.seen v.may_leave v.moment v.left_since (doubted [] (made brought.found.release)) disk (disk_in handler) synced
 
--- The release of the path was found, and no node was made with it. A crash at any moment from the first sync on, if there
--- was one, leaves no store, or one that stands for the list with the release.
+-- The disk holds no store, and the files of its applications are why no node was made with what the path brings. Nothing was
+-- written.
+pub record IsNotBegun {D : Type 0} (v : Ghosts D) (source : Source) (path : List ℕ) (disk now : D) (e : HandlerError) : Type 0 where
+  pub brought : Brought
+  pub read : Brings source path (Ok brought)
+  pub free : holds_a_store (v.seen disk) ≡ false
+  pub of_libraries : IsOfLibraries brought e
+  pub unwritten : WritesNothing v.seen v.may_leave v.moment v.left_since disk now
+
+-- No node was made with what the path brings. But for a store on the disk and a device that failed, it brings its libraries. A
+-- crash at any moment from the first sync on, if there was one, leaves no store, or one that stands for the list with the
+-- release.
 pub record IsNotMade {D : Type 0} (v : Ghosts D) (source : Source) (path : List ℕ) (disk now : D) (e : HandlerError) : Type 0 where
-  pub found : Found
-  pub read : ReleaseAt source path (Ok found)
-  pub any_moment : Begins v.seen v.may_leave v.moment v.left_since (doubted [] (made found.release)) disk now
-  pub refused : MakingRefused (v.seen disk) (made_size found) (v.failures disk) (v.failures now) (WritesNothing v.seen v.may_leave v.moment v.left_since disk now) e
+  pub brought : Brought
+  pub read : Brings source path (Ok brought)
+  pub libraries : e ≢ Exists → e ≢ Device → HasLibraries brought
+  pub any_moment : Begins v.seen v.may_leave v.moment v.left_since (doubted [] (made brought.found.release)) disk now
+  pub refused : MakingRefused (v.seen disk) (made_size brought.found) (v.failures disk) (v.failures now) (WritesNothing v.seen v.may_leave v.moment v.left_since disk now) e
 
--- Why no node was made: the files, and then nothing was written; or the disk, the store or memory.
+-- Why no node was made: the release's file or those of its applications, and then nothing was written; or the disk, the store
+-- or memory.
 abbrev pub CreationRefused : {D : Type 0} → Ghosts D → Source → List ℕ → D → D → HandlerError → Type 0
 CreationRefused v source path disk now e =
     (IsOfFiles source path e × WritesNothing v.seen v.may_leave v.moment v.left_since disk now)
-    ⊎ IsNotMade v source path disk now e
+    ⊎ (IsNotBegun v source path disk now e ⊎ IsNotMade v source path disk now e)
+
+-- What is told of what brings no libraries, for this reason, on a disk with these bytes: they hold a store, the device has
+-- failed, or the reason.
+abbrev pub IsExistingOr : HandlerError → List ℕ → ℕ → ℕ → HandlerError → Type 0
+IsExistingOr why bytes before now e =
+    ((e ≡ Exists) × (holds_a_store bytes ≡ true)) ⊎ (((e ≡ Device) × HasFailed before now) ⊎ ((e ≡ why) × (holds_a_store bytes ≡ false)))

@@ -6,6 +6,7 @@ ghost use Rattle.rel_list.specs.Event.Event.{made};
 ghost use Rattle.rel_records.specs.Limits.{is_small};
 ghost use Rattle.rel_records.specs.Reading.{Spells};
 ghost use Rattle.rel_records.specs.Record.{makes};
+ghost use Rattle.rel_store.specs.Contents.{HasOnlyRead};
 ghost use Rattle.rel_store.specs.Layout.{slot_with};
 ghost use Rattle.rel_handler.specs.Events.{doubted};
 ghost use Rattle.rel_handler.specs.Files.{IsRelFile, start_text, made_size};
@@ -13,25 +14,26 @@ ghost use Rattle.rel_handler.specs.Image.{IsImageOf, IsImageAt, holds_a_store, e
 ghost use Rattle.rel_handler.specs.Moments.{Begins, BeginsAt, WritesNothing};
 ghost use Rattle.rel_handler.specs.Refusals.{MakingRefused, told_create, IsCreateError};
 ghost use Rattle.rel_handler.specs.State.{disk_in, disk_of, list_in, is_dead, end_in, start_in, IsSound};
-ghost use Rattle.rel_handler.specs.Unpacking.{IsMade, CreationRefused};
+ghost use Rattle.rel_handler.specs.Unpacking.{IsExistingOr, IsMade, CreationRefused};
 ghost use Rattle.rel_unpack.specs.Release.{found_of};
 ghost use Rattle.rel_list.specs.declared.status.Status.TheVariants.{Permanent};
 
-use crate::unpacking::release_at;
+use crate::unpacking::{bring_release, with_libraries};
 use crate::{Handler, HandlerError};
 use file_source::Files;
-use rel_disk::Disk;
+use rel_disk::{DeviceFault, Disk};
 use rel_files::{Rel, RelFile};
 use rel_list::{Event, ReleaseList};
 use rel_records::made_body;
-use rel_store::{Store, StoreError};
+use rel_store::{Store, StoreError, holds_a_store};
 use std::alloc::{AllocError, Global};
 
 impl<D: Disk> Handler<D> {
     /// Makes a node on a disk that has none, with the release in the file of this path as the permanent one.
     ///
-    /// Refusals, in this order: `MissingFile`, `BadFile`, `TooMany` for the file's size or the release's applications,
-    /// `Exists`, `Full`; `NoMemory` may come in place of each. Nothing has been written then. After `Device` the disk has
+    /// Refusals, in this order: `MissingFile`, `BadFile`, `TooMany` for the release's file or its number of applications;
+    /// `Exists`; `MissingFile`, `BadFile`, `VsnMismatch`, `NoTable`, `TooMany` for the files of the applications; `Full`.
+    /// `NoMemory` may come in place of each. Nothing has been written then. After `Device` the disk has
     /// no store or the new one, once the first sync has succeeded; before that nothing but its first byte was written. The
     /// disk comes back with each refusal.
     pub fn create<F: Files>(
@@ -54,9 +56,17 @@ impl<D: Disk> Handler<D> {
         ensures refused { IfErr result (λ e.
             CreationRefused D.Disk (F.gives files.now) path.now disk e.1 e.0) }
     {
-        match release_at(alloc, files, path) {
+        let brought = match bring_release(alloc, files, path) {
+            Ok(brought) => brought,
+            Err(error) => return Err((error, disk)),
+        };
+        match with_libraries(brought) {
             Ok(file) => Handler::make(alloc, disk, file),
-            Err(error) => Err((error, disk)),
+            Err(why) => {
+                let mut disk = disk;
+                let error = existing_or(&mut disk, why);
+                Err((error, disk))
+            }
         }
     }
 
@@ -99,6 +109,20 @@ impl<D: Disk> Handler<D> {
             }),
             Err((error, disk)) => Err((create_error(error), disk)),
         }
+    }
+}
+
+// Why no node is made of what brings no libraries, for this reason: a store on the disk is told before it.
+fn existing_or<D: Disk>(disk: &mut D, why: HandlerError) -> HandlerError
+    ensures read { HasOnlyRead D.seen D.may_leave D.moment D.left_since disk.old disk.new }
+    ensures counted { D.failures disk.old ≤ D.failures disk.new }
+    ensures told { IsExistingOr why (D.seen disk.old) (D.failures disk.old) (D.failures disk.new)
+        result }
+{
+    match holds_a_store(disk) {
+        Ok(true) => HandlerError::Exists,
+        Ok(false) => why,
+        Err(DeviceFault) => HandlerError::Device,
     }
 }
 

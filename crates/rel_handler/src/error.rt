@@ -46,8 +46,11 @@ pub enum HandlerError {
     /// The file of this path is of another application, version or module than its path says.
     #[error("VsnMismatch {0}")]
     VsnMismatch(String),
-    /// A file is too large, the release has more applications than a release may have, or would be one more than a node may
-    /// have.
+    /// This module has no table, or not one of the kind that a child or a top asks for.
+    #[error("NoTable {0}")]
+    NoTable(String),
+    /// A file is too large, the release passes a limit on a release or on what its applications have, or it would be one more
+    /// than a node may have.
     #[error("TooMany")]
     TooMany,
     /// The device failed. The handler is dead until the next boot, which finds the command's event or not.
@@ -92,6 +95,7 @@ impl From<UnpackError> for HandlerError {
             UnpackError::BadFile(path, trouble) => HandlerError::BadFile(path, trouble),
             UnpackError::VsnMismatch(path) => HandlerError::VsnMismatch(path),
             UnpackError::LibDiffers(app) => HandlerError::LibDiffers(app),
+            UnpackError::NoTable(name) => HandlerError::NoTable(name),
             UnpackError::TooMany => HandlerError::TooMany,
             UnpackError::NoMemory => HandlerError::NoMemory,
         }

@@ -37,3 +37,4 @@ mod unpacking;
 pub use booting::boot;
 pub use error::{BootError, HandlerError};
 pub use handler::{Handler, Installed};
+pub use unpacking::bring_release;

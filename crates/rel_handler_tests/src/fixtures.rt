@@ -1,4 +1,4 @@
-// What the tests begin with: release files, disks, and stores with given records.
+// What the tests begin with: files of releases and of applications, disks, and stores with given records.
 ghost use Rattle.std.specs.Prelude.{◌≤◌, IfOk, length};
 
 use file_source::{Files, FilesError};
@@ -31,11 +31,12 @@ pub(crate) fn number(word: &str) -> usize {
     word.parse::<usize>().unwrap_or(1)
 }
 
-// The term of a release: of `A` with one application, of `A/65` with 65.
+// The term of a release: of `A` with the application `app0`, of `A/65` with 65, of `A/:gone` with the application `gone`.
 fn rel_term(alloc: Global, release: &str) -> Result<String, AllocError> {
     let (vsn, apps) = release.split_once('/').unwrap_or((release, "1"));
+    let first = apps.strip_prefix(':').unwrap_or("app0");
     let mut text = format!(in alloc;
-        r#"{{release,{{"ch_rel","{vsn}"}},{{erts,"14.2"}},[{{app0,"1"}}"#
+        r#"{{release,{{"ch_rel","{vsn}"}},{{erts,"14.2"}},[{{{first},"1"}}"#
     )?;
     for app in 1..number(apps) {
         write!(text, r#",{{app{app},"1"}}"#)?;
@@ -44,7 +45,38 @@ fn rel_term(alloc: Global, release: &str) -> Result<String, AllocError> {
     Ok(text)
 }
 
-// Each path names the release that its file has. The path `missing` has no file, and that of `torn` ends within its term.
+// The text of the file of a release, which ends within its term where it is `torn`.
+fn rel_text(alloc: Global, release: &str) -> Result<String, AllocError> {
+    let mut text = rel_term(alloc, release)?;
+    if release != "torn" {
+        text.push('.')?;
+    }
+    Ok(text)
+}
+
+// The text of the file of an application without modules, of such a folder.
+fn app_text(alloc: Global, folder: &str) -> Result<String, AllocError> {
+    let (name, _rest) = folder.split_once('-').unwrap_or((folder, ""));
+    format!(in alloc; r#"{{application,{name},[{{vsn,"1"}}]}}."#)
+}
+
+// An application that a worker is to start.
+const WORKER_APP: &str = r#"{application,worker,[{vsn,"1"},{modules,[top]},{mod,{top,[]}}]}."#;
+
+const WORKER: &str = r#"{worker,top,"1",0,[]}."#;
+
+// The text of a file that is there.
+fn text_at(alloc: Global, path: &str) -> Result<String, AllocError> {
+    match path.strip_prefix("lib/") {
+        None => rel_text(alloc, path),
+        Some("worker-1/ebin/worker.app") => String::from_str(alloc, WORKER_APP),
+        Some("worker-1/ebin/top.mod") => String::from_str(alloc, WORKER),
+        Some(folder) => app_text(alloc, folder),
+    }
+}
+
+// Each path of a release names the release that its file has, and each path below `lib` is that of an application without
+// modules. The path `missing` has no file, nor has the application `gone`. The application `worker` has a worker at its top.
 #[derive(Clone, Copy)]
 pub(crate) struct ReleaseFiles;
 
@@ -53,24 +85,21 @@ impl Files for ReleaseFiles {
 
     fn read(&self, alloc: Global, path: &str) -> Result<Vec<u8>, FilesError> {
         match path {
-            "missing" => Err(FilesError::Missing),
+            "missing" | "lib/gone-1/ebin/gone.app" => Err(FilesError::Missing),
             "unreadable" => Err(FilesError::Unreadable),
             "large" => Err(FilesError::TooLarge),
-            _ => rel_bytes(alloc, path),
+            _ => bytes_at(alloc, path),
         }
     }
 }
 
-// The bytes of the file of such a release.
-fn rel_bytes(alloc: Global, release: &str) -> Result<Vec<u8>, FilesError>
+// The bytes of such a file.
+fn bytes_at(alloc: Global, path: &str) -> Result<Vec<u8>, FilesError>
     ensures { IfOk result (λ bytes. length bytes.items ≤ 1048576) }
 {
-    let Ok(mut text) = rel_term(alloc, release) else {
+    let Ok(text) = text_at(alloc, path) else {
         return Err(FilesError::NoMemory);
     };
-    if release != "torn" && text.push('.').is_err() {
-        return Err(FilesError::NoMemory);
-    }
     if text.len() > 1_048_576 {
         return Err(FilesError::TooLarge);
     }
@@ -110,6 +139,14 @@ pub(crate) fn patch<D: Disk>(disk: &mut D, at: u64, byte: u8) -> Result<(), Devi
     }
     disk.write_at(at, &[byte])?;
     disk.sync()
+}
+
+// All the bytes of a disk.
+pub(crate) fn bytes_of<D: Disk>(alloc: Global, disk: &mut D) -> Result<Vec<u8>, Fail> {
+    let len = disk.len()?;
+    let mut bytes = vec![in alloc; 0; len as usize]?;
+    disk.read(0, &mut bytes)?;
+    Ok(bytes)
 }
 
 // The first nine bytes of the first start slot.

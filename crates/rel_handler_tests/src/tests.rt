@@ -1,7 +1,8 @@
 // Nodes on disks in memory, among them disks that fail, and stores that no command has written.
 use crate::answers::{boots, count, create, is_explained, starts, unpack_once};
 use crate::fixtures::{
-    first_record, last_bytes, made_body, new_disk, next_record, patch, sound, start_and_bodies,
+    bytes_of, first_record, last_bytes, made_body, new_disk, next_record, patch, sound,
+    start_and_bodies,
 };
 use crate::steps::{follow, same, shows};
 use rel_disk::{Disk, FailDisk, MemDisk};
@@ -117,6 +118,60 @@ fn files_that_are_not_taken(rt: HostRuntime) -> Result<(), Fail> {
     shows(&rt, rt.alloc(), FILES_NOT_TAKEN)
 }
 
+// The file of an application isn't there, or a top is a worker. The list and the disk are asked before those files are read.
+const LIBRARIES_NOT_TAKEN: &str = "\
+create A/:gone => MissingFile lib/gone-1/ebin/gone.app
+create A/:worker => NoTable top
+boot => NotAStore
+create A B/:gone B/:worker A/:gone => A permanent; \
+MissingFile lib/gone-1/ebin/gone.app NoTable top ExistingRelease open A permanent;
+create B/:gone => Exists
+boot B/:gone B => A permanent; MissingFile lib/gone-1/ebin/gone.app took B open A permanent;B unpacked;
+";
+
+#[test]
+fn libraries_that_are_not_taken(rt: HostRuntime) -> Result<(), Fail> {
+    shows(&rt, rt.alloc(), LIBRARIES_NOT_TAKEN)
+}
+
+// What a node on this disk and a creation on it answer where the files of an application aren't right.
+fn refuse_libraries(alloc: Global, disk: MemDisk, text: &mut String) -> Result<MemDisk, Fail> {
+    let disk = boots(alloc, disk, "B/:gone B/:worker", text)?;
+    create(alloc, disk, "B/:gone", text)
+}
+
+const REFUSED_LIBRARIES: &str = " \
+A permanent; MissingFile lib/gone-1/ebin/gone.app NoTable top open A permanent; Exists";
+
+#[test]
+fn refused_libraries_leave_the_disk(rt: HostRuntime) -> Result<(), Fail> {
+    let alloc = rt.alloc();
+    let mut text = String::new(alloc);
+    let mut disk = create(alloc, new_disk(alloc)?, "A", &mut String::new(alloc))?;
+    let before = bytes_of(alloc, &mut disk)?;
+    let mut disk = refuse_libraries(alloc, disk, &mut text)?;
+    let after = bytes_of(alloc, &mut disk)?;
+    same(&rt, text.as_str(), REFUSED_LIBRARIES);
+    assert_eq!(rt; after.as_slice(), before.as_slice());
+    Ok(())
+}
+
+// A creation that is refused for the files of an application writes nothing.
+#[test]
+fn refused_libraries_leave_an_empty_disk(rt: HostRuntime) -> Result<(), Fail> {
+    let alloc = rt.alloc();
+    let mut text = String::new(alloc);
+    let disk = create(alloc, new_disk(alloc)?, "A/:gone", &mut text)?;
+    let mut disk = create(alloc, disk, "A/:worker", &mut text)?;
+    same(
+        &rt,
+        text.as_str(),
+        " MissingFile lib/gone-1/ebin/gone.app NoTable top",
+    );
+    assert_eq!(rt; disk.len(), Ok(0));
+    Ok(())
+}
+
 #[test]
 fn a_node_of_too_many_applications(rt: HostRuntime) -> Result<(), Fail> {
     shows(&rt, rt.alloc(), "create A/65 => TooMany\n")
@@ -132,12 +187,12 @@ fn fill(alloc: Global, answers: &mut String) -> Result<MemDisk, Fail> {
     Ok(disk)
 }
 
-// The 31 answers, and those to one release more and to one that is there.
+// The 31 answers, and those to one release more, to one of an application without a file, and to one that is there.
 const ANSWERS: &str = " A permanent; \
 took 1 took 2 took 3 took 4 took 5 took 6 took 7 took 8 took 9 took 10 took 11 \
 took 12 took 13 took 14 took 15 took 16 took 17 took 18 took 19 took 20 took 21 took 22 \
 took 23 took 24 took 25 took 26 took 27 took 28 took 29 took 30 took 31 \
-TooMany ExistingRelease";
+TooMany MissingFile lib/gone-1/ebin/gone.app ExistingRelease";
 
 #[test]
 fn most_releases(rt: HostRuntime) -> Result<(), Fail> {
@@ -145,6 +200,7 @@ fn most_releases(rt: HostRuntime) -> Result<(), Fail> {
     let mut answers = String::new(alloc);
     let disk = fill(alloc, &mut answers)?;
     let disk = unpack_once(alloc, disk, "x", &mut answers)?;
+    let disk = unpack_once(alloc, disk, "x/:gone", &mut answers)?;
     let disk = unpack_once(alloc, disk, "1", &mut answers)?;
     same(&rt, answers.as_str(), ANSWERS);
     assert_eq!(rt; count(alloc, disk), Ok(32));

@@ -1,19 +1,24 @@
 -- What commands come to: each to one action, and to one at least, whose texts are whole lines.
-use Rattle.std.proofs.Common.{◌≡◌, ◌⊎◌, inl, inr, ℕ, true, List, Result, Ok, Err, refl, sym, ap, ◌∙◌, subst}
+use Rattle.std.proofs.Common.{◌≡◌, ◌⊎◌, inl, inr, ℕ, Bool, true, false, List, Option, None, Some, Result, Ok, Err, refl, sym, ap, ◌∙◌, subst}
+use Rattle.std.specs.Prelude.{if◌then◌else◌, is_some}
+use Rattle.std.specs.List.{AllByRecursion}
 use Rattle.erl_term.specs.Lines.{is_one_line}
 use Rattle.rel_files.specs.File.{HasVersions}
-use Rattle.rel_list.specs.Releases.{Releases, running as running_release}
+use Rattle.library.specs.Library.{Library}
+use Rattle.rel_handler.specs.Unpacking.{none_there, libraries_refusal}
+use Rattle.rel_list.specs.Releases.{Releases, running as running_release, status_of}
 use Rattle.rel_list.specs.Event.{Event}
 use Rattle.rel_list.specs.Event.Event.{made, unpacked}
 use Rattle.rel_session.specs.AnswerLaws.{HasLinePath}
 use Rattle.session_input.specs.Commands.{Command}
 use Rattle.session_input.specs.Commands.Command.{file, create, set_unpacked, install, permanent, remove, reboot_old, boot, start, releases, relup, quit, bad}
-use Rattle.rel_unpack.proofs.LineOutcomes.{TellsLine, IsGood, IsLineFound, version_line, good_release}
-use Rattle.rel_unpack.proofs.OneOutcome.{one_release}
-use Rattle.rel_unpack.proofs.SomeOutcome.{some_release}
-use Rattle.rel_unpack.specs.Release.{Found}
+use Rattle.rel_unpack.proofs.LineLibraries.{IsLineBrought, IsLineLibrary, good_brought}
+use Rattle.rel_unpack.proofs.LineOutcomes.{TellsLine, IsGood, version_line}
+use Rattle.rel_unpack.proofs.OneOutcome.{one_brought}
+use Rattle.rel_unpack.proofs.SomeOutcome.{some_brought}
+use Rattle.rel_unpack.specs.Unpacking.{Brought}
 use Rattle.rel_unpack.specs.Refusal.{Refusal}
-use Rattle.rel_unpack.specs.Refusal.Refusal.{missing_file, bad_file, vsn_mismatch, lib_differs, too_many, no_memory}
+use Rattle.rel_unpack.specs.Refusal.Refusal.{missing_file, bad_file, vsn_mismatch, lib_differs, no_table, too_many, no_memory}
 use Rattle.rel_unpack.specs.Source.{Source, GivesOne, GivesEach}
 use Rattle.relup_command.proofs.RelupLines.{IsLineAnswer, good_answer}
 use Rattle.relup_command.proofs.RelupOutcomes.{one_answer, some_answer}
@@ -48,9 +53,9 @@ on_node P x y p q kinds one is also = absurd cc
 pub one_action : (source : Source) → GivesOne source → (p q : Place) (c : Command) (x y : Action) → kind_of p ≡ kind_of q → ComesTo source p c x → ComesTo source q c y
     → (x ≡ y) ⊎ ((x ≡ answers (listed p)) × (y ≡ answers (listed q)))
 one_action source one p q (file path f) x y kinds is also = inl (is ∙ sym also)
-one_action source one p q (create path) x y kinds (found, there, is) (again, there_too, also) = inl (is ∙ ap creation (one_release source one path found again there there_too) ∙ sym also)
+one_action source one p q (create path) x y kinds (found, there, is) (again, there_too, also) = inl (is ∙ ap creation (one_brought source one none_there path found again there there_too) ∙ sym also)
 one_action source one p q (set_unpacked path) x y kinds is also =
-    inl (on_node _ x y p q kinds (λ here here_too. here.2 ∙ ap unpacking (one_release source one path here.0 here_too.0 here.1 here_too.1) ∙ sym here_too.2) is also)
+    inl (on_node _ x y p q kinds (λ here here_too. here.2 ∙ ap unpacking (one_brought source one none_there path here.0 here_too.0 here.1 here_too.1) ∙ sym here_too.2) is also)
 one_action source one p q (install vsn) x y kinds is also = inl (is ∙ sym also)
 one_action source one p q (permanent vsn) x y kinds is also = inl (is ∙ sym also)
 one_action source one p q (remove vsn) x y kinds is also = inl (is ∙ sym also)
@@ -66,8 +71,8 @@ one_action source one p q bad x y kinds is also = inl (is ∙ sym also)
 -- Each command but `quit` comes to an action.
 pub some_action : (source : Source) → GivesEach source → (p : Place) (c : Command) → (c ≡ quit) ⊎ ((does : Action) × ComesTo source p c does)
 some_action source each p (file path f) = inr (_, refl)
-some_action source each p (create path) = let (found, there) = some_release source each path in inr (creation found, (found, there, refl))
-some_action source each (running events end) (set_unpacked path) = let (found, there) = some_release source each path in inr (unpacking found, (found, there, refl))
+some_action source each p (create path) = let (brought, there) = some_brought source each none_there path in inr (creation brought, (brought, there, refl))
+some_action source each (running events end) (set_unpacked path) = let (brought, there) = some_brought source each none_there path in inr (unpacking brought, (brought, there, refl))
 some_action source each (raw x) (set_unpacked path) = inr (_, refl)
 some_action source each (closed s) (set_unpacked path) = inr (_, refl)
 some_action source each (dead s) (set_unpacked path) = inr (_, refl)
@@ -88,11 +93,16 @@ OfEvent (made r) = HasVersions r
 OfEvent (unpacked r) = HasVersions r
 OfEvent e = Unit {0}
 
+-- what is told of files, where they are refused, is within a line
+abbrev pub TellsFilesLine : Option Refusal → Type 0
+TellsFilesLine None = Unit {0}
+TellsFilesLine (Some why) = HasLine (refusal_for why)
+
 -- An action's text ends where its last line does, and its versions are those of files.
 abbrev pub IsGoodAction : Action → Type 0
 IsGoodAction (answers text) = IsWhole text
-IsGoodAction (makes_node found) = HasVersions found.release
-IsGoodAction (changes_node c) = OfEvent c.event × ((list : Releases) → is_one_line (c.details list) ≡ true)
+IsGoodAction (makes_node b) = HasVersions b.found.release × TellsFilesLine (libraries_refusal b.libraries)
+IsGoodAction (changes_node c) = OfEvent c.event × ((list : Releases) → TellsFilesLine (c.files list)) × ((list : Releases) → is_one_line (c.details list) ≡ true)
 IsGoodAction (reboots_node vsn) = Unit {0}
 IsGoodAction boots_node = Unit {0}
 IsGoodAction tells_start = Unit {0}
@@ -106,16 +116,25 @@ told_line (missing_file path) line = line
 told_line (bad_file path trouble) line = line
 told_line (vsn_mismatch path) line = line
 told_line (lib_differs name) line = line
+told_line (no_table name) line = line
 told_line too_many line = tt
 told_line no_memory line = tt
 
-good_creation : (found : Result Found Refusal) → IsGood IsLineFound found → IsGoodAction (creation found)
-good_creation (Err why) good = refusal_whole (refusal_for why) (told_line why good)
-good_creation (Ok found) good = good.versions
+libraries_line : (r : Result (List Library) Refusal) → IsGood (AllByRecursion IsLineLibrary) r → TellsFilesLine (libraries_refusal r)
+libraries_line (Ok ls) good = tt
+libraries_line (Err why) good = told_line why good
 
-good_unpacking : (found : Result Found Refusal) → IsGood IsLineFound found → IsGoodAction (unpacking found)
+good_creation : (brought : Result Brought Refusal) → IsGood IsLineBrought brought → IsGoodAction (creation brought)
+good_creation (Err why) good = refusal_whole (refusal_for why) (told_line why good)
+good_creation (Ok b) good = (good.found.versions, libraries_line b.libraries good.libraries)
+
+good_unpacking : (brought : Result Brought Refusal) → IsGood IsLineBrought brought → IsGoodAction (unpacking brought)
 good_unpacking (Err why) good = refusal_whole (refusal_for why) (told_line why good)
-good_unpacking (Ok found) good = (good.versions, λ list. version_line found.release.vsn good.versions.own)
+good_unpacking (Ok b) good = (good.found.versions, (λ list. unlisted (is_some (status_of b.found.release.vsn list))), λ list. version_line b.found.release.vsn good.found.versions.own)
+  where
+    unlisted : (listed : Bool) → TellsFilesLine (if listed then None else libraries_refusal b.libraries)
+    unlisted true = tt
+    unlisted false = libraries_line b.libraries good.libraries
 
 good_telling : (found : Result (List ℕ) Refusal) → IsGood IsLineAnswer found → IsGoodAction (relup_telling found)
 good_telling (Err why) good = refusal_whole (refusal_for why) (told_line why good)
@@ -129,14 +148,14 @@ whole_list (dead s) behind = refl
 
 pub good_action : (source : Source) (p : Place) (c : Command) (does : Action) → HasLinePath c → ComesTo source p c does → IsGoodAction does
 good_action source p (file path f) does line is = good_as does _ is (λ behind. refl)
-good_action source p (create path) does line (found, there, is) = good_as does _ is (good_creation found (good_release source path line found there))
-good_action source (running events end) (set_unpacked path) does line (found, there, is) = good_as does _ is (good_unpacking found (good_release source path line found there))
+good_action source p (create path) does line (found, there, is) = good_as does _ is (good_creation found (good_brought source none_there path line found there))
+good_action source (running events end) (set_unpacked path) does line (found, there, is) = good_as does _ is (good_unpacking found (good_brought source none_there path line found there))
 good_action source (raw x) (set_unpacked path) does line is = good_as does _ is (λ behind. refl)
 good_action source (closed s) (set_unpacked path) does line is = good_as does _ is (λ behind. refl)
 good_action source (dead s) (set_unpacked path) does line is = good_as does _ is (λ behind. refl)
-good_action source p (install vsn) does line is = good_as does _ is (tt, λ list. installed_line (version_of (running_release list)))
-good_action source p (permanent vsn) does line is = good_as does _ is (tt, λ list. refl)
-good_action source p (remove vsn) does line is = good_as does _ is (tt, λ list. refl)
+good_action source p (install vsn) does line is = good_as does _ is (tt, (λ list. tt), λ list. installed_line (version_of (running_release list)))
+good_action source p (permanent vsn) does line is = good_as does _ is (tt, (λ list. tt), λ list. refl)
+good_action source p (remove vsn) does line is = good_as does _ is (tt, (λ list. tt), λ list. refl)
 good_action source p (reboot_old vsn) does line is = good_as does _ is tt
 good_action source p boot does line is = good_as does _ is tt
 good_action source p start does line is = good_as does _ is tt

@@ -1,5 +1,5 @@
 -- What an answer tells of its command: with the command, its file and the kind of place it determines the events.
-use Rattle.std.proofs.Common.{◌≡◌, ◌⊎◌, inl, inr, ℕ, Bool, true, false, List, [], ◌∷◌, length, Some, None, Result, Ok, Err, refl, sym, ap, ◌∙◌, subst}
+use Rattle.std.proofs.Common.{◌≡◌, ◌⊎◌, inl, inr, ℕ, Bool, true, false, List, [], ◌∷◌, length, Option, Some, None, Result, Ok, Err, refl, sym, ap, ◌∙◌, subst}
 use Rattle.std.specs.Prelude.{if◌then◌else◌, ◌==◌}
 use Rattle.std.specs.Str.{bytes_eq}
 use Rattle.rel_list.specs.Releases.{Releases}
@@ -16,11 +16,15 @@ use Rattle.rel_handler.specs.Refusals.{IsBootRefusal}
 use Rattle.rel_handler.specs.Taking.{commanded}
 use Rattle.rel_handler.proofs.CommandLemmas.{IsListAnswer, of_command}
 use Rattle.session_input.specs.Commands.{Command}
-use Rattle.rel_unpack.specs.Release.{Found}
+use Rattle.library.specs.Library.{Library}
+use Rattle.rel_files.specs.Release.{Release}
+use Rattle.rel_unpack.specs.Refusal.{Refusal}
+use Rattle.rel_unpack.specs.Refusal.Refusal.{missing_file, bad_file, vsn_mismatch, lib_differs, no_table, too_many, no_memory}
+use Rattle.rel_unpack.specs.Unpacking.{Brought}
 use Rattle.rel_unpack.specs.Source.{Source, GivesOne}
 use Rattle.rel_session.specs.Node.{Place, Outcome, Reply, reply, nothing, done, failed_with, releases_after, behind}
 use Rattle.rel_session.specs.Node.Place.{raw, closed, running, dead}
-use Rattle.rel_session.specs.Refusals.{refusal_of, refusal_line, boot_line}
+use Rattle.rel_session.specs.Refusals.{refusal_of, refusal_for, refusal_line, boot_line}
 use Rattle.rel_session.specs.Refusals.Refusal.{device}
 use Rattle.rel_session.specs.Transition
 use Rattle.rel_session.specs.Transition.Action.{answers, makes_node, changes_node, reboots_node, boots_node, tells_start}
@@ -50,10 +54,10 @@ effect o k = record { outcome = o; kind = k }
 abbrev pub effect_of : Reply → Effect
 effect_of a = effect a.outcome (kind_of a.after)
 
-abbrev created : Kind → Found → Report → Effect
-created k found it_is_done = effect (done (made found.release ∷ booting ∷ [])) runs
-created k found it_failed = effect (failed_with (Some (made found.release))) k
-created k found t = effect nothing k
+abbrev created : Kind → Release → Report → Effect
+created k r it_is_done = effect (done (made r ∷ booting ∷ [])) runs
+created k r it_failed = effect (failed_with (Some (made r))) k
+created k r t = effect nothing k
 
 -- a change is done on a node that runs, and refused on any other
 abbrev changed : Kind → Transition.Change → Report → Effect
@@ -109,6 +113,7 @@ plain_list e es = go (commanded e es) (of_command e es)
     go (Err handler_error.TooMany) of = refl
     go (Err handler_error.NoMemory) of = refl
     go (Err (handler_error.LibDiffers app)) of = absurd of
+    go (Err (handler_error.NoTable app)) of = absurd of
     go (Err (handler_error.BadFile path trouble)) of = absurd of
     go (Err (handler_error.MissingFile path)) of = absurd of
     go (Err (handler_error.VsnMismatch path)) of = absurd of
@@ -116,6 +121,16 @@ plain_list e es = go (commanded e es) (of_command e es)
     go (Err handler_error.Full) of = absurd of
     go (Err handler_error.Dead) of = absurd of
     go (Err handler_error.Exists) of = absurd of
+
+-- neither are files
+plain_files : (why : Refusal) → report_of (refusal_line (refusal_for why)) ≡ nothing_done
+plain_files (missing_file path) = refl
+plain_files (bad_file path trouble) = refl
+plain_files (vsn_mismatch path) = refl
+plain_files (lib_differs name) = refl
+plain_files (no_table name) = refl
+plain_files too_many = refl
+plain_files no_memory = refl
 
 -- a commit, by what its answers tell
 module _ (e : Event) (f : Report → Effect) (stays : f nothing_done ≡ effect nothing runs) (doubted : f it_failed ≡ effect (failed_with (Some e)) fails) where
@@ -126,8 +141,9 @@ module _ (e : Event) (f : Report → Effect) (stays : f nothing_done ≡ effect 
   commits events end size (Ok list) P plain done a (inl (fits, inr is)) = effect_as f a _ is (sym doubted)
   commits events end size (Ok list) P plain done a (inr (over_it, is)) = effect_as f a _ is (sym stays)
 
-changes : (events : Events) (end : ℕ) (c : Transition.Change) (l : Releases) (o : Result Releases HandlerError) → IsPlainList o → (a : Reply) → Transition.Changes events end c l o a → HasEffect (changed runs c) a
-changes events end c l o plain = commits c.event (changed runs c) refl refl events end (c.size l) o _ plain (λ a is. effect_as (changed runs c) a _ is refl)
+changes : (events : Events) (end : ℕ) (c : Transition.Change) (l : Releases) (f : Option Refusal) (o : Result Releases HandlerError) → IsPlainList o → (a : Reply) → Transition.Changes events end c l f o a → HasEffect (changed runs c) a
+changes events end c l (Some why) o plain a is = effect_as (changed runs c) a _ is (sym (ap (changed runs c) (plain_files why)))
+changes events end c l None o plain a is = commits c.event (changed runs c) refl refl events end (c.size l) o _ plain (λ a is. effect_as (changed runs c) a _ is refl) a is
 
 -- the boot behind a commit
 boots_behind : (vsn : List ℕ) (s : Stored) (a b : Reply) → Transition.BootsStore s b → a ≡ behind (reboot_old vsn) b → HasEffect (rebooted runs vsn) a
@@ -139,18 +155,22 @@ reboots events end vsn l o plain =
     commits (reboot_old vsn) (rebooted runs vsn) refl refl events end _ o _ plain (λ a (b, boot, is). boots_behind vsn (Transition.rebooted events end vsn l) a b boot is)
 
 -- create
-makes_on : (x : List ℕ) (found : Found) (size : ℕ) (b : Bool) (a : Reply) → Transition.MakesOn x found.release size b a → HasEffect (created of_bytes found) a
-makes_on x found size true a is = effect_as (created of_bytes found) a _ is refl
-makes_on x found size false a (inl (fits, is)) = effect_as (created of_bytes found) a _ is refl
-makes_on x found size false a (inr (over_it, is)) = effect_as (created of_bytes found) a _ is refl
+makes_with : (x : List ℕ) (r : Release) (size : ℕ) (ls : Result (List Library) Refusal) (a : Reply) → Transition.MakesWith x r size ls a → HasEffect (created of_bytes r) a
+makes_with x r size (Err why) a is = effect_as (created of_bytes r) a _ is (sym (ap (created of_bytes r) (plain_files why)))
+makes_with x r size (Ok ls) a (inl (fits, is)) = effect_as (created of_bytes r) a _ is refl
+makes_with x r size (Ok ls) a (inr (over_it, is)) = effect_as (created of_bytes r) a _ is refl
 
-makes : (p : Place) (found : Found) (a : Reply) → Transition.MakesNode p found a → HasEffect (created (kind_of p) found) a
-makes (raw x) found a (inl is) = makes_on x found (length (body_of found.term (makes_record found.release))) (holds_a_store x) a is
-makes (raw x) found a (inr (torn, is)) = effect_as (created of_bytes found) a _ is refl
-makes (closed s) found a (inl is) = effect_as (created at_rest found) a _ is refl
-makes (closed s) found a (inr is) = effect_as (created at_rest found) a _ is refl
-makes (running events end) found a is = effect_as (created runs found) a _ is refl
-makes (dead s) found a is = effect_as (created fails found) a _ is refl
+makes_on : (x : List ℕ) (b : Brought) (there : Bool) (a : Reply) → Transition.MakesOn x b there a → HasEffect (created of_bytes b.found.release) a
+makes_on x b true a is = effect_as (created of_bytes b.found.release) a _ is refl
+makes_on x b false a is = makes_with x b.found.release (length (body_of b.found.term (makes_record b.found.release))) b.libraries a is
+
+makes : (p : Place) (b : Brought) (a : Reply) → Transition.MakesNode p b a → HasEffect (created (kind_of p) b.found.release) a
+makes (raw x) b a (inl is) = makes_on x b (holds_a_store x) a is
+makes (raw x) b a (inr (torn, is)) = effect_as (created of_bytes b.found.release) a _ is refl
+makes (closed s) b a (inl is) = effect_as (created at_rest b.found.release) a _ is refl
+makes (closed s) b a (inr is) = effect_as (created at_rest b.found.release) a _ is refl
+makes (running events end) b a is = effect_as (created runs b.found.release) a _ is refl
+makes (dead s) b a is = effect_as (created fails b.found.release) a _ is refl
 
 -- boot
 boots_store : (k : Kind) (s : Stored) (a : Reply) → left k ≡ at_rest → Transition.BootsStore s a → HasEffect (booted k) a
@@ -183,7 +203,7 @@ idle a b x y is also same = ap effect_of is ∙ same ∙ sym (ap effect_of also)
 -- an action has the effect that its answer tells
 abbrev acted : Kind → Transition.Action → Report → Effect
 acted k (answers text) t = effect nothing k
-acted k (makes_node found) t = created k found t
+acted k (makes_node b) t = created k b.found.release t
 acted k (changes_node c) t = changed k c t
 acted k (reboots_node vsn) t = rebooted k vsn t
 acted k boots_node t = booted k t
@@ -192,7 +212,7 @@ acted k tells_start t = tells k t
 acts : (p : Place) (does : Transition.Action) (a : Reply) → Transition.Acts p does a → HasEffect (acted (kind_of p) does) a
 acts p (answers text) a is = effect_as (acted (kind_of p) (answers text)) a _ is refl
 acts p (makes_node found) a is = makes p found a is
-acts (running events end) (changes_node c) a is = changes events end c (releases_after events) (commanded c.event (releases_after events)) (plain_list c.event (releases_after events)) a is
+acts (running events end) (changes_node c) a is = changes events end c (releases_after events) (c.files (releases_after events)) (commanded c.event (releases_after events)) (plain_list c.event (releases_after events)) a is
 acts (raw x) (changes_node c) a is = effect_as (changed of_bytes c) a _ is refl
 acts (closed s) (changes_node c) a is = effect_as (changed at_rest c) a _ is refl
 acts (dead s) (changes_node c) a is = effect_as (changed fails c) a _ is refl

@@ -32,7 +32,7 @@ use Rattle.rel_unpack.specs.Refusal.{Trouble, trouble_text}
 use Rattle.rel_unpack.specs.Refusal.Trouble.{unreadable, faulty, misshapen}
 use Rattle.rel_session.specs.Listing.{listing, release_line, text_value, application_value}
 use Rattle.rel_session.specs.Refusals.{Refusal, refusal_line, boot_line}
-use Rattle.rel_session.specs.Refusals.Refusal.{no_such_release, existing_release, already_installed, bad_status, permanent, is_running, lib_differs, bad_file, missing_file, vsn_mismatch, too_many, device, full, dead, no_memory, exists}
+use Rattle.rel_session.specs.Refusals.Refusal.{no_such_release, existing_release, already_installed, bad_status, permanent, is_running, lib_differs, bad_file, missing_file, vsn_mismatch, no_table, too_many, device, full, dead, no_memory, exists}
 use Rattle.rel_session.specs.Transition.{ok_line, done_line, installed_details}
 
 -- Where a reader of answers stands: at the start of one or of a line of a listing, within such a line, or in the last line.
@@ -114,6 +114,7 @@ trouble_plain misshapen = refl
 -- the path or the name that a refusal tells is within a line
 abbrev pub HasLine : Refusal → Type 0
 HasLine (lib_differs app) = is_one_line app ≡ true
+HasLine (no_table app) = is_one_line app ≡ true
 HasLine (bad_file path trouble) = is_one_line path ≡ true
 HasLine (missing_file path) = is_one_line path ≡ true
 HasLine (vsn_mismatch path) = is_one_line path ≡ true
@@ -133,6 +134,7 @@ refusal_whole (bad_status s) line behind = ap (λ t. codes "error handler 4 BadS
 refusal_whole permanent line behind = refl
 refusal_whole is_running line behind = refl
 refusal_whole (lib_differs app) line behind = ap (λ t. codes "error handler 7 LibDiffers " ++ t) (ends_behind app (codes "\n") line newline behind)
+refusal_whole (no_table app) line behind = ap (λ t. codes "error handler 11 NoTable " ++ t) (ends_behind app (codes "\n") line newline behind)
 refusal_whole (bad_file path t) line behind =
     ap (λ u. codes "error handler 8 BadFile " ++ u)
     (ends_behind path (codes " " ++ (trouble_text t ++ codes "\n")) line (λ more. ap (λ u. codes " " ++ u) (ends_behind (trouble_text t) (codes "\n") (trouble_plain t) newline more)) behind)

@@ -1,5 +1,5 @@
 -- What a command with an event replies on a node that runs: the event is committed, or refused.
-use Rattle.std.proofs.Common.{◌≡◌, inl, inr, ℕ, true, false, [], ◌∷◌, ◌++◌, Some, Result, Ok, Err, refl, sym, ap, ◌∙◌, subst}
+use Rattle.std.proofs.Common.{◌≡◌, inl, inr, ℕ, true, false, [], ◌∷◌, ◌++◌, Option, None, Some, Result, Ok, Err, refl, sym, ap, ◌∙◌, subst}
 use Rattle.std.specs.Prelude.{String, string_bytes}
 use Rattle.std.specs.declared.alloc.Global.{Global}
 use Rattle.rel_list.specs.Releases.{Releases}
@@ -18,7 +18,8 @@ use Rattle.rel_session.specs.Device.{Device, LeavesOnly, HasFailed}
 use Rattle.rel_session.specs.InMemory.{IsAt, Replied, Answers}
 use Rattle.rel_session.specs.Node.{Place, Reply, refused, failed, releases_after, list_or_none}
 use Rattle.rel_session.specs.Node.Place.{raw, closed, running, dead}
-use Rattle.rel_session.specs.Refusals.{Refusal, refusal_of, refusal_line}
+use Rattle.rel_unpack.specs.Refusal.{Refusal as FilesRefusal}
+use Rattle.rel_session.specs.Refusals.{Refusal, refusal_of, refusal_for, refusal_line}
 use Rattle.rel_session.specs.Refusals.Refusal.{full, device}
 use Rattle.rel_session.specs.Run.{IsReached, Holds}
 use Rattle.rel_session.specs.Transition
@@ -35,7 +36,7 @@ never e = absurd cc
 module _ {D : Type 0} (v : Device D) (laws : IsDevice v) (P : Place → Reply → Type 0) (h : Handler D) (alive : is_dead h ≡ false) where
   -- An event comes to the node. Done says what is replied where it was committed.
   module _ (e : Event) (size : Releases → ℕ) (Done : Events → ℕ → Releases → Reply → Type 0)
-      (right : (events : Events) (end : ℕ) (a : Reply) → Transition.IsCommit events end e (size (releases_after events)) (commanded e (releases_after events)) (Done events end (releases_after events)) a → P (running events end) a)
+      (right : (events : Events) (end : ℕ) (a : Reply) → list_after events ≡ Some (list_in h) → Transition.IsCommit events end e (size (releases_after events)) (commanded e (releases_after events)) (Done events end (releases_after events)) a → P (running events end) a)
       (new : Handler D) (commits : Commits v e (size (list_in h)) h new) where
     abbrev body_size : ℕ
     body_size = size (list_in h)
@@ -45,7 +46,7 @@ module _ {D : Type 0} (v : Device D) (laws : IsDevice v) (P : Place → Reply �
         → Transition.IsCommit events end e body_size o (Done events end (list_in h)) a → P (running events end) a
     right_for events end o a after is so =
         let of_list : releases_after events ≡ list_in h = ap list_or_none after in
-        right events end a (subst (λ l. Transition.IsCommit events end e (size l) (commanded e l) (Done events end l) a) (sym of_list) (subst (λ r. Transition.IsCommit events end e body_size r (Done events end (list_in h)) a) (sym is) so))
+        right events end a after (subst (λ l. Transition.IsCommit events end e (size l) (commanded e l) (Done events end l) a) (sym of_list) (subst (λ r. Transition.IsCommit events end e body_size r (Done events end (list_in h)) a) (sym is) so))
 
     pub moments_at : (events : Events) → list_after events ≡ Some (list_in h) → LeavesOnly v (disk_in h) (disk_in new) (IsReached (settled events) (e ∷ []))
     moments_at events after = weakened v (disk_in h) (disk_in new) _ _ (reached_with events (end_in h) e body_size) (commits.any_moment alive events after)
@@ -92,6 +93,7 @@ module _ {D : Type 0} (v : Device D) (laws : IsDevice v) (P : Place → Reply �
     commits_none handler_error.Running (barred, same) = by_list handler_error.Running barred same
     commits_none handler_error.TooMany (barred, same) = by_list handler_error.TooMany barred same
     commits_none (handler_error.LibDiffers app) (barred, same) = by_list (handler_error.LibDiffers app) barred same
+    commits_none (handler_error.NoTable app) (barred, same) = by_list (handler_error.NoTable app) barred same
     commits_none (handler_error.BadFile path trouble) (barred, same) = by_list (handler_error.BadFile path trouble) barred same
     commits_none (handler_error.MissingFile path) (barred, same) = by_list (handler_error.MissingFile path) barred same
     commits_none (handler_error.VsnMismatch path) (barred, same) = by_list (handler_error.VsnMismatch path) barred same
@@ -102,10 +104,33 @@ module _ {D : Type 0} (v : Device D) (laws : IsDevice v) (P : Place → Reply �
     commits_none handler_error.Exists gone = absurd gone
 
   -- A command changes the node.
-  module _ (change : Transition.Change) (right : (events : Events) (end : ℕ) (a : Reply) → Transition.Acts (running events end) (changes_node change) a → P (running events end) a)
-      (new : Handler D) (commits : Commits v change.event (change.size (list_in h)) h new) where
+  module _ (change : Transition.Change) (right : (events : Events) (end : ℕ) (a : Reply) → Transition.Acts (running events end) (changes_node change) a → P (running events end) a) where
+    -- what is replied by the files of the change
+    by_files : (events : Events) (end : ℕ) (a : Reply) (f : Option FilesRefusal) → list_after events ≡ Some (list_in h) → change.files (list_in h) ≡ f
+        → Transition.Changes events end change (releases_after events) f (commanded change.event (releases_after events)) a → P (running events end) a
+    by_files events end a f after is so =
+        let here : change.files (releases_after events) ≡ f = ap (λ o. change.files (list_or_none o)) after ∙ is in
+        right events end a (subst (λ g. Transition.Changes events end change (releases_after events) g (commanded change.event (releases_after events)) a) (sym here) so)
+
+    -- They are refused, and nothing of the node has changed.
+    module _ (new : Handler D) (same : IsSame h new) (why : FilesRefusal) (is : change.files (list_in h) ≡ Some why) where
+      pub files_refused : (p : Place) → IsAt v (memory.Made h) p → Replied v p (λ a. P p a × (a.answer ≡ refusal_line (refusal_for why))) (memory.Made h) (memory.Made new)
+      files_refused (raw bytes) at = absurd at
+      files_refused (closed s) at = absurd at
+      files_refused (dead s) at = never (sym alive ∙ at.1)
+      files_refused (running events end) at =
+          stays v laws (running events end) (refusal_line (refusal_for why)) _ (memory.Made h) (memory.Made new) at same.disk (same_at v laws h new (running events end) same at)
+          (by_files events end _ (Some why) at.2 is refl, refl)
+
+  -- It does, where its files are not refused.
+  module _ (change : Transition.Change) (right_so : (events : Events) (end : ℕ) (a : Reply) → Transition.Acts (running events end) (changes_node change) a → P (running events end) a)
+      (free : change.files (list_in h) ≡ None) (new : Handler D) (commits : Commits v change.event (change.size (list_in h)) h new) where
     abbrev IsChanged : Events → ℕ → Releases → Reply → Type 0
     IsChanged events end list a = a ≡ Transition.changed events end change list
+
+    right : (events : Events) (end : ℕ) (a : Reply) → list_after events ≡ Some (list_in h)
+        → Transition.IsCommit events end change.event (change.size (releases_after events)) (commanded change.event (releases_after events)) (IsChanged events end (releases_after events)) a → P (running events end) a
+    right events end a after is = by_files change right_so events end a None after free is
 
     replies_done : is_dead new ≡ false → IsDone v change.event (change.size (list_in h)) h new → (p : Place) → IsAt v (memory.Made h) p
         → Replied v p (λ a. P p a × (a.answer ≡ Transition.done_line (change.details (list_in h)))) (memory.Made h) (memory.Made new)

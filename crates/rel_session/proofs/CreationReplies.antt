@@ -1,5 +1,5 @@
 -- What `create` replies, wherever the disk stands.
-use Rattle.std.proofs.Common.{◌≡◌, ◌⊎◌, inl, inr, ℕ, ◌≤◌, Bool, true, false, List, [], ◌∷◌, Some, Result, Ok, Err, refl, sym, ap, ◌∙◌, subst}
+use Rattle.std.proofs.Common.{◌≡◌, ◌≢◌, ◌⊎◌, inl, inr, ℕ, ◌≤◌, Bool, true, false, List, [], ◌∷◌, Some, Result, Ok, Err, refl, sym, ap, ◌∙◌, subst}
 use Rattle.std.specs.Prelude.{IfOk, MatchResult, String, string_bytes}
 use Rattle.std.specs.declared.alloc.Global.{Global}
 use Rattle.std.specs.declared.alloc.AllocError.{AllocError}
@@ -9,13 +9,16 @@ use Rattle.rel_handler.specs.declared.error.HandlerError.{HandlerError}
 use Rattle.rel_handler.specs.declared.error.HandlerError.TheVariants as handler_error
 use Rattle.rel_handler.specs.declared.handler.Handler.{Handler}
 use Rattle.rel_handler.specs.Events.{IsStoredAs, Stored}
+use Rattle.library.specs.Library.{Library}
 use Rattle.rel_handler.specs.Files.{made_size}
 use Rattle.rel_handler.specs.Image.{IsImageOf, holds_a_store, first_end, end_behind, HasSpace}
 use Rattle.rel_handler.specs.Moments.{WritesNothing}
 use Rattle.rel_handler.specs.Refusals.{MakingRefused}
 use Rattle.rel_handler.specs.State.{disk_in, list_in, is_dead, HasStarted}
-use Rattle.rel_handler.specs.Unpacking.{IsOfFiles, IsMade, IsNotMade, CreationRefused}
-use Rattle.rel_unpack.specs.Release.{Found, ReleaseAt}
+use Rattle.rel_handler.specs.Unpacking.{Brings, HasLibraries, IsOfFiles, IsMade, IsNotBegun, IsNotMade, CreationRefused}
+use Rattle.rel_unpack.specs.Refusal as of_files
+use Rattle.rel_unpack.specs.Release.{Found}
+use Rattle.rel_unpack.specs.Unpacking.{Brought}
 use Rattle.rel_unpack.specs.Source.{Source}
 use Rattle.session_input.specs.Commands.Command.{create}
 use Rattle.rel_session.specs.declared.place.Place.TheVariants as memory
@@ -23,12 +26,12 @@ use Rattle.rel_session.specs.Device.{Device, HasFailed}
 use Rattle.rel_session.specs.InMemory.{IsAt, Replied, NothingDone, Answers}
 use Rattle.rel_session.specs.Node.{Place, Reply, reply, refused, failed, done}
 use Rattle.rel_session.specs.Node.Place.{raw, closed, running, dead}
-use Rattle.rel_session.specs.Refusals.{Refusal, refusal_of, refusal_line}
+use Rattle.rel_session.specs.Refusals.{Refusal, refusal_of, refusal_for, refusal_line}
 use Rattle.rel_session.specs.Refusals.Refusal.{full, exists, device}
 use Rattle.rel_session.specs.Transition
 use Rattle.rel_session.specs.Transition.Action.{makes_node}
 use Rattle.rel_session.proofs.DeviceLemmas.{IsDevice}
-use Rattle.rel_session.proofs.ReleaseLemmas.{files_refuse, creation_refused}
+use Rattle.rel_session.proofs.ReleaseLemmas.{files_refuse, told_alike, creation_refused}
 use Rattle.rel_session.proofs.Replies.{held, kept, quiet, moments_of_nothing, stays, runs_at, tells, answers_line, tells_refusal, refuses_anywhere}
 
 never : {A : Type 0} → false ≡ true → A
@@ -38,11 +41,11 @@ module _ {D : Type 0} (v : Device D) (laws : IsDevice v) (source : Source) (path
   abbrev Creates : Place → Reply → Type 0
   Creates = λ p a. Transition.Transition source p (create path) a
 
-  making : (found : Found) → ReleaseAt source path (Ok found) → (p : Place) (a : Reply) → Transition.MakesNode p found a → Creates p a
+  making : (found : Brought) → Brings source path (Ok found) → (p : Place) (a : Reply) → Transition.MakesNode p found a → Creates p a
   making found read p a is = (makes_node found, (Ok found, read, refl), is)
 
   -- There is a node.
-  pub creates_again : (h : Handler D) (why : HandlerError) → IsOfFiles source path why ⊎ ((why ≡ handler_error.Exists) × ((found : Found) × ReleaseAt source path (Ok found)))
+  pub creates_again : (h : Handler D) (why : HandlerError) → IsOfFiles source path why ⊎ ((why ≡ handler_error.Exists) × ((found : Brought) × Brings source path (Ok found)))
       → Answers v Creates (Err why) (memory.Made h) (memory.Made h)
   creates_again h why (inl of) = refuses_anywhere v laws Creates (memory.Made h) why (λ known p. creation_refused source path (refusal_of why) p (files_refuse source path why of known))
   creates_again h why (inr (is, (found, read))) = subst (λ e. Answers v Creates (Err e) (memory.Made h) (memory.Made h)) (sym is) there
@@ -55,8 +58,13 @@ module _ {D : Type 0} (v : Device D) (laws : IsDevice v) (source : Source) (path
 
   -- There is none on this disk.
   module _ (disk : D) (stores : (es : Releases) → IsImageOf (v.seen disk) es → holds_a_store (v.seen disk) ≡ true) where
-    on_raw : (found : Found) (bytes : List ℕ) (b : Bool) (a : Reply) → holds_a_store bytes ≡ b → Transition.MakesOn bytes found.release (made_size found) b a → Transition.MakesNode (raw bytes) found a
-    on_raw found bytes b a stored_there makes = inl (subst (λ m. Transition.MakesOn bytes found.release (made_size found) m a) (sym stored_there) makes)
+    on_raw : (found : Brought) (bytes : List ℕ) (b : Bool) (a : Reply) → holds_a_store bytes ≡ b → Transition.MakesOn bytes found b a → Transition.MakesNode (raw bytes) found a
+    on_raw found bytes b a stored_there makes = inl (subst (λ m. Transition.MakesOn bytes found m a) (sym stored_there) makes)
+
+    -- what is made of libraries that are brought or not
+    with_libraries : (found : Brought) (bytes : List ℕ) (ls : Result (List Library) of_files.Refusal) (a : Reply) → found.libraries ≡ ls → Transition.MakesWith bytes found.found.release (made_size found.found) ls a
+        → Transition.MakesOn bytes found false a
+    with_libraries found bytes ls a is makes = subst (λ l. Transition.MakesWith bytes found.found.release (made_size found.found) l a) (sym is) makes
 
     store_there : (s : Stored) → ((c : List ℕ) → v.may_leave disk c → IsStoredAs s c) → holds_a_store (v.seen disk) ≡ true
     store_there s here = let of = here (v.seen disk) (laws.reads_an_image disk) in stores of.list of.image_of
@@ -64,19 +72,19 @@ module _ {D : Type 0} (v : Device D) (laws : IsDevice v) (source : Source) (path
     -- It is made.
     module _ (h : Handler D) (is_made : IsMade v source path disk h) (started : HasStarted v.may_leave h) (alive : is_dead h ≡ false) (free : holds_a_store (v.seen disk) ≡ true → ⊥) (counted : v.failures disk ≤ v.failures (disk_in h)) where
       replies : (p : Place) → IsAt v (memory.Idle disk) p
-          → Replied v p (λ a. Creates p a × (a.answer ≡ Transition.ok_line is_made.found.release.vsn)) (memory.Idle disk) (memory.Made h)
+          → Replied v p (λ a. Creates p a × (a.answer ≡ Transition.ok_line is_made.brought.found.release.vsn)) (memory.Idle disk) (memory.Made h)
       replies (closed s) at = absurd (free (store_there s at))
       replies (running events end) at = absurd at
       replies (dead s) at = absurd at
       replies (raw bytes) at =
-          let found = is_made.found in
+          let found = is_made.brought.found in
           let events = made found.release ∷ booting ∷ [] in
           let end = end_behind first_end (made_size found) in
           let place = runs_at v laws h events end alive (ap (λ l. Some l) (sym is_made.list)) is_made.end is_made.acknowledged started in
           let a = reply (Transition.ok_line found.release.vsn) (done events) (running events end) in
           record {
             given = a;
-            right = (making found is_made.read (raw bytes) a (on_raw found bytes false a (no_store (holds_a_store bytes) refl) (inl (is_made.fits, refl))), refl);
+            right = (making is_made.brought is_made.read (raw bytes) a (on_raw is_made.brought bytes false a (no_store (holds_a_store bytes) refl) (with_libraries is_made.brought bytes _ a is_made.libraries.1 (inl (is_made.fits, refl)))), refl);
             at = place;
             happens = record { moments = (is_made.synced, is_made.begun); holds = place.0; cause = λ e. never e; counted = counted };
           }
@@ -88,7 +96,7 @@ module _ {D : Type 0} (v : Device D) (laws : IsDevice v) (source : Source) (path
       pub creates : (line : Result (String Global) AllocError) (result : Result (String Global) HandlerError) → MatchResult line (λ text. result ≡ Ok text) (λ _. result ≡ Err handler_error.NoMemory)
           → IfOk line (λ text. string_bytes text ≡ Transition.ok_line (Transition.version_of (running_release (list_in h)))) → Answers v Creates result (memory.Idle disk) (memory.Made h)
       creates line result is told = answers_line v laws Creates line result (memory.Idle disk) (memory.Made h) is
-          (tells v laws Creates line (Transition.ok_line is_made.found.release.vsn) (memory.Idle disk) (memory.Made h)
+          (tells v laws Creates line (Transition.ok_line is_made.brought.found.release.vsn) (memory.Idle disk) (memory.Made h)
           (subst (λ list. IfOk line (λ text. string_bytes text ≡ Transition.ok_line (Transition.version_of (running_release list)))) is_made.list told) replies)
 
     -- It isn't.
@@ -121,13 +129,27 @@ module _ {D : Type 0} (v : Device D) (laws : IsDevice v) (source : Source) (path
       unread why of u = tells_refusal v laws Creates why (memory.Idle disk) (memory.Idle new)
           (λ known p at. refuses p (refusal_of why) at u (creation_refused source path (refusal_of why) p (files_refuse source path why of known))) (nothing_done u)
 
+      -- the files of its applications are
+      without_libraries : (why : HandlerError) → IsNotBegun v source path disk new why → Answers v Creates (Err why) (memory.Idle disk) (memory.Idle new)
+      without_libraries why n = tells_refusal v laws Creates why (memory.Idle disk) (memory.Idle new)
+          (λ known p at. refuses p (refusal_of why) at n.unwritten (making n.brought n.read p _ (subst (λ w. Transition.MakesNode p n.brought (refused w p)) is (there p at)))) (nothing_done n.unwritten)
+        where
+          is : refusal_for (of_files.refusal_of n.of_libraries.error) ≡ refusal_of why
+          is = sym (told_alike n.of_libraries.error) ∙ ap refusal_of (sym n.of_libraries.told)
+
+          there : (p : Place) → IsAt v (memory.Idle disk) p → Transition.MakesNode p n.brought (refused (refusal_for (of_files.refusal_of n.of_libraries.error)) p)
+          there (raw bytes) at = on_raw n.brought bytes false _ (ap holds_a_store (sym at) ∙ n.free) (with_libraries n.brought bytes _ _ n.of_libraries.refused refl)
+          there (closed s) at = never (sym n.free ∙ store_there s at)
+          there (running events end) at = absurd at
+          there (dead s) at = absurd at
+
       -- the disk, the store or memory is
       module _ (why : HandlerError) (is_not : IsNotMade v source path disk new why) (taken : holds_a_store (v.seen disk) ≡ true → WritesNothing v.seen v.may_leave v.moment v.left_since disk new) where
         abbrev found : Found
-        found = is_not.found
+        found = is_not.brought.found
 
-        right_for : (p : Place) (a : Reply) → Transition.MakesNode p found a → Creates p a
-        right_for = making found is_not.read
+        right_for : (p : Place) (a : Reply) → Transition.MakesNode p is_not.brought a → Creates p a
+        right_for = making is_not.brought is_not.read
 
         device_fails : HasFailed v disk new → (p : Place) → IsAt v (memory.Idle disk) p → Replied v p (λ a. Creates p a × (a.answer ≡ refusal_line device)) (memory.Idle disk) (memory.Idle new)
         device_fails cause (raw bytes) at = record {
@@ -148,38 +170,42 @@ module _ {D : Type 0} (v : Device D) (laws : IsDevice v) (source : Source) (path
         device_fails cause (running events end) at = absurd at
         device_fails cause (dead s) at = absurd at
 
-        exists_there : holds_a_store (v.seen disk) ≡ true → (p : Place) → IsAt v (memory.Idle disk) p → Transition.MakesNode p found (refused exists p)
-        exists_there stored_there (raw bytes) at = on_raw found bytes true (refused exists (raw bytes)) (ap holds_a_store (sym at) ∙ stored_there) refl
+        exists_there : holds_a_store (v.seen disk) ≡ true → (p : Place) → IsAt v (memory.Idle disk) p → Transition.MakesNode p is_not.brought (refused exists p)
+        exists_there stored_there (raw bytes) at = on_raw is_not.brought bytes true (refused exists (raw bytes)) (ap holds_a_store (sym at) ∙ stored_there) refl
         exists_there stored_there (closed s) at = inl refl
         exists_there stored_there (running events end) at = absurd at
         exists_there stored_there (dead s) at = absurd at
 
-        full_there : holds_a_store (v.seen disk) ≡ false → (HasSpace first_end (made_size found) → ⊥) → (p : Place) → IsAt v (memory.Idle disk) p → Transition.MakesNode p found (refused full p)
-        full_there stored_there over (raw bytes) at = on_raw found bytes false (refused full (raw bytes)) (ap holds_a_store (sym at) ∙ stored_there) (inr (over, refl))
-        full_there stored_there over (closed s) at = never (sym stored_there ∙ store_there s at)
-        full_there stored_there over (running events end) at = absurd at
-        full_there stored_there over (dead s) at = absurd at
+        full_there : HasLibraries is_not.brought → holds_a_store (v.seen disk) ≡ false → (HasSpace first_end (made_size found) → ⊥) → (p : Place) → IsAt v (memory.Idle disk) p
+            → Transition.MakesNode p is_not.brought (refused full p)
+        full_there libraries stored_there over (raw bytes) at =
+            on_raw is_not.brought bytes false (refused full (raw bytes)) (ap holds_a_store (sym at) ∙ stored_there) (with_libraries is_not.brought bytes _ _ libraries.1 (inr (over, refl)))
+        full_there libraries stored_there over (closed s) at = never (sym stored_there ∙ store_there s at)
+        full_there libraries stored_there over (running events end) at = absurd at
+        full_there libraries stored_there over (dead s) at = absurd at
 
-        by_error : (e : HandlerError) → MakingRefused (v.seen disk) (made_size found) (v.failures disk) (v.failures new) (WritesNothing v.seen v.may_leave v.moment v.left_since disk new) e
+        by_error : (e : HandlerError) → (e ≢ handler_error.Exists → e ≢ handler_error.Device → HasLibraries is_not.brought) → MakingRefused (v.seen disk) (made_size found) (v.failures disk) (v.failures new) (WritesNothing v.seen v.may_leave v.moment v.left_since disk new) e
             → Answers v Creates (Err e) (memory.Idle disk) (memory.Idle new)
-        by_error handler_error.Device cause = device_fails cause
-        by_error handler_error.Exists (stored_there, u) = λ p at. refuses p exists at u (right_for p _ (exists_there stored_there p at))
-        by_error handler_error.Full (stored_there, over, u) = λ p at. refuses p full at u (right_for p _ (full_there stored_there over p at))
-        by_error handler_error.NoMemory u = λ p at. inr (nothing_done u p at)
-        by_error handler_error.TooMany gone = absurd gone
-        by_error handler_error.NoSuchRelease gone = absurd gone
-        by_error handler_error.ExistingRelease gone = absurd gone
-        by_error handler_error.AlreadyInstalled gone = absurd gone
-        by_error (handler_error.BadStatus s) gone = absurd gone
-        by_error handler_error.Permanent gone = absurd gone
-        by_error handler_error.Running gone = absurd gone
-        by_error (handler_error.LibDiffers app) gone = absurd gone
-        by_error (handler_error.BadFile q trouble) gone = absurd gone
-        by_error (handler_error.MissingFile q) gone = absurd gone
-        by_error (handler_error.VsnMismatch q) gone = absurd gone
-        by_error handler_error.Dead gone = absurd gone
+        by_error handler_error.Device libraries cause = device_fails cause
+        by_error handler_error.Exists libraries (stored_there, u) = λ p at. refuses p exists at u (right_for p _ (exists_there stored_there p at))
+        by_error handler_error.Full libraries (stored_there, over, u) = λ p at. refuses p full at u (right_for p _ (full_there (libraries (λ e. cc e) (λ e. cc e)) stored_there over p at))
+        by_error handler_error.NoMemory libraries u = λ p at. inr (nothing_done u p at)
+        by_error handler_error.TooMany libraries gone = absurd gone
+        by_error handler_error.NoSuchRelease libraries gone = absurd gone
+        by_error handler_error.ExistingRelease libraries gone = absurd gone
+        by_error handler_error.AlreadyInstalled libraries gone = absurd gone
+        by_error (handler_error.BadStatus s) libraries gone = absurd gone
+        by_error handler_error.Permanent libraries gone = absurd gone
+        by_error handler_error.Running libraries gone = absurd gone
+        by_error (handler_error.LibDiffers app) libraries gone = absurd gone
+        by_error (handler_error.NoTable app) libraries gone = absurd gone
+        by_error (handler_error.BadFile q trouble) libraries gone = absurd gone
+        by_error (handler_error.MissingFile q) libraries gone = absurd gone
+        by_error (handler_error.VsnMismatch q) libraries gone = absurd gone
+        by_error handler_error.Dead libraries gone = absurd gone
 
       pub creates_none : (why : HandlerError) → (holds_a_store (v.seen disk) ≡ true → WritesNothing v.seen v.may_leave v.moment v.left_since disk new)
           → CreationRefused v source path disk new why → Answers v Creates (Err why) (memory.Idle disk) (memory.Idle new)
       creates_none why taken (inl (of, u)) = unread why of u
-      creates_none why taken (inr is_not) = by_error why is_not taken why is_not.refused
+      creates_none why taken (inr (inl n)) = without_libraries why n
+      creates_none why taken (inr (inr is_not)) = by_error why is_not taken why is_not.libraries is_not.refused

@@ -1,5 +1,5 @@
 -- Each input has an answer in which the device does not fail.
-use Rattle.std.proofs.Common.{◌≡◌, ◌⊎◌, inl, inr, ℕ, ◌+◌, ◌<◌, ◌≤◌, Bool, true, false, List, [], ◌∷◌, ◌++◌, length, Some, Result, Ok, Err, refl, sym, ap, ◌∙◌, subst, arith}
+use Rattle.std.proofs.Common.{◌≡◌, ◌⊎◌, inl, inr, ℕ, ◌+◌, ◌<◌, ◌≤◌, Bool, true, false, List, [], ◌∷◌, ◌++◌, length, Option, None, Some, Result, Ok, Err, refl, sym, ap, ◌∙◌, subst, arith}
 use Rattle.std.proofs.lemmas.Bool.{cases_lt}
 use Rattle.rel_files.specs.Release.{Release}
 use Rattle.rel_list.specs.Releases.{Releases}
@@ -18,7 +18,9 @@ use Rattle.session_input.specs.Commands.{Command}
 use Rattle.session_input.specs.Commands.Command.{quit}
 use Rattle.session_input.specs.Feed.{Feed}
 use Rattle.session_input.specs.Feed.Feed.{over, cut, next}
-use Rattle.rel_unpack.specs.Release.{Found}
+use Rattle.library.specs.Library.{Library}
+use Rattle.rel_unpack.specs.Refusal.{Refusal}
+use Rattle.rel_unpack.specs.Unpacking.{Brought}
 use Rattle.rel_unpack.specs.Source.{Source, GivesEach}
 use Rattle.rel_session.specs.Files.{Files, files_behind, source_of}
 use Rattle.rel_session.specs.LawsBelow.{BootLaws}
@@ -82,23 +84,27 @@ commits events end list c size P after done = by_list (commanded c (releases_aft
     by_list (Err why) e = fair_reply _ _ refl refl (runs events end list after)
     by_list (Ok grown) e = by_room grown e (fits_or_not end size)
 
-changes : (events : Events) (end : ℕ) (list : Releases) (c : Transition.Change) → list_after events ≡ Some list → Has (Transition.Changes events end c (releases_after events) (commanded c.event (releases_after events)))
-changes events end list c after =
+changes : (events : Events) (end : ℕ) (list : Releases) (c : Transition.Change) (f : Option Refusal) → list_after events ≡ Some list → Has (Transition.Changes events end c (releases_after events) f (commanded c.event (releases_after events)))
+changes events end list c (Some why) after = fair_reply _ _ refl refl (runs events end list after)
+changes events end list c None after =
     let size = c.size (releases_after events) in
     commits events end list c.event size _ after (λ grown then. fair_reply _ _ refl refl (runs (events ++ c.event ∷ []) (end_behind end size) grown then))
 
-makes_on : (x : List ℕ) (r : Release) (size : ℕ) (b : Bool) → Has (Transition.MakesOn x r size b)
-makes_on x r size true = fair_reply _ _ refl refl (of_raw x)
-makes_on x r size false = go (fits_or_not first_end size)
+makes_with : (x : List ℕ) (r : Release) (size : ℕ) (ls : Result (List Library) Refusal) → Has (Transition.MakesWith x r size ls)
+makes_with x r size (Err why) = fair_reply _ _ refl refl (of_raw x)
+makes_with x r size (Ok ls) = go (fits_or_not first_end size)
   where
-    go : HasSpace first_end size ⊎ (HasSpace first_end size → ⊥) → Has (Transition.MakesOn x r size false)
+    go : HasSpace first_end size ⊎ (HasSpace first_end size → ⊥) → Has (Transition.MakesWith x r size (Ok ls))
     go (inl fits) = fair_reply _ _ (inl (fits, refl)) refl (runs (made r ∷ booting ∷ []) (end_behind first_end size) (entry r Permanent ∷ []) refl)
     go (inr over_it) = fair_reply _ _ (inr (over_it, refl)) refl (of_raw x)
 
-makes : (p : Place) (found : Found) → IsFair p → Has (Transition.MakesNode p found)
+makes_on : (x : List ℕ) (b : Brought) (there : Bool) → Has (Transition.MakesOn x b there)
+makes_on x b true = fair_reply _ _ refl refl (of_raw x)
+makes_on x b false = makes_with x b.found.release (length (body_of b.found.term (makes_record b.found.release))) b.libraries
+
+makes : (p : Place) (found : Brought) → IsFair p → Has (Transition.MakesNode p found)
 makes p found (of_raw x) =
-    let size = length (body_of found.term (makes_record found.release)) in
-    mapped (Transition.MakesOn x found.release size (holds_a_store x)) (Transition.MakesNode (raw x) found) (λ a is. inl is) (makes_on x found.release size (holds_a_store x))
+    mapped (Transition.MakesOn x found (holds_a_store x)) (Transition.MakesNode (raw x) found) (λ a is. inl is) (makes_on x found (holds_a_store x))
 makes p found (rests events end list after) = fair_reply _ _ (inl refl) refl (rests events end list after)
 makes p found (runs events end list after) = fair_reply _ _ refl refl (runs events end list after)
 
@@ -139,7 +145,7 @@ rebooted p vsn (runs events end list after) = reboots events end list vsn after
 changed : (p : Place) (c : Transition.Change) → IsFair p → Has (Transition.Acts p (changes_node c))
 changed p c (of_raw x) = fair_reply _ _ refl refl (of_raw x)
 changed p c (rests events end list after) = fair_reply _ _ refl refl (rests events end list after)
-changed p c (runs events end list after) = changes events end list c after
+changed p c (runs events end list after) = changes events end list c (c.files (releases_after events)) after
 
 told : (p : Place) → IsFair p → Has (Transition.Acts p tells_start)
 told p (of_raw x) = fair_reply _ _ refl refl (of_raw x)

@@ -1,11 +1,14 @@
 -- A session on an empty disk.
-use Rattle.std.proofs.Common.{◌≡◌, ◌≢◌, ◌⊎◌, inl, inr, ⊎_elim, true, false, List, [], ◌∷◌, ◌++◌, refl, sym, ◌∙◌, subst, append_assoc}
+use Rattle.std.proofs.Common.{◌≡◌, ◌≢◌, ◌⊎◌, inl, inr, ⊎_elim, ℕ, true, false, List, [], ◌∷◌, ◌++◌, length, Result, Ok, Err, refl, sym, ◌∙◌, subst, append_assoc}
 use Rattle.rel_files.specs.Release.{Release}
 use Rattle.rel_list.specs.Event.Event.{made, boot as booting}
 use Rattle.session_input.specs.Commands.{Command}
 use Rattle.rel_session.specs.Device.{Device}
 use Rattle.session_input.specs.Feed.{Feed}
-use Rattle.rel_unpack.specs.Release.{Found}
+use Rattle.library.specs.Library.{Library}
+use Rattle.rel_records.specs.Record.{makes as makes_record, body_of}
+use Rattle.rel_unpack.specs.Refusal.{Refusal}
+use Rattle.rel_unpack.specs.Unpacking.{Brought}
 use Rattle.rel_unpack.specs.Source.{Source}
 use Rattle.rel_session.specs.Files.{Files, files_behind, source_of}
 use Rattle.rel_session.specs.Node.{Place, Reply}
@@ -29,10 +32,14 @@ OnEmpty a = ((a.outcome.acknowledged ≡ []) × ((a.after ≡ raw []) ⊎ (a.out
 on_empty_as : (a b : Reply) → a ≡ b → OnEmpty b → OnEmpty a
 on_empty_as a b is of = subst OnEmpty (sym is) of
 
-makes : (found : Found) (a : Reply) → Transition.MakesNode (raw []) found a → OnEmpty a
-makes found a (inl (inl (fits, is))) = on_empty_as a _ is (inr (record { release = found.release; acknowledged = refl; after = refl }))
-makes found a (inl (inr (over_it, is))) = on_empty_as a _ is (inl (refl, inl refl))
-makes found a (inr (torn, is)) = on_empty_as a _ is (inl (refl, inr refl))
+makes_with : (r : Release) (size : ℕ) (ls : Result (List Library) Refusal) (a : Reply) → Transition.MakesWith [] r size ls a → OnEmpty a
+makes_with r size (Err why) a is = on_empty_as a _ is (inl (refl, inl refl))
+makes_with r size (Ok ls) a (inl (fits, is)) = on_empty_as a _ is (inr (record { release = r; acknowledged = refl; after = refl }))
+makes_with r size (Ok ls) a (inr (over_it, is)) = on_empty_as a _ is (inl (refl, inl refl))
+
+makes : (b : Brought) (a : Reply) → Transition.MakesNode (raw []) b a → OnEmpty a
+makes b a (inl is) = makes_with b.found.release (length (body_of b.found.term (makes_record b.found.release))) b.libraries a is
+makes b a (inr (torn, is)) = on_empty_as a _ is (inl (refl, inr refl))
 
 boots : (a : Reply) → Transition.BootsBytes [] a → OnEmpty a
 boots a (inl (events, list, end, after, image, is)) = cc image.image_of.store

@@ -1,5 +1,5 @@
 -- What a failure of the device is told as, and that nothing else leaves a doubt.
-use Rattle.std.proofs.Common.{◌≡◌, ◌⊎◌, inl, inr, ℕ, ◌≤◌, Bool, true, false, List, [], ◌∷◌, length, Some, None, Result, Ok, Err, refl, sym, ap, ◌∙◌, subst, arith}
+use Rattle.std.proofs.Common.{◌≡◌, ◌⊎◌, inl, inr, ℕ, ◌≤◌, Bool, true, false, List, [], ◌∷◌, length, Option, Some, None, Result, Ok, Err, refl, sym, ap, ◌∙◌, subst, arith}
 use Rattle.rel_list.specs.Releases.{Releases}
 use Rattle.rel_list.specs.Event.{Event}
 use Rattle.rel_list.specs.Event.Event.{reboot_old as rebooting}
@@ -10,7 +10,10 @@ use Rattle.rel_records.specs.Record.{makes as makes_record, body_of}
 use Rattle.rel_handler.specs.Taking.{commanded}
 use Rattle.session_input.specs.Commands.{Command}
 use Rattle.rel_session.specs.Device.{Device, HasFailed}
-use Rattle.rel_unpack.specs.Release.{Found}
+use Rattle.library.specs.Library.{Library}
+use Rattle.rel_files.specs.Release.{Release}
+use Rattle.rel_unpack.specs.Refusal.{Refusal}
+use Rattle.rel_unpack.specs.Unpacking.{Brought}
 use Rattle.rel_unpack.specs.Source.{Source}
 use Rattle.rel_session.specs.Files.{files_behind, source_of}
 use Rattle.rel_session.specs.Node.{Place, Reply, releases_after}
@@ -37,16 +40,21 @@ commits events end e size (Ok list) P done a (inl (fits, inl is)) = done a is
 commits events end e size (Ok list) P done a (inl (fits, inr is)) = plain a _ is (inr (refl, refl))
 commits events end e size (Ok list) P done a (inr (over, is)) = plain a _ is (inl refl)
 
-changes : (events : Events) (end : ℕ) (c : Transition.Change) (l : Releases) (o : Result Releases HandlerError) (a : Reply) → Transition.Changes events end c l o a → IsPlain a
-changes events end c l o = commits events end c.event (c.size l) o _ (λ a is. plain a _ is (inl refl))
+changes : (events : Events) (end : ℕ) (c : Transition.Change) (l : Releases) (f : Option Refusal) (o : Result Releases HandlerError) (a : Reply) → Transition.Changes events end c l f o a → IsPlain a
+changes events end c l (Some why) o a is = plain a _ is (inl refl)
+changes events end c l None o a is = commits events end c.event (c.size l) o _ (λ a is. plain a _ is (inl refl)) a is
 
-makes_on : (bytes : List ℕ) (found : Found) (size : ℕ) (b : Bool) (a : Reply) → Transition.MakesOn bytes found.release size b a → IsPlain a
-makes_on bytes found size true a is = plain a _ is (inl refl)
-makes_on bytes found size false a (inl (fits, is)) = plain a _ is (inl refl)
-makes_on bytes found size false a (inr (over, is)) = plain a _ is (inl refl)
+makes_with : (bytes : List ℕ) (r : Release) (size : ℕ) (ls : Result (List Library) Refusal) (a : Reply) → Transition.MakesWith bytes r size ls a → IsPlain a
+makes_with bytes r size (Err why) a is = plain a _ is (inl refl)
+makes_with bytes r size (Ok ls) a (inl (fits, is)) = plain a _ is (inl refl)
+makes_with bytes r size (Ok ls) a (inr (over, is)) = plain a _ is (inl refl)
 
-makes : (p : Place) (found : Found) (a : Reply) → Transition.MakesNode p found a → IsPlain a
-makes (raw bytes) found a (inl is) = makes_on bytes found (length (body_of found.term (makes_record found.release))) (holds_a_store bytes) a is
+makes_on : (bytes : List ℕ) (b : Brought) (there : Bool) (a : Reply) → Transition.MakesOn bytes b there a → IsPlain a
+makes_on bytes b true a is = plain a _ is (inl refl)
+makes_on bytes b false a is = makes_with bytes b.found.release (length (body_of b.found.term (makes_record b.found.release))) b.libraries a is
+
+makes : (p : Place) (found : Brought) (a : Reply) → Transition.MakesNode p found a → IsPlain a
+makes (raw bytes) found a (inl is) = makes_on bytes found (holds_a_store bytes) a is
 makes (raw bytes) found a (inr (torn, is)) = plain a _ is (inr (refl, refl))
 makes (closed s) found a (inl is) = plain a _ is (inl refl)
 makes (closed s) found a (inr is) = plain a _ is (inr (refl, refl))
@@ -74,7 +82,7 @@ acts p (answers text) a is = plain a _ is (inl refl)
 acts p (makes_node found) a is = makes p found a is
 acts (raw bytes) (changes_node c) a is = plain a _ is (inl refl)
 acts (closed s) (changes_node c) a is = plain a _ is (inl refl)
-acts (running events end) (changes_node c) a is = changes events end c (releases_after events) (commanded c.event (releases_after events)) a is
+acts (running events end) (changes_node c) a is = changes events end c (releases_after events) (c.files (releases_after events)) (commanded c.event (releases_after events)) a is
 acts (dead s) (changes_node c) a is = plain a _ is (inl refl)
 acts (running events end) (reboots_node vsn) a is = reboots events end vsn (releases_after events) (commanded (rebooting vsn) (releases_after events)) a is
 acts (raw bytes) (reboots_node vsn) a is = plain a _ is (inl refl)

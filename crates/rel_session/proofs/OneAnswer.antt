@@ -1,5 +1,5 @@
 -- A device that does not fail leaves one answer to each command.
-use Rattle.std.proofs.Common.{◌≡◌, ◌≢◌, ◌⊎◌, inl, inr, ℕ, Bool, true, false, List, [], ◌∷◌, ◌++◌, length, Some, Result, Ok, Err, refl, sym, ap, ◌∙◌, subst}
+use Rattle.std.proofs.Common.{◌≡◌, ◌≢◌, ◌⊎◌, inl, inr, ℕ, Bool, true, false, List, [], ◌∷◌, ◌++◌, length, Option, None, Some, Result, Ok, Err, refl, sym, ap, ◌∙◌, subst}
 use Rattle.std.specs.Option.{option_and_then}
 use Rattle.rel_list.specs.Releases.{Releases, running as running_release, permanent}
 use Rattle.rel_list.specs.Event.{list_after, step, booted}
@@ -17,7 +17,10 @@ use Rattle.session_input.specs.Commands.{Command}
 use Rattle.session_input.specs.Commands.Command.{quit}
 use Rattle.session_input.specs.Feed.{Feed}
 use Rattle.session_input.specs.Feed.Feed.{over, cut, next}
-use Rattle.rel_unpack.specs.Release.{Found}
+use Rattle.library.specs.Library.{Library}
+use Rattle.rel_files.specs.Release.{Release}
+use Rattle.rel_unpack.specs.Refusal.{Refusal}
+use Rattle.rel_unpack.specs.Unpacking.{Brought}
 use Rattle.rel_unpack.specs.Source.{Source, GivesOne}
 use Rattle.rel_session.specs.Files.{Files, files_behind, source_of}
 use Rattle.rel_session.specs.Listing.{listing}
@@ -91,22 +94,27 @@ module _ (a b : Reply) (both : Both a b) where
   commits events others end e size (Ok list) P Q one same (inr (over_it, is)) (inl (fits, also)) = absurd (over_it fits)
   commits events others end e size (Ok list) P Q one same (inr (over_it, is)) (inr (over_too, also)) = as_these a b _ _ is also (refl, refl, same_lists events others end same)
 
-  changes : (events others : Events) (end : ℕ) (c : Transition.Change) (l : Releases) (o : Result Releases HandlerError) → list_after events ≡ list_after others
-      → Transition.Changes events end c l o a → Transition.Changes others end c l o b → Same a b
-  changes events others end c l o same =
+  changes : (events others : Events) (end : ℕ) (c : Transition.Change) (l : Releases) (f : Option Refusal) (o : Result Releases HandlerError) → list_after events ≡ list_after others
+      → Transition.Changes events end c l f o a → Transition.Changes others end c l f o b → Same a b
+  changes events others end c l (Some why) o same is also = as_these a b _ _ is also (refl, refl, same_lists events others end same)
+  changes events others end c l None o same is also =
       let behind_it = same_lists (events ++ c.event ∷ []) (others ++ c.event ∷ []) (end_behind end (c.size l)) (same_list events others c.event same) in
-      commits events others end c.event (c.size l) o _ _ (λ is also. as_these a b _ _ is also (refl, refl, behind_it)) same
+      commits events others end c.event (c.size l) o _ _ (λ is also. as_these a b _ _ is also (refl, refl, behind_it)) same is also
 
-  makes_on : (x : List ℕ) (found : Found) (size : ℕ) (m : Bool) → Transition.MakesOn x found.release size m a → Transition.MakesOn x found.release size m b → Same a b
-  makes_on x found size true is also = as_these a b _ _ is also (refl, refl, same_bytes x)
-  makes_on x found size false (inl (fits, is)) (inl (fits_too, also)) =
-      as_these a b _ _ is also (refl, refl, same_lists (made found.release ∷ booting ∷ []) (made found.release ∷ booting ∷ []) (end_behind first_end size) refl)
-  makes_on x found size false (inl (fits, is)) (inr (over_it, also)) = absurd (over_it fits)
-  makes_on x found size false (inr (over_it, is)) (inl (fits, also)) = absurd (over_it fits)
-  makes_on x found size false (inr (over_it, is)) (inr (over_too, also)) = as_these a b _ _ is also (refl, refl, same_bytes x)
+  makes_with : (x : List ℕ) (r : Release) (size : ℕ) (ls : Result (List Library) Refusal) → Transition.MakesWith x r size ls a → Transition.MakesWith x r size ls b → Same a b
+  makes_with x r size (Err why) is also = as_these a b _ _ is also (refl, refl, same_bytes x)
+  makes_with x r size (Ok ls) (inl (fits, is)) (inl (fits_too, also)) =
+      as_these a b _ _ is also (refl, refl, same_lists (made r ∷ booting ∷ []) (made r ∷ booting ∷ []) (end_behind first_end size) refl)
+  makes_with x r size (Ok ls) (inl (fits, is)) (inr (over_it, also)) = absurd (over_it fits)
+  makes_with x r size (Ok ls) (inr (over_it, is)) (inl (fits, also)) = absurd (over_it fits)
+  makes_with x r size (Ok ls) (inr (over_it, is)) (inr (over_too, also)) = as_these a b _ _ is also (refl, refl, same_bytes x)
 
-  makes : (p q : Place) (found : Found) → Alike p q → Transition.MakesNode p found a → Transition.MakesNode q found b → Same a b
-  makes p q found (same_bytes x) (inl is) (inl also) = makes_on x found (length (body_of found.term (makes_record found.release))) (holds_a_store x) is also
+  makes_on : (x : List ℕ) (found : Brought) (m : Bool) → Transition.MakesOn x found m a → Transition.MakesOn x found m b → Same a b
+  makes_on x found true is also = as_these a b _ _ is also (refl, refl, same_bytes x)
+  makes_on x found false is also = makes_with x found.found.release (length (body_of found.found.term (makes_record found.found.release))) found.libraries is also
+
+  makes : (p q : Place) (found : Brought) → Alike p q → Transition.MakesNode p found a → Transition.MakesNode q found b → Same a b
+  makes p q found (same_bytes x) (inl is) (inl also) = makes_on x found (holds_a_store x) is also
   makes p q found (same_bytes x) (inl is) (inr (torn, also)) = failure b _ also refl both.1
   makes p q found (same_bytes x) (inr (torn, is)) other = failure a _ is refl both.0
   makes p q found (same_store events end) (inl is) (inl also) = as_these a b _ _ is also (refl, refl, same_store events end)
@@ -186,7 +194,7 @@ module _ (a b : Reply) (both : Both a b) where
   changed p q c (same_store events end) is also = as_these a b _ _ is also (refl, refl, same_store events end)
   changed p q c (same_lists events others end same) is also =
       let then : releases_after others ≡ releases_after events = ap list_or_none (sym same) in
-      changes a b both events others end c (releases_after events) (commanded c.event (releases_after events)) same is (subst (λ l. Transition.Changes others end c l (commanded c.event l) b) then also)
+      changes a b both events others end c (releases_after events) (c.files (releases_after events)) (commanded c.event (releases_after events)) same is (subst (λ l. Transition.Changes others end c l (c.files l) (commanded c.event l) b) then also)
 
   rebooted : (p q : Place) (vsn : List ℕ) → Alike p q → Transition.Acts p (reboots_node vsn) a → Transition.Acts q (reboots_node vsn) b → Same a b
   rebooted p q vsn (same_bytes x) is also = as_these a b _ _ is also (refl, refl, same_bytes x)

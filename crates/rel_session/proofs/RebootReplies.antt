@@ -71,7 +71,7 @@ module _ {D : Type 0} (v : Device D) (laws : IsDevice v) (vsn : List ℕ) (h new
     -- each moment of the commit, and of what follows it
     moments_then : (command : Events) → LeavesOnly v (disk_in new) (disk_at final) (IsReached (settled (events ++ e ∷ [])) command) → LeavesOnly v (disk_in h) (disk_at final) (IsReached (settled events) (e ∷ command))
     moments_then command leaves =
-        let first = moments_at v laws Does h alive e (change_size e) (IsRebooted vsn) (λ es n a is. is) new commits events at.2 in
+        let first = moments_at v laws Does h alive e (change_size e) (IsRebooted vsn) (λ es n a after is. is) new commits events at.2 in
         joined v (disk_in h) (disk_in new) (disk_at final) _ (weakened v (disk_in h) (disk_in new) _ _ (reached_sooner (settled events) (e ∷ []) command) first)
         (weakened v (disk_in new) (disk_at final) _ _ (reached_behind events e command) leaves)
 
@@ -85,7 +85,7 @@ module _ {D : Type 0} (v : Device D) (laws : IsDevice v) (vsn : List ℕ) (h new
 
     right_then : (b : Reply) → Boots s b → Does (running events end) (behind e b)
     right_then b boot =
-        right_for v laws Does h alive e (change_size e) (IsRebooted vsn) (λ es n a is. is) new commits events end (Ok (list_in new)) (behind e b) at.2 is_done.accepted
+        right_for v laws Does h alive e (change_size e) (IsRebooted vsn) (λ es n a after is. is) new commits events end (Ok (list_in new)) (behind e b) at.2 is_done.accepted
         (inl (subst (λ n. HasSpace n (change_size e (list_in h))) at.3 is_done.fits, inl (b, boot, refl)))
 
     -- the boot was answered

@@ -14,11 +14,12 @@ use Rattle.rel_session.specs.Node.Place.{running}
 use Rattle.rel_session.specs.Refusals.{Refusal, refusal_of, refusal_for, IsFilesRefusal}
 use Rattle.rel_session.specs.Transition.{Transition, creation, unpacking}
 
-told_alike : (e : UnpackError) → refusal_of (told_files e) ≡ refusal_for (of_files.refusal_of e)
+pub told_alike : (e : UnpackError) → refusal_of (told_files e) ≡ refusal_for (of_files.refusal_of e)
 told_alike (unpack.MissingFile path) = refl
 told_alike (unpack.BadFile path trouble) = refl
 told_alike (unpack.VsnMismatch path) = refl
 told_alike (unpack.LibDiffers app) = refl
+told_alike (unpack.NoTable app) = refl
 told_alike unpack.TooMany = refl
 told_alike unpack.NoMemory = refl
 

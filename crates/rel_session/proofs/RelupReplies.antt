@@ -8,7 +8,7 @@ use Rattle.rel_unpack.specs.Order as files
 use Rattle.rel_unpack.specs.Refusal.{refusal_of as files_refusal}
 use Rattle.rel_unpack.specs.Source.{Source}
 use Rattle.rel_unpack.specs.declared.error.UnpackError.{UnpackError}
-use Rattle.rel_unpack.specs.declared.error.UnpackError.TheVariants.{MissingFile, BadFile, VsnMismatch, LibDiffers, TooMany, NoMemory}
+use Rattle.rel_unpack.specs.declared.error.UnpackError.TheVariants.{MissingFile, BadFile, VsnMismatch, LibDiffers, NoTable, TooMany, NoMemory}
 use Rattle.relup_command.specs.Answer.{AnswerAt}
 use Rattle.session_input.specs.Commands.Command.{relup}
 use Rattle.rel_session.specs.declared.place.Place.{Place as PlaceInMemory}
@@ -43,6 +43,7 @@ module _ {D : Type 0} (v : Device D) (laws : IsDevice v) (place : PlaceInMemory 
   refused (BadFile path trouble) there = refused_for (BadFile path trouble) (there (λ e. cc e))
   refused (VsnMismatch path) there = refused_for (VsnMismatch path) (there (λ e. cc e))
   refused (LibDiffers app) there = refused_for (LibDiffers app) (there (λ e. cc e))
+  refused (NoTable app) there = refused_for (NoTable app) (there (λ e. cc e))
   refused TooMany there = refused_for TooMany (there (λ e. cc e))
 
   pub answers_relup : (made : Result (String Global) UnpackError) (r : Result (String Global) HandlerError) → MatchResult made (λ text. r ≡ Ok text) (λ why. r ≡ Err (told_files why))

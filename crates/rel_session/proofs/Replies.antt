@@ -289,6 +289,7 @@ module _ {D : Type 0} (v : Device D) (laws : IsDevice v) where
   tells_refusal P (handler_error.MissingFile q) old new told lapsed = told (λ e. cc e)
   tells_refusal P (handler_error.VsnMismatch q) old new told lapsed = told (λ e. cc e)
   tells_refusal P (handler_error.LibDiffers q) old new told lapsed = told (λ e. cc e)
+  tells_refusal P (handler_error.NoTable q) old new told lapsed = told (λ e. cc e)
   tells_refusal P handler_error.TooMany old new told lapsed = told (λ e. cc e)
   tells_refusal P handler_error.Device old new told lapsed = told (λ e. cc e)
   tells_refusal P handler_error.Full old new told lapsed = told (λ e. cc e)

@@ -74,6 +74,8 @@ module _ {D : Type 0} (v : Device D) (old new : Node D) (command : Command) (sam
     follows (Err (handler_error.MissingFile q)) (Ok (Some text)) is given = with_text (refusal_line (refusal_of (handler_error.MissingFile q))) text is given
     follows (Err (handler_error.LibDiffers q)) (Ok (Some text)) is given = with_text (refusal_line (refusal_of (handler_error.LibDiffers q))) text is given
     follows (Err (handler_error.LibDiffers q)) (Err e) is given = without (refusal_line (refusal_of (handler_error.LibDiffers q))) given
+    follows (Err (handler_error.NoTable q)) (Ok (Some text)) is given = with_text (refusal_line (refusal_of (handler_error.NoTable q))) text is given
+    follows (Err (handler_error.NoTable q)) (Err e) is given = without (refusal_line (refusal_of (handler_error.NoTable q))) given
     follows (Err (handler_error.VsnMismatch q)) (Ok (Some text)) is given = with_text (refusal_line (refusal_of (handler_error.VsnMismatch q))) text is given
     follows (Err (handler_error.VsnMismatch q)) (Err e) is given = without (refusal_line (refusal_of (handler_error.VsnMismatch q))) given
     follows (Err handler_error.TooMany) (Ok (Some text)) is given = with_text (refusal_line (refusal_of handler_error.TooMany)) text is given

@@ -103,6 +103,7 @@ module _ {D : Type 0} (v : Device D) (laws : IsDevice v) (h new : Handler D) (al
   told_none handler_error.Running lost = absurd lost
   told_none handler_error.TooMany lost = absurd lost
   told_none (handler_error.LibDiffers app) lost = absurd lost
+  told_none (handler_error.NoTable app) lost = absurd lost
   told_none (handler_error.BadFile path trouble) lost = absurd lost
   told_none (handler_error.MissingFile path) lost = absurd lost
   told_none (handler_error.VsnMismatch path) lost = absurd lost

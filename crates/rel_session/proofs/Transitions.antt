@@ -1,5 +1,5 @@
 -- What each reply does to the acknowledged events.
-use Rattle.std.proofs.Common.{◌≡◌, ◌≢◌, ◌⊎◌, inl, inr, ⊎_elim, ℕ, Bool, true, false, List, [], ◌∷◌, ◌++◌, length, Option, None, Result, Ok, Err, refl, sym, ap, ◌∙◌, subst, append-nil, append_assoc}
+use Rattle.std.proofs.Common.{◌≡◌, ◌≢◌, ◌⊎◌, inl, inr, ⊎_elim, ℕ, Bool, true, false, List, [], ◌∷◌, ◌++◌, length, Option, None, Some, Result, Ok, Err, refl, sym, ap, ◌∙◌, subst, append-nil, append_assoc}
 use Rattle.rel_list.specs.Releases.{Releases}
 use Rattle.rel_list.specs.Event.{Event}
 use Rattle.rel_list.specs.Event.Event.{reboot_old as rebooting}
@@ -9,7 +9,10 @@ use Rattle.rel_handler.specs.Image.{holds_a_store}
 use Rattle.rel_records.specs.Record.{makes as makes_record, body_of}
 use Rattle.rel_handler.specs.Taking.{commanded}
 use Rattle.session_input.specs.Commands.{Command}
-use Rattle.rel_unpack.specs.Release.{Found}
+use Rattle.library.specs.Library.{Library}
+use Rattle.rel_files.specs.Release.{Release}
+use Rattle.rel_unpack.specs.Refusal.{Refusal}
+use Rattle.rel_unpack.specs.Unpacking.{Brought}
 use Rattle.rel_unpack.specs.Source.{Source}
 use Rattle.rel_session.specs.Node.{Place, Reply, reply, nothing, releases_after, behind}
 use Rattle.rel_session.specs.Node.Place.{raw, closed, running, dead}
@@ -56,13 +59,18 @@ commits events end e size (Ok list) P keeps a (inl (fits, inl is)) = keeps a is
 commits events end e size (Ok list) P keeps a (inl (fits, inr is)) = keeps_as (running events end) a _ is (keeps_known (running events end) _ events refl (sym (append-nil events)) tt)
 commits events end e size (Ok list) P keeps a (inr (over, is)) = still_as (running events end) _ a is
 
-changes : (events : Events) (end : ℕ) (c : Transition.Change) (l : Releases) (o : Result Releases HandlerError) (a : Reply) → Transition.Changes events end c l o a → Keeps (running events end) a
-changes events end c l o = commits events end c.event (c.size l) o _ (λ a is. keeps_as (running events end) a _ is (keeps_known (running events end) _ events refl refl tt))
+changes : (events : Events) (end : ℕ) (c : Transition.Change) (l : Releases) (f : Option Refusal) (o : Result Releases HandlerError) (a : Reply) → Transition.Changes events end c l f o a → Keeps (running events end) a
+changes events end c l (Some why) o a is = still_as (running events end) _ a is
+changes events end c l None o a is = commits events end c.event (c.size l) o _ (λ a is. keeps_as (running events end) a _ is (keeps_known (running events end) _ events refl refl tt)) a is
 
-makes_on : (bytes : List ℕ) (found : Found) (size : ℕ) (b : Bool) (a : Reply) → Transition.MakesOn bytes found.release size b a → Keeps (raw bytes) a
-makes_on bytes found size true a is = still_as (raw bytes) _ a is
-makes_on bytes found size false a (inl (fits, is)) = keeps_as (raw bytes) a _ is (keeps_known (raw bytes) _ [] (inl refl) refl tt)
-makes_on bytes found size false a (inr (over, is)) = still_as (raw bytes) _ a is
+makes_with : (bytes : List ℕ) (r : Release) (size : ℕ) (ls : Result (List Library) Refusal) (a : Reply) → Transition.MakesWith bytes r size ls a → Keeps (raw bytes) a
+makes_with bytes r size (Err why) a is = still_as (raw bytes) _ a is
+makes_with bytes r size (Ok ls) a (inl (fits, is)) = keeps_as (raw bytes) a _ is (keeps_known (raw bytes) _ [] (inl refl) refl tt)
+makes_with bytes r size (Ok ls) a (inr (over, is)) = still_as (raw bytes) _ a is
+
+makes_on : (bytes : List ℕ) (b : Brought) (there : Bool) (a : Reply) → Transition.MakesOn bytes b there a → Keeps (raw bytes) a
+makes_on bytes b true a is = still_as (raw bytes) _ a is
+makes_on bytes b false a is = makes_with bytes b.found.release (length (body_of b.found.term (makes_record b.found.release))) b.libraries a is
 
 -- a failure leaves other bytes, and nothing is known as before
 torn_as : (bytes torn answer : List ℕ) (doubt : Option Event) (a : Reply) → a ≡ reply answer (record { acknowledged = []; in_doubt = doubt; failed = true }) (raw torn) → Keeps (raw bytes) a
@@ -71,8 +79,8 @@ torn_as bytes torn answer doubt a is = keeps_as (raw bytes) a _ is (record { fou
 failed_as : (s : Stored) (answer : List ℕ) (doubt : Option Event) (p : Place) (a : Reply) → Finds p s.known.acknowledged → a ≡ reply answer (record { acknowledged = []; in_doubt = doubt; failed = true }) (closed s) → Keeps p a
 failed_as s answer doubt p a finds is = keeps_as p a _ is (keeps_known p _ s.known.acknowledged finds (sym (append-nil s.known.acknowledged)) tt)
 
-makes : (p : Place) (found : Found) (a : Reply) → Transition.MakesNode p found a → Keeps p a
-makes (raw bytes) found a (inl is) = makes_on bytes found (length (body_of found.term (makes_record found.release))) (holds_a_store bytes) a is
+makes : (p : Place) (found : Brought) (a : Reply) → Transition.MakesNode p found a → Keeps p a
+makes (raw bytes) found a (inl is) = makes_on bytes found (holds_a_store bytes) a is
 makes (raw bytes) found a (inr (torn, is)) = torn_as bytes torn _ _ a is
 makes (closed s) found a (inl is) = still_as (closed s) _ a is
 makes (closed s) found a (inr is) = failed_as s _ _ (closed s) a (inl refl) is
@@ -116,7 +124,7 @@ acts p (answers text) a is = still_as p _ a is
 acts p (makes_node found) a is = makes p found a is
 acts (raw bytes) (changes_node c) a is = still_as (raw bytes) _ a is
 acts (closed s) (changes_node c) a is = still_as (closed s) _ a is
-acts (running events end) (changes_node c) a is = changes events end c (releases_after events) (commanded c.event (releases_after events)) a is
+acts (running events end) (changes_node c) a is = changes events end c (releases_after events) (c.files (releases_after events)) (commanded c.event (releases_after events)) a is
 acts (dead s) (changes_node c) a is = still_as (dead s) _ a is
 acts (running events end) (reboots_node vsn) a is = reboots events end vsn (releases_after events) (commanded (rebooting vsn) (releases_after events)) a is
 acts (raw bytes) (reboots_node vsn) a is = still_as (raw bytes) _ a is

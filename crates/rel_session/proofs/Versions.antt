@@ -24,17 +24,20 @@ use Rattle.rel_handler.specs.Events.{Events, Stored, MayHave, certain, uncertain
 use Rattle.rel_handler.specs.Image.{holds_a_store}
 use Rattle.rel_handler.specs.Taking.{commanded}
 use Rattle.session_input.specs.Commands.{Command}
-use Rattle.rel_unpack.specs.Release.{Found}
+use Rattle.library.specs.Library.{Library}
+use Rattle.rel_handler.specs.Unpacking.{libraries_refusal}
+use Rattle.rel_unpack.specs.Refusal.{Refusal}
+use Rattle.rel_unpack.specs.Unpacking.{Brought}
 use Rattle.rel_unpack.specs.Source.{Source}
 use Rattle.rel_session.specs.Node.{Place, Reply, releases_after, list_or_none}
 use Rattle.rel_session.specs.Node.Place.{raw, closed, running, dead}
-use Rattle.rel_session.specs.Refusals.{refusal_of, refusal_line}
+use Rattle.rel_session.specs.Refusals.{refusal_of, refusal_for, refusal_line}
 use Rattle.rel_session.specs.Refusals.Refusal.{device, bad_status}
 use Rattle.rel_session.specs.AnswerLaws.{HasLinePath, HasVersionsAt}
 use Rattle.rel_session.specs.RunLaws.{MayBe}
 use Rattle.rel_session.specs.Transition
 use Rattle.rel_session.specs.Transition.Action.{answers, makes_node, changes_node, reboots_node, boots_node, tells_start}
-use Rattle.rel_session.proofs.ActionLemmas.{OfEvent, IsGoodAction, good_action}
+use Rattle.rel_session.proofs.ActionLemmas.{OfEvent, TellsFilesLine, IsGoodAction, good_action}
 use Rattle.rel_session.proofs.ListLemmas.{list_after-more}
 use Rattle.rel_session.proofs.Transitions.{may_have}
 use Rattle.rel_session.proofs.AnswerLines.{IsWhole, ok_whole, done_whole, refusal_whole, boot_line_whole}
@@ -129,6 +132,7 @@ handler_line handler_error.Running of behind = refl
 handler_line handler_error.TooMany of behind = refl
 handler_line handler_error.NoMemory of behind = refl
 handler_line (handler_error.LibDiffers app) of behind = absurd of
+handler_line (handler_error.NoTable app) of behind = absurd of
 handler_line (handler_error.BadFile path trouble) of behind = absurd of
 handler_line (handler_error.MissingFile path) of behind = absurd of
 handler_line (handler_error.VsnMismatch path) of behind = absurd of
@@ -151,18 +155,23 @@ commits events end e size (Ok next) P plain done of all a (inl (fits, inr is)) =
     either_way es l (inr same) after = list_versions events e of all l (ap list_after (sym same) ∙ after)
 commits events end e size (Ok next) P plain done of all a (inr (over_it, is)) = good_as a _ is ((λ behind. refl), all)
 
-changes : (events : Events) (end : ℕ) (c : Transition.Change) (list : Releases) (o : Result Releases HandlerError) → IsListAnswer o → OfEvent c.event → is_one_line (c.details list) ≡ true → OfList events → (a : Reply)
-    → Transition.Changes events end c list o a → IsGood a
-changes events end c list o plain of line all =
-    commits events end c.event (c.size list) o _ plain (λ a is. good_as a _ is (done_whole (c.details list) line, list_versions events c.event of all)) of all
+changes : (events : Events) (end : ℕ) (c : Transition.Change) (list : Releases) (f : Option Refusal) (o : Result Releases HandlerError) → IsListAnswer o → OfEvent c.event → TellsFilesLine f → is_one_line (c.details list) ≡ true → OfList events → (a : Reply)
+    → Transition.Changes events end c list f o a → IsGood a
+changes events end c list (Some why) o plain of told line all a is = good_as a _ is (refusal_whole (refusal_for why) told, all)
+changes events end c list None o plain of told line all a is =
+    commits events end c.event (c.size list) o _ plain (λ a is. good_as a _ is (done_whole (c.details list) line, list_versions events c.event of all)) of all a is
 
-makes_on : (x : List ℕ) (r : Release) (size : ℕ) (b : Bool) → HasVersions r → (a : Reply) → Transition.MakesOn x r size b a → IsGood a
-makes_on x r size true of a is = good_as a _ is ((λ behind. refl), tt)
-makes_on x r size false of a (inl (fits, is)) = good_as a _ is (ok_whole r.vsn (version_line r.vsn of.own), list_versions (made r ∷ []) booting tt (list_versions [] (made r) of (λ l e. let same : [] ≡ l = cc in subst HaveVersions same tt)))
-makes_on x r size false of a (inr (over_it, is)) = good_as a _ is ((λ behind. refl), tt)
+makes_with : (x : List ℕ) (r : Release) (size : ℕ) (ls : Result (List Library) Refusal) → HasVersions r → TellsFilesLine (libraries_refusal ls) → (a : Reply) → Transition.MakesWith x r size ls a → IsGood a
+makes_with x r size (Err why) of told a is = good_as a _ is (refusal_whole (refusal_for why) told, tt)
+makes_with x r size (Ok ls) of told a (inl (fits, is)) = good_as a _ is (ok_whole r.vsn (version_line r.vsn of.own), list_versions (made r ∷ []) booting tt (list_versions [] (made r) of (λ l e. let same : [] ≡ l = cc in subst HaveVersions same tt)))
+makes_with x r size (Ok ls) of told a (inr (over_it, is)) = good_as a _ is ((λ behind. refl), tt)
 
-makes : (p : Place) (found : Found) → HasVersions found.release → HasVersionsAt p → (a : Reply) → Transition.MakesNode p found a → IsGood a
-makes (raw x) found good all a (inl is) = makes_on x found.release (length (body_of found.term (makes_record found.release))) (holds_a_store x) good a is
+makes_on : (x : List ℕ) (b : Brought) (there : Bool) → IsGoodAction (makes_node b) → (a : Reply) → Transition.MakesOn x b there a → IsGood a
+makes_on x b true good a is = good_as a _ is ((λ behind. refl), tt)
+makes_on x b false good a is = makes_with x b.found.release (length (body_of b.found.term (makes_record b.found.release))) b.libraries good.0 good.1 a is
+
+makes : (p : Place) (found : Brought) → IsGoodAction (makes_node found) → HasVersionsAt p → (a : Reply) → Transition.MakesNode p found a → IsGood a
+makes (raw x) found good all a (inl is) = makes_on x found (holds_a_store x) good a is
 makes (raw x) found good all a (inr (torn, is)) = good_as a _ is ((λ behind. refl), tt)
 makes (closed s) found good all a (inl is) = good_as a _ is ((λ behind. refl), all)
 makes (closed s) found good all a (inr is) = good_as a _ is ((λ behind. refl), all)
@@ -221,7 +230,7 @@ listed_versions events all = go (list_after events) all
 acts : (p : Place) (does : Transition.Action) → IsGoodAction does → HasVersionsAt p → (a : Reply) → Transition.Acts p does a → IsGood a
 acts p (answers text) good all a is = good_as a _ is (good, all)
 acts p (makes_node found) good all a is = makes p found good all a is
-acts (running events end) (changes_node c) good all a is = changes events end c (releases_after events) (commanded c.event (releases_after events)) (of_command c.event (releases_after events)) good.0 (good.1 (releases_after events)) all a is
+acts (running events end) (changes_node c) good all a is = changes events end c (releases_after events) (c.files (releases_after events)) (commanded c.event (releases_after events)) (of_command c.event (releases_after events)) good.0 (good.1 (releases_after events)) (good.2 (releases_after events)) all a is
 acts (raw x) (changes_node c) good all a is = good_as a _ is ((λ behind. refl), all)
 acts (closed s) (changes_node c) good all a is = good_as a _ is ((λ behind. refl), all)
 acts (dead s) (changes_node c) good all a is = good_as a _ is ((λ behind. refl), all)

@@ -6,7 +6,7 @@ use Rattle.rel_handler.specs.declared.error.HandlerError.{HandlerError}
 use Rattle.rel_handler.specs.declared.error.HandlerError.TheVariants as handler
 use Rattle.rel_handler.specs.declared.error.BootError.{BootError}
 use Rattle.rel_handler.specs.declared.error.BootError.TheVariants as boot
-use Rattle.rel_unpack.specs.Release.{ReleaseAt}
+use Rattle.rel_handler.specs.Unpacking.{Brings}
 use Rattle.rel_unpack.specs.Source.{Source}
 use Rattle.rel_unpack.specs.Refusal as of_files
 use Rattle.rel_unpack.specs.Refusal.{Trouble, trouble_of, trouble_text}
@@ -23,6 +23,7 @@ pub data Refusal : Type 0 where
   bad_file : List ℕ → Trouble → Refusal
   missing_file : List ℕ → Refusal
   vsn_mismatch : List ℕ → Refusal
+  no_table : List ℕ → Refusal
   too_many : Refusal
   device : Refusal
   full : Refusal
@@ -42,6 +43,7 @@ refusal_line (lib_differs app) = codes "error handler 7 LibDiffers " ++ (app ++ 
 refusal_line (bad_file path t) = codes "error handler 8 BadFile " ++ (path ++ (codes " " ++ (trouble_text t ++ codes "\n")))
 refusal_line (missing_file path) = codes "error handler 9 MissingFile " ++ (path ++ codes "\n")
 refusal_line (vsn_mismatch path) = codes "error handler 10 VsnMismatch " ++ (path ++ codes "\n")
+refusal_line (no_table name) = codes "error handler 11 NoTable " ++ (name ++ codes "\n")
 refusal_line too_many = codes "error handler 12 TooMany\n"
 refusal_line device = codes "error handler 16 Device\n"
 refusal_line full = codes "error handler 17 Full\n"
@@ -61,6 +63,7 @@ refusal_of (handler.LibDiffers app) = lib_differs (string_bytes app)
 refusal_of (handler.BadFile path trouble) = bad_file (string_bytes path) (trouble_of trouble)
 refusal_of (handler.MissingFile path) = missing_file (string_bytes path)
 refusal_of (handler.VsnMismatch path) = vsn_mismatch (string_bytes path)
+refusal_of (handler.NoTable name) = no_table (string_bytes name)
 refusal_of handler.TooMany = too_many
 refusal_of handler.Device = device
 refusal_of handler.Full = full
@@ -73,13 +76,14 @@ abbrev pub refusal_for : of_files.Refusal → Refusal
 refusal_for (of_files.missing_file path) = missing_file path
 refusal_for (of_files.bad_file path trouble) = bad_file path trouble
 refusal_for (of_files.vsn_mismatch path) = vsn_mismatch path
+refusal_for (of_files.no_table name) = no_table name
 refusal_for (of_files.lib_differs app) = lib_differs app
 refusal_for of_files.too_many = too_many
 refusal_for of_files.no_memory = no_memory
 
 -- no release of this path is taken, for its file
 abbrev pub IsFilesRefusal : Source → List ℕ → Refusal → Type 0
-IsFilesRefusal source path why = (r : of_files.Refusal) × ReleaseAt source path (Err r) × (why ≡ refusal_for r)
+IsFilesRefusal source path why = (r : of_files.Refusal) × Brings source path (Err r) × (why ≡ refusal_for r)
 
 -- the line that tells why a boot is refused: its number and its name; that of want of memory is never told
 abbrev pub boot_line : BootError → List ℕ

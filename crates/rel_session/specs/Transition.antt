@@ -13,10 +13,12 @@ use Rattle.rel_handler.specs.Events.{Events, Stored, MayHave, certain, uncertain
 use Rattle.rel_handler.specs.Image.{IsImageAt, holds_a_store, first_end, end_behind, HasSpace}
 use Rattle.rel_handler.specs.Refusals.{IsBootRefusal}
 use Rattle.rel_handler.specs.Taking.{commanded, change_size}
+use Rattle.rel_handler.specs.Unpacking.{Brings, files_refusal}
+use Rattle.library.specs.Library.{Library}
 pub use Rattle.rel_handler.specs.State.{version_of}
 use Rattle.rel_unpack.specs.Refusal.{Refusal as FilesRefusal}
-use Rattle.rel_unpack.specs.Release.{Found, ReleaseAt}
 use Rattle.rel_unpack.specs.Source.{Source}
+use Rattle.rel_unpack.specs.Unpacking.{Brought}
 use Rattle.session_input.specs.Commands.{Command}
 use Rattle.relup_command.specs.Answer.{AnswerAt}
 use Rattle.session_input.specs.Commands.Command.{file, create, set_unpacked, install, permanent, remove, reboot_old, boot, start, releases, relup, quit, bad}
@@ -38,17 +40,18 @@ abbrev pub listed : Place → List ℕ
 listed (running events end) = listing (releases_after events)
 listed p = refusal_line dead_node
 
--- An event that a command brings to a node; and, of the list that it changes, how many bytes the body of its record has,
--- and the details of the answer where it is done.
+-- An event that a command brings to a node; and, of the list that it changes, why its files are refused, how many bytes the
+-- body of its record has, and the details of the answer where it is done.
 pub record Change : Type 0 where
   pub event : Event
+  pub files : Releases → Option FilesRefusal
   pub size : Releases → ℕ
   pub details : Releases → List ℕ
 
--- What a command comes to, once its words and its file are known: an answer alone, or one of five things that a node does.
+-- What a command comes to, once its words and its files are known: an answer alone, or one of five things that a node does.
 pub data Action : Type 0 where
   answers : List ℕ → Action
-  makes_node : Found → Action
+  makes_node : Brought → Action
   changes_node : Change → Action
   reboots_node : List ℕ → Action
   boots_node : Action
@@ -57,17 +60,18 @@ pub data Action : Type 0 where
 abbrev pub refuses : Refusal → Action
 refuses why = answers (refusal_line why)
 
--- `create`, by what is found in the file
-abbrev pub creation : Result Found FilesRefusal → Action
+-- `create`, by what the path brings
+abbrev pub creation : Result Brought FilesRefusal → Action
 creation (Err why) = refuses (refusal_for why)
-creation (Ok found) = makes_node found
+creation (Ok brought) = makes_node brought
 
 -- a release comes in as unpacked
-abbrev pub unpacked_change : Found → Change
-unpacked_change found = record {
-  event = unpacked found.release;
-  size = λ list. length (body_of found.term (adds found.release));
-  details = λ list. codes " " ++ found.release.vsn;
+abbrev pub unpacked_change : Brought → Change
+unpacked_change b = record {
+  event = unpacked b.found.release;
+  files = files_refusal b;
+  size = λ list. length (body_of b.found.term (adds b.found.release));
+  details = λ list. codes " " ++ b.found.release.vsn;
 }
 
 -- the version that ran, and two lists that are empty: without a relup an installation has no description and leaves no
@@ -78,31 +82,46 @@ installed_details other = codes " " ++ (text_of (text_value other) ++ codes " []
 abbrev pub installed_line : List ℕ → List ℕ
 installed_line other = done_line (installed_details other)
 
+-- what brings no release has no files
+abbrev pub no_files : Releases → Option FilesRefusal
+no_files list = None
+
 -- a release is installed, becomes the permanent one, or leaves
 abbrev pub installation : List ℕ → Change
 installation vsn = record {
   event = installed vsn;
+  files = no_files;
   size = change_size (installed vsn);
   details = λ list. installed_details (version_of (running_release list));
 }
 
 abbrev pub permanence : List ℕ → Change
-permanence vsn = record { event = made_permanent vsn; size = change_size (made_permanent vsn); details = λ list. [] }
+permanence vsn = record {
+  event = made_permanent vsn;
+  files = no_files;
+  size = change_size (made_permanent vsn);
+  details = λ list. [];
+}
 
 abbrev pub removal : List ℕ → Change
-removal vsn = record { event = removed vsn; size = change_size (removed vsn); details = λ list. [] }
+removal vsn = record {
+  event = removed vsn;
+  files = no_files;
+  size = change_size (removed vsn);
+  details = λ list. [];
+}
 
--- `set_unpacked`, by what is found in the file
-abbrev pub unpacking : Result Found FilesRefusal → Action
+-- `set_unpacked`, by what the path brings
+abbrev pub unpacking : Result Brought FilesRefusal → Action
 unpacking (Err why) = refuses (refusal_for why)
-unpacking (Ok found) = changes_node (unpacked_change found)
+unpacking (Ok brought) = changes_node (unpacked_change brought)
 
 -- `relup`, by what is answered or the first file that isn't taken
 abbrev pub relup_telling : Result (List ℕ) FilesRefusal → Action
 relup_telling (Err why) = refuses (refusal_for why)
 relup_telling (Ok text) = answers text
 
--- a command that reads its file only where a node runs
+-- a command that reads its files only where a node runs
 abbrev pub OnNode : Place → (Action → Type 0) → Action → Type 0
 OnNode (running events end) P does = P does
 OnNode p P does = does ≡ refuses dead_node
@@ -111,9 +130,9 @@ OnNode p P does = does ≡ refuses dead_node
 abbrev pub ComesTo : Source → Place → Command → Action → Type 0
 ComesTo source p (file path f) does = does ≡ answers (codes "ok\n")
 ComesTo source p (create path) does =
-    (found : Result Found FilesRefusal) × ReleaseAt source path found × (does ≡ creation found)
+    (brought : Result Brought FilesRefusal) × Brings source path brought × (does ≡ creation brought)
 ComesTo source p (set_unpacked path) does =
-    OnNode p (λ does. (found : Result Found FilesRefusal) × ReleaseAt source path found × (does ≡ unpacking found)) does
+    OnNode p (λ does. (brought : Result Brought FilesRefusal) × Brings source path brought × (does ≡ unpacking brought)) does
 ComesTo source p (install vsn) does = does ≡ changes_node (installation vsn)
 ComesTo source p (permanent vsn) does = does ≡ changes_node (permanence vsn)
 ComesTo source p (remove vsn) does = does ≡ changes_node (removal vsn)
@@ -139,26 +158,34 @@ abbrev pub changed : Events → ℕ → Change → Releases → Reply
 changed events end c list =
     reply (done_line (c.details list)) (done (c.event ∷ [])) (running (events ++ c.event ∷ []) (end_behind end (c.size list)))
 
--- This list takes a change, or refuses it.
-abbrev pub Changes : Events → ℕ → Change → Releases → Result Releases HandlerError → Reply → Type 0
-Changes events end c list taken a =
+-- The files of a change are refused, or the list takes it or refuses it.
+abbrev pub Changes : Events → ℕ → Change → Releases → Option FilesRefusal → Result Releases HandlerError → Reply → Type 0
+Changes events end c list (Some why) taken a = a ≡ refused (refusal_for why) (running events end)
+Changes events end c list None taken a =
     IsCommit events end c.event (c.size list) taken (λ a. a ≡ changed events end c list) a
 
--- A node is made on a disk with these bytes, and booted, unless they hold a store or the record does not fit.
-abbrev pub MakesOn : List ℕ → Release → ℕ → Bool → Reply → Type 0
-MakesOn bytes r size true a = a ≡ refused exists (raw bytes)
-MakesOn bytes r size false a =
+-- A node is made with a release on a disk with these bytes, and booted, unless its libraries are refused or the record does
+-- not fit.
+abbrev pub MakesWith : List ℕ → Release → ℕ → Result (List Library) FilesRefusal → Reply → Type 0
+MakesWith bytes r size (Err why) a = a ≡ refused (refusal_for why) (raw bytes)
+MakesWith bytes r size (Ok ls) a =
     (HasSpace first_end size
     × (a ≡ reply (ok_line r.vsn) (done (made r ∷ booting ∷ [])) (running (made r ∷ booting ∷ []) (end_behind first_end size))))
     ⊎ ((HasSpace first_end size → ⊥) × (a ≡ refused full (raw bytes)))
 
+-- So it is where these bytes hold no store.
+abbrev pub MakesOn : List ℕ → Brought → Bool → Reply → Type 0
+MakesOn bytes b true a = a ≡ refused exists (raw bytes)
+MakesOn bytes b false a =
+    MakesWith bytes b.found.release (length (body_of b.found.term (makes b.found.release))) b.libraries a
+
 -- Where the device fails in it, the event is in doubt.
-abbrev pub MakesNode : Place → Found → Reply → Type 0
-MakesNode (raw bytes) found a =
-    MakesOn bytes found.release (length (body_of found.term (makes found.release))) (holds_a_store bytes) a
-    ⊎ ((torn : List ℕ) × (a ≡ failed (Some (made found.release)) (raw torn)))
-MakesNode (closed s) found a = (a ≡ refused exists (closed s)) ⊎ (a ≡ failed (Some (made found.release)) (closed s))
-MakesNode p found a = a ≡ refused exists p
+abbrev pub MakesNode : Place → Brought → Reply → Type 0
+MakesNode (raw bytes) b a =
+    MakesOn bytes b (holds_a_store bytes) a
+    ⊎ ((torn : List ℕ) × (a ≡ failed (Some (made b.found.release)) (raw torn)))
+MakesNode (closed s) b a = (a ≡ refused exists (closed s)) ⊎ (a ≡ failed (Some (made b.found.release)) (closed s))
+MakesNode p b a = a ≡ refused exists p
 
 -- A boot of a store with these events is done. The answer names the version of the release that runs.
 abbrev pub IsBooted : Events → ℕ → Reply → Type 0
@@ -214,9 +241,10 @@ TellsStart events end a =
 -- What the node replies then.
 abbrev pub Acts : Place → Action → Reply → Type 0
 Acts p (answers text) a = a ≡ reply text nothing p
-Acts p (makes_node found) a = MakesNode p found a
+Acts p (makes_node brought) a = MakesNode p brought a
 Acts (running events end) (changes_node c) a =
-    Changes events end c (releases_after events) (commanded c.event (releases_after events)) a
+    let list = releases_after events in
+    Changes events end c list (c.files list) (commanded c.event list) a
 Acts p (changes_node c) a = a ≡ refused dead_node p
 Acts (running events end) (reboots_node vsn) a =
     Reboots events end vsn (releases_after events) (commanded (rebooting vsn) (releases_after events)) a

@@ -1,9 +1,9 @@
 //! Where the node of a session lives.
 ghost use Rattle.std.specs.Prelude.{◌≡◌, ◌⊎◌, false, Ok, Err, string_bytes, IfOk, IsErr, MatchResult};
 ghost use Rattle.rel_handler.specs.State.{is_dead, list_in};
-ghost use Rattle.rel_handler.specs.Unpacking.{IsOfFiles};
+ghost use Rattle.rel_handler.specs.Unpacking.{Brings, IsOfFiles};
 ghost use Rattle.rel_list.specs.Releases.{running};
-ghost use Rattle.rel_unpack.specs.Release.{Found, ReleaseAt};
+ghost use Rattle.rel_unpack.specs.Unpacking.{Brought};
 ghost use Rattle.session_input.specs.Commands.Command.{create};
 ghost use Rattle.rel_session.specs.Node.{Place as SomePlace};
 ghost use Rattle.rel_session.specs.Refusals.{boot_line};
@@ -13,9 +13,8 @@ use crate::listing::listing;
 use crate::refusal::refusal_line;
 use file_source::Files;
 use rel_disk::Disk;
-use rel_handler::{BootError, Handler, HandlerError};
+use rel_handler::{BootError, Handler, HandlerError, bring_release};
 use rel_list::ReleaseList;
-use rel_unpack::read_release;
 use std::alloc::{AllocError, Global};
 
 /// A disk, and the node on it if one was made or booted.
@@ -98,15 +97,15 @@ impl<D: Disk> Place<D> {
     }
 }
 
-/// Why no node is made where there is one: its file is read first.
+/// Why no node is made where there is one: its files are read first.
 fn existing<F: Files>(alloc: Global, files: &F, path: &str) -> HandlerError
     ensures { IsOfFiles (F.gives files.now) path.now result
         ⊎ ((result ≡ HandlerError.Exists)
-        × ((found : Found) × ReleaseAt (F.gives files.now) path.now (Ok found))) }
+        × ((b : Brought) × Brings (F.gives files.now) path.now (Ok b))) }
 {
-    match read_release(alloc, files, path) {
-        Ok(_file) => HandlerError::Exists,
-        Err(error) => HandlerError::from(error),
+    match bring_release(alloc, files, path) {
+        Ok(_brought) => HandlerError::Exists,
+        Err(error) => error,
     }
 }
 

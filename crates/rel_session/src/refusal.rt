@@ -24,6 +24,7 @@ pub(crate) fn refusal_line(alloc: Global, why: &HandlerError) -> Result<String, 
         HandlerError::VsnMismatch(path) => format!(in alloc;
             "error handler 10 VsnMismatch {path}\n"
         ),
+        HandlerError::NoTable(name) => format!(in alloc; "error handler 11 NoTable {name}\n"),
         HandlerError::NoSuchRelease => String::from_str(alloc, "error handler 1 NoSuchRelease\n"),
         HandlerError::ExistingRelease => String::from_str(
             alloc,

@@ -1,6 +1,7 @@
 //! Readers and writers that fail, and what was written then.
+use crate::applications::Applications;
 use crate::sessions::{
-    BOTH, FIRST, NO_NODE, NoFiles, Ran, TWO_RELEASES, empty_disk, end_of, joined, same, session_on,
+    BOTH, FIRST, NO_NODE, Ran, TWO_RELEASES, empty_disk, end_of, joined, same, session_on,
     with_next,
 };
 use counted_io::CountedWriter;
@@ -137,7 +138,13 @@ fn session_into(alloc: Global, input: &[u8], room: Room) -> Result<Ran<MemDisk>,
         room,
         written: &mut written,
     });
-    let (disk, ended) = session(alloc, empty_disk(alloc)?, &NoFiles, &mut input, &mut output);
+    let (disk, ended) = session(
+        alloc,
+        empty_disk(alloc)?,
+        &Applications,
+        &mut input,
+        &mut output,
+    );
     drop(output);
     written.extend_from_slice(end_of(ended).as_bytes())?;
     Ok(Ran { written, disk })

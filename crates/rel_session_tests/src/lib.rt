@@ -4,11 +4,15 @@
 #[cfg(test)]
 mod answers;
 #[cfg(test)]
+mod applications;
+#[cfg(test)]
 mod devices;
 #[cfg(test)]
 mod failures;
 #[cfg(test)]
 mod installations;
+#[cfg(test)]
+mod libraries;
 #[cfg(test)]
 mod limits;
 #[cfg(test)]

@@ -1,5 +1,5 @@
 //! What sessions answer to requests of relups. None of them needs a node.
-use crate::sessions::all_answer;
+use crate::sessions::{NoFiles, all_answer_over};
 use std::test::Fail;
 
 const MADE: &str = r#"file a.rel
@@ -39,7 +39,7 @@ error relup 1 NoAppup ch_app
 
 #[test]
 fn relup_made(rt: HostRuntime) -> Result<(), Fail> {
-    all_answer(&rt, rt.alloc(), MADE)
+    all_answer_over(&rt, rt.alloc(), &NoFiles, MADE)
 }
 
 // The faults of appups, in the order of their numbers.
@@ -85,7 +85,7 @@ error relup 6 Unsupported ch_app
 
 #[test]
 fn faults_of_appups(rt: HostRuntime) -> Result<(), Fail> {
-    all_answer(&rt, rt.alloc(), FAULTS)
+    all_answer_over(&rt, rt.alloc(), &NoFiles, FAULTS)
 }
 
 // The first file that isn't taken is told, in the order of the request, and the appup last.
@@ -133,5 +133,5 @@ error handler 18 Dead
 
 #[test]
 fn files_of_relups(rt: HostRuntime) -> Result<(), Fail> {
-    all_answer(&rt, rt.alloc(), FILES)
+    all_answer_over(&rt, rt.alloc(), &NoFiles, FILES)
 }

@@ -1,4 +1,5 @@
 //! Sessions on disks in memory.
+use crate::applications::Applications;
 use counted_io::CountedWriter;
 use file_source::{Files, FilesError};
 use rel_disk::{Disk, MemDisk};
@@ -74,13 +75,13 @@ impl Files for NoFiles {
     }
 }
 
-/// A session of this input on this disk.
+/// A session of this input on this disk, over the files of applications.
 pub(crate) fn session_on<D: Disk + Drop, R: Read + Drop>(
     alloc: Global,
     disk: D,
     reader: R,
 ) -> Result<Ran<D>, SessionError> {
-    session_over(alloc, disk, &NoFiles, reader)
+    session_over(alloc, disk, &Applications, reader)
 }
 
 /// So over the files of a source.
@@ -118,16 +119,37 @@ pub(crate) fn answers(
     input: &[u8],
     answer: &[u8],
 ) -> Result<(), Fail> {
-    let ran = session_on(alloc, empty_disk(alloc)?, input)?;
+    answers_over(rt, alloc, &Applications, input, answer)
+}
+
+/// So over the files of a source.
+pub(crate) fn answers_over<F: Files>(
+    rt: &impl Abort,
+    alloc: Global,
+    files: &F,
+    input: &[u8],
+    answer: &[u8],
+) -> Result<(), Fail> {
+    let ran = session_over(alloc, empty_disk(alloc)?, files, input)?;
     same(rt, ran.written.as_slice(), answer);
     Ok(())
 }
 
-/// So it is for each of these inputs and answers: a case is an input, `=>` and its answer, and a bar stands between cases.
+/// The sessions of these cases write their answers: a case is an input, `=>` and its answer, and a bar stands between cases.
 pub(crate) fn all_answer(rt: &impl Abort, alloc: Global, cases: &str) -> Result<(), Fail> {
+    all_answer_over(rt, alloc, &Applications, cases)
+}
+
+/// So over the files of a source.
+pub(crate) fn all_answer_over<F: Files>(
+    rt: &impl Abort,
+    alloc: Global,
+    files: &F,
+    cases: &str,
+) -> Result<(), Fail> {
     for case in cases.split('|') {
         let (input, answer) = case.split_once("=>").unwrap_or((case, ""));
-        answers(rt, alloc, input.as_bytes(), answer.as_bytes())?;
+        answers_over(rt, alloc, files, input.as_bytes(), answer.as_bytes())?;
     }
     Ok(())
 }

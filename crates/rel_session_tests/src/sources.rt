@@ -1,12 +1,13 @@
 //! Sessions over files of a source.
 ghost use Rattle.std.specs.Prelude.{◌≤◌, IfOk, length};
 
+use crate::applications::Applications;
 use crate::sessions::{empty_disk, same, session_over};
 use file_source::{Files, FilesError};
 use std::alloc::Global;
 use std::test::Fail;
 
-/// A release, a file that can't be read, and one that is too large.
+/// A release, a file that can't be read, one that is too large, and the files of applications.
 struct Folder;
 
 impl Files for Folder {
@@ -20,7 +21,7 @@ impl Files for Folder {
             ),
             "b.rel" => Err(FilesError::Unreadable),
             "c.rel" => Err(FilesError::TooLarge),
-            _ => Err(FilesError::Missing),
+            _ => Applications.read(alloc, path),
         }
     }
 }

@@ -93,7 +93,7 @@ fn lay_out<D: Disk>(
         (CreationRefused (D.seen disk.old) first.now (D.failures disk.old) (D.failures disk.new)
         (IsUnwritten D.seen D.may_leave D.moment D.left_since disk.old disk.new)) }
 {
-    if is_taken(disk)? {
+    if holds_a_store(disk)? {
         return Err(StoreError::Exists);
     }
     if first.len() > MAX_BODY {
@@ -107,8 +107,9 @@ fn lay_out<D: Disk>(
     Ok(records)
 }
 
-// Whether a store stands on the disk.
-fn is_taken<D: Disk>(disk: &mut D) -> Result<bool, DeviceFault>
+/// Whether the disk begins as one with a store does, with an open gate and the magic, whole or damaged: [`Store::create`]
+/// refuses it then. Writes nothing.
+pub fn holds_a_store<D: Disk>(disk: &mut D) -> Result<bool, DeviceFault>
     ensures value { IfOk result (λ taken. taken ≡ has_magic (D.seen disk.old)) }
     ensures same { D.seen disk.new ≡ D.seen disk.old }
     ensures crash { Within (D.may_leave disk.old) (D.may_leave disk.new) }

@@ -25,6 +25,7 @@ mod layout;
 mod opening;
 mod store;
 
+pub use creation::holds_a_store;
 pub use error::StoreError;
 pub use laws::{nothing_else_is_read, what_is_spelled_is_read};
 pub use layout::{MAX_BODY, MAX_END};

@@ -19,7 +19,7 @@ use Rattle.rel_unpack.specs.Applications.{AppAt, app_form, is_named}
 use Rattle.rel_unpack.specs.Order.{Outcome, Then, Each}
 use Rattle.rel_unpack.specs.Paths.{app_path}
 use Rattle.rel_unpack.specs.Refusal.{Refusal}
-use Rattle.rel_unpack.specs.Refusal.Refusal.{missing_file, bad_file, vsn_mismatch, lib_differs, too_many, no_memory}
+use Rattle.rel_unpack.specs.Refusal.Refusal.{missing_file, bad_file, vsn_mismatch, lib_differs, no_table, too_many, no_memory}
 use Rattle.rel_unpack.specs.Refusal.Trouble.{unreadable, faulty, misshapen}
 use Rattle.rel_unpack.specs.Release.{Found, ReleaseAt, is_small, rel_form}
 use Rattle.rel_unpack.specs.Source.{Source, Form, HasBytes, HasValue, FileSays, IfThere}
@@ -30,6 +30,7 @@ TellsLine (missing_file path) = is_one_line path ≡ true
 TellsLine (bad_file path trouble) = is_one_line path ≡ true
 TellsLine (vsn_mismatch path) = is_one_line path ≡ true
 TellsLine (lib_differs name) = is_one_line name ≡ true
+TellsLine (no_table name) = is_one_line name ≡ true
 TellsLine why = Unit {0}
 
 -- A value has G, and a refusal tells what is within a line.
@@ -59,6 +60,16 @@ good_each P K G each (a ∷ as') all =
     (λ b first. good_then (Each P as') (λ bs t. t ≡ Ok (b ∷ bs)) (AllByRecursion G) (AllByRecursion G) (good_each P K G each as' all.1)
     (λ bs more. good_outcome (AllByRecursion G) (Ok (b ∷ bs)) (first, more)))
 
+-- What is read of a file, if there is one.
+abbrev pub OrNone : {X : Type 0} → (X → Type 0) → Option X → Type 0
+OrNone G None = Unit {0}
+OrNone G (Some x) = G x
+
+pub good_where_there : {X : Type 0} (source : Source) (path : List ℕ) (P : Outcome X) (G : X → Type 0) → AreGood P G → AreGood (IfThere source path P) (OrNone G)
+good_where_there source path P G good (Ok None) missing = tt
+good_where_there source path P G good (Ok (Some x)) says = good (Ok x) says
+good_where_there source path P G good (Err e) (other, says) = good (Err e) says
+
 -- What a file of such a path says.
 module _ {X : Type 0} (form : Form X) (source : Source) (path : List ℕ) (line : is_one_line path ≡ true) where
   good_bytes : (e : Refusal) → HasBytes source path (Err e) → TellsLine e
@@ -68,6 +79,7 @@ module _ {X : Type 0} (form : Form X) (source : Source) (path : List ℕ) (line 
   good_bytes (bad_file p misshapen) has = absurd has
   good_bytes (vsn_mismatch p) has = absurd has
   good_bytes (lib_differs p) has = absurd has
+  good_bytes (no_table p) has = absurd has
   good_bytes too_many has = tt
   good_bytes no_memory has = absurd has
 
@@ -76,6 +88,7 @@ module _ {X : Type 0} (form : Form X) (source : Source) (path : List ℕ) (line 
   good_value bs (missing_file p) has = absurd has
   good_value bs (vsn_mismatch p) has = absurd has
   good_value bs (lib_differs p) has = absurd has
+  good_value bs (no_table p) has = absurd has
   good_value bs too_many has = absurd has
   good_value bs no_memory has = absurd has
 
@@ -90,18 +103,10 @@ module _ {X : Type 0} (form : Form X) (source : Source) (path : List ℕ) (line 
 
   -- or nothing, where there is none
   abbrev pub IsSaidOrNone : Option X → Type 0
-  IsSaidOrNone None = Unit {0}
-  IsSaidOrNone (Some x) = IsSaid x
+  IsSaidOrNone x = OrNone IsSaid x
 
   pub good_if_there : AreGood (IfThere source path (FileSays form source path)) IsSaidOrNone
-  good_if_there (Ok None) missing = tt
-  good_if_there (Ok (Some x)) says = good_file (Ok x) says
-  good_if_there (Err (missing_file p)) says = absurd says
-  good_if_there (Err (bad_file p t)) says = good_file (Err (bad_file p t)) says
-  good_if_there (Err (vsn_mismatch p)) says = good_file (Err (vsn_mismatch p)) says
-  good_if_there (Err (lib_differs p)) says = good_file (Err (lib_differs p)) says
-  good_if_there (Err too_many) says = tt
-  good_if_there (Err no_memory) says = tt
+  good_if_there = good_where_there source path (FileSays form source path) IsSaid good_file
 
 -- A name and a version are within a line,
 name_bytes_line : (s : List ℕ) → list_all is_name_byte s ≡ true → is_one_line s ≡ true
@@ -139,7 +144,7 @@ folder_line name vsn file lines line =
     append_line name (codes "-" ++ (vsn ++ (codes "/ebin/" ++ file))) lines.own
     (append_line vsn (codes "/ebin/" ++ file) lines.version (append_line (codes "/ebin/") file refl line))
 
-app_path_line : (a : Application) → IsLineApplication a → is_one_line (app_path a) ≡ true
+pub app_path_line : (a : Application) → IsLineApplication a → is_one_line (app_path a) ≡ true
 app_path_line a lines = folder_line a.name a.vsn (a.name ++ codes ".app") lines (append_line a.name (codes ".app") lines.own refl)
 
 -- A release has the versions of a file, and applications that are told within a line.
@@ -163,7 +168,7 @@ said_line source path line f (bytes, (has, says)) = record {
   apps = applications_line says.shape.apps f.release.apps says.shape.each says.versions.apps;
 }
 
-tested : {X : Type 0} (G : X → Type 0) (x : X) (why : Refusal) → TellsLine why → (b : Bool) → (b ≡ true → G x) → IsGood G (if b then Ok x else Err why)
+pub tested : {X : Type 0} (G : X → Type 0) (x : X) (why : Refusal) → TellsLine why → (b : Bool) → (b ≡ true → G x) → IsGood G (if b then Ok x else Err why)
 tested G x why line true good = good refl
 tested G x why line false good = line
 

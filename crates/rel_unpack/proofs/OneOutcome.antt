@@ -1,5 +1,6 @@
 -- What files say has one outcome at most, where each path of their source has one answer.
-use Rattle.std.proofs.Common.{◌≡◌, ◌≢◌, ◌⊎◌, inl, inr, ℕ, true, false, List, [], ◌∷◌, Option, Some, None, Result, Ok, Err, refl, sym, ap, ◌∙◌, subst}
+use Rattle.std.proofs.Common.{◌≡◌, ◌≢◌, ◌⊎◌, inl, inr, ℕ, Bool, true, false, List, [], ◌∷◌, Some, None, Result, Ok, Err, refl, sym, ap, ◌∙◌, subst}
+use Rattle.std.specs.Prelude.{if◌then◌else◌}
 use Rattle.erl_reader.proofs.Exact.{one_reading}
 use Rattle.erl_reader.specs.Grammar.{Reading}
 use Rattle.file_source.specs.declared.files.FilesError.{FilesError}
@@ -9,13 +10,17 @@ use Rattle.rel_files.proofs.OneTermFiles as kind
 use Rattle.rel_files.specs.Fault.{Fault}
 use Rattle.rel_files.specs.Release.{Application}
 use Rattle.app_file.specs.File.{app_files}
-use Rattle.rel_unpack.specs.Applications.{AppAt, app_form}
+use Rattle.library.specs.Library.{Library}
+use Rattle.mod_table.specs.File.{mod_files}
+use Rattle.rel_unpack.specs.Applications.{AppAt, LibraryAt, LibraryBeside, LibrariesBeside, ModuleAt, Shelf, TableAt, app_form, is_of, mod_form}
 use Rattle.rel_unpack.specs.Order.{Outcome, Then, Each}
+use Rattle.rel_unpack.specs.Paths.{mod_path}
 use Rattle.rel_unpack.specs.Refusal.{Refusal, Trouble, IsFault, is_missing}
-use Rattle.rel_unpack.specs.Refusal.Refusal.{missing_file, bad_file, vsn_mismatch, lib_differs, too_many, no_memory}
+use Rattle.rel_unpack.specs.Refusal.Refusal.{missing_file, bad_file, vsn_mismatch, lib_differs, no_table, too_many, no_memory}
 use Rattle.rel_unpack.specs.Refusal.Trouble.{unreadable, faulty, misshapen}
-use Rattle.rel_unpack.specs.Release.{ReleaseAt, rel_form}
+use Rattle.rel_unpack.specs.Release.{Found, ReleaseAt, rel_form}
 use Rattle.rel_unpack.specs.Source.{Source, Form, GivesOne, HasBytes, HasValue, FileSays, IfThere}
+use Rattle.rel_unpack.specs.Unpacking.{BroughtAt, TestedLibraries, UnpackedLibraries, WithLibraries}
 
 abbrev pub IsOne : {X : Type 0} → Outcome X → Type 0
 IsOne {X} P = (a b : Result X Refusal) → P a → P b → a ≡ b
@@ -69,6 +74,7 @@ was_read source path (Err (bad_file p (faulty f))) has = absurd has
 was_read source path (Err (bad_file p misshapen)) has = absurd has
 was_read source path (Err (vsn_mismatch p)) has = absurd has
 was_read source path (Err (lib_differs p)) has = absurd has
+was_read source path (Err (no_table p)) has = absurd has
 was_read source path (Err too_many) has = (Err read.TooLarge, has, refl)
 was_read source path (Err no_memory) has = absurd has
 
@@ -88,6 +94,33 @@ pub record SaysOne {X : Type 0} (form : Form X) : Type 0 where
 abbrev IsThere : Source → List ℕ → Type 0
 IsThere source path = (a : Result (List ℕ) FilesError) × source path a × (a ≢ Err read.Missing)
 
+-- this outcome tells a missing file
+abbrev tells_missing : {X : Type 0} → Result X Refusal → Bool
+tells_missing (Ok x) = false
+tells_missing (Err e) = is_missing e
+
+-- What is read of a file, if there is one, where all but a missing file is told of a file that is there.
+module _ {X : Type 0} (source : Source) (one : GivesOne source) (path : List ℕ) (P : Outcome X) (only : IsOne P) (there : (r : Result X Refusal) → tells_missing r ≡ false → P r → IsThere source path) where
+  never_missing : (r : Result X Refusal) → tells_missing r ≡ false → P r → source path (Err read.Missing) → ⊥
+  never_missing r other says missing = let (a, reads, other_read) = there r other says in other_read (one path a (Err read.Missing) reads missing)
+
+  pub one_where_there : IsOne (IfThere source path P)
+  one_where_there (Ok None) (Ok None) missing again = refl
+  one_where_there (Ok None) (Ok (Some y)) missing says = absurd (never_missing (Ok y) refl says missing)
+  one_where_there (Ok None) (Err e) missing (other, says) = absurd (never_missing (Err e) other says missing)
+  one_where_there (Ok (Some x)) (Ok None) says missing = absurd (never_missing (Ok x) refl says missing)
+  one_where_there (Ok (Some x)) (Ok (Some y)) says also =
+      let same : Ok x ≡ Ok y = only (Ok x) (Ok y) says also in
+      let value : x ≡ y = cc in
+      ap (λ (z : X). Ok (Some z)) value
+  one_where_there (Ok (Some x)) (Err e) says (other, also) = let never : Ok x ≡ Err e = only (Ok x) (Err e) says also in absurd cc
+  one_where_there (Err e) (Ok None) (other, says) missing = absurd (never_missing (Err e) other says missing)
+  one_where_there (Err e) (Ok (Some y)) (other, says) also = let never : Err e ≡ Ok y = only (Err e) (Ok y) says also in absurd cc
+  one_where_there (Err e) (Err f) (other, says) (again, also) =
+      let same : Err e ≡ Err f = only (Err e) (Err f) says also in
+      let refusal : e ≡ f = cc in
+      ap (λ (z : Refusal). Err z) refusal
+
 module _ {X : Type 0} (form : Form X) (laws : SaysOne form) (source : Source) (one : GivesOne source) (path : List ℕ) where
   -- what the bytes come to
   abbrev Told : List ℕ → Result X Refusal → Type 0
@@ -99,6 +132,7 @@ module _ {X : Type 0} (form : Form X) (laws : SaysOne form) (source : Source) (o
   was_told bs (Err (missing_file p)) has = absurd has
   was_told bs (Err (vsn_mismatch p)) has = absurd has
   was_told bs (Err (lib_differs p)) has = absurd has
+  was_told bs (Err (no_table p)) has = absurd has
   was_told bs (Err too_many) has = absurd has
   was_told bs (Err no_memory) has = absurd has
 
@@ -124,47 +158,18 @@ module _ {X : Type 0} (form : Form X) (laws : SaysOne form) (source : Source) (o
   refusal_there e other (inl has) = refused_there e other has
   refusal_there e other (inr (bs, reads, has)) = (Ok bs, reads, λ never. cc never)
 
-  -- what is read of a file, if there is one
-  abbrev Case : Result (Option X) Refusal → Type 0
-  Case r = (source path (Err read.Missing) × (r ≡ Ok None))
-      ⊎ (((x : X) × FileSays form source path (Ok x) × IsThere source path × (r ≡ Ok (Some x)))
-      ⊎ ((e : Refusal) × FileSays form source path (Err e) × IsThere source path × (r ≡ Err e)))
-
-  refusal_case : (e : Refusal) → is_missing e ≡ false → FileSays form source path (Err e) → Case (Err e)
-  refusal_case e other says = inr (inr (e, says, refusal_there e other says, refl))
-
-  was_there : (r : Result (Option X) Refusal) → IfThere source path (FileSays form source path) r → Case r
-  was_there (Ok None) missing = inl (missing, refl)
-  was_there (Ok (Some x)) (bs, reads, says) = inr (inl (x, (bs, reads, says), (Ok bs, reads, λ never. cc never), refl))
-  was_there (Err (missing_file p)) says = absurd says
-  was_there (Err (bad_file p t)) says = refusal_case (bad_file p t) refl says
-  was_there (Err (vsn_mismatch p)) says = refusal_case (vsn_mismatch p) refl says
-  was_there (Err (lib_differs p)) says = refusal_case (lib_differs p) refl says
-  was_there (Err too_many) says = refusal_case too_many refl says
-  was_there (Err no_memory) says = refusal_case no_memory refl says
-
-  not_missing : source path (Err read.Missing) → IsThere source path → ⊥
-  not_missing missing (a, reads, other) = other (one path a (Err read.Missing) reads missing)
-
-  one_case : (r s : Result (Option X) Refusal) → Case r → Case s → r ≡ s
-  one_case r s (inl (missing, is)) (inl (again, also)) = is ∙ sym also
-  one_case r s (inl (missing, is)) (inr (inl (x, says, there, also))) = absurd (not_missing missing there)
-  one_case r s (inl (missing, is)) (inr (inr (e, says, there, also))) = absurd (not_missing missing there)
-  one_case r s (inr (inl (x, says, there, is))) (inl (missing, also)) = absurd (not_missing missing there)
-  one_case r s (inr (inr (e, says, there, is))) (inl (missing, also)) = absurd (not_missing missing there)
-  one_case r s (inr (inl (x, says, there, is))) (inr (inl (y, says_too, there_too, also))) =
-      let same : Ok x ≡ Ok y = one_file (Ok x) (Ok y) says says_too in
-      let one_value : x ≡ y = cc in
-      is ∙ ap (λ (z : X). Ok (Some z)) one_value ∙ sym also
-  one_case r s (inr (inl (x, says, there, is))) (inr (inr (e, says_too, there_too, also))) = let never : Ok x ≡ Err e = one_file (Ok x) (Err e) says says_too in absurd cc
-  one_case r s (inr (inr (e, says, there, is))) (inr (inl (x, says_too, there_too, also))) = let never : Err e ≡ Ok x = one_file (Err e) (Ok x) says says_too in absurd cc
-  one_case r s (inr (inr (e, says, there, is))) (inr (inr (f, says_too, there_too, also))) =
-      let same : Err e ≡ Err f = one_file (Err e) (Err f) says says_too in
-      let one_refusal : e ≡ f = cc in
-      is ∙ ap (λ (z : Refusal). Err z) one_refusal ∙ sym also
+  file_there : (r : Result X Refusal) → tells_missing r ≡ false → FileSays form source path r → IsThere source path
+  file_there (Ok x) other (bs, reads, says) = (Ok bs, reads, λ never. cc never)
+  file_there (Err e) other says = refusal_there e other says
 
   pub one_if_there : IsOne (IfThere source path (FileSays form source path))
-  one_if_there r s is also = one_case r s (was_there r is) (was_there s also)
+  one_if_there = one_where_there source one path (FileSays form source path) one_file file_there
+
+  -- and where what it says is tested
+  pub tested_there : {Y : Type 0} (Q : X → Outcome Y) (r : Result Y Refusal) → tells_missing r ≡ false → Then (FileSays form source path) Q r → IsThere source path
+  tested_there Q (Ok y) other (x, says, is) = file_there (Ok x) refl says
+  tested_there Q (Err e) other (inl says) = file_there (Err e) other says
+  tested_there Q (Err e) other (inr (x, says, is)) = file_there (Ok x) refl says
 
 -- A fault that says where it lies is one trouble.
 faults_one : (P : Fault → Type 0) → ((f g : Fault) → P f → P g → f ≡ g) → (t u : Trouble) → IsFault P t → IsFault P u → t ≡ u
@@ -175,9 +180,9 @@ faults_one P one (faulty f) unreadable has also = absurd also
 faults_one P one (faulty f) misshapen has also = absurd also
 
 some_fault : {A : Type 0} (P : Fault → Type 0) → ((f : Fault) → P f → A) → (t : Trouble) → IsFault P t → A
-some_fault P then (faulty f) has = then f has
-some_fault P then unreadable has = absurd has
-some_fault P then misshapen has = absurd has
+some_fault P from (faulty f) has = from f has
+some_fault P from unreadable has = absurd has
+some_fault P from misshapen has = absurd has
 
 -- The kinds of files of a release.
 says_one_release : SaysOne rel_form
@@ -200,8 +205,53 @@ says_one_application = record {
   never_both = λ bs s t says has. some_fault _ (λ e is. kind.never_says_and_fails app_files bs s e says is) t has;
 }
 
+says_one_table : SaysOne mod_form
+says_one_table = record {
+  one_value = λ bs t u says also.
+      let (at, has, is) = says in
+      let (at_too, has_too, is_too) = also in
+      let (r, reads, term, from) = has in
+      let (q, reads_too, term_too, from_too) = has_too in
+      let readings : r ∷ [] ≡ q ∷ [] = one_reading 64 bs (r ∷ []) (q ∷ []) reads reads_too in
+      let terms : t.term ≡ u.term = sym term ∙ (let same : r ≡ q = cc in ap (λ (x : Reading). x.term) same) ∙ term_too in
+      let tables : t.table ≡ u.table = kind.says_one mod_files bs t.table u.table (at, t.term, has, is) (at_too, u.term, has_too, is_too) in
+      λ k. record { term = terms k; table = tables k };
+  one_trouble = λ bs. faults_one _ (kind.one_fault mod_files bs);
+  never_both = λ bs s t says has. some_fault _ (λ e is. kind.never_says_and_fails mod_files bs s.table e (says.0, s.term, says.1, says.2) is) t has;
+}
+
 pub one_release : (source : Source) → GivesOne source → (path : List ℕ) → IsOne (ReleaseAt source path)
 one_release source one path = one_then (FileSays rel_form source path) _ (one_file rel_form says_one_release source one path) (λ f. one_outcome _)
 
 pub one_application : (source : Source) → GivesOne source → (a : Application) → IsOne (AppAt source a)
 one_application source one a = one_then (FileSays app_form source _) _ (one_file app_form says_one_application source one _) (λ s. one_outcome _)
+
+-- Each module has one table or none, or one refusal; so have an application, and a release, their libraries.
+module _ (source : Source) (one : GivesOne source) where
+  one_table : (a : Application) (m : List ℕ) → IsOne (TableAt source a m)
+  one_table a m = one_then (FileSays mod_form source _) _ (one_file mod_form says_one_table source one _) (λ t. one_outcome _)
+
+  one_module : (a : Application) (m : List ℕ) → IsOne (ModuleAt source a m)
+  one_module a m =
+      one_where_there source one (mod_path a m) (TableAt source a m) (one_table a m)
+      (tested_there mod_form says_one_table source one (mod_path a m) (λ t r. r ≡ (if is_of m t then Ok t else Err (vsn_mismatch (mod_path a m)))))
+
+  one_library : (a : Application) → IsOne (LibraryAt source a)
+  one_library a =
+      one_then (AppAt source a) _ (one_application source one a) (λ s.
+      one_then (Each (ModuleAt source a) s.modules) _ (one_each (ModuleAt source a) (one_module a) s.modules) (λ ts. one_outcome _))
+
+  one_beside : (there : Shelf) (a : Application) → IsOne (LibraryBeside source there a)
+  one_beside there a = one_then (LibraryAt source a) _ (one_library a) (λ l. one_outcome _)
+
+  pub one_unpacking : (there : Shelf) (apps : List Application) → IsOne (UnpackedLibraries source there apps)
+  one_unpacking there apps =
+      one_then (LibrariesBeside source there apps) (TestedLibraries apps)
+      (one_each (LibraryBeside source there) (one_beside there) apps) (λ ls. one_outcome _)
+
+  one_with_libraries : (there : Shelf) (f : Found) → IsOne (WithLibraries source there f)
+  one_with_libraries there f r s (ls, gives, is) (ks, gives_too, also) =
+      is ∙ ap (λ (x : Result (List Library) Refusal). Ok (record { found = f; libraries = x })) (one_unpacking there f.release.apps ls ks gives gives_too) ∙ sym also
+
+  pub one_brought : (there : Shelf) (path : List ℕ) → IsOne (BroughtAt source there path)
+  one_brought there path = one_then (ReleaseAt source path) (WithLibraries source there) (one_release source one path) (one_with_libraries there)

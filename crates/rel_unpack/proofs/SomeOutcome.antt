@@ -1,5 +1,5 @@
 -- What files say has an outcome, where each path of their source has an answer.
-use Rattle.std.proofs.Common.{◌≡◌, ◌≢◌, ◌⊎◌, inl, inr, ℕ, List, [], ◌∷◌, Some, None, Result, Ok, Err, refl}
+use Rattle.std.proofs.Common.{◌≡◌, ◌≢◌, ◌⊎◌, inl, inr, ℕ, Bool, true, false, List, [], ◌∷◌, Some, None, Result, Ok, Err, refl, subst}
 use Rattle.file_source.specs.declared.files.FilesError.{FilesError}
 use Rattle.file_source.specs.declared.files.FilesError.TheVariants as read
 use Rattle.rel_files.proofs.Either.{says_or_fault}
@@ -9,14 +9,19 @@ use Rattle.rel_files.specs.File.{SaysRelease, HasFault}
 use Rattle.rel_files.specs.Kind.{Says, HasFault as KindHasFault}
 use Rattle.rel_files.specs.Release.{Release, Application}
 use Rattle.app_file.specs.File.{Specification, app_files}
-use Rattle.rel_unpack.specs.Applications.{AppAt, app_form}
+use Rattle.library.specs.Library.{TableTerm}
+use Rattle.mod_table.specs.declared.table.Table.{Table}
+use Rattle.mod_table.specs.File.{mod_files}
+use Rattle.rel_unpack.specs.Applications.{AppAt, LibraryAt, LibraryBeside, LibrariesBeside, ModuleAt, Shelf, TableAt, app_form, is_of, mod_form}
 use Rattle.rel_unpack.specs.Order.{Outcome, Then, Each}
-use Rattle.rel_unpack.specs.Refusal.{Refusal, Trouble}
-use Rattle.rel_unpack.specs.Refusal.Refusal.{missing_file, bad_file, vsn_mismatch, lib_differs, too_many, no_memory}
+use Rattle.rel_unpack.specs.Paths.{mod_path}
+use Rattle.rel_unpack.specs.Refusal.{Refusal, Trouble, is_missing}
+use Rattle.rel_unpack.specs.Refusal.Refusal.{missing_file, bad_file, vsn_mismatch, too_many}
 use Rattle.rel_unpack.specs.Refusal.Trouble.{unreadable, faulty}
 use Rattle.rel_unpack.specs.Release.{Found, ReleaseAt, rel_form}
 use Rattle.rel_unpack.specs.Source.{Source, Form, GivesEach, FileSays, IfThere}
-use Rattle.rel_unpack.proofs.Steps.{none_read}
+use Rattle.rel_unpack.specs.Unpacking.{BroughtAt, TestedLibraries, UnpackedLibraries, WithLibraries}
+use Rattle.rel_unpack.proofs.Steps.{missing_path, none_read, none_there}
 
 abbrev pub HasSome : {X : Type 0} → Outcome X → Type 0
 HasSome {X} P = (r : Result X Refusal) × P r
@@ -46,6 +51,16 @@ some_each P some (a ∷ as') =
 abbrev pub SaysSome : {X : Type 0} → Form X → Type 0
 SaysSome {X} form = (bytes : List ℕ) → ((x : X) × form.says bytes x) ⊎ ((t : Trouble) × form.fails bytes t)
 
+-- What is read of a file, if there is one.
+module _ {X : Type 0} (source : Source) (path : List ℕ) (P : Outcome X) (none : (p : List ℕ) → P (Err (missing_file p)) → source path (Err read.Missing)) where
+  unless_missing : (e : Refusal) → P (Err e) → (b : Bool) → is_missing e ≡ b → HasSome (IfThere source path P)
+  unless_missing e says true is = let (p, same) = missing_path e is in (Ok None, none p (subst (λ (w : Refusal). P (Err w)) same says))
+  unless_missing e says false is = (Err e, (is, says))
+
+  pub some_where_there : HasSome P → HasSome (IfThere source path P)
+  some_where_there (Ok x, says) = (Ok (Some x), says)
+  some_where_there (Err e, says) = unless_missing e says (is_missing e) refl
+
 module _ {X : Type 0} (form : Form X) (some : SaysSome form) (source : Source) (each : GivesEach source) (path : List ℕ) where
   of_bytes : (bs : List ℕ) → source path (Ok bs) → ((x : X) × form.says bs x) ⊎ ((t : Trouble) × form.fails bs t) → HasSome (FileSays form source path)
   of_bytes bs reads (inl (x, says)) = (Ok x, (bs, reads, says))
@@ -61,18 +76,8 @@ module _ {X : Type 0} (form : Form X) (some : SaysSome form) (source : Source) (
   pub some_file : HasSome (FileSays form source path)
   some_file = of_read (each path).0 (each path).1 (each path).2
 
-  -- of a file, if there is one
-  if_there : (r : Result X Refusal) → FileSays form source path r → HasSome (IfThere source path (FileSays form source path))
-  if_there (Ok x) says = (Ok (Some x), says)
-  if_there (Err (missing_file p)) says = (Ok None, none_read form source path p says)
-  if_there (Err (bad_file p t)) says = (Err (bad_file p t), says)
-  if_there (Err (vsn_mismatch p)) says = (Err (vsn_mismatch p), says)
-  if_there (Err (lib_differs p)) says = (Err (lib_differs p), says)
-  if_there (Err too_many) says = (Err too_many, says)
-  if_there (Err no_memory) says = (Err no_memory, says)
-
   pub some_if_there : HasSome (IfThere source path (FileSays form source path))
-  some_if_there = if_there some_file.0 some_file.1
+  some_if_there = some_where_there source path (FileSays form source path) (none_read form source path) some_file
 
 -- The kinds of files of a release.
 says_some_release : SaysSome rel_form
@@ -89,9 +94,45 @@ says_some_application bs = go (kind.says_or_fault app_files bs)
     go (inl (s, says)) = inl (s, says)
     go (inr (f, has)) = inr (faulty f, has)
 
+says_some_table : SaysSome mod_form
+says_some_table bs = go (kind.says_or_fault mod_files bs)
+  where
+    go : ((t : Table) × Says mod_files bs t) ⊎ ((f : Fault) × KindHasFault mod_files bs f) → ((t : TableTerm) × mod_form.says bs t) ⊎ ((t : Trouble) × mod_form.fails bs t)
+    go (inl (t, (at, v, has, is))) = inl (record { term = v; table = t }, (at, has, is))
+    go (inr (f, has)) = inr (faulty f, has)
+
 -- Each path has a release or a refusal, and each application a specification or a refusal.
 pub some_release : (source : Source) → GivesEach source → (path : List ℕ) → HasSome (ReleaseAt source path)
 some_release source each path = some_then (FileSays rel_form source path) _ (some_file rel_form says_some_release source each path) (λ f. some_outcome _)
 
 pub some_application : (source : Source) → GivesEach source → (a : Application) → HasSome (AppAt source a)
 some_application source each a = some_then (FileSays app_form source _) _ (some_file app_form says_some_application source each _) (λ s. some_outcome _)
+
+-- So have the libraries of a release's applications.
+module _ (source : Source) (each : GivesEach source) where
+  some_table : (a : Application) (m : List ℕ) → HasSome (TableAt source a m)
+  some_table a m = some_then (FileSays mod_form source _) _ (some_file mod_form says_some_table source each _) (λ t. some_outcome _)
+
+  some_module : (a : Application) (m : List ℕ) → HasSome (ModuleAt source a m)
+  some_module a m =
+      some_where_there source (mod_path a m) (TableAt source a m)
+      (none_there mod_form source (mod_path a m) (is_of m) (vsn_mismatch (mod_path a m)) refl) (some_table a m)
+
+  some_library : (a : Application) → HasSome (LibraryAt source a)
+  some_library a =
+      some_then (AppAt source a) _ (some_application source each a) (λ s.
+      some_then (Each (ModuleAt source a) s.modules) _ (some_each (ModuleAt source a) (some_module a) s.modules) (λ ts. some_outcome _))
+
+  some_beside : (there : Shelf) (a : Application) → HasSome (LibraryBeside source there a)
+  some_beside there a = some_then (LibraryAt source a) _ (some_library a) (λ l. some_outcome _)
+
+  pub some_unpacking : (there : Shelf) (apps : List Application) → HasSome (UnpackedLibraries source there apps)
+  some_unpacking there apps =
+      some_then (LibrariesBeside source there apps) (TestedLibraries apps)
+      (some_each (LibraryBeside source there) (some_beside there) apps) (λ ls. some_outcome _)
+
+  some_with_libraries : (there : Shelf) (f : Found) → HasSome (WithLibraries source there f)
+  some_with_libraries there f = let (ls, gives) = some_unpacking there f.release.apps in (Ok (record { found = f; libraries = ls }), (ls, gives, refl))
+
+  pub some_brought : (there : Shelf) (path : List ℕ) → HasSome (BroughtAt source there path)
+  some_brought there path = some_then (ReleaseAt source path) (WithLibraries source there) (some_release source each path) (some_with_libraries there)

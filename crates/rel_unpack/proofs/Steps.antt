@@ -2,9 +2,9 @@
 use Rattle.std.proofs.Common.{◌≡◌, ◌≢◌, inl, inr, ℕ, Bool, true, false, List, Option, Some, None, IsErr, MatchResult, Result, Ok, Err, refl, sym, ap, subst, ◌∙◌}
 use Rattle.std.specs.Prelude.{if◌then◌else◌}
 use Rattle.rel_unpack.specs.declared.error.UnpackError.{UnpackError}
-use Rattle.rel_unpack.specs.declared.error.UnpackError.TheVariants.{MissingFile, BadFile, VsnMismatch, LibDiffers, TooMany, NoMemory}
+use Rattle.rel_unpack.specs.declared.error.UnpackError.TheVariants.{NoMemory}
 use Rattle.rel_unpack.specs.Refusal.{Refusal, Trouble, refusal_of, is_missing}
-use Rattle.rel_unpack.specs.Refusal.Refusal.{missing_file, bad_file}
+use Rattle.rel_unpack.specs.Refusal.Refusal.{missing_file, bad_file, vsn_mismatch, lib_differs, no_table, too_many, no_memory}
 use Rattle.file_source.specs.declared.files.FilesError.TheVariants.{Missing}
 use Rattle.std.specs.Option.{option_map}
 use Rattle.std.specs.Result.{IsErrAnd}
@@ -43,22 +43,22 @@ none_there {X} form source path test x other p (inr (s, says, is)) = absurd (go 
     go true e = absurd cc
     go false e = let same : missing_file p ≡ x = cc in let is : true ≡ false = ap is_missing same ∙ other in cc
 
+-- A refusal that tells a missing file is that of a path.
+pub missing_path : (e : Refusal) → is_missing e ≡ true → (path : List ℕ) × (e ≡ missing_file path)
+missing_path (missing_file path) is = (path, refl)
+missing_path (bad_file path trouble) is = absurd cc
+missing_path (vsn_mismatch path) is = absurd cc
+missing_path (lib_differs name) is = absurd cc
+missing_path (no_table name) is = absurd cc
+missing_path too_many is = absurd cc
+missing_path no_memory is = absurd cc
+
 some_missing : (source : Source) (path : List ℕ) (Told : Refusal → Type 0) (e : UnpackError) → ((p : List ℕ) → Told (missing_file p) → source path (Err Missing))
     → is_missing (refusal_of e) ≡ true → (e ≢ NoMemory → Told (refusal_of e)) → source path (Err Missing)
-some_missing source path Told (MissingFile s) missing is told = missing _ (told (λ same. absurd cc))
-some_missing source path Told (BadFile s t) missing is told = absurd cc
-some_missing source path Told (VsnMismatch s) missing is told = absurd cc
-some_missing source path Told (LibDiffers s) missing is told = absurd cc
-some_missing source path Told TooMany missing is told = absurd cc
-some_missing source path Told NoMemory missing is told = absurd cc
-
-other_refusal : {X : Type 0} (source : Source) (path : List ℕ) (P : Outcome X) (e : UnpackError) → is_missing (refusal_of e) ≡ false → P (Err (refusal_of e)) → IfThere source path P (Err (refusal_of e))
-other_refusal source path P (MissingFile s) is told = absurd cc
-other_refusal source path P (BadFile s t) is told = told
-other_refusal source path P (VsnMismatch s) is told = told
-other_refusal source path P (LibDiffers s) is told = told
-other_refusal source path P TooMany is told = told
-other_refusal source path P NoMemory is told = told
+some_missing source path Told e missing is told =
+    let (p, same) = missing_path (refusal_of e) is in
+    let known : e ≢ NoMemory = λ none. let never : true ≡ false = sym is ∙ ap (λ x. is_missing (refusal_of x)) none in cc in
+    missing p (subst Told same (told known))
 
 -- what has no file is none
 pub unless_there : {X Y : Type 0} (view : X → Y) (source : Source) (path : List ℕ) (P : Outcome Y) (e : UnpackError) (r : Result (Option X) UnpackError)
@@ -67,4 +67,4 @@ pub unless_there : {X Y : Type 0} (view : X → Y) (source : Source) (path : Lis
 unless_there view source path P e (Ok None) missing told is = some_missing source path (λ x. P (Err x)) e missing is.1 told
 unless_there view source path P e (Ok (Some x)) missing told is = absurd cc
 unless_there view source path P e (Err x) missing told is = λ ne.
-    subst (λ (y : UnpackError). IfThere source path P (Err (refusal_of y))) (sym is.0) (other_refusal source path P e is.1 (told (λ same. ne (is.0 ∙ same))))
+    subst (λ (y : UnpackError). IfThere source path P (Err (refusal_of y))) (sym is.0) (is.1, told (λ same. ne (is.0 ∙ same)))

@@ -4,3 +4,4 @@ pub mod Paths
 pub mod Source
 pub mod Release
 pub mod Applications
+pub mod Unpacking

@@ -18,6 +18,7 @@ pub data Refusal : Type 0 where
   bad_file : List ℕ → Trouble → Refusal
   vsn_mismatch : List ℕ → Refusal
   lib_differs : List ℕ → Refusal
+  no_table : List ℕ → Refusal
   too_many : Refusal
   no_memory : Refusal
 
@@ -38,6 +39,7 @@ refusal_of (memory.MissingFile path) = missing_file (string_bytes path)
 refusal_of (memory.BadFile path t) = bad_file (string_bytes path) (trouble_of t)
 refusal_of (memory.VsnMismatch path) = vsn_mismatch (string_bytes path)
 refusal_of (memory.LibDiffers name) = lib_differs (string_bytes name)
+refusal_of (memory.NoTable name) = no_table (string_bytes name)
 refusal_of memory.TooMany = too_many
 refusal_of memory.NoMemory = no_memory
 

@@ -1,8 +1,8 @@
 -- What the files of a source say.
-use Rattle.std.specs.Prelude.{◌≡◌, ◌≢◌, ℕ, List, Option, Some, None, Result, Ok, Err}
+use Rattle.std.specs.Prelude.{◌≡◌, ◌≢◌, ℕ, false, List, Option, Some, None, Result, Ok, Err}
 use Rattle.file_source.specs.declared.files.FilesError.{FilesError}
 use Rattle.file_source.specs.declared.files.FilesError.TheVariants as files
-use Rattle.rel_unpack.specs.Refusal.{Trouble}
+use Rattle.rel_unpack.specs.Refusal.{Trouble, is_missing}
 use Rattle.rel_unpack.specs.Refusal.Trouble.{unreadable}
 use Rattle.rel_unpack.specs.Refusal.Refusal.{missing_file, bad_file, too_many}
 use Rattle.rel_unpack.specs.Order.{Outcome, Then}
@@ -46,5 +46,4 @@ FileSays form source path = Then (HasBytes source path) (HasValue form path)
 abbrev pub IfThere : {X : Type 0} → Source → List ℕ → Outcome X → Outcome (Option X)
 IfThere source path P (Ok (Some x)) = P (Ok x)
 IfThere source path P (Ok None) = source path (Err files.Missing)
-IfThere source path P (Err (missing_file p)) = ⊥
-IfThere source path P (Err e) = P (Err e)
+IfThere source path P (Err e) = (is_missing e ≡ false) × P (Err e)

@@ -49,6 +49,9 @@ pub enum UnpackError {
     /// The library of this application and version is there, with another specification or other tables.
     #[error("LibDiffers {0}")]
     LibDiffers(String),
+    /// This module has no table, or not one of the kind that a child or a top asks for.
+    #[error("NoTable {0}")]
+    NoTable(String),
     /// A limit is passed.
     #[error("TooMany")]
     TooMany,

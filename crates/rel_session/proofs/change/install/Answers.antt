@@ -1,4 +1,4 @@
-use Rattle.std.proofs.Common.{rules, sym, ap, ◌∙◌, subst}
+use Rattle.std.proofs.Common.{rules, refl, sym, ap, ◌∙◌, subst}
 use Rattle.rel_session.specs.InMemory.{Answers}
 use Rattle.rel_session.specs.Node.{Place, Reply}
 use Rattle.rel_session.specs.Transition.{Acts, installation, installed_line}
@@ -23,7 +23,7 @@ returns-in_err-installed-clause-installed g c =
     let e = c.in_err-installed.field-0.0 in
     let Does : Place → Reply → Type 0 = λ p a. Acts p (changes_node (installation c.args.vsn.now)) a in
     subst (λ r. Answers g.D.Disk Does r (memory.Made h) (memory.Made new)) (sym (told_so c.from_residual.result e c.from_residual.ensures.1))
-    (changes_none g.D.Disk laws Does h (search rules) (installation c.args.vsn.now) (λ events end a is. is) new c.in_err-installed.ensures.commits e c.in_err-installed.ensures.refused)
+    (changes_none g.D.Disk laws Does h (search rules) (installation c.args.vsn.now) (λ events end a is. is) refl new c.in_err-installed.ensures.commits e c.in_err-installed.ensures.refused)
 
 -- memory was refused for the answer
 pub returns-in_err-line-clause-installed : goal.returns-in_err-line-clause-installed
@@ -33,11 +33,11 @@ returns-in_err-line-clause-installed g c =
     let new = c.install_release.new.self in
     let Does : Place → Reply → Type 0 = λ p a. Acts p (changes_node (installation c.args.vsn.now)) a in
     subst (λ r. Answers g.D.Disk Does r (memory.Made h) (memory.Made new)) (sym (told_so c.from_residual-in_err-line.result handler_error.NoMemory c.from_residual-in_err-line.ensures.1))
-    (changes_untold g.D.Disk laws Does h (search rules) (installation c.args.vsn.now) (λ events end a is. is) new c.in_ok-installed.ensures.commits c.in_ok-installed.ensures.works c.in_ok-installed.ensures.done)
+    (changes_untold g.D.Disk laws Does h (search rules) (installation c.args.vsn.now) (λ events end a is. is) refl new c.in_ok-installed.ensures.commits c.in_ok-installed.ensures.works c.in_ok-installed.ensures.done)
 
 pub returns-clause-installed : goal.returns-clause-installed
 returns-clause-installed g c =
     let laws : IsDevice g.D.Disk = record { reads_an_image = g.met.D.Disk.reads_an_image; counts_now = g.met.D.Disk.counts_now; only_now = g.met.D.Disk.only_now } in
-    changes g.D.Disk laws _ c.args.handler.now (search rules) (installation c.args.vsn.now) (λ events end a is. is) c.install_release.new.self
+    changes g.D.Disk laws _ c.args.handler.now (search rules) (installation c.args.vsn.now) (λ events end a is. is) refl c.install_release.new.self
     c.in_ok-installed.ensures.commits c.in_ok-installed.ensures.works c.in_ok-installed.ensures.done c.in_ok-line.line
     (c.in_ok-line.ensures ∙ ap installed_line (c.as_str.ensures.value ∙ c.in_ok-installed.ensures.other))

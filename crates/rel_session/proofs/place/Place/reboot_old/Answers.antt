@@ -39,7 +39,7 @@ returns-in-Err-clause-rebooted g c =
     let new = c.reboot_old_release.new.self in
     let Does : Place → Reply → Type 0 = λ p a. Acts p (reboots_node vsn) a in
     inl (from_there g.D.Disk laws Does (Err c.in-Err.error) c.args.self (memory.Made h) (memory.Made new) c.in-Made.is
-    (commits_none g.D.Disk laws Does h (search rules) (rebooting vsn) (change_size (rebooting vsn)) (IsRebooted vsn) (λ events end a is. is) new c.in-Err.ensures.commits c.in-Err.error c.in-Err.ensures.refused))
+    (commits_none g.D.Disk laws Does h (search rules) (rebooting vsn) (change_size (rebooting vsn)) (IsRebooted vsn) (λ events end a after is. is) new c.in-Err.ensures.commits c.in-Err.error c.in-Err.ensures.refused))
 
 -- it was, and the node was booted
 pub returns-in-Ok-clause-rebooted : goal.returns-in-Ok-clause-rebooted

@@ -1,6 +1,6 @@
 use Rattle.rel_store.proofs.Exits.{no_value}
 use Rattle.rel_store.proofs.OnlyReads.{read_first, read_twice}
-use Rattle.rel_store.proofs.creation.is_taken.Goals as goal
+use Rattle.rel_store.proofs.creation.holds_a_store.Goals as goal
 
 pub returns-in_err-len-clause-any_moment : goal.returns-in_err-len-clause-any_moment
 returns-in_err-len-clause-any_moment g c = (read_first g.D.Disk.seen g.D.Disk.may_leave g.D.Disk.moment g.D.Disk.left_since c.args.disk.now (g.met.D.Disk.only_now c.args.disk.now) c.len.new.self c.len.ensures.same c.len.ensures.crash c.len.ensures.time).any_moment

@@ -1,0 +1,43 @@
+-- What is told of a release that brings no libraries.
+use Rattle.std.proofs.Common.{inl, inr, ℕ, List, [], Ok, sym, subst}
+use Rattle.rel_disk.specs.declared.disk.Disk.{Ghosts}
+use Rattle.rel_disk.proofs.Moments.{weakened}
+use Rattle.rel_list.specs.Event.Event.{made}
+use Rattle.rel_store.specs.Contents.{HasOnlyRead}
+use Rattle.rel_store.specs.Moments.{IsTornFrom}
+use Rattle.rel_unpack.specs.Source.{Source}
+use Rattle.rel_unpack.specs.Unpacking.{Brought}
+use Rattle.rel_handler.specs.Events.{Known, doubted}
+use Rattle.rel_handler.specs.Files.{made_size}
+use Rattle.rel_handler.specs.Moments.{Begins, WritesNothing}
+use Rattle.rel_handler.specs.Refusals.{MakingRefused}
+use Rattle.rel_handler.specs.Unpacking.{Brings, IsExistingOr, IsOfLibraries, CreationRefused}
+use Rattle.rel_handler.specs.declared.error.HandlerError.{HandlerError}
+
+module _ {D : Type 0} (v : Ghosts D) (old now : D) (read : HasOnlyRead v.seen v.may_leave v.moment v.left_since old now) where
+  -- nothing was written
+  read_alone : WritesNothing v.seen v.may_leave v.moment v.left_since old now
+  read_alone = record { same = read.same; any_moment = read.any_moment }
+
+  not_begun : (k : Known) → Begins v.seen v.may_leave v.moment v.left_since k old now
+  not_begun k = inl (weakened v.moment v.left_since old now (v.may_leave old) (IsTornFrom (v.may_leave old) 0 1) (λ c left. inl left) read.any_moment)
+
+  -- so no node was made
+  pub not_made_of : (source : Source) (path : List ℕ) (b : Brought) → Brings source path (Ok b) → (why e : HandlerError) → IsOfLibraries b why
+      → IsExistingOr why (v.seen old) (v.failures old) (v.failures now) e → CreationRefused v source path old now e
+  not_made_of source path b brings why e of (inl (is, there)) = inr (inr (record {
+    brought = b;
+    read = brings;
+    libraries = λ other works. absurd (other is);
+    any_moment = not_begun (doubted [] (made b.found.release));
+    refused = subst (MakingRefused (v.seen old) (made_size b.found) (v.failures old) (v.failures now) (WritesNothing v.seen v.may_leave v.moment v.left_since old now)) (sym is) (there, read_alone);
+  }))
+  not_made_of source path b brings why e of (inr (inl (is, failed))) = inr (inr (record {
+    brought = b;
+    read = brings;
+    libraries = λ other works. absurd (works is);
+    any_moment = not_begun (doubted [] (made b.found.release));
+    refused = subst (MakingRefused (v.seen old) (made_size b.found) (v.failures old) (v.failures now) (WritesNothing v.seen v.may_leave v.moment v.left_since old now)) (sym is) failed;
+  }))
+  not_made_of source path b brings why e of (inr (inr (is, free))) =
+      inr (inl (record { brought = b; read = brings; free = free; of_libraries = subst (IsOfLibraries b) (sym is) of; unwritten = read_alone }))

@@ -1,0 +1,12 @@
+use Rattle.rel_handler.proofs.ReleaseLemmas.{brought_file, refused_as}
+use Rattle.rel_handler.proofs.unpacking.bring_release.Goals as goal
+
+pub returns-in_err-unpack_release-clause-refused : goal.returns-in_err-unpack_release-clause-refused
+returns-in_err-unpack_release-clause-refused g c =
+    refused_as (g.F.Files.gives c.args.files.now) c.args.path.now c.from_residual.result c.in_err-unpack_release.field-0.0
+    c.from_residual.ensures.1 c.in_err-unpack_release.ensures.answer
+
+-- its term says it
+pub returns-clause-file : goal.returns-clause-file
+returns-clause-file g c =
+    brought_file (g.F.Files.gives c.args.files.now) c.args.path.now c.in_ok-unpack_release.field-0 c.in_ok-unpack_release.ensures.answer c.in_ok-unpack_release.ensures.within
