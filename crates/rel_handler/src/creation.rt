@@ -31,9 +31,9 @@ use std::alloc::{AllocError, Global};
 impl<D: Disk> Handler<D> {
     /// Makes a node on a disk that has none, with the release in the file of this path as the permanent one.
     ///
-    /// Refusals, in this order: `MissingFile`, `BadFile`, `TooMany` for the release's file or its number of applications;
-    /// `Exists`; `MissingFile`, `BadFile`, `VsnMismatch`, `NoTable`, `TooMany` for the files of the applications; `Full`.
-    /// `NoMemory` may come in place of each. Nothing has been written then. After `Device` the disk has
+    /// All files are read first. Refusals, in this order: `MissingFile`, `BadFile`, `TooMany` for the release's file or its
+    /// number of applications; `Exists`; `MissingFile`, `BadFile`, `VsnMismatch`, `NoTable`, `TooMany` for the files of the
+    /// applications; `Full`. `NoMemory` may come in place of each. Nothing has been written then. After `Device` the disk has
     /// no store or the new one, once the first sync has succeeded; before that nothing but its first byte was written. The
     /// disk comes back with each refusal.
     pub fn create<F: Files>(

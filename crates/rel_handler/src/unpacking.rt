@@ -26,11 +26,11 @@ use std::alloc::Global;
 impl<D: Disk> Handler<D> {
     /// Takes in the release in the file of this path as unpacked, and answers its version. At `Ok` it is acknowledged.
     ///
-    /// Refusals, in this order: `Dead`; `MissingFile`, `BadFile`, `TooMany` for the release's file or its number of
-    /// applications; `ExistingRelease`; `MissingFile`, `BadFile`, `VsnMismatch`, `NoTable`, `TooMany` for the files of the
-    /// applications; `TooMany` for the node's releases; `Full`. `NoMemory` may come in place of each but the first. Nothing
-    /// has changed then. `Device` comes only where the list allows the release and its record fits; then
-    /// the handler is dead, and the disk stands for its list with the release or without.
+    /// All files are read first. Refusals, in this order: `Dead`; `MissingFile`, `BadFile`, `TooMany` for the release's file
+    /// or its number of applications; `ExistingRelease`; `MissingFile`, `BadFile`, `VsnMismatch`, `NoTable`, `TooMany` for the
+    /// files of the applications; `TooMany` for the node's releases; `Full`. `NoMemory` may come in place of each but the
+    /// first. Nothing has changed then. `Device` comes only where the list allows the release and its record fits; then the
+    /// handler is dead, and the disk stands for its list with the release or without.
     pub fn set_unpacked<F: Files>(
         &mut self,
         alloc: Global,
