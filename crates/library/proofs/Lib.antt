@@ -1,3 +1,4 @@
-pub mod TableRows
+pub mod TermRows
 pub mod PlaceLemmas
 pub mod Terms
+pub mod TermCases

@@ -67,7 +67,7 @@ pub are_true : (vs : Values) (ts : List TableTerm) → AreTables vs ts → AreTr
 are_true Values.no_values [] a = tt
 are_true Values.no_values (t ∷ ts) a = absurd a
 are_true (Values.value v vs) [] a = absurd a
-are_true (Values.value v vs) (t ∷ ts) a = (subst (λ (w : Value). IsTableTerm w t.table) (sym a.0) a.1, are_true vs ts a.2)
+are_true (Values.value v vs) (t ∷ ts) a = (subst (λ (w : Value). IsTableTerm w t.table) (sym a.0.0) a.0.1, are_true vs ts a.1)
 
 -- what is placed are the tables of the modules, and all of them
 abbrev pub IsPlaced : List (List ℕ) → List (Option TableTerm) → List TableTerm → Type 0
@@ -100,7 +100,7 @@ there_are [] [] has = tt
 there_are [] (t ∷ ts) has = absurd has
 there_are (m ∷ ms) [] has = absurd has
 there_are (m ∷ ms) (None ∷ ts) has = there_are ms ts has
-there_are (m ∷ ms) (Some t ∷ ts) has = (refl, has.0, there_are ms ts has.2)
+there_are (m ∷ ms) (Some t ∷ ts) has = ((refl, has.0), there_are ms ts has.2)
 
 -- one table more is placed
 pub placed_more : (done : List (Option TableTerm)) (o : Option TableTerm) (r : Option (List (Option TableTerm)))

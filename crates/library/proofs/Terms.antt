@@ -14,8 +14,8 @@ use Rattle.mod_table.specs.Same.{is_same}
 use Rattle.mod_table.proofs.Sameness.{same_are_equal}
 use Rattle.library.specs.Library.{Library, IsLibrary, TableTerm, HaveTables, tables_there, library_term, term_parts, are_same_tables, is_same_library}
 use Rattle.library.specs.Laws.{SaysOneLibrary, SameAreEqual}
-use Rattle.library.specs.Reading.{AreTables, placed}
-use Rattle.library.proofs.TableRows.{one_table, tables_unique, are_terms}
+use Rattle.library.specs.Reading.{AreTables, SaysLibrary, placed}
+use Rattle.library.proofs.TermRows.{one_table, tables_unique, are_terms}
 use Rattle.library.proofs.PlaceLemmas.{placed_there, placed_says, there_are, are_true}
 
 abbrev pub terms : List TableTerm → Values
@@ -72,11 +72,11 @@ of_library v w ws l parts is = one_pair (l.app.whole, terms (tables_there l.tabl
 not_there : (o : Option (Value × Values)) (p : Value × Values) → o ≡ None → o ≡ Some p → ⊥
 not_there o p none some = let lost : None ≡ Some p = sym none ∙ some in absurd cc
 
-pub no_parts : (v : Value) → term_parts v ≡ None → (l : Library) → IsLibrary l → library_term l ≡ v → ⊥
-no_parts v none l is same = not_there (term_parts v) (l.app.whole, terms (tables_there l.tables)) none (parts_are v l same)
+pub no_parts : (v : Value) → term_parts v ≡ None → (l : Library) → SaysLibrary v l → ⊥
+no_parts v none l is = not_there (term_parts v) (l.app.whole, terms (tables_there l.tables)) none (parts_are v l is.1)
 
-pub no_app : (v w : Value) (ws : Values) → term_parts v ≡ Some (w, ws) → ((a : Specification) → IsAppTerm w a → ⊥) → (l : Library) → IsLibrary l → library_term l ≡ v → ⊥
-no_app v w ws parts none l is same = none l.app (subst (λ (x : Value). IsAppTerm x l.app) (of_library v w ws l parts same).0 is.app)
+pub no_app : (v w : Value) (ws : Values) → term_parts v ≡ Some (w, ws) → ((a : Specification) → IsAppTerm w a → ⊥) → (l : Library) → SaysLibrary v l → ⊥
+no_app v w ws parts none l is = none l.app (subst (λ (x : Value). IsAppTerm x l.app) (of_library v w ws l parts is.1).0 is.0.app)
 
 -- a library of the term is made of the application and the tables that were read
 pub only_of : (v w : Value) (ws : Values) (a : Specification) (us : List TableTerm) → term_parts v ≡ Some (w, ws) → IsAppTerm w a → AreTables ws us
@@ -101,13 +101,13 @@ placed_of f vs ms us are (Ok None) e = λ ws ts also found.
 placed_of f vs ms us are (Err x) e = tt
 
 pub not_placed : (v w : Value) (ws : Values) (a : Specification) → term_parts v ≡ Some (w, ws) → IsAppTerm w a → NonePlaced a.modules ws
-    → (l : Library) → IsLibrary l → library_term l ≡ v → ⊥
-not_placed v w ws a parts says none l is same =
-    let are : AreTables ws (tables_there l.tables) = subst (λ (x : Values). AreTables x (tables_there l.tables)) (of_library v w ws l parts same).1 (there_are l.app.modules l.tables is.tables) in
-    none (tables_there l.tables) l.tables are (only_of v w ws a (tables_there l.tables) parts says are l is same)
+    → (l : Library) → SaysLibrary v l → ⊥
+not_placed v w ws a parts says none l is =
+    let are : AreTables ws (tables_there l.tables) = subst (λ (x : Values). AreTables x (tables_there l.tables)) (of_library v w ws l parts is.1).1 (there_are l.app.modules l.tables is.0.tables) in
+    none (tables_there l.tables) l.tables are (only_of v w ws a (tables_there l.tables) parts says are l is.0 is.1)
 
 pub is_library : (v w : Value) (ws : Values) (a : Specification) (us : List TableTerm) (ts : List (Option TableTerm)) → term_parts v ≡ Some (w, ws) → IsAppTerm w a → AreTables ws us
-    → placed a.modules us ≡ Some ts → IsLibrary (record { app = a; tables = ts }) × (library_term (record { app = a; tables = ts }) ≡ v)
+    → placed a.modules us ≡ Some ts → SaysLibrary v (record { app = a; tables = ts })
 is_library v w ws a us ts parts says are placed_ =
     let whole : a.whole ≡ w = whole_is w a says in
     let there = placed_says a.modules us ts (are_true ws us are) placed_ in

@@ -1,5 +1,7 @@
 -- What a library stands for, without where it lies in memory.
 use Rattle.std.specs.Prelude.{map}
+use Rattle.std.specs.declared.alloc.Global.{Global}
+use Rattle.std.specs.declared.rc.Rc.{Rc}
 use Rattle.std.specs.Option.{option_map}
 use Rattle.erl_term.specs.Value.{value_of}
 use Rattle.app_file.specs.InMemory.{specification_of}
@@ -12,3 +14,7 @@ table_term_of f = record { term = value_of f.term; table = f.table }
 
 abbrev pub library_of : declared.Library → Library
 library_of l = record { app = specification_of l.app; tables = map (λ t. option_map table_term_of t) l.tables.items }
+
+-- a library that others share
+abbrev pub shared_of : Rc declared.Library Global → Library
+shared_of rc = library_of rc.value

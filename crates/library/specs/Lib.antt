@@ -1,4 +1,5 @@
 pub mod Library
 pub mod InMemory
+pub mod Codes
 pub mod Reading
 pub mod Laws

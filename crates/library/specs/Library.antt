@@ -1,10 +1,12 @@
 -- Libraries: an application with the tables of its modules; docs/RULES.md tells the formats.
-use Rattle.std.specs.Prelude.{◌≡◌, ℕ, Bool, true, false, ◌&&◌, List, [], ◌∷◌, map, codes, Option, None, Some, if◌then◌else◌}
+use Rattle.std.specs.Prelude.{◌≡◌, ℕ, Bool, true, false, ◌&&◌, List, [], ◌∷◌, map, find, codes, Option, None, Some, if◌then◌else◌}
 use Rattle.std.specs.Option.{option_map, option_and_then}
+use Rattle.std.specs.Str.{bytes_eq}
 use Rattle.erl_term.specs.Value.{Value, Values}
 use Rattle.erl_term.specs.Value.Value.{atom, tuple}
 use Rattle.rel_files.specs.Form.{tuple_of, list_of}
 use Rattle.rel_files.specs.Parts.{list_in, three, is_word}
+use Rattle.rel_files.specs.Release.{Application}
 use Rattle.app_file.specs.File.{Specification, IsAppTerm}
 use Rattle.mod_table.specs.declared.table.Table.{Table}
 use Rattle.mod_table.specs.File.{IsTableTerm, name_of}
@@ -64,3 +66,22 @@ are_same_tables ts us = false
 -- the same specification and the same tables, by the whole terms of their files
 abbrev pub is_same_library : Library → Library → Bool
 is_same_library l k = is_same l.app.whole k.app.whole && are_same_tables l.tables k.tables
+
+-- it is of the application of this name and this version
+abbrev pub is_at : List ℕ → List ℕ → Library → Bool
+is_at name vsn l = bytes_eq l.app.name name && bytes_eq l.app.vsn vsn
+
+-- the first of them that is
+abbrev pub library_at : List ℕ → List ℕ → List Library → Option Library
+library_at name vsn ls = find (is_at name vsn) ls
+
+-- They are the libraries of these applications, in their order.
+abbrev pub AreLibrariesOf : List Application → List Library → Type 0
+AreLibrariesOf [] [] = Unit {0}
+AreLibrariesOf (a ∷ as') (l ∷ ls) = IsLibrary l × (is_at a.name a.vsn l ≡ true) × AreLibrariesOf as' ls
+AreLibrariesOf as' ls = ⊥
+
+-- it is the same as what is there of its name and version, if there is something
+abbrev pub agrees : Option Library → Library → Bool
+agrees None l = true
+agrees (Some k) l = is_same_library k l

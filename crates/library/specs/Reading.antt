@@ -1,17 +1,31 @@
--- From the term of a library back to its tables.
+-- From the terms of libraries back to libraries.
 use Rattle.std.specs.Prelude.{◌≡◌, ℕ, List, [], ◌∷◌, Option, None, Some, if◌then◌else◌}
 use Rattle.std.specs.Option.{option_map}
 use Rattle.std.specs.Str.{bytes_eq}
-use Rattle.erl_term.specs.Value.{Values}
+use Rattle.erl_term.specs.Value.{Value, Values}
 use Rattle.erl_term.specs.Value.Values.{no_values, value}
 use Rattle.mod_table.specs.File.{IsTableTerm, name_of}
-use Rattle.library.specs.Library.{TableTerm}
+use Rattle.library.specs.Library.{Library, TableTerm, IsLibrary, library_term}
 
--- Each term in turn says its table.
+-- Each term in turn says its own.
+abbrev pub EachSays : {X : Type 0} → (Value → X → Type 0) → Values → List X → Type 0
+EachSays says no_values [] = Unit {0}
+EachSays says (value v vs) (x ∷ xs) = says v x × EachSays says vs xs
+EachSays says vs xs = ⊥
+
+-- The term says this table.
+abbrev pub SaysTable : Value → TableTerm → Type 0
+SaysTable v t = (t.term ≡ v) × IsTableTerm v t.table
+
 abbrev pub AreTables : Values → List TableTerm → Type 0
-AreTables no_values [] = Unit {0}
-AreTables (value v vs) (t ∷ ts) = (t.term ≡ v) × IsTableTerm v t.table × AreTables vs ts
-AreTables vs ts = ⊥
+AreTables vs ts = EachSays SaysTable vs ts
+
+-- The term is that of this library.
+abbrev pub SaysLibrary : Value → Library → Type 0
+SaysLibrary v l = IsLibrary l × (library_term l ≡ v)
+
+abbrev pub AreOfLibraries : Values → List Library → Type 0
+AreOfLibraries vs ls = EachSays SaysLibrary vs ls
 
 -- the next table, where it is that of this module; and those that are left
 abbrev pub taken : List ℕ → List TableTerm → Option TableTerm × List TableTerm

@@ -3,7 +3,8 @@
 //! Contracts see a [`Library`] as its application and the tables of its modules, in the order of the `.app` file
 //! (specs/Library). Two libraries are the same where the whole terms of their files are (`Library::is_same`).
 //! [`Library::term`] makes the term by which a record carries a library, and [`library_of_term`] reads it back: it gives a
-//! library exactly where the term is that of one (clauses `says`, `only`). Out of memory may come in place of any answer.
+//! library exactly where the term is that of one (`SaysLibrary`), and [`libraries_of_terms`] all of a record's, which releases
+//! share. Out of memory may come in place of any answer.
 //!
 //! The functions of `laws` say of these definitions that a term is that of one library at most, and that two libraries are
 //! the same exactly where they are equal.
@@ -17,4 +18,4 @@ mod record;
 mod tables;
 
 pub use library::Library;
-pub use record::library_of_term;
+pub use record::{libraries_of_terms, library_of_term};

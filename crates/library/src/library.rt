@@ -2,7 +2,7 @@
 ghost use Rattle.std.specs.Prelude.{◌≡◌, map};
 ghost use Rattle.std.specs.Option.{option_map};
 ghost use Rattle.library.specs.InMemory.{library_of, table_term_of};
-ghost use Rattle.library.specs.Library.{is_same_library, is_same_table, are_same_tables};
+ghost use Rattle.library.specs.Library.{is_at, is_same_library, is_same_table, are_same_tables};
 
 use app_file::App;
 use mod_table::{ModFile, is_same};
@@ -18,6 +18,13 @@ pub struct Library {
 }
 
 impl Library {
+    /// Whether it is of the application of this name and this version.
+    pub fn is_at(&self, name: &str, vsn: &str) -> bool
+        ensures { result ≡ is_at name.now vsn.now (library_of self.now) }
+    {
+        self.app.name.as_str() == name && self.app.vsn.as_str() == vsn
+    }
+
     /// Whether it has the same specification and the same tables: the whole terms are compared. It takes no memory.
     pub fn is_same(&self, other: &Library) -> bool
         ensures { result ≡ is_same_library (library_of self.now) (library_of other.now) }

@@ -1,11 +1,12 @@
-//! The term by which a record carries a library.
-ghost use Rattle.std.specs.Prelude.{◌≡◌, IfOk, MatchOption, map};
+//! The terms by which records carry libraries.
+ghost use Rattle.std.specs.Prelude.{◌≡◌, IfOk, List, MatchOption, map};
 ghost use Rattle.std.specs.Option.{option_map};
 ghost use Rattle.erl_term.specs.Value.{members_of, value_of};
 ghost use Rattle.app_file.specs.File.{Specification, IsAppTerm};
 ghost use Rattle.app_file.specs.InMemory.{specification_of};
-ghost use Rattle.library.specs.InMemory.{library_of, table_term_of};
-ghost use Rattle.library.specs.Library.{Library as LibraryInSpecs, IsLibrary, library_term, term_parts, tables_there};
+ghost use Rattle.library.specs.InMemory.{library_of, shared_of, table_term_of};
+ghost use Rattle.library.specs.Library.{Library as LibraryInSpecs, library_term, term_parts, tables_there};
+ghost use Rattle.library.specs.Reading.{AreOfLibraries, SaysLibrary};
 
 use crate::Library;
 use crate::tables::{had_memory, placed_in};
@@ -14,6 +15,7 @@ use erl_term::Term;
 use mod_table::ModFile;
 use rel_files::parts::{is_word, list_in, three};
 use std::alloc::{AllocError, Global};
+use std::rc::Rc;
 
 impl Library {
     /// The term by which a record carries it: `{lib, AppTerm, [ModTerm]}`, the tables in the order of the modules.
@@ -60,8 +62,8 @@ fn parts_in(term: &Term) -> Option<(&Term, &[Term])>
 /// The library of such a term; nothing for a term that is that of none.
 pub fn library_of_term(alloc: Global, term: &Term) -> Result<Option<Library>, AllocError>
     ensures { IfOk result (λ library. MatchOption library
-        ((l : LibraryInSpecs) → IsLibrary l → library_term l ≡ value_of term.now → ⊥)
-        (λ l. IsLibrary (library_of l) × (library_term (library_of l) ≡ value_of term.now))) }
+        ((l : LibraryInSpecs) → SaysLibrary (value_of term.now) l → ⊥)
+        (λ l. SaysLibrary (value_of term.now) (library_of l))) }
 {
     let Some((app, tables)) = parts_in(term) else {
         return Ok(None);
@@ -73,6 +75,25 @@ pub fn library_of_term(alloc: Global, term: &Term) -> Result<Option<Library>, Al
         Some(tables) => Ok(Some(Library { app, tables })),
         None => Ok(None),
     }
+}
+
+/// The libraries of such terms, in their order; nothing where one of them is that of none.
+pub fn libraries_of_terms(
+    alloc: Global,
+    terms: &[Term],
+) -> Result<Option<Vec<Rc<Library>>>, AllocError>
+    ensures { IfOk result (λ libraries. MatchOption libraries
+        ((ls : List LibraryInSpecs) → AreOfLibraries (members_of terms.now) ls → ⊥)
+        (λ v. AreOfLibraries (members_of terms.now) (map shared_of v.items))) }
+{
+    let mut libraries = Vec::with_capacity(alloc, terms.len())?;
+    for term in terms {
+        let Some(library) = library_of_term(alloc, term)? else {
+            return Ok(None);
+        };
+        libraries.push(Rc::new(alloc, library)?)?;
+    }
+    Ok(Some(libraries))
 }
 
 // The application that a term says.

@@ -1,4 +1,5 @@
 //! Lists of releases, as they follow events.
+use crate::bundles::{bundle, push_libraries};
 use rel_files::Rel;
 use rel_list::{Event, ReleaseList};
 use std::alloc::{AllocError, Global};
@@ -9,12 +10,13 @@ pub(crate) fn follow(alloc: Global, events: &[u8]) -> Result<String, AllocError>
     let mut list = ReleaseList::new(alloc);
     let mut text = String::new(alloc);
     for words in events.as_str().split(", ") {
-        match event(alloc, words)? {
+        match event(alloc, &list, words)? {
             Some(event) => push_answer(alloc, &mut text, &mut list, event)?,
             None => text.push_str("no such event, ")?,
         }
     }
     push_list(&mut text, &list)?;
+    push_libraries(alloc, &mut text, &list)?;
     Ok(text)
 }
 
@@ -31,12 +33,16 @@ pub(crate) fn push_answer(
     }
 }
 
-/// The event of these words: its name, and the version of its release.
-pub(crate) fn event(alloc: Global, words: &str) -> Result<Option<Event>, AllocError> {
+/// The event of these words: its name, and the version of its release, or the release of the words behind it.
+pub(crate) fn event(
+    alloc: Global,
+    list: &ReleaseList,
+    words: &str,
+) -> Result<Option<Event>, AllocError> {
     let (word, vsn) = words.split_once(' ').unwrap_or((words, ""));
     match word {
-        "made" => Ok(Some(Event::Made(release(alloc, vsn)?))),
-        "unpacked" => Ok(Some(Event::Unpacked(release(alloc, vsn)?))),
+        "made" => Ok(Some(Event::Made(bundle(alloc, list, vsn)?))),
+        "unpacked" => Ok(Some(Event::Unpacked(bundle(alloc, list, vsn)?))),
         "installed" => Ok(Some(Event::Installed(String::from_str(alloc, vsn)?))),
         "permanent" => Ok(Some(Event::MadePermanent(String::from_str(alloc, vsn)?))),
         "removed" => Ok(Some(Event::Removed(String::from_str(alloc, vsn)?))),
@@ -44,16 +50,6 @@ pub(crate) fn event(alloc: Global, words: &str) -> Result<Option<Event>, AllocEr
         "boot" => Ok(Some(Event::Boot)),
         _ => Ok(None),
     }
-}
-
-/// The release of this version, without applications.
-pub(crate) fn release(alloc: Global, vsn: &str) -> Result<Rel, AllocError> {
-    Ok(Rel {
-        name: String::from_str(alloc, "r")?,
-        vsn: String::from_str(alloc, vsn)?,
-        erts: String::from_str(alloc, "14.2")?,
-        apps: Vec::new(alloc),
-    })
 }
 
 // The list, each release with the status that is found for its version, and what else is asked of it.

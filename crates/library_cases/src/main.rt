@@ -5,6 +5,7 @@
 
 mod answers;
 mod apps;
+mod bundles;
 mod files;
 mod lists;
 mod readers;

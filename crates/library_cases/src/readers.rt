@@ -1,5 +1,6 @@
 //! Lists of releases, as each reader of them shows them.
-use crate::lists::{event, push_answer, release, version};
+use crate::bundles::release;
+use crate::lists::{event, push_answer, version};
 use rel_list::ReleaseList;
 use std::alloc::{AllocError, Global};
 
@@ -11,7 +12,7 @@ pub(crate) fn follow(alloc: Global, events: &[u8]) -> Result<String, AllocError>
     let mut text = String::new(alloc);
     push_readers(&mut text, &list)?;
     for words in events.as_str().split(", ") {
-        if let Some(event) = event(alloc, words)? {
+        if let Some(event) = event(alloc, &list, words)? {
             push_answer(alloc, &mut text, &mut list, event)?;
             push_readers(&mut text, &list)?;
         }

@@ -1,6 +1,9 @@
 //! Lists of releases, as records of a store make them.
+ghost use Rattle.rel_records.specs.Lists.{HaveVersions};
+
+use crate::bundles::push_libraries;
 use crate::lists::{event, push_list};
-use rel_list::Event;
+use rel_list::{Event, ReleaseList};
 use rel_records::laws::records_make_versions;
 use rel_records::{change_body, read_list};
 use std::alloc::{AllocError, Global};
@@ -10,7 +13,10 @@ pub(crate) fn list(alloc: Global, bodies: &[u8]) -> Result<String, AllocError> {
     let bodies = lines(alloc, bodies)?;
     let mut text = String::new(alloc);
     match read_list(alloc, bodies.as_slice()) {
-        Ok(list) => push_list(&mut text, &list)?,
+        Ok(list) => {
+            push_list(&mut text, &list)?;
+            push_libraries(alloc, &mut text, &list)?;
+        }
         Err(error) => write!(text, "{error}")?,
     }
     Ok(text)
@@ -23,23 +29,25 @@ pub(crate) fn written(alloc: Global, text: &[u8]) -> Result<String, AllocError> 
     };
     let words = String::from_utf8_lossy(alloc, &text[..end])?;
     let bodies = lines(alloc, &text[end + 1..])?;
-    match event(alloc, words.as_str())? {
-        Some(event) => body(alloc, bodies.as_slice(), &event),
+    records_make_versions();
+    let Ok(list) = read_list(alloc, bodies.as_slice()) else {
+        return String::from_str(alloc, "no list");
+    };
+    match event(alloc, &list, words.as_str())? {
+        Some(event) => body(alloc, &list, &event),
         None => String::from_str(alloc, "no such event"),
     }
 }
 
-fn body(alloc: Global, bodies: &[Vec<u8>], event: &Event) -> Result<String, AllocError> {
-    records_make_versions();
-    let Ok(list) = read_list(alloc, bodies) else {
-        return String::from_str(alloc, "no list");
-    };
+fn body(alloc: Global, list: &ReleaseList, event: &Event) -> Result<String, AllocError>
+    requires { HaveVersions list.now }
+{
     if let Some(error) = list.refusal(event) {
         return format!(in alloc; "{error}");
     }
     match event {
         Event::Made(_) | Event::Unpacked(_) => String::from_str(alloc, "brings a release"),
-        event => change_body(alloc, &list, event),
+        event => change_body(alloc, list, event),
     }
 }
 

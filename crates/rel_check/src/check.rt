@@ -3,7 +3,7 @@ ghost use Rattle.std.specs.Prelude.{◌≡◌, map, true};
 ghost use Rattle.std.specs.List.{list_all};
 ghost use Rattle.std.specs.Option.{option_map, option_map_or};
 ghost use Rattle.rel_files.specs.Release.{application_of};
-ghost use Rattle.library.specs.InMemory.{library_of};
+ghost use Rattle.library.specs.InMemory.{shared_of};
 ghost use Rattle.rel_check.specs.InMemory.{part_of, module_of};
 ghost use Rattle.rel_check.specs.Summary.{summary_of, limits_kept};
 ghost use Rattle.rel_check.specs.Fault.{has_few_modules, has_few_rows, rows_are_few, release_fault, Tells};
@@ -16,6 +16,7 @@ use library::Library;
 use mod_table::Table;
 use rel_files::RelApp;
 use std::alloc::Global;
+use std::rc::Rc;
 
 // How many modules an application has at most.
 const MOST_MODULES: usize = 1_024;
@@ -31,10 +32,10 @@ const MOST_PROCESSES: usize = 64;
 pub fn check_release<'a>(
     alloc: Global,
     apps: &'a [RelApp],
-    libraries: &'a [Library],
+    libraries: &'a [Rc<Library>],
 ) -> Result<(), ReleaseFault<'a>>
     ensures { Tells result
-        (release_fault (map application_of apps.now) (map library_of libraries.now)) }
+        (release_fault (map application_of apps.now) (map shared_of libraries.now)) }
 {
     let found_parts = parts_of(alloc, apps, libraries)?;
     let parts = found_parts.as_slice();

@@ -2,7 +2,7 @@
 ghost use Rattle.std.specs.Prelude.{◌≡◌, ◌++◌, IfOk, OnOk, map, string_bytes};
 ghost use Rattle.std.specs.Option.{option_map};
 ghost use Rattle.rel_files.specs.Release.{application_of};
-ghost use Rattle.library.specs.InMemory.{library_of, table_term_of};
+ghost use Rattle.library.specs.InMemory.{shared_of, table_term_of};
 ghost use Rattle.rel_check.specs.Modules.{parts, table_in, modules_of, modules_in};
 ghost use Rattle.rel_check.specs.InMemory.{part_of, module_of};
 
@@ -10,6 +10,7 @@ use library::Library;
 use mod_table::{ModFile, Table};
 use rel_files::RelApp;
 use std::alloc::{AllocError, Global};
+use std::rc::Rc;
 
 /// An application of a release, with its library.
 #[derive(Clone, Copy)]
@@ -30,10 +31,10 @@ pub(crate) struct Module<'a> {
 pub(crate) fn parts_of<'a>(
     alloc: Global,
     apps: &'a [RelApp],
-    libraries: &'a [Library],
+    libraries: &'a [Rc<Library>],
 ) -> Result<Vec<Part<'a>>, AllocError>
     ensures { IfOk result (λ found. map part_of found.items
-        ≡ parts (map application_of apps.now) (map library_of libraries.now)) }
+        ≡ parts (map application_of apps.now) (map shared_of libraries.now)) }
 {
     let mut found = Vec::with_capacity(alloc, apps.len())?;
     let mut others = libraries;
@@ -41,7 +42,10 @@ pub(crate) fn parts_of<'a>(
         let Some((library, rest)) = others.split_first() else {
             return Ok(found);
         };
-        found.push(Part { app, library })?;
+        found.push(Part {
+            app,
+            library: library.as_ref(),
+        })?;
         others = rest;
     }
     Ok(found)

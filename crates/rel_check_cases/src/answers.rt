@@ -1,13 +1,12 @@
 //! The answer to a case.
 use crate::made;
-use crate::there::NoLibraries;
 use rel_check::{Named, ReleaseFault, check_release};
-use rel_unpack::{UnpackError, read_libraries, read_release};
+use rel_unpack::{ApplicationFiles, UnpackError, read_libraries, read_release};
 use std::alloc::{AllocError, Global};
 use text_cases::CaseFiles;
 
 /// The answer in one of five modes. `files`: the text is a line for each file, its path, a blank and its bytes. The release
-/// is that of the file `r.rel`, and none of its libraries is there already.
+/// is that of the file `r.rel`.
 ///
 /// The others make their files. `tree`: the text is a width and a depth, as in [`made::tree`]. `lost`: the same without the
 /// worker's file. `modules`: the text is a number of modules. `rows`: it is a number of rows in the worker's table.
@@ -56,7 +55,10 @@ fn checked(alloc: Global, lines: &[u8]) -> Result<String, AllocError> {
 fn checked_files(alloc: Global, files: &CaseFiles<'_>) -> Result<String, UnpackError> {
     let file = read_release(alloc, files, "r.rel")?;
     let apps = file.release.apps.as_slice();
-    let libraries = read_libraries(alloc, files, &NoLibraries, apps)?;
+    let ApplicationFiles { libraries, refusal } = read_libraries(alloc, files, apps)?;
+    if let Some(why) = refusal {
+        return Err(why);
+    }
     match check_release(alloc, apps, libraries.as_slice()) {
         Ok(()) => Ok(String::from_str(alloc, "ok")?),
         Err(fault) => Ok(shown(alloc, fault)?),

@@ -3,7 +3,6 @@
 
 mod answers;
 mod made;
-mod there;
 
 use crate::answers::answer;
 use std::io;

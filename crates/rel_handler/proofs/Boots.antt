@@ -1,17 +1,15 @@
 -- A node that is booted, and one that is made.
-use Rattle.std.proofs.Common.{◌≡◌, inl, inr, ◌⊎◌, ℕ, ◌≤◌, true, false, List, [], ◌∷◌, Ok, refl, sym, ap, ◌∙◌, subst}
+use Rattle.std.proofs.Common.{◌≡◌, inl, inr, ◌⊎◌, ℕ, ◌≤◌, false, List, [], ◌∷◌, Ok, refl, sym, ap, ◌∙◌, subst}
 use Rattle.rel_disk.specs.Moments.{LeavesOnly}
 use Rattle.rel_disk.proofs.Moments.{started, weakened}
 use Rattle.rel_files.specs.File.{HasVersions}
-use Rattle.rel_files.specs.Release.{Release}
 use Rattle.rel_list.specs.declared.status.Status.TheVariants.{Permanent}
-use Rattle.rel_list.specs.Releases.{Releases}
+use Rattle.rel_list.specs.Releases.{Bundle, Releases}
 use Rattle.rel_list.specs.Event.{entry, booted}
 use Rattle.rel_list.specs.Event.Event.{made}
-use Rattle.rel_records.specs.Limits.{is_small}
 use Rattle.rel_records.specs.Lists.{Makes, IsBadRecord}
 use Rattle.rel_records.specs.Reading.{Spells}
-use Rattle.rel_records.specs.Record.{makes}
+use Rattle.rel_records.specs.Writing.{record_of, IsWithinLimits}
 use Rattle.rel_records.specs.declared.fault.RecordsError.{RecordsError}
 use Rattle.rel_records.specs.declared.fault.RecordsError.TheVariants as fault
 use Rattle.rel_records.proofs.ListLemmas.{makes_not_bad}
@@ -80,19 +78,19 @@ module _ {D : Type 0} (seen : D → List ℕ) (may_leave : D → List ℕ → Ty
   nothing_begun k = inl (started moment left_since disk (IsTornFrom (may_leave disk) 0 1) (λ c left. inl (only_now c left)))
 
 -- at each moment of a creation
-module _ {D : Type 0} (seen : D → List ℕ) (may_leave : D → List ℕ → Type 0) (moment : D → ℕ) (left_since : D → ℕ → List ℕ → Type 0) (r : Release) (body start : List ℕ) (small : is_small r ≡ true) (versions : HasVersions r) (is : start ≡ start_text r) (spelled : Spells body (makes r)) (old new : D) where
-  pub begins_at : (at : D) → IsBegunAt seen may_leave moment left_since body start old new at → BeginsAt seen may_leave moment left_since (doubted [] (made r)) old new at
+module _ {D : Type 0} (seen : D → List ℕ) (may_leave : D → List ℕ → Type 0) (moment : D → ℕ) (left_since : D → ℕ → List ℕ → Type 0) (p : Bundle) (body start : List ℕ) (fits : IsWithinLimits (made p) []) (versions : HasVersions p.release) (is : start ≡ start_text p.release) (spelled : Spells body (record_of (made p) [])) (old new : D) where
+  pub begins_at : (at : D) → IsBegunAt seen may_leave moment left_since body start old new at → BeginsAt seen may_leave moment left_since (doubted [] (made p)) old new at
   begins_at at begun = record {
     until = begun.until;
     synced = begun.synced;
-    from = weakened moment left_since at new (IsNoneOrNew body start) (IsNoneOrOfPrefix (doubted [] (made r))) (while_creating r body start small versions is spelled) begun.from;
+    from = weakened moment left_since at new (IsNoneOrNew body start) (IsNoneOrOfPrefix (doubted [] (made p))) (while_creating p body start fits versions is spelled) begun.from;
   }
 
-  pub begins : Creates seen may_leave moment left_since body start old new → Begins seen may_leave moment left_since (doubted [] (made r)) old new
+  pub begins : Creates seen may_leave moment left_since body start old new → Begins seen may_leave moment left_since (doubted [] (made p)) old new
   begins (inl before) = inl before
   begins (inr (at, begun)) = inr (at, begins_at at begun)
 
 -- the first record of a new node
-pub made_new : (r : Release) (body : List ℕ) (records : List (List ℕ)) (es : Releases) → is_small r ≡ true → Spells body (makes r) → records ≡ body ∷ [] → es ≡ entry r Permanent ∷ [] → Makes records (booted es)
-made_new r body records es small spelled is listed =
-    subst (λ rs. Makes rs (booted es)) (sym is) (subst (λ l. Makes (body ∷ []) (booted l)) (sym listed) (first_record r body small spelled))
+pub made_new : (p : Bundle) (body : List ℕ) (records : List (List ℕ)) (es : Releases) → IsWithinLimits (made p) [] → Spells body (record_of (made p) []) → records ≡ body ∷ [] → es ≡ entry p Permanent ∷ [] → Makes records (booted es)
+made_new p body records es fits spelled is listed =
+    subst (λ rs. Makes rs (booted es)) (sym is) (subst (λ l. Makes (body ∷ []) (booted l)) (sym listed) (first_record p body fits spelled))

@@ -1,6 +1,6 @@
 -- What the list takes of a command, and why it refuses one.
 use Rattle.std.proofs.Common.{◌≡◌, inl, inr, ℕ, ◌<◌, ◌≤◌, ◌+◌, Bool, true, false, cond, find, List, [], ◌∷◌, ◌++◌, length, length-append, Option, Some, None, Result, Ok, Err, is_some, refl, sym, ap, ◌∙◌, subst, arith}
-use Rattle.std.specs.Prelude.{if◌then◌else◌, nat_le}
+use Rattle.std.specs.Prelude.{◌||◌, if◌then◌else◌, nat_le}
 use Rattle.std.proofs.lemmas.Bool.Decides.{nat_tests}
 use Rattle.std.specs.Option.{option_map}
 use Rattle.std.specs.Str.{bytes_eq}
@@ -10,8 +10,8 @@ use Rattle.rel_list.specs.declared.fault.ListError.{ListError}
 use Rattle.rel_list.specs.declared.fault.ListError.TheVariants as list
 use Rattle.rel_list.specs.declared.status.Status.{Status}
 use Rattle.rel_list.specs.declared.status.Status.TheVariants.{Unpacked, Current, Old, Permanent}
-use Rattle.rel_list.specs.Releases.{Releases, Entry, entry, status_of, release_at, permanent}
-use Rattle.rel_list.specs.Event.{Event, may_be_made_permanent, may_be_rebooted, permanent_status, list_made_permanent, step}
+use Rattle.rel_list.specs.Releases.{Bundle, Releases, Entry, entry, first_different, status_of, release_at, permanent}
+use Rattle.rel_list.specs.Event.{Event, is_barred, may_be_made_permanent, may_be_rebooted, permanent_status, list_made_permanent, step}
 use Rattle.rel_list.specs.Status.{is_permanent}
 use Rattle.rel_list.specs.Event.Event.{made, unpacked, installed, made_permanent, removed, reboot_old, boot}
 use Rattle.rel_list.specs.Refusal.{refusal, listed_refusal}
@@ -55,8 +55,8 @@ short_so (Ok es) next e = go (nat_le (length es) most_releases) e
     go false e = absurd cc
 
 commanded_so : (e : Event) (es next : Releases) → commanded e es ≡ Ok next → IsTaken (refusal e es) (step e es) next
-commanded_so (made r) es next e = taken_so (refusal (made r) es) (step (made r) es) next (small_so (is_small r) _ next e)
-commanded_so (unpacked r) es next e = taken_so (refusal (unpacked r) es) (step (unpacked r) es) next (short_so _ next (small_so (is_small r) _ next e))
+commanded_so (made p) es next e = taken_so (refusal (made p) es) (step (made p) es) next (small_so (is_small p.release) _ next e)
+commanded_so (unpacked p) es next e = taken_so (refusal (unpacked p) es) (step (unpacked p) es) next (short_so _ next (small_so (is_small p.release) _ next e))
 commanded_so (installed v) es next e = taken_so (refusal (installed v) es) (step (installed v) es) next e
 commanded_so (made_permanent v) es next e = taken_so (refusal (made_permanent v) es) (step (made_permanent v) es) next e
 commanded_so (removed v) es next e = taken_so (refusal (removed v) es) (step (removed v) es) next e
@@ -72,22 +72,22 @@ pub commanded_step : (e : Event) (es next : Releases) → commanded e es ≡ Ok 
 commanded_step e es next is = (commanded_so e es next is).1
 
 -- a release that may come in is small, and the list has room for it
-pub small_and_few : (r : Release) (es next : Releases) → commanded (unpacked r) es ≡ Ok next → (is_small r ≡ true) × (length es < most_releases)
-small_and_few r es next is = let (small, short) = by_size (is_small r) is in (small, few short)
+pub small_and_few : (p : Bundle) (es next : Releases) → commanded (unpacked p) es ≡ Ok next → (is_small p.release ≡ true) × (length es < most_releases)
+small_and_few p es next is = let (small, short) = by_size (is_small p.release) is in (small, few short)
   where
     taken : Result Releases HandlerError
-    taken = refused_or (refusal (unpacked r) es) (step (unpacked r) es)
+    taken = refused_or (refusal (unpacked p) es) (step (unpacked p) es)
 
     by_size : (b : Bool) → Gives (if b then kept_short taken else Err TooMany) next → (b ≡ true) × Gives (kept_short taken) next
     by_size true e = (refl, e)
     by_size false e = absurd cc
 
-    pushed : step (unpacked r) es ≡ Some next → length next ≡ length es + 1
-    pushed e = go (is_some (status_of r.vsn es)) e
+    pushed : step (unpacked p) es ≡ Some next → length next ≡ length es + 1
+    pushed e = go (is_barred p es) e
       where
-        go : (b : Bool) → (if b then None else Some (es ++ entry r Unpacked ∷ [])) ≡ Some next → length next ≡ length es + 1
+        go : (b : Bool) → (if b then None else Some (es ++ entry p Unpacked ∷ [])) ≡ Some next → length next ≡ length es + 1
         go true e = absurd cc
-        go false e = let same : es ++ entry r Unpacked ∷ [] ≡ next = cc e in sym (ap length same) ∙ length-append es (entry r Unpacked ∷ [])
+        go false e = let same : es ++ entry p Unpacked ∷ [] ≡ next = cc e in sym (ap length same) ∙ length-append es (entry p Unpacked ∷ [])
 
     is_short : (l : Releases) (b : Bool) → nat_le (length l) most_releases ≡ b → Gives (if b then Ok l else Err TooMany) next → nat_le (length next) most_releases ≡ true
     is_short l true short e = let same : l ≡ next = cc e in ap (λ m. nat_le (length m) most_releases) (sym same) ∙ short
@@ -98,7 +98,7 @@ small_and_few r es next is = let (small, short) = by_size (is_small r) is in (sm
     by_taken (Ok l) e = is_short l (nat_le (length l) most_releases) refl e
 
     few : Gives (kept_short taken) next → length es < most_releases
-    few short = let at_most = by_taken taken short in let more = pushed (commanded_step (unpacked r) es next is) in grind (arith, nat_tests)
+    few short = let at_most = by_taken taken short in let more = pushed (commanded_step (unpacked p) es next is) in grind (arith, nat_tests)
 
 -- so the list's own step gives what is commanded
 pub commanded_then : (e : Event) (es next : Releases) → (taken : Releases) × (commanded e es ≡ Ok taken) → step e es ≡ Some next → commanded e es ≡ Ok next
@@ -118,8 +118,8 @@ steps_so e es none = go (step e es) ((refused_where_not_allowed e es).0 none)
 
 -- an event of listed releases is commanded by the list alone
 by_the_list : (e : Event) (es : Releases) → IsOfListed e → commanded e es ≡ refused_or (refusal e es) (step e es)
-by_the_list (made r) es listed = absurd listed
-by_the_list (unpacked r) es listed = absurd listed
+by_the_list (made p) es listed = absurd listed
+by_the_list (unpacked p) es listed = absurd listed
 by_the_list (installed v) es listed = refl
 by_the_list (made_permanent v) es listed = refl
 by_the_list (removed v) es listed = refl
@@ -134,39 +134,41 @@ list_refuses e es why listed is = by_the_list e es listed ∙ ap (λ o. refused_
 pub list_allows : (e : Event) (es : Releases) → IsOfListed e → refusal e es ≡ None → (next : Releases) × (commanded e es ≡ Ok next)
 list_allows e es listed none = let (next, is) = steps_so e es none in (next, by_the_list e es listed ∙ ap (λ o. refused_or o (step e es)) none ∙ ap (refused_or None) is)
 
-module _ (r : Release) (es : Releases) where
+module _ (p : Bundle) (es : Releases) where
   -- the list with the release last
   abbrev pub with_it : Releases
-  with_it = es ++ entry r Unpacked ∷ []
+  with_it = es ++ entry p Unpacked ∷ []
 
-  by_sizes : (small listed : Bool) → is_small r ≡ small → is_some (status_of r.vsn es) ≡ listed
-      → commanded (unpacked r) es
-      ≡ (if small then kept_short (refused_or (if listed then Some list.ExistingRelease else None) (if listed then None else Some with_it)) else Err TooMany)
-  by_sizes small listed is there = ap (λ b. if b then kept_short (refused_or (refusal (unpacked r) es) (step (unpacked r) es)) else Err TooMany) is
-      ∙ ap (λ b. if small then kept_short (refused_or (if b then Some list.ExistingRelease else None) (if b then None else Some with_it)) else Err TooMany) there
+  by_sizes : (small listed different : Bool) → is_small p.release ≡ small → is_some (status_of p.release.vsn es) ≡ listed → is_some (first_different es p.libraries) ≡ different
+      → commanded (unpacked p) es
+      ≡ (if small then kept_short (refused_or (if listed then Some list.ExistingRelease else if different then Some list.LibDiffers else None) (if listed || different then None else Some with_it)) else Err TooMany)
+  by_sizes small listed different is there differ =
+      ap (λ b. if b then kept_short (refused_or (refusal (unpacked p) es) (step (unpacked p) es)) else Err TooMany) is
+      ∙ ap (λ b. if small then kept_short (refused_or (if b then Some list.ExistingRelease else if is_some (first_different es p.libraries) then Some list.LibDiffers else None) (if b || is_some (first_different es p.libraries) then None else Some with_it)) else Err TooMany) there
+      ∙ ap (λ b. if small then kept_short (refused_or (if listed then Some list.ExistingRelease else if b then Some list.LibDiffers else None) (if listed || b then None else Some with_it)) else Err TooMany) differ
 
-  module _ (small : is_small r ≡ true) where
+  module _ (small : is_small p.release ≡ true) where
     -- one that is there
-    pub there_already : is_some (status_of r.vsn es) ≡ true → commanded (unpacked r) es ≡ Err ExistingRelease
-    there_already listed = by_sizes true true small listed
+    pub there_already : is_some (status_of p.release.vsn es) ≡ true → commanded (unpacked p) es ≡ Err ExistingRelease
+    there_already listed = by_sizes true true (is_some (first_different es p.libraries)) small listed refl
 
-    module _ (fresh : is_some (status_of r.vsn es) ≡ false) where
-      pushed : commanded (unpacked r) es ≡ kept_short (Ok with_it)
-      pushed = by_sizes true false small fresh
+    module _ (fresh : is_some (status_of p.release.vsn es) ≡ false) (agree : is_some (first_different es p.libraries) ≡ false) where
+      pushed : commanded (unpacked p) es ≡ kept_short (Ok with_it)
+      pushed = by_sizes true false false small fresh agree
 
       -- one too many
-      pub one_too_many : 32 ≤ length es → commanded (unpacked r) es ≡ Err TooMany
+      pub one_too_many : 32 ≤ length es → commanded (unpacked p) es ≡ Err TooMany
       one_too_many many = pushed ∙ ap (λ b. if b then Ok with_it else Err TooMany) long
         where
           long : nat_le (length with_it) most_releases ≡ false
-          long = grind (arith, nat_tests, length-append es (entry r Unpacked ∷ []))
+          long = grind (arith, nat_tests, length-append es (entry p Unpacked ∷ []))
 
       -- one that comes in
-      pub comes_in : length es < 32 → commanded (unpacked r) es ≡ Ok with_it
+      pub comes_in : length es < 32 → commanded (unpacked p) es ≡ Ok with_it
       comes_in few = pushed ∙ ap (λ b. if b then Ok with_it else Err TooMany) short
         where
           short : nat_le (length with_it) most_releases ≡ true
-          short = grind (arith, nat_tests, length-append es (entry r Unpacked ∷ []))
+          short = grind (arith, nat_tests, length-append es (entry p Unpacked ∷ []))
 
 -- a refusal by the list and its limits
 abbrev pub IsListRefusal : HandlerError → Type 0
@@ -184,6 +186,7 @@ IsListRefusal e = Unit {0}
 of_list_error : (why : ListError) → IsListRefusal (list_refusal why)
 of_list_error list.NoSuchRelease = tt
 of_list_error list.ExistingRelease = tt
+of_list_error list.LibDiffers = tt
 of_list_error list.AlreadyInstalled = tt
 of_list_error (list.BadStatus s) = tt
 of_list_error list.Permanent = tt
@@ -214,8 +217,8 @@ of_small false x is = tt
 
 -- what a list answers to the event of a command is such an answer
 pub of_command : (e : Event) (es : Releases) → IsListAnswer (commanded e es)
-of_command (made r) es = of_small (is_small r) _ (of_refused_or (refusal (made r) es) (step (made r) es))
-of_command (unpacked r) es = of_small (is_small r) _ (of_short _ (of_refused_or (refusal (unpacked r) es) (step (unpacked r) es)))
+of_command (made p) es = of_small (is_small p.release) _ (of_refused_or (refusal (made p) es) (step (made p) es))
+of_command (unpacked p) es = of_small (is_small p.release) _ (of_short _ (of_refused_or (refusal (unpacked p) es) (step (unpacked p) es)))
 of_command (installed v) es = of_refused_or (refusal (installed v) es) (step (installed v) es)
 of_command (made_permanent v) es = of_refused_or (refusal (made_permanent v) es) (step (made_permanent v) es)
 of_command (removed v) es = of_refused_or (refusal (removed v) es) (step (removed v) es)
@@ -223,14 +226,14 @@ of_command (reboot_old v) es = of_refused_or (refusal (reboot_old v) es) (step (
 of_command boot es = of_refused_or (refusal boot es) (step boot es)
 
 -- A further release is refused by the list or its limits, and nothing changed.
-pub refused_by_list : {D : Type 0} (failures : D → ℕ) (h : Handler D) (r : Release) (size : ℕ) (why : HandlerError) → is_dead h ≡ false → commanded (unpacked r) (list_in h) ≡ Err why
-    → CommandRefused failures (unpacked r) size h h why
-refused_by_list failures h r size why alive barred = by_why why (subst IsListAnswer barred (of_command (unpacked r) (list_in h))) barred
+pub refused_by_list : {D : Type 0} (failures : D → ℕ) (h : Handler D) (p : Bundle) (size : ℕ) (why : HandlerError) → is_dead h ≡ false → commanded (unpacked p) (list_in h) ≡ Err why
+    → CommandRefused failures (unpacked p) size h h why
+refused_by_list failures h p size why alive barred = by_why why (subst IsListAnswer barred (of_command (unpacked p) (list_in h))) barred
   where
     same : IsSame h h
     same = record { disk = refl; list = refl; dead = refl; end = refl }
 
-    by_why : (why : HandlerError) → IsListRefusal why → commanded (unpacked r) (list_in h) ≡ Err why → CommandRefused failures (unpacked r) size h h why
+    by_why : (why : HandlerError) → IsListRefusal why → commanded (unpacked p) (list_in h) ≡ Err why → CommandRefused failures (unpacked p) size h h why
     by_why told.Dead of barred = absurd of
     by_why told.Full of barred = absurd of
     by_why told.Device of barred = absurd of

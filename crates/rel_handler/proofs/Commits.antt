@@ -2,18 +2,21 @@
 use Rattle.std.proofs.Common.{◌≡◌, ◌⊎◌, inl, inr, ⊎_elim, ℕ, ◌+◌, ◌≤◌, true, false, List, [], ◌∷◌, ◌++◌, length, Some, Result, Ok, Err, true≢false, refl, sym, ap, ◌∙◌, subst, arith}
 use Rattle.std.proofs.lemmas.Bool.{cases_lt}
 use Rattle.std.specs.Prelude.{is_err, IfErr, IsErr, IsErrAnd, OnOk}
+use Rattle.std.specs.List.{AllByRecursion}
 use Rattle.rel_disk.specs.declared.disk.Disk.{Ghosts}
 use Rattle.rel_disk.specs.Moments.{LeavesOnly, HasFailed}
 use Rattle.rel_disk.proofs.Moments.{started, joined, weakened, both}
 use Rattle.rel_files.specs.Release.{Release}
-use Rattle.rel_list.specs.Releases.{Releases, permanent}
+use Rattle.library.specs.Library.{IsLibrary}
+use Rattle.rel_list.specs.Releases.{Bundle, Releases, permanent}
 use Rattle.rel_list.specs.Event.{Event, booted, step, list_after}
 use Rattle.rel_list.specs.Event.Event.{unpacked}
-use Rattle.rel_records.specs.Lists.{Makes, HaveVersions}
+use Rattle.rel_list.proofs.LibraryLaws.{libraries-booted}
+use Rattle.rel_records.specs.Lists.{Makes, HaveVersions, HaveLibraries}
 use Rattle.rel_records.specs.Reading.{Spells}
-use Rattle.rel_records.specs.Record.{adds}
+use Rattle.rel_records.specs.Writing.{record_of, IsComplete}
 use Rattle.rel_records.proofs.EventRecords.{unpacked_tells}
-use Rattle.rel_records.proofs.RecordLaws.{make_versions}
+use Rattle.rel_records.proofs.RecordLaws.{make_libraries, make_versions}
 use Rattle.rel_store.specs.Contents.{HasOnlyRead}
 use Rattle.rel_store.specs.Changed.{LeavesOthers, IsInRecord, IsInOtherSlot}
 use Rattle.rel_store.specs.Layout.{slot_with, base_of}
@@ -65,11 +68,15 @@ versions-booted (e ∷ es) all = (all.0, versions-booted es all.1)
 pub have_versions : (bodies : List (List ℕ)) (es : Releases) → Makes bodies (booted es) → HaveVersions es
 have_versions bodies es makes_it = versions-booted es (make_versions bodies (booted es) makes_it)
 
+-- and so are its libraries ones
+pub have_libraries : (bodies : List (List ℕ)) (es : Releases) → Makes bodies (booted es) → HaveLibraries es
+have_libraries bodies es makes_it = subst (AllByRecursion IsLibrary) (libraries-booted es) (make_libraries bodies (booted es) makes_it)
+
 -- the record of a release that may come in
-pub unpacked_told : (r : Release) (es next : Releases) (body : List ℕ) → Spells body (adds r) → commanded (unpacked r) es ≡ Ok next → IsRecordFor body (unpacked r) es
-unpacked_told r es next body spelled is =
-    let (small, few) = small_and_few r es next is in
-    record { spells = spelled; tells = unpacked_tells r es small few }
+pub unpacked_told : (p : Bundle) (es next : Releases) (body : List ℕ) → Spells body (record_of (unpacked p) es) → HaveLibraries es → IsComplete p → commanded (unpacked p) es ≡ Ok next → IsRecordFor body (unpacked p) es
+unpacked_told p es next body spelled have complete is =
+    let (small, few) = small_and_few p es next is in
+    record { spells = spelled; tells = unpacked_tells p es have (small, few, complete) }
 
 -- an append that fails where there is room failed by the device
 pub failed_so : {D : Type 0} (failures : D → ℕ) (old new : Store D) (n : ℕ) (r : Result (Unit {0}) StoreError) → true ≡ is_err r

@@ -1,4 +1,4 @@
--- What is told of a release that brings no libraries.
+-- What is told of a release that is refused for its applications.
 use Rattle.std.proofs.Common.{inl, inr, ℕ, List, [], Ok, sym, subst}
 use Rattle.rel_disk.specs.declared.disk.Disk.{Ghosts}
 use Rattle.rel_disk.proofs.Moments.{weakened}
@@ -8,10 +8,10 @@ use Rattle.rel_store.specs.Moments.{IsTornFrom}
 use Rattle.rel_unpack.specs.Source.{Source}
 use Rattle.rel_unpack.specs.Unpacking.{Brought}
 use Rattle.rel_handler.specs.Events.{Known, doubted}
-use Rattle.rel_handler.specs.Files.{made_size}
+use Rattle.rel_handler.specs.Files.{bundle_brought, made_size}
 use Rattle.rel_handler.specs.Moments.{Begins, WritesNothing}
 use Rattle.rel_handler.specs.Refusals.{MakingRefused}
-use Rattle.rel_handler.specs.Unpacking.{Brings, IsExistingOr, IsOfLibraries, CreationRefused}
+use Rattle.rel_handler.specs.Unpacking.{Brings, IsExistingOr, IsToldAs, CreationRefused}
 use Rattle.rel_handler.specs.declared.error.HandlerError.{HandlerError}
 
 module _ {D : Type 0} (v : Ghosts D) (old now : D) (read : HasOnlyRead v.seen v.may_leave v.moment v.left_since old now) where
@@ -23,21 +23,21 @@ module _ {D : Type 0} (v : Ghosts D) (old now : D) (read : HasOnlyRead v.seen v.
   not_begun k = inl (weakened v.moment v.left_since old now (v.may_leave old) (IsTornFrom (v.may_leave old) 0 1) (λ c left. inl left) read.any_moment)
 
   -- so no node was made
-  pub not_made_of : (source : Source) (path : List ℕ) (b : Brought) → Brings source path (Ok b) → (why e : HandlerError) → IsOfLibraries b why
+  pub not_made_of : (source : Source) (path : List ℕ) (b : Brought) → Brings source path (Ok b) → (why e : HandlerError) → IsToldAs b.refusal why
       → IsExistingOr why (v.seen old) (v.failures old) (v.failures now) e → CreationRefused v source path old now e
   not_made_of source path b brings why e of (inl (is, there)) = inr (inr (record {
     brought = b;
     read = brings;
-    libraries = λ other works. absurd (other is);
-    any_moment = not_begun (doubted [] (made b.found.release));
-    refused = subst (MakingRefused (v.seen old) (made_size b.found) (v.failures old) (v.failures now) (WritesNothing v.seen v.may_leave v.moment v.left_since old now)) (sym is) (there, read_alone);
+    clear = λ other works. absurd (other is);
+    any_moment = not_begun (doubted [] (made (bundle_brought b)));
+    refused = subst (MakingRefused (v.seen old) (made_size b) (v.failures old) (v.failures now) (WritesNothing v.seen v.may_leave v.moment v.left_since old now)) (sym is) (there, read_alone);
   }))
   not_made_of source path b brings why e of (inr (inl (is, failed))) = inr (inr (record {
     brought = b;
     read = brings;
-    libraries = λ other works. absurd (works is);
-    any_moment = not_begun (doubted [] (made b.found.release));
-    refused = subst (MakingRefused (v.seen old) (made_size b.found) (v.failures old) (v.failures now) (WritesNothing v.seen v.may_leave v.moment v.left_since old now)) (sym is) failed;
+    clear = λ other works. absurd (works is);
+    any_moment = not_begun (doubted [] (made (bundle_brought b)));
+    refused = subst (MakingRefused (v.seen old) (made_size b) (v.failures old) (v.failures now) (WritesNothing v.seen v.may_leave v.moment v.left_since old now)) (sym is) failed;
   }))
   not_made_of source path b brings why e of (inr (inr (is, free))) =
-      inr (inl (record { brought = b; read = brings; free = free; of_libraries = subst (IsOfLibraries b) (sym is) of; unwritten = read_alone }))
+      inr (inl (record { brought = b; read = brings; free = free; barred = subst (IsToldAs b.refusal) (sym is) of; unwritten = read_alone }))

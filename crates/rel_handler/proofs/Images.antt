@@ -1,19 +1,17 @@
 -- Which lists the images of a disk stand for.
-use Rattle.std.proofs.Common.{◌≡◌, ◌⊎◌, inl, inr, ⊎_elim, ℕ, ◌+◌, length, arith, Bool, true, false, List, [], ◌∷◌, ◌++◌, Some, None, Ok, refl, sym, ap, ◌∙◌, subst}
+use Rattle.std.proofs.Common.{◌≡◌, ◌⊎◌, inl, inr, ⊎_elim, ℕ, ◌+◌, length, arith, Bool, true, false, List, [], ◌∷◌, ◌++◌, Some, Ok, refl, sym, ap, ◌∙◌, subst}
 use Rattle.std.specs.Prelude.{is_some, if◌then◌else◌}
 use Rattle.std.proofs.lemmas.List.{append-nil}
 use Rattle.rel_files.specs.File.{HasVersions}
 use Rattle.rel_files.specs.Release.{Release}
 use Rattle.rel_list.specs.declared.status.Status.TheVariants.{Permanent}
-use Rattle.rel_list.specs.Releases.{Releases, permanent}
+use Rattle.rel_list.specs.Releases.{Bundle, Releases, permanent}
 use Rattle.rel_list.specs.Event.{Event, entry, booted, step, list_after}
 use Rattle.rel_list.specs.Event.Event.{made, boot}
-use Rattle.rel_records.specs.Limits.{is_small}
-use Rattle.rel_records.specs.Lists.{with_one_permanent, assigned, MakesFrom, Makes}
+use Rattle.rel_records.specs.Lists.{assigned, MakesFrom, Makes}
 use Rattle.rel_records.specs.Reading.{Spells}
-use Rattle.rel_records.specs.Record.{makes}
-use Rattle.rel_records.specs.Writing.{record_of}
-use Rattle.rel_records.proofs.EventRecords.{one-booted}
+use Rattle.rel_records.specs.Writing.{record_of, IsWithinLimits}
+use Rattle.rel_records.proofs.EventRecords.{one-booted, tells}
 use Rattle.rel_records.proofs.ListLemmas.{makes-push, makes_once}
 use Rattle.rel_records.proofs.RecordPlaces.{one_behind}
 use Rattle.rel_store.specs.Creation.{IsNoneOrNew}
@@ -115,11 +113,9 @@ while_committing e es next bodies body text events makes_it told is after base e
     }) (inl (started_by es es old c refl (stands.start ∙ sym slot) started))
 
 -- the first record makes the list of its release
-pub first_record : (r : Release) (body : List ℕ) → is_small r ≡ true → Spells body (makes r) → Makes (body ∷ []) (booted (entry r Permanent ∷ []))
-first_record r body small spelled = ((makes r, entry r Permanent ∷ [], spelled, there, refl), refl)
-  where
-    there : assigned (makes r) [] ≡ Some (entry r Permanent ∷ [])
-    there = ap (λ b. with_one_permanent (if b then step (made r) [] else None)) small
+pub first_record : (p : Bundle) (body : List ℕ) → IsWithinLimits (made p) [] → Spells body (record_of (made p) []) → Makes (body ∷ []) (booted (entry p Permanent ∷ []))
+first_record p body fits spelled =
+    ((record_of (made p) [], entry p Permanent ∷ [], spelled, tells (made p) [] (entry p Permanent ∷ []) tt tt refl fits refl, refl), refl)
 
 -- A start slot with the text of a release's start is that release's start record.
 pub started_by_text : (es : Releases) (r : Release) (versions : Versions) (c : List ℕ) → AreVersions versions → versions ≡ started r → permanent es ≡ Some r → start_slot c ≡ slot_with (text_of_start versions) → IsStarted es c
@@ -127,17 +123,18 @@ started_by_text es r versions c are of listed slot =
     record { release = r; listed = listed; spells = subst (λ w. SpellsStart (start_slot c) w) of (subst (λ l. SpellsStart l versions) (sym slot) (reads_back versions are)) }
 
 -- and so it is in a new node
-pub started_new : (r : Release) (start c : List ℕ) → HasVersions r → start ≡ start_text r → start_slot c ≡ slot_with start → IsStarted (entry r Permanent ∷ []) c
-started_new r start c versions is slot = started_by_text (entry r Permanent ∷ []) r (started r) c (versions.erts, versions.own) refl refl (slot ∙ ap slot_with is)
+pub started_new : (p : Bundle) (start c : List ℕ) → HasVersions p.release → start ≡ start_text p.release → start_slot c ≡ slot_with start → IsStarted (entry p Permanent ∷ []) c
+started_new p start c versions is slot =
+    started_by_text (entry p Permanent ∷ []) p.release (started p.release) c (versions.erts, versions.own) refl refl (slot ∙ ap slot_with is)
 
 -- A creation leaves no store or one of a prefix.
-pub while_creating : (r : Release) (body start : List ℕ) → is_small r ≡ true → HasVersions r → start ≡ start_text r → Spells body (makes r) → (c : List ℕ) → IsNoneOrNew body start c → IsNoneOrOfPrefix (doubted [] (made r)) c
+pub while_creating : (p : Bundle) (body start : List ℕ) → IsWithinLimits (made p) [] → HasVersions p.release → start ≡ start_text p.release → Spells body (record_of (made p) []) → (c : List ℕ) → IsNoneOrNew body start c → IsNoneOrOfPrefix (doubted [] (made p)) c
 unfolding as_after
-while_creating r body start small versions is spelled c (inl none) = inl none
-while_creating r body start small versions is spelled c (inr stands) =
+while_creating p body start fits versions is spelled c (inl none) = inl none
+while_creating p body start fits versions is spelled c (inr stands) =
     inr (
-      as_after [] (made r) [] (entry r Permanent ∷ []) c refl refl (record { bodies = body ∷ []; store = stands.records; list = first_record r body small spelled }),
-      inl (entry r Permanent ∷ [], refl, started_new r start c versions is stands.start),
+      as_after [] (made p) [] (entry p Permanent ∷ []) c refl refl (record { bodies = body ∷ []; store = stands.records; list = first_record p body fits spelled }),
+      inl (entry p Permanent ∷ [], refl, started_new p start c versions is stands.start),
     )
 
 -- bytes that stand for a list hold a store

@@ -13,10 +13,12 @@ use Rattle.rel_records.specs.Writing.{record_of}
 use Rattle.rel_handler.specs.declared.error.HandlerError.{HandlerError}
 use Rattle.rel_handler.specs.declared.error.HandlerError.TheVariants.{NoSuchRelease, ExistingRelease, AlreadyInstalled, BadStatus, Permanent, Running, TooMany, NoMemory}
 
--- what a node answers for a refusal of its list
+-- What a node answers for a refusal of its list. Libraries that differ are told before, with the files of the release
+-- (`files_refusal`), so NoMemory stands for nothing there.
 abbrev pub list_refusal : ListError → HandlerError
 list_refusal list.NoSuchRelease = NoSuchRelease
 list_refusal list.ExistingRelease = ExistingRelease
+list_refusal list.LibDiffers = NoMemory
 list_refusal list.AlreadyInstalled = AlreadyInstalled
 list_refusal (list.BadStatus s) = BadStatus s
 list_refusal list.Permanent = Permanent
@@ -37,8 +39,9 @@ kept_short (Err why) = Err why
 -- What the event of a command makes of the list. Refused in this order: a release with too many applications, what the
 -- list doesn't allow, one release too many.
 abbrev pub commanded : Event → Releases → Result Releases HandlerError
-commanded (made r) es = if is_small r then refused_or (refusal (made r) es) (step (made r) es) else Err TooMany
-commanded (unpacked r) es = if is_small r then kept_short (refused_or (refusal (unpacked r) es) (step (unpacked r) es)) else Err TooMany
+commanded (made p) es = if is_small p.release then refused_or (refusal (made p) es) (step (made p) es) else Err TooMany
+commanded (unpacked p) es =
+    if is_small p.release then kept_short (refused_or (refusal (unpacked p) es) (step (unpacked p) es)) else Err TooMany
 commanded e es = refused_or (refusal e es) (step e es)
 
 -- How many bytes the body of the record has of an event that brings no release; so any term stands for its release's.

@@ -1,21 +1,22 @@
 -- A release is taken from the file of a path: into a node, or as the first one of a new node.
 use Rattle.std.specs.Prelude.{◌≡◌, ◌≢◌, ◌⊎◌, ℕ, List, [], ◌∷◌, true, false, is_some, if◌then◌else◌, Option, None, Some, Result, Ok, Err}
+use Rattle.std.specs.Option.{option_map, option_or}
 use Rattle.rel_disk.specs.declared.disk.Disk.{Ghosts}
 use Rattle.rel_disk.specs.Moments.{HasFailed}
 use Rattle.rel_list.specs.declared.status.Status.TheVariants.{Permanent}
 use Rattle.library.specs.Library.{Library}
-use Rattle.rel_list.specs.Releases.{Releases, entry, status_of}
+use Rattle.rel_list.specs.Releases.{Releases, entry, first_different, status_of}
 use Rattle.rel_list.specs.Event.Event.{made, unpacked}
 use Rattle.rel_store.specs.Layout.{slot_with}
 use Rattle.rel_unpack.specs.declared.error.UnpackError.{UnpackError}
 use Rattle.rel_unpack.specs.declared.error.UnpackError.TheVariants as files
-use Rattle.rel_unpack.specs.Applications.{Shelf}
 use Rattle.rel_unpack.specs.Refusal.{Refusal, refusal_of}
+use Rattle.rel_unpack.specs.Refusal.Refusal.{lib_differs}
 use Rattle.rel_unpack.specs.Source.{Source}
 use Rattle.rel_unpack.specs.Unpacking.{Brought, BroughtAt}
 use Rattle.rel_handler.specs.Commits.{Commits, IsDone}
 use Rattle.rel_handler.specs.Events.{doubted}
-use Rattle.rel_handler.specs.Files.{made_size, start_text, unpacked_size}
+use Rattle.rel_handler.specs.Files.{bundle_brought, made_size, start_text, unpacked_size}
 use Rattle.rel_handler.specs.Image.{IsImageAt, end_behind, first_end, holds_a_store, HasSpace}
 use Rattle.rel_handler.specs.Moments.{Begins, BeginsAt, WritesNothing}
 use Rattle.rel_handler.specs.Refusals.{CommandRefused, MakingRefused}
@@ -34,13 +35,9 @@ told_files (files.NoTable name) = NoTable name
 told_files files.TooMany = TooMany
 told_files files.NoMemory = NoMemory
 
--- the libraries that are there, which a release's own have to be the same as: a node keeps none yet
-abbrev pub none_there : Shelf
-none_there name vsn = None
-
 -- what the path of a release brings to a node
 abbrev pub Brings : Source → List ℕ → Result Brought Refusal → Type 0
-Brings source path = BroughtAt source none_there path
+Brings source path = BroughtAt source path
 
 -- The release's file is why: of this path it gives that refusal and no release, or memory was refused in reading.
 pub record IsOfFiles (source : Source) (path : List ℕ) (e : HandlerError) : Type 0 where
@@ -48,33 +45,29 @@ pub record IsOfFiles (source : Source) (path : List ℕ) (e : HandlerError) : Ty
   pub told : e ≡ told_files error
   pub read : error ≢ files.NoMemory → Brings source path (Err (refusal_of error))
 
--- It brings its libraries.
-abbrev pub HasLibraries : Brought → Type 0
-HasLibraries b = (ls : List Library) × (b.libraries ≡ Ok ls)
-
--- The files of its applications give none, and that is why: this is their first refusal.
-pub record IsOfLibraries (b : Brought) (e : HandlerError) : Type 0 where
+-- This refusal of a release for its applications is told so.
+pub record IsToldAs (refusal : Option Refusal) (e : HandlerError) : Type 0 where
   pub error : UnpackError
   pub told : e ≡ told_files error
-  pub refused : b.libraries ≡ Err (refusal_of error)
+  pub refused : refusal ≡ Some (refusal_of error)
 
--- why libraries aren't brought
-abbrev pub libraries_refusal : Result (List Library) Refusal → Option Refusal
-libraries_refusal (Ok ls) = None
-libraries_refusal (Err why) = Some why
+-- the first of these libraries that differs from the list's
+abbrev pub difference : List Library → Releases → Option Refusal
+difference ls es = option_map (λ (l : Library). lib_differs l.app.name) (first_different es ls)
 
--- Why a node with this list doesn't take what is brought, for the files of its applications; a version that is listed is
--- refused before.
+-- Why a node with this list doesn't take what is brought, for its applications: a library that was read differs from the
+-- list's, or the refusal behind it. A version that is listed is refused before.
 abbrev pub files_refusal : Brought → Releases → Option Refusal
-files_refusal b es = if is_some (status_of b.found.release.vsn es) then None else libraries_refusal b.libraries
+files_refusal b es =
+    if is_some (status_of b.found.release.vsn es) then None else option_or (difference b.libraries es) b.refusal
 
 -- What the path brings was taken in, and this is its version.
 pub record IsUnpacked {D : Type 0} (v : Ghosts D) (source : Source) (path : List ℕ) (old new : Handler D) (vsn : List ℕ) : Type 0 where
   pub brought : Brought
   pub read : Brings source path (Ok brought)
-  pub libraries : HasLibraries brought
-  pub commits : Commits v (unpacked brought.found.release) (unpacked_size brought.found) old new
-  pub done : IsDone v (unpacked brought.found.release) (unpacked_size brought.found) old new
+  pub free : files_refusal brought (list_in old) ≡ None
+  pub commits : Commits v (unpacked (bundle_brought brought)) (unpacked_size brought (list_in old)) old new
+  pub done : IsDone v (unpacked (bundle_brought brought)) (unpacked_size brought (list_in old)) old new
   pub works : is_dead new ≡ false
   pub start : start_in v.seen new ≡ start_in v.seen old
   pub version : vsn ≡ brought.found.release.vsn
@@ -85,7 +78,7 @@ pub record IsBarred {D : Type 0} (source : Source) (path : List ℕ) (old new : 
   pub read : Brings source path (Ok brought)
   pub alive : is_dead old ≡ false
   pub fresh : status_of brought.found.release.vsn (list_in old) ≡ None
-  pub of_libraries : IsOfLibraries brought e
+  pub barred : IsToldAs (files_refusal brought (list_in old)) e
   pub same : IsSame old new
 
 -- Its files are not why, and its event was not acknowledged.
@@ -93,8 +86,8 @@ pub record IsNotUnpacked {D : Type 0} (v : Ghosts D) (source : Source) (path : L
   pub brought : Brought
   pub read : Brings source path (Ok brought)
   pub free : files_refusal brought (list_in old) ≡ None
-  pub commits : Commits v (unpacked brought.found.release) (unpacked_size brought.found) old new
-  pub refused : CommandRefused v.failures (unpacked brought.found.release) (unpacked_size brought.found) old new e
+  pub commits : Commits v (unpacked (bundle_brought brought)) (unpacked_size brought (list_in old)) old new
+  pub refused : CommandRefused v.failures (unpacked (bundle_brought brought)) (unpacked_size brought (list_in old)) old new e
 
 -- Why no release of the path was taken in: the handler was dead; its file; the files of its applications; or the node.
 abbrev pub UnpackingRefused : {D : Type 0} → Ghosts D → Source → List ℕ → Handler D → Handler D → HandlerError → Type 0
@@ -108,14 +101,14 @@ UnpackingRefused v source path old new e =
 pub record IsMade {D : Type 0} (v : Ghosts D) (source : Source) (path : List ℕ) (disk : D) (handler : Handler D) : Type 0 where
   pub brought : Brought
   pub read : Brings source path (Ok brought)
-  pub libraries : HasLibraries brought
-  pub list : list_in handler ≡ entry brought.found.release Permanent ∷ []
+  pub free : brought.refusal ≡ None
+  pub list : list_in handler ≡ entry (bundle_brought brought) Permanent ∷ []
   pub acknowledged : (c : List ℕ) → v.may_leave (disk_in handler) c → IsImageAt c (list_in handler) (end_in handler)
   pub start : start_in v.seen handler ≡ slot_with (start_text brought.found.release)
-  pub fits : HasSpace first_end (made_size brought.found)
-  pub end : end_in handler ≡ end_behind first_end (made_size brought.found)
+  pub fits : HasSpace first_end (made_size brought)
+  pub end : end_in handler ≡ end_behind first_end (made_size brought)
   pub synced : D
-  pub begun : BeginsAt v.seen v.may_leave v.moment v.left_since (doubted [] (made brought.found.release)) disk (disk_in handler) synced
+  pub begun : BeginsAt v.seen v.may_leave v.moment v.left_since (doubted [] (made (bundle_brought brought))) disk (disk_in handler) synced
 
 -- The disk holds no store, and the files of its applications are why no node was made with what the path brings. Nothing was
 -- written.
@@ -123,18 +116,18 @@ pub record IsNotBegun {D : Type 0} (v : Ghosts D) (source : Source) (path : List
   pub brought : Brought
   pub read : Brings source path (Ok brought)
   pub free : holds_a_store (v.seen disk) ≡ false
-  pub of_libraries : IsOfLibraries brought e
+  pub barred : IsToldAs brought.refusal e
   pub unwritten : WritesNothing v.seen v.may_leave v.moment v.left_since disk now
 
--- No node was made with what the path brings. But for a store on the disk and a device that failed, it brings its libraries. A
--- crash at any moment from the first sync on, if there was one, leaves no store, or one that stands for the list with the
+-- No node was made with what the path brings. But for a store on the disk and a device that failed, its applications are not
+-- why. A crash at any moment from the first sync on, if there was one, leaves no store, or one that stands for the list with the
 -- release.
 pub record IsNotMade {D : Type 0} (v : Ghosts D) (source : Source) (path : List ℕ) (disk now : D) (e : HandlerError) : Type 0 where
   pub brought : Brought
   pub read : Brings source path (Ok brought)
-  pub libraries : e ≢ Exists → e ≢ Device → HasLibraries brought
-  pub any_moment : Begins v.seen v.may_leave v.moment v.left_since (doubted [] (made brought.found.release)) disk now
-  pub refused : MakingRefused (v.seen disk) (made_size brought.found) (v.failures disk) (v.failures now) (WritesNothing v.seen v.may_leave v.moment v.left_since disk now) e
+  pub clear : e ≢ Exists → e ≢ Device → brought.refusal ≡ None
+  pub any_moment : Begins v.seen v.may_leave v.moment v.left_since (doubted [] (made (bundle_brought brought))) disk now
+  pub refused : MakingRefused (v.seen disk) (made_size brought) (v.failures disk) (v.failures now) (WritesNothing v.seen v.may_leave v.moment v.left_since disk now) e
 
 -- Why no node was made: the release's file or those of its applications, and then nothing was written; or the disk, the store
 -- or memory.

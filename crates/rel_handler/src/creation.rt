@@ -5,27 +5,28 @@ ghost use Rattle.rel_list.specs.Releases.{Releases, entry};
 ghost use Rattle.rel_list.specs.Event.Event.{made};
 ghost use Rattle.rel_records.specs.Limits.{is_small};
 ghost use Rattle.rel_records.specs.Reading.{Spells};
-ghost use Rattle.rel_records.specs.Record.{makes};
+ghost use Rattle.rel_records.specs.Writing.{record_of};
 ghost use Rattle.rel_store.specs.Contents.{HasOnlyRead};
 ghost use Rattle.rel_store.specs.Layout.{slot_with};
 ghost use Rattle.rel_handler.specs.Events.{doubted};
-ghost use Rattle.rel_handler.specs.Files.{IsRelFile, start_text, made_size};
+ghost use Rattle.rel_handler.specs.Files.{IsRelFile, IsWhole, bundle_brought, start_text, made_size};
 ghost use Rattle.rel_handler.specs.Image.{IsImageOf, IsImageAt, holds_a_store, end_behind, first_end, HasSpace};
 ghost use Rattle.rel_handler.specs.Moments.{Begins, BeginsAt, WritesNothing};
 ghost use Rattle.rel_handler.specs.Refusals.{MakingRefused, told_create, IsCreateError};
 ghost use Rattle.rel_handler.specs.State.{disk_in, disk_of, list_in, is_dead, end_in, start_in, IsSound};
 ghost use Rattle.rel_handler.specs.Unpacking.{IsExistingOr, IsMade, CreationRefused};
-ghost use Rattle.rel_unpack.specs.Release.{found_of};
+ghost use Rattle.rel_unpack.specs.Unpacking.{brought_of};
 ghost use Rattle.rel_list.specs.declared.status.Status.TheVariants.{Permanent};
 
-use crate::unpacking::{bring_release, with_libraries};
+use crate::unpacking::{bring_release, unless_refused};
 use crate::{Handler, HandlerError};
 use file_source::Files;
 use rel_disk::{DeviceFault, Disk};
-use rel_files::{Rel, RelFile};
-use rel_list::{Event, ReleaseList};
+use rel_files::Rel;
+use rel_list::{Bundle, Event, ReleaseList};
 use rel_records::made_body;
 use rel_store::{Store, StoreError, holds_a_store};
+use rel_unpack::ReleaseFiles;
 use std::alloc::{AllocError, Global};
 
 impl<D: Disk> Handler<D> {
@@ -60,8 +61,8 @@ impl<D: Disk> Handler<D> {
             Ok(brought) => brought,
             Err(error) => return Err((error, disk)),
         };
-        match with_libraries(brought) {
-            Ok(file) => Handler::make(alloc, disk, file),
+        match unless_refused(brought) {
+            Ok(brought) => Handler::make(alloc, disk, brought),
             Err(why) => {
                 let mut disk = disk;
                 let error = existing_or(&mut disk, why);
@@ -70,34 +71,35 @@ impl<D: Disk> Handler<D> {
         }
     }
 
-    // Makes it with the release of this file.
-    fn make(alloc: Global, disk: D, file: RelFile) -> Result<Handler<D>, (HandlerError, D)>
-        requires file { IsRelFile file }
-        requires small { is_small (release_of file.release) ≡ true }
+    // Makes it with what was brought.
+    fn make(alloc: Global, disk: D, brought: ReleaseFiles) -> Result<Handler<D>, (HandlerError, D)>
+        requires file { IsRelFile brought.file }
+        requires small { is_small (release_of brought.file.release) ≡ true }
+        requires whole { IsWhole (brought_of brought) }
         ensures sound { IfOk result (IsSound D.seen D.may_leave) }
         ensures works { IfOk result (λ handler. is_dead handler ≡ false) }
         ensures list { IfOk result (λ handler. list_in handler
-            ≡ entry (release_of file.release) Permanent ∷ []) }
+            ≡ entry (bundle_brought (brought_of brought)) Permanent ∷ []) }
         ensures acknowledged { IfOk result (λ handler. (c : List ℕ)
             → D.may_leave (disk_in handler) c → IsImageAt c (list_in handler) (end_in handler)) }
         ensures start { IfOk result (λ handler. start_in D.seen handler
-            ≡ slot_with (start_text (release_of file.release))) }
-        ensures fits { OnOk result (HasSpace first_end (made_size (found_of file))) }
+            ≡ slot_with (start_text (release_of brought.file.release))) }
+        ensures fits { OnOk result (HasSpace first_end (made_size (brought_of brought))) }
         ensures end { IfOk result (λ handler. end_in handler
-            ≡ end_behind first_end (made_size (found_of file))) }
+            ≡ end_behind first_end (made_size (brought_of brought))) }
         ensures any_moment { Begins D.seen D.may_leave D.moment D.left_since
-            (doubted [] (made (release_of file.release))) disk (disk_of result) }
+            (doubted [] (made (bundle_brought (brought_of brought)))) disk (disk_of result) }
         ensures begun { OnOk result ((at : D)
             × BeginsAt D.seen D.may_leave D.moment D.left_since
-            (doubted [] (made (release_of file.release))) disk (disk_of result) at) }
+            (doubted [] (made (bundle_brought (brought_of brought)))) disk (disk_of result) at) }
         ensures taken { holds_a_store (D.seen disk) ≡ true → IfErr result
             (λ e. WritesNothing D.seen D.may_leave D.moment D.left_since disk e.1) × IsErr result }
         ensures counted { D.failures disk ≤ D.failures (disk_of result) }
         ensures refused { IfErr result (λ e. MakingRefused (D.seen disk)
-            (made_size (found_of file)) (D.failures disk) (D.failures e.1)
+            (made_size (brought_of brought)) (D.failures disk) (D.failures e.1)
             (WritesNothing D.seen D.may_leave D.moment D.left_since disk e.1) e.0) }
     {
-        let Ok(new) = NewNode::of(alloc, file) else {
+        let Ok(new) = NewNode::of(alloc, brought) else {
             return Err((HandlerError::NoMemory, disk));
         };
         let NewNode { body, start, list } = new;
@@ -112,7 +114,8 @@ impl<D: Disk> Handler<D> {
     }
 }
 
-// Why no node is made of what brings no libraries, for this reason: a store on the disk is told before it.
+// Why no node is made with a release that is refused for its applications, for this reason: a store on the disk is told
+// before it.
 fn existing_or<D: Disk>(disk: &mut D, why: HandlerError) -> HandlerError
     ensures read { HasOnlyRead D.seen D.may_leave D.moment D.left_since disk.old disk.new }
     ensures counted { D.failures disk.old ≤ D.failures disk.new }
@@ -136,21 +139,28 @@ struct NewNode {
 
 impl NewNode {
     // All of it, or nothing where memory is refused.
-    fn of(alloc: Global, file: RelFile) -> Result<NewNode, AllocError>
-        requires { IsRelFile file }
+    fn of(alloc: Global, brought: ReleaseFiles) -> Result<NewNode, AllocError>
+        requires file { IsRelFile brought.file }
+        requires whole { IsWhole (brought_of brought) }
         ensures body { IfOk result (λ new.
-            length (string_bytes new.body) ≡ made_size (found_of file)) }
-        ensures spells { IfOk result (λ new.
-            Spells (string_bytes new.body) (makes (release_of file.release))) }
+            length (string_bytes new.body) ≡ made_size (brought_of brought)) }
+        ensures spells { IfOk result (λ new. Spells (string_bytes new.body)
+            (record_of (made (bundle_brought (brought_of brought))) [])) }
         ensures start { IfOk result (λ new. string_bytes new.start
-            ≡ start_text (release_of file.release)) }
+            ≡ start_text (release_of brought.file.release)) }
         ensures list { IfOk result (λ new.
-            new.list ≡ entry (release_of file.release) Permanent ∷ []) }
+            new.list ≡ entry (bundle_brought (brought_of brought)) Permanent ∷ []) }
     {
+        let ReleaseFiles { file, applications } = brought;
+        let libraries = applications.libraries;
         let start = start_text(alloc, &file.release)?;
-        let body = made_body(alloc, file.term)?;
+        let body = made_body(alloc, file.term, libraries.as_slice())?;
         let mut list = ReleaseList::new(alloc);
-        if list.accept(alloc, Event::Made(file.release)).is_err() {
+        let bundle = Bundle {
+            release: file.release,
+            libraries,
+        };
+        if list.accept(alloc, Event::Made(bundle)).is_err() {
             return Err(AllocError);
         }
         Ok(NewNode { body, start, list })

@@ -81,7 +81,8 @@ impl From<ListError> for HandlerError {
             ListError::BadStatus(status) => HandlerError::BadStatus(status),
             ListError::Permanent => HandlerError::Permanent,
             ListError::Running => HandlerError::Running,
-            ListError::NoMemory => HandlerError::NoMemory,
+            // Libraries that differ are asked before the event is, and told by name.
+            ListError::LibDiffers | ListError::NoMemory => HandlerError::NoMemory,
         }
     }
 }

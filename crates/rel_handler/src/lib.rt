@@ -13,7 +13,8 @@
 //! A release comes from the file of a path and the files of its applications, in a source of files: `create` and
 //! `set_unpacked` take what `rel_unpack` says that the path brings (`IsMade`, `IsUnpacked`). They are refused for the
 //! release's own file first (`IsOfFiles`), for its applications where the node would take it (`IsNotBegun`, `IsBarred`). The
-//! libraries of the applications are tested, and not kept: no record carries them, and no release is compared with others.
+//! list keeps the libraries of each release. Its record carries those that are new, and a boot gives the list its libraries back
+//! from the records.
 //!
 //! The start record is that of the permanent release between two calls of a handler that isn't dead (`HasStarted`), and at
 //! each moment that, or the one of the release that was permanent before the last event of the prefix (`HasStart`): a boot

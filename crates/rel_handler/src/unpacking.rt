@@ -2,33 +2,31 @@
 ghost use Rattle.std.specs.Prelude.{◌≡◌, true, false, string_bytes, None, Ok, Err, IfOk, IfErr, OnOk, MatchOption};
 ghost use Rattle.rel_files.specs.Release.{release_of};
 ghost use Rattle.rel_list.specs.Event.Event.{unpacked};
-ghost use Rattle.rel_list.specs.Releases.{Releases, status_of};
+ghost use Rattle.rel_list.specs.Releases.{Releases, first_different, status_of};
 ghost use Rattle.rel_records.specs.Limits.{is_small};
-ghost use Rattle.rel_unpack.specs.Release.{found_of};
-ghost use Rattle.rel_unpack.specs.Unpacking.{brought_of};
+ghost use Rattle.rel_unpack.specs.Unpacking.{brought_of, libraries_of, refusal_in};
 ghost use Rattle.rel_handler.specs.Commits.{Commits, IsDone};
-ghost use Rattle.rel_handler.specs.Files.{IsRelFile, unpacked_size};
+ghost use Rattle.rel_handler.specs.Files.{IsRelFile, IsWhole, bundle_brought, unpacked_size};
 ghost use Rattle.rel_handler.specs.Refusals.{CommandRefused};
 ghost use Rattle.rel_handler.specs.State.{is_dead, list_in, start_in, IsSound};
 ghost use Rattle.rel_handler.specs.Taking.{commanded};
-ghost use Rattle.rel_handler.specs.Unpacking.{Brings, HasLibraries, IsOfFiles, IsOfLibraries, IsUnpacked, UnpackingRefused};
+ghost use Rattle.rel_handler.specs.Unpacking.{Brings, IsOfFiles, IsToldAs, IsUnpacked, UnpackingRefused};
 
 use crate::{Handler, HandlerError};
 use file_source::Files;
-use library::Library;
 use rel_disk::Disk;
-use rel_files::{Rel, RelFile};
-use rel_list::{Event, ReleaseList};
+use rel_list::{Bundle, Event, ReleaseList};
 use rel_records::{MOST_RELEASES, unpacked_body};
-use rel_unpack::{Libraries, ReleaseFiles, unpack_release};
+use rel_unpack::{ApplicationFiles, ReleaseFiles, UnpackError, unpack_release};
 use std::alloc::Global;
 
 impl<D: Disk> Handler<D> {
     /// Takes in the release in the file of this path as unpacked, and answers its version. At `Ok` it is acknowledged.
     ///
     /// All files are read first. Refusals, in this order: `Dead`; `MissingFile`, `BadFile`, `TooMany` for the release's file
-    /// or its number of applications; `ExistingRelease`; `MissingFile`, `BadFile`, `VsnMismatch`, `NoTable`, `TooMany` for the
-    /// files of the applications; `TooMany` for the node's releases; `Full`. `NoMemory` may come in place of each but the
+    /// or its number of applications; `ExistingRelease`; application by application `MissingFile`, `BadFile`,
+    /// `VsnMismatch` for its files and `LibDiffers` for the list's library of its name and version; `BadFile`, `NoTable`,
+    /// `TooMany` for the release as a whole; `TooMany` for the node's releases; `Full`. `NoMemory` may come in place of each but the
     /// first. Nothing has changed then. `Device` comes only where the list allows the release and its record fits; then the
     /// handler is dead, and the disk stands for its list with the release or without.
     pub fn set_unpacked<F: Files>(
@@ -55,38 +53,53 @@ impl<D: Disk> Handler<D> {
         {
             return Err(HandlerError::ExistingRelease);
         }
-        let file = with_libraries(brought)?;
-        let vsn = String::from_str(alloc, file.release.vsn.as_str())?;
-        self.take_in(alloc, file)?;
+        let libraries = brought.applications.libraries.as_slice();
+        if let Some(library) = self.list.first_different(libraries) {
+            let name = String::from_str(alloc, library.app.name.as_str())?;
+            return Err(HandlerError::from(UnpackError::LibDiffers(name)));
+        }
+        let brought = unless_refused(brought)?;
+        let vsn = String::from_str(alloc, brought.file.release.vsn.as_str())?;
+        self.take_in(alloc, brought)?;
         Ok(vsn)
     }
 
-    // Takes in the release of this file, of a version that isn't listed.
-    fn take_in(&mut self, alloc: Global, file: RelFile) -> Result<(), HandlerError>
+    // Takes in what was brought, of a version that isn't listed.
+    fn take_in(&mut self, alloc: Global, brought: ReleaseFiles) -> Result<(), HandlerError>
         requires sound { IsSound D.seen D.may_leave self.old }
         requires alive { is_dead self.old ≡ false }
-        requires file { IsRelFile file }
-        requires small { is_small (release_of file.release) ≡ true }
-        requires fresh { status_of (string_bytes file.release.vsn) (list_in self.old) ≡ None }
-        ensures commits { Commits D.Disk (unpacked (release_of file.release))
-            (unpacked_size (found_of file)) self.old self.new }
-        ensures done { OnOk result (IsDone D.Disk (unpacked (release_of file.release))
-            (unpacked_size (found_of file)) self.old self.new) }
+        requires file { IsRelFile brought.file }
+        requires small { is_small (release_of brought.file.release) ≡ true }
+        requires fresh { status_of (string_bytes brought.file.release.vsn) (list_in self.old)
+            ≡ None }
+        requires agree { first_different (list_in self.old) (libraries_of brought.applications)
+            ≡ None }
+        requires whole { IsWhole (brought_of brought) }
+        ensures commits { Commits D.Disk (unpacked (bundle_brought (brought_of brought)))
+            (unpacked_size (brought_of brought) (list_in self.old)) self.old self.new }
+        ensures done { OnOk result (IsDone D.Disk (unpacked (bundle_brought (brought_of brought)))
+            (unpacked_size (brought_of brought) (list_in self.old)) self.old self.new) }
         ensures works { OnOk result (is_dead self.new ≡ false) }
         ensures start { OnOk result (start_in D.seen self.new ≡ start_in D.seen self.old) }
         ensures refused { IfErr result (CommandRefused D.failures
-            (unpacked (release_of file.release)) (unpacked_size (found_of file))
-            self.old self.new) }
+            (unpacked (bundle_brought (brought_of brought)))
+            (unpacked_size (brought_of brought) (list_in self.old)) self.old self.new) }
     {
-        if let Some(why) = unpacking_refusal(&self.list, &file.release) {
+        if let Some(why) = unpacking_refusal(&self.list, &brought) {
             return Err(why);
         }
-        let body = unpacked_body(alloc, file.term)?;
-        self.commit(alloc, Event::Unpacked(file.release), body.as_str())
+        let ReleaseFiles { file, applications } = brought;
+        let libraries = self.list.share(alloc, applications.libraries)?;
+        let body = unpacked_body(alloc, &self.list, file.term, libraries.as_slice())?;
+        let bundle = Bundle {
+            release: file.release,
+            libraries,
+        };
+        self.commit(alloc, Event::Unpacked(bundle), body.as_str())
     }
 }
 
-/// The release of a path, with its libraries or why it brings none. All its files are read.
+/// The release of a path, and what the files of its applications give. All its files are read.
 pub fn bring_release<F: Files>(
     alloc: Global,
     files: &F,
@@ -95,47 +108,47 @@ pub fn bring_release<F: Files>(
     ensures brought { IfOk result (λ r. Brings (F.gives files.now) path.now (Ok (brought_of r))) }
     ensures file { IfOk result (λ r. IsRelFile r.file) }
     ensures small { IfOk result (λ r. is_small (release_of r.file.release) ≡ true) }
+    ensures whole { IfOk result (λ r. refusal_in r.applications ≡ None
+        → IsWhole (brought_of r)) }
     ensures refused { IfErr result (IsOfFiles (F.gives files.now) path.now) }
 {
-    Ok(unpack_release(alloc, files, &NoLibraries, path)?)
+    Ok(unpack_release(alloc, files, path)?)
 }
 
-// The file of a release that brings its libraries.
-pub(crate) fn with_libraries(brought: ReleaseFiles) -> Result<RelFile, HandlerError>
-    ensures file { IfOk result (λ file. file ≡ brought.file) }
-    ensures libraries { OnOk result (HasLibraries (brought_of brought)) }
-    ensures refused { IfErr result (IsOfLibraries (brought_of brought)) }
+// What was brought, where its applications are not refused.
+pub(crate) fn unless_refused(brought: ReleaseFiles) -> Result<ReleaseFiles, HandlerError>
+    ensures brought { IfOk result (λ r. r ≡ brought) }
+    ensures free { OnOk result (refusal_in brought.applications ≡ None) }
+    ensures refused { IfErr result (IsToldAs (refusal_in brought.applications)) }
 {
-    let ReleaseFiles { file, libraries } = brought;
-    match libraries {
-        Ok(_) => Ok(file),
-        Err(error) => Err(HandlerError::from(error)),
+    let ReleaseFiles { file, applications } = brought;
+    let ApplicationFiles { libraries, refusal } = applications;
+    match refusal {
+        Some(why) => Err(HandlerError::from(why)),
+        None => Ok(ReleaseFiles {
+            file,
+            applications: ApplicationFiles {
+                libraries,
+                refusal: None,
+            },
+        }),
     }
 }
 
-// Why a node with this list takes in no further release.
-fn unpacking_refusal(list: &ReleaseList, release: &Rel) -> Option<HandlerError>
-    requires small { is_small (release_of release.now) ≡ true }
-    requires fresh { status_of (string_bytes release.now.vsn) list.now ≡ None }
+// Why a node with this list doesn't take in what was brought.
+fn unpacking_refusal(list: &ReleaseList, brought: &ReleaseFiles) -> Option<HandlerError>
+    requires small { is_small (release_of brought.now.file.release) ≡ true }
+    requires fresh { status_of (string_bytes brought.now.file.release.vsn) list.now ≡ None }
+    requires agree { first_different list.now (libraries_of brought.now.applications) ≡ None }
     ensures { MatchOption result
-        ((es : Releases) × (commanded (unpacked (release_of release.now)) list.now ≡ Ok es))
-        (λ why. commanded (unpacked (release_of release.now)) list.now ≡ Err why) }
+        ((es : Releases) × (commanded (unpacked (bundle_brought (brought_of brought.now)))
+        list.now ≡ Ok es))
+        (λ why. commanded (unpacked (bundle_brought (brought_of brought.now))) list.now
+        ≡ Err why) }
 {
+    let _brought = brought;
     if list.len() >= MOST_RELEASES {
         return Some(HandlerError::TooMany);
     }
     None
-}
-
-// A node keeps no libraries yet.
-struct NoLibraries;
-
-impl Libraries for NoLibraries {
-    ghost use Rattle.rel_handler.specs.Unpacking.{none_there};
-
-    ghost there = { λ _. none_there };
-
-    fn library(&self, _name: &str, _vsn: &str) -> Option<&Library> {
-        None
-    }
 }

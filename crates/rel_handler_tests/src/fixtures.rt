@@ -106,10 +106,24 @@ fn bytes_at(alloc: Global, path: &str) -> Result<Vec<u8>, FilesError>
     Ok(text.into_bytes())
 }
 
+// The terms of the libraries of such a release.
+fn library_terms(alloc: Global, release: &str) -> Result<String, AllocError> {
+    let (_vsn, apps) = release.split_once('/').unwrap_or((release, "1"));
+    let mut text = String::from_str(alloc, r#"{lib,{application,app0,[{vsn,"1"}]},[]}"#)?;
+    for app in 1..number(apps) {
+        write!(
+            text,
+            r#",{{lib,{{application,app{app},[{{vsn,"1"}}]}},[]}}"#
+        )?;
+    }
+    Ok(text)
+}
+
 // The body of the record that makes a node with such a release.
 pub(crate) fn made_body(alloc: Global, release: &str) -> Result<String, AllocError> {
     let term = rel_term(alloc, release)?;
-    format!(in alloc; "{{made,{term},[],none}}.")
+    let libraries = library_terms(alloc, release)?;
+    format!(in alloc; "{{made,{term},[{libraries}],none}}.")
 }
 
 // A new store with this record.

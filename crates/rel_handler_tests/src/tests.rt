@@ -28,7 +28,7 @@ fn boot_keeps_unpacked(rt: HostRuntime) -> Result<(), Fail> {
 
 // The text of the start slot behind its length, and the two records.
 const START_AND_BODIES: &[u8] = b"\x0714.2 A\n\0\
-{made,{release,{\"ch_rel\",\"A\"},{erts,\"14.2\"},[{app0,\"1\"}]},[],none}.\n\
+{made,{release,{\"ch_rel\",\"A\"},{erts,\"14.2\"},[{app0,\"1\"}]},[{lib,{application,app0,[{vsn,\"1\"}]},[]}],none}.\n\
 {unpacked,{release,{\"ch_rel\",\"B\"},{erts,\"14.2\"},[{app0,\"1\"}]},[],none}.\n";
 
 #[test]
@@ -70,7 +70,7 @@ fn refused_installations_and_removals(rt: HostRuntime) -> Result<(), Fail> {
 
 // The records of a further release that comes in, is installed, is old once the first one is installed, and leaves.
 const BODIES_OF_CHANGES: &[u8] = b"\x0714.2 A\n\0\
-{made,{release,{\"ch_rel\",\"A\"},{erts,\"14.2\"},[{app0,\"1\"}]},[],none}.\n\
+{made,{release,{\"ch_rel\",\"A\"},{erts,\"14.2\"},[{app0,\"1\"}]},[{lib,{application,app0,[{vsn,\"1\"}]},[]}],none}.\n\
 {unpacked,{release,{\"ch_rel\",\"B\"},{erts,\"14.2\"},[{app0,\"1\"}]},[],none}.\n\
 {status,[{\"B\",unpacked}]}.\n\
 {status,[{\"B\",old}]}.\n\
@@ -237,7 +237,7 @@ record {removed,"A"}. =>
 boot => BadRecord(2)
 "#;
 
-// Libraries and a relup, which no command writes so far, no release, a release twice, made twice, and unpacked before a
+// A library that is none, a relup, which no command writes so far, no release, a release twice, made twice, and unpacked before a
 // node was made.
 const MISPLACED: &str = r#"store {made,{release,{"r","A"},{erts,"1"},[]},[a],none}. =>
 boot => BadRecord(1)
@@ -290,10 +290,12 @@ fn no_record(rt: HostRuntime) -> Result<(), Fail> {
 #[test]
 fn a_record_of_too_many_applications(rt: HostRuntime) -> Result<(), Fail> {
     let alloc = rt.alloc();
-    let body = made_body(alloc, "A/65")?;
     let mut text = String::new(alloc);
-    boots(alloc, first_record(alloc, body.as_str())?, "", &mut text)?;
-    same(&rt, text.as_str(), " BadRecord(1)");
+    for release in ["A/64", "A/65"] {
+        let body = made_body(alloc, release)?;
+        boots(alloc, first_record(alloc, body.as_str())?, "", &mut text)?;
+    }
+    same(&rt, text.as_str(), " A permanent; BadRecord(1)");
     Ok(())
 }
 

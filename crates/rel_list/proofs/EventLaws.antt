@@ -1,13 +1,12 @@
 -- What events make of a list, over any events.
-use Rattle.std.proofs.Common.{◌≡◌, ℕ, ◌≤◌, Bool, true, false, cond, List, [], ◌∷◌, ◌++◌, length, filter, Option, Some, None, is_some, refl, sym, ap, subst, ◌∙◌, true≢false, find, arith, if◌then◌else◌}
+use Rattle.std.proofs.Common.{◌≡◌, ℕ, ◌≤◌, Bool, true, false, cond, ◌||◌, List, [], ◌∷◌, ◌++◌, length, filter, Option, Some, None, is_some, refl, sym, ap, subst, ◌∙◌, true≢false, find, arith, if◌then◌else◌}
 use Rattle.std.specs.Option.{option_map, option_and_then}
 use Rattle.std.specs.Str.{bytes_eq}
-use Rattle.rel_files.specs.Release.{Release}
 use Rattle.rel_list.specs.declared.status.Status.{Status}
 use Rattle.rel_list.specs.declared.status.Status.TheVariants.{Unpacked, Current, Old, Permanent}
 use Rattle.rel_list.specs.Status.{is_current, is_permanent}
-use Rattle.rel_list.specs.Releases.{Releases, Entry, entry, status_of, of_status, has_current, HasDistinctVersions}
-use Rattle.rel_list.specs.Event.{Event, may_be_installed, may_be_made_permanent, may_be_removed, may_be_rebooted, installed_status, permanent_status, booted_status, assigned_status, list_installed, list_made_permanent, list_assigned, without, booted, step, list_from, list_after}
+use Rattle.rel_list.specs.Releases.{Bundle, Releases, Entry, entry, first_different, status_of, of_status, has_current, HasDistinctVersions}
+use Rattle.rel_list.specs.Event.{Event, may_be_installed, may_be_made_permanent, may_be_removed, may_be_rebooted, installed_status, permanent_status, booted_status, assigned_status, list_installed, list_made_permanent, list_assigned, without, booted, is_barred, step, list_from, list_after}
 use Rattle.rel_list.specs.Event.Event.{made, unpacked, installed, made_permanent, removed, reboot_old, boot}
 use Rattle.rel_list.specs.Keyed.{IsOrderly}
 use Rattle.rel_list.proofs.Orderly.{of_version, differs_back, first_differs, none_behind, none_at_all, at_most_once, exactly_once, distinct-with_statuses, one_more, as_many, no_more, just_as_many}
@@ -190,14 +189,22 @@ unlisted : (o : Option Status) → is_some o ≡ false → o ≡ None
 unlisted None is = refl
 unlisted (Some s) is = absurd (true≢false is)
 
+-- what fits into a list has a version that isn't there
+fits : (p : Bundle) (es : Releases) → is_barred p es ≡ false → status_of p.release.vsn es ≡ None
+fits p es is = unlisted (status_of p.release.vsn es) (neither (is_some (status_of p.release.vsn es)) (is_some (first_different es p.libraries)) is)
+  where
+    neither : (a b : Bool) → (a || b) ≡ false → a ≡ false
+    neither true b is = absurd (true≢false is)
+    neither false b is = refl
+
 pub orderly-step : (e : Event) (es next : Releases) → IsOrderly es → step e es ≡ Some next → IsOrderly next
-orderly-step (made r) [] next o is =
-    let single : entry r Permanent ∷ [] ≡ next = cc is in
+orderly-step (made p) [] next o is =
+    let single : entry p Permanent ∷ [] ≡ next = cc is in
     subst IsOrderly single (record { distinct = (refl, tt); one_current = omega arith })
-orderly-step (made r) (e ∷ es) next o is = cc
-orderly-step (unpacked r) es next o is =
-    let a = allowed_else (is_some (status_of r.vsn es)) (es ++ entry r Unpacked ∷ []) next is in
-    subst IsOrderly a.1 (orderly-push es (entry r Unpacked) refl (unlisted (status_of r.vsn es) a.0) o)
+orderly-step (made p) (e ∷ es) next o is = cc
+orderly-step (unpacked p) es next o is =
+    let a = allowed_else (is_barred p es) (es ++ entry p Unpacked ∷ []) next is in
+    subst IsOrderly a.1 (orderly-push es (entry p Unpacked) refl (fits p es a.0) o)
 orderly-step (installed v) es next o is =
     subst IsOrderly (allowed (may_be_installed (has_current es) (status_of v es)) (list_installed v es) next is).1 (orderly-installed v es o)
 orderly-step (made_permanent v) es next o is =
@@ -226,11 +233,11 @@ permanents-made_permanent v es distinct listed =
     ∙ exactly_once v es distinct listed
 
 pub one_permanent-step : (e : Event) (es next : Releases) → HasDistinctVersions es → permanents es ≡ 1 → step e es ≡ Some next → permanents next ≡ 1
-one_permanent-step (made r) [] next distinct one is = omega (arith, one)
-one_permanent-step (made r) (e ∷ es) next distinct one is = cc
-one_permanent-step (unpacked r) es next distinct one is =
-    let a = allowed_else (is_some (status_of r.vsn es)) (es ++ entry r Unpacked ∷ []) next is in
-    subst (λ l. permanents l ≡ 1) a.1 (ap length (no_more-push (λ (e : Entry). is_permanent e.status) es (entry r Unpacked) refl) ∙ one)
+one_permanent-step (made p) [] next distinct one is = omega (arith, one)
+one_permanent-step (made p) (e ∷ es) next distinct one is = cc
+one_permanent-step (unpacked p) es next distinct one is =
+    let a = allowed_else (is_barred p es) (es ++ entry p Unpacked ∷ []) next is in
+    subst (λ l. permanents l ≡ 1) a.1 (ap length (no_more-push (λ (e : Entry). is_permanent e.status) es (entry p Unpacked) refl) ∙ one)
 one_permanent-step (installed v) es next distinct one is =
     subst (λ l. permanents l ≡ 1) (allowed (may_be_installed (has_current es) (status_of v es)) (list_installed v es) next is).1
     (just_as_many (λ vsn s. installed_status (bytes_eq v vsn) s) (λ (e : Entry). is_permanent e.status) (λ (e : Entry). is_permanent e.status)
@@ -280,13 +287,13 @@ one_permanent-from (e ∷ events) es end o one is =
     let s = first_step e events es end is in
     one_permanent-from events s.0 end (orderly-step e es s.0 o s.1) (one_permanent-step e es s.0 o.distinct one s.1) s.2
 
-one_permanent-behind : (before after : List Event) (r : Release) (es end : Releases) → IsOrderly es → list_from es (before ++ made r ∷ after) ≡ Some end → permanents end ≡ 1
-one_permanent-behind [] after r [] end o is =
-    one_permanent-from after (entry r Permanent ∷ []) end (orderly-step (made r) [] (entry r Permanent ∷ []) o refl) refl is
-one_permanent-behind [] after r (e ∷ es) end o is = cc
-one_permanent-behind (e ∷ before) after r es end o is =
-    let s = first_step e (before ++ made r ∷ after) es end is in
-    one_permanent-behind before after r s.0 end (orderly-step e es s.0 o s.1) s.2
+one_permanent-behind : (before after : List Event) (p : Bundle) (es end : Releases) → IsOrderly es → list_from es (before ++ made p ∷ after) ≡ Some end → permanents end ≡ 1
+one_permanent-behind [] after p [] end o is =
+    one_permanent-from after (entry p Permanent ∷ []) end (orderly-step (made p) [] (entry p Permanent ∷ []) o refl) refl is
+one_permanent-behind [] after p (e ∷ es) end o is = cc
+one_permanent-behind (e ∷ before) after p es end o is =
+    let s = first_step e (before ++ made p ∷ after) es end is in
+    one_permanent-behind before after p s.0 end (orderly-step e es s.0 o s.1) s.2
 
 pub orderly-empty : IsOrderly []
 orderly-empty = record { distinct = tt; one_current = omega arith }
@@ -294,5 +301,5 @@ orderly-empty = record { distinct = tt; one_current = omega arith }
 pub orderly-after : (events : List Event) (es : Releases) → list_after events ≡ Some es → IsOrderly es
 orderly-after events es is = orderly-from events [] es orderly-empty is
 
-pub one_permanent-after : (before after : List Event) (r : Release) (es : Releases) → list_after (before ++ made r ∷ after) ≡ Some es → permanents es ≡ 1
-one_permanent-after before after r es is = one_permanent-behind before after r [] es orderly-empty is
+pub one_permanent-after : (before after : List Event) (p : Bundle) (es : Releases) → list_after (before ++ made p ∷ after) ≡ Some es → permanents es ≡ 1
+one_permanent-after before after p es is = one_permanent-behind before after p [] es orderly-empty is

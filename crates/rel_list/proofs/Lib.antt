@@ -1,4 +1,5 @@
 mod Lookups
+pub mod LibraryLaws
 pub mod Orderly
 pub mod EventLaws
 pub mod PermanentLaws

@@ -6,8 +6,8 @@ use Rattle.rel_files.specs.Release.{Release}
 use Rattle.rel_list.specs.declared.status.Status.{Status}
 use Rattle.rel_list.specs.declared.status.Status.TheVariants.{Unpacked}
 use Rattle.rel_list.specs.Status.{is_permanent}
-use Rattle.rel_list.specs.Releases.{Releases, Entry, entry, status_of, has_current, permanent}
-use Rattle.rel_list.specs.Event.{Event, may_be_installed, may_be_removed, installed_status, booted_status, with_statuses, list_installed, without, booted, step}
+use Rattle.rel_list.specs.Releases.{Bundle, Releases, Entry, entry, status_of, has_current, permanent}
+use Rattle.rel_list.specs.Event.{may_be_installed, may_be_removed, installed_status, booted_status, with_statuses, list_installed, without, booted}
 use Rattle.rel_list.specs.Event.Event.{made, unpacked, installed, made_permanent, removed, reboot_old, boot}
 use Rattle.rel_list.specs.Laws.{PermanentStays}
 use Rattle.rel_list.proofs.EventLaws.{permanent-installed, permanent-booted, kept_permanent, allowed, allowed_else}
@@ -35,11 +35,11 @@ permanent-with_statuses f same (e ∷ es) =
 pub permanent-of_booted : (es : Releases) → permanent (booted es) ≡ permanent es
 permanent-of_booted es = permanent-with_statuses (λ vsn s. booted_status s) (λ vsn s. permanent-booted s) es
 
-permanent-push : (es : Releases) (r : Release) → permanent (es ++ entry r Unpacked ∷ []) ≡ permanent es
-permanent-push [] r = refl
-permanent-push (e ∷ es) r = go (is_permanent e.status) (permanent-push es r)
+permanent-push : (es : Releases) (p : Bundle) → permanent (es ++ entry p Unpacked ∷ []) ≡ permanent es
+permanent-push [] p = refl
+permanent-push (e ∷ es) p = go (is_permanent e.status) (permanent-push es p)
   where
-    go : (b : Bool) → permanent (es ++ entry r Unpacked ∷ []) ≡ permanent es → release_or b e (first_permanent (es ++ entry r Unpacked ∷ [])) ≡ release_or b e (first_permanent es)
+    go : (b : Bool) → permanent (es ++ entry p Unpacked ∷ []) ≡ permanent es → release_or b e (first_permanent (es ++ entry p Unpacked ∷ [])) ≡ release_or b e (first_permanent es)
     go true rest = refl
     go false rest = rest
 
@@ -58,10 +58,10 @@ permanent-without v (e ∷ es) may = go (bytes_eq v e.release.vsn) (permanent-wi
         ahead false rest = rest
 
 pub permanent_stays : PermanentStays
-permanent_stays (made r) es next leaves is = absurd (true≢false (sym leaves))
-permanent_stays (unpacked r) es next leaves is =
-    let a = allowed_else _ (es ++ entry r Unpacked ∷ []) next is in
-    ap permanent (sym a.1) ∙ permanent-push es r
+permanent_stays (made p) es next leaves is = absurd (true≢false (sym leaves))
+permanent_stays (unpacked p) es next leaves is =
+    let a = allowed_else _ (es ++ entry p Unpacked ∷ []) next is in
+    ap permanent (sym a.1) ∙ permanent-push es p
 permanent_stays (installed v) es next leaves is =
     let a = allowed (may_be_installed (has_current es) (status_of v es)) (list_installed v es) next is in
     ap permanent (sym a.1) ∙ permanent-with_statuses (λ vsn s. installed_status (bytes_eq v vsn) s) (λ vsn s. permanent-installed (bytes_eq v vsn) s) es

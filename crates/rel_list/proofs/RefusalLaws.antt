@@ -1,11 +1,11 @@
 -- An event has a refusal exactly where the list doesn't allow it.
-use Rattle.std.proofs.Common.{◌≡◌, ◌≢◌, ◌↔◌, Bool, true, false, [], ◌∷◌, Option, Some, None, is_some, refl, if◌then◌else◌}
+use Rattle.std.proofs.Common.{◌≡◌, ◌≢◌, ◌↔◌, Bool, true, false, ◌||◌, [], ◌∷◌, Option, Some, None, is_some, refl, if◌then◌else◌}
 use Rattle.rel_list.specs.declared.status.Status.{Status}
 use Rattle.rel_list.specs.declared.status.Status.TheVariants.{Unpacked, Current, Old, Permanent}
 use Rattle.rel_list.specs.declared.fault.ListError.{ListError}
 use Rattle.rel_list.specs.declared.fault.ListError.TheVariants as told
 use Rattle.rel_list.specs.Status.{is_current, is_old, is_permanent, runs}
-use Rattle.rel_list.specs.Releases.{Releases, status_of, has_current}
+use Rattle.rel_list.specs.Releases.{Releases, first_different, status_of, has_current}
 use Rattle.rel_list.specs.Event.{Event, may_be_installed, may_be_made_permanent, may_be_removed, may_be_rebooted, list_installed, list_made_permanent, without, step}
 use Rattle.rel_list.specs.Event.Event.{made, unpacked, installed, made_permanent, removed, reboot_old, boot}
 use Rattle.rel_list.specs.Refusal.{refusal, listed_refusal}
@@ -58,15 +58,16 @@ by_reboot (Some Current) es = refuses _
 by_reboot (Some Old) es = allows es
 by_reboot (Some Permanent) es = refuses _
 
-by_listing : (listed : Bool) (es : Releases)
-    → ((if listed then Some told.ExistingRelease else None) ≡ None) ↔ ((if listed then None else Some es) ≢ None)
-by_listing true es = refuses _
-by_listing false es = allows es
+by_fit : (listed different : Bool) (es : Releases)
+    → ((if listed then Some told.ExistingRelease else if different then Some told.LibDiffers else None) ≡ None) ↔ ((if listed || different then None else Some es) ≢ None)
+by_fit true different es = refuses _
+by_fit false true es = refuses _
+by_fit false false es = allows es
 
 pub refused_where_not_allowed : (e : Event) (es : Releases) → (refusal e es ≡ None) ↔ (step e es ≢ None)
-refused_where_not_allowed (made r) [] = allows _
-refused_where_not_allowed (made r) (e ∷ es) = refuses _
-refused_where_not_allowed (unpacked r) es = by_listing (is_some (status_of r.vsn es)) _
+refused_where_not_allowed (made p) [] = allows _
+refused_where_not_allowed (made p) (e ∷ es) = refuses _
+refused_where_not_allowed (unpacked p) es = by_fit (is_some (status_of p.release.vsn es)) (is_some (first_different es p.libraries)) _
 refused_where_not_allowed (installed v) es = by_installation (has_current es) (status_of v es) (list_installed v es)
 refused_where_not_allowed (made_permanent v) es = by_permanence (status_of v es) (list_made_permanent v es)
 refused_where_not_allowed (removed v) es = by_removal (has_current es) (status_of v es) (without v es)

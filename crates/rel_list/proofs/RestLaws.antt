@@ -2,14 +2,13 @@
 use Rattle.std.proofs.Common.{◌≡◌, ℕ, Bool, true, false, cond, List, [], ◌∷◌, length, map, Option, Some, None, is_some, inl, inr, refl, sym, ap, subst, ◌∙◌, true≢false, arith}
 use Rattle.std.specs.Str.{bytes_eq}
 use Rattle.std.proofs.lemmas.Bool.{cases_Bool}
-use Rattle.rel_files.specs.Release.{Release}
 use Rattle.rel_list.specs.declared.status.Status.{Status}
 use Rattle.rel_list.specs.declared.status.Status.TheVariants.{Unpacked, Current, Old, Permanent}
 use Rattle.rel_list.specs.Status.{is_old, is_permanent}
-use Rattle.rel_list.specs.Releases.{Releases, Entry, entry, status_of, of_status, HasDistinctVersions}
+use Rattle.rel_list.specs.Releases.{Bundle, Releases, Entry, entry, bundle_in, status_of, of_status, HasDistinctVersions}
 use Rattle.rel_list.specs.Event.{Event, may_be_installed, may_be_made_permanent, installed_status, permanent_status, booted_status, with_statuses, booted, list_from}
 use Rattle.rel_list.specs.Event.Event.{installed, made_permanent, boot}
-use Rattle.rel_list.specs.Laws.{releases_of, IsAtRest}
+use Rattle.rel_list.specs.Laws.{bundles_of, IsAtRest}
 use Rattle.rel_list.proofs.Orderly.{same_version, is_itself, differs_back, first_differs, none_behind}
 use Rattle.rel_list.proofs.EventLaws.{permanents}
 
@@ -20,9 +19,9 @@ abbrev given : (List ℕ → Status) → Releases → Releases
 given status es = with_statuses (λ w s. status w) es
 
 -- their former statuses don't matter
-given-releases : (status : List ℕ → Status) (es : Releases) → given status es ≡ map (λ (r : Release). entry r (status r.vsn)) (releases_of es)
-given-releases status [] = refl
-given-releases status (e ∷ es) = ap (λ l. entry e.release (status e.release.vsn) ∷ l) (given-releases status es)
+given-bundles : (status : List ℕ → Status) (es : Releases) → given status es ≡ map (λ (p : Bundle). entry p (status p.release.vsn)) (bundles_of es)
+given-bundles status [] = refl
+given-bundles status (e ∷ es) = ap (λ l. entry (bundle_in e) (status e.release.vsn) ∷ l) (given-bundles status es)
 
 given-changed : (f : List ℕ → Status → Status) (status : List ℕ → Status) (es : Releases) → with_statuses f (given status es) ≡ given (λ w. f w (status w)) es
 given-changed f status [] = refl
@@ -192,13 +191,13 @@ form-one (e ∷ es) distinct same count = elim (cases_Bool (is_permanent e.statu
       (r.0, rw differ r.1, form-cons r.0 e es distinct same (is ∙ sym differ) r.2)
 ]
 
-pub rest_reached : (es next : Releases) → IsAtRest es → IsAtRest next → releases_of next ≡ releases_of es → Leads next es
+pub rest_reached : (es next : Releases) → IsAtRest es → IsAtRest next → bundles_of next ≡ bundles_of es → Leads next es
 rest_reached es next here there same =
     let f = form-one es here.distinct here.as_booted here.one_permanent in
     let t = form-one next there.distinct there.as_booted there.one_permanent in
     let old : List ℕ → Bool = told_by es (λ w. false) in
     let from : resting f.0 old next ≡ es =
-    given-releases _ next ∙ ap (map (λ (r : Release). entry r (rest_status (bytes_eq f.0 r.vsn) (old r.vsn)))) same ∙ sym (given-releases _ es) ∙ f.2 (λ w. false) in
+    given-bundles _ next ∙ ap (map (λ (p : Bundle). entry p (rest_status (bytes_eq f.0 p.release.vsn) (old p.release.vsn)))) same ∙ sym (given-bundles _ es) ∙ f.2 (λ w. false) in
     let settled : (before : List ℕ → Bool) → Leads next (resting t.0 before next) =
     λ before. settle_all next t.0 before next next t.1 ([], ap (λ (l : Releases). Some l) (t.2 before)) in
     subst (Leads next) from (elim (cases_Bool (bytes_eq f.0 t.0)) [

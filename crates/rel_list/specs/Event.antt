@@ -1,20 +1,20 @@
 -- What happens to a list of releases, and what it makes of the list (OTP: release_handler(3), the table of statuses).
-use Rattle.std.specs.Prelude.{ℕ, Bool, true, false, List, [], ◌∷◌, ◌++◌, map, Option, None, Some, is_some, if◌then◌else◌, string_bytes}
+use Rattle.std.specs.Prelude.{ℕ, Bool, true, false, ◌||◌, List, [], ◌∷◌, ◌++◌, map, Option, None, Some, is_some, if◌then◌else◌, string_bytes}
 use Rattle.std.specs.Option.{option_and_then}
 use Rattle.std.specs.Str.{bytes_eq}
-use Rattle.rel_files.specs.Release.{Release, release_of}
+use Rattle.rel_list.specs.Keyed.{bundle_of}
 use Rattle.rel_list.specs.declared.status.Status.{Status}
 use Rattle.rel_list.specs.declared.status.Status.TheVariants.{Unpacked, Current, Old, Permanent}
 use Rattle.rel_list.specs.declared.event.Event.{Event as EventInMemory}
 use Rattle.rel_list.specs.declared.event.Event.TheVariants as memory
-use Rattle.rel_list.specs.Releases.{Releases, Entry, status_of, of_status, has_current}
+use Rattle.rel_list.specs.Releases.{Bundle, Releases, Entry, first_different, status_of, of_status, has_current}
 use Rattle.rel_list.specs.Status.{is_current}
 pub use Rattle.rel_list.specs.Releases.{entry}
 
--- Releases come in whole; later they are named by their versions.
+-- Releases come in whole, with their libraries; later they are named by their versions.
 pub data Event : Type 0 where
-  made : Release → Event
-  unpacked : Release → Event
+  made : Bundle → Event
+  unpacked : Bundle → Event
   installed : List ℕ → Event
   made_permanent : List ℕ → Event
   removed : List ℕ → Event
@@ -22,8 +22,8 @@ pub data Event : Type 0 where
   boot : Event
 
 abbrev pub event_of : EventInMemory → Event
-event_of (memory.Made r) = made (release_of r)
-event_of (memory.Unpacked r) = unpacked (release_of r)
+event_of (memory.Made p) = made (bundle_of p)
+event_of (memory.Unpacked p) = unpacked (bundle_of p)
 event_of (memory.Installed v) = installed (string_bytes v)
 event_of (memory.MadePermanent v) = made_permanent (string_bytes v)
 event_of (memory.Removed v) = removed (string_bytes v)
@@ -114,12 +114,16 @@ booted es = map (λ (e : Entry). record e { status = booted_status e.status }) e
 abbrev pub boot_changes : Releases → List (List ℕ)
 boot_changes es = map (λ (e : Entry). e.release.vsn) (of_status is_current es)
 
--- The list after an event, where the list allows it: the first release comes in as the permanent one, one whose version
--- isn't there yet comes last, unpacked, and a boot is always allowed.
+-- A bundle doesn't fit into the list: its version is there, or one of its libraries is, with other content.
+abbrev pub is_barred : Bundle → Releases → Bool
+is_barred p es = is_some (status_of p.release.vsn es) || is_some (first_different es p.libraries)
+
+-- The list after an event, where the list allows it: the first release comes in as the permanent one, one that fits comes
+-- last, unpacked, and a boot is always allowed. A library is in the list as long as a release of it names it.
 abbrev pub step : Event → Releases → Option Releases
-step (made r) [] = Some (entry r Permanent ∷ [])
-step (made r) (e ∷ es) = None
-step (unpacked r) es = if is_some (status_of r.vsn es) then None else Some (es ++ entry r Unpacked ∷ [])
+step (made p) [] = Some (entry p Permanent ∷ [])
+step (made p) (e ∷ es) = None
+step (unpacked p) es = if is_barred p es then None else Some (es ++ entry p Unpacked ∷ [])
 step (installed v) es = if may_be_installed (has_current es) (status_of v es) then Some (list_installed v es) else None
 step (made_permanent v) es = if may_be_made_permanent (status_of v es) then Some (list_made_permanent v es) else None
 step (removed v) es = if may_be_removed (status_of v es) then Some (without v es) else None

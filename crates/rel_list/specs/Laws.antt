@@ -1,10 +1,9 @@
 -- Laws of the list and its events, whatever keeps them.
 use Rattle.std.specs.Prelude.{◌≡◌, ◌≢◌, ◌↔◌, ◌≤◌, ℕ, Bool, List, [], ◌∷◌, ◌++◌, length, map, true, false, None, Some}
-use Rattle.rel_files.specs.Release.{Release}
 use Rattle.rel_list.specs.declared.status.Status.{Status}
 use Rattle.rel_list.specs.declared.status.Status.TheVariants.{Permanent}
 use Rattle.rel_list.specs.Status.{is_current, is_permanent}
-use Rattle.rel_list.specs.Releases.{Releases, Entry, status_of, of_status, permanent, HasDistinctVersions}
+use Rattle.rel_list.specs.Releases.{Bundle, Releases, bundle_in, status_of, of_status, permanent, HasDistinctVersions}
 use Rattle.rel_list.specs.Event.{Event, step, booted_status, booted, list_from, list_after}
 use Rattle.rel_list.specs.Event.Event.{made, installed, made_permanent, reboot_old, boot}
 use Rattle.rel_list.specs.Refusal.{refusal}
@@ -20,11 +19,11 @@ AtMostOneIsCurrent = (events : List Event) (es : Releases) → list_after events
 -- Once a first release was made, exactly one release is permanent, whatever events follow.
 abbrev pub OneIsPermanent : Type 0
 OneIsPermanent =
-    (before after : List Event) (r : Release) (es : Releases) → list_after (before ++ made r ∷ after) ≡ Some es → length (of_status is_permanent es) ≡ 1
+    (before after : List Event) (p : Bundle) (es : Releases) → list_after (before ++ made p ∷ after) ≡ Some es → length (of_status is_permanent es) ≡ 1
 
 -- neither does the event bring the first release nor does it have another one become permanent
 abbrev pub leaves_permanent : Event → Bool
-leaves_permanent (made r) = false
+leaves_permanent (made p) = false
 leaves_permanent (made_permanent v) = false
 leaves_permanent (reboot_old v) = false
 leaves_permanent e = true
@@ -51,8 +50,8 @@ abbrev pub RefusedWhereNotAllowed : Type 0
 RefusedWhereNotAllowed = (e : Event) (es : Releases) → (refusal e es ≡ None) ↔ (step e es ≢ None)
 
 -- the releases of a list without their statuses
-abbrev pub releases_of : Releases → List Release
-releases_of es = map (λ (e : Entry). e.release) es
+abbrev pub bundles_of : Releases → List Bundle
+bundles_of es = map bundle_in es
 
 -- No version stands twice, a boot changes nothing, and exactly one release is permanent.
 pub record IsAtRest (es : Releases) : Type 0 where
@@ -63,4 +62,4 @@ pub record IsAtRest (es : Releases) : Type 0 where
 -- Events lead from a list at rest to each other one of the same releases in the same order.
 abbrev pub ListsAtRestAreReached : Type 0
 ListsAtRestAreReached =
-    (es next : Releases) → IsAtRest es → IsAtRest next → releases_of next ≡ releases_of es → (events : List Event) × (list_from es events ≡ Some next)
+    (es next : Releases) → IsAtRest es → IsAtRest next → bundles_of next ≡ bundles_of es → (events : List Event) × (list_from es events ≡ Some next)

@@ -2,9 +2,9 @@
 use Rattle.std.specs.Prelude.{◌≡◌, Bool, true, false, IsTrue, [], ◌∷◌, is_some, if◌then◌else◌, Option, None, Some}
 use Rattle.rel_list.specs.declared.status.Status.{Status}
 use Rattle.rel_list.specs.declared.fault.ListError.{ListError}
-use Rattle.rel_list.specs.declared.fault.ListError.TheVariants.{NoSuchRelease, ExistingRelease, AlreadyInstalled, BadStatus, Permanent, Running, NoMemory}
+use Rattle.rel_list.specs.declared.fault.ListError.TheVariants.{NoSuchRelease, ExistingRelease, LibDiffers, AlreadyInstalled, BadStatus, Permanent, Running, NoMemory}
 use Rattle.rel_list.specs.Status.{is_current, is_old, is_permanent, runs}
-use Rattle.rel_list.specs.Releases.{Releases, status_of, has_current}
+use Rattle.rel_list.specs.Releases.{Releases, first_different, status_of, has_current}
 use Rattle.rel_list.specs.Event.{Event}
 use Rattle.rel_list.specs.Event.Event.{made, unpacked, installed, made_permanent, removed, reboot_old, boot}
 
@@ -15,9 +15,12 @@ listed_refusal by_status (Some s) = by_status s
 
 -- Why the list doesn't allow an event: the first condition that the event fails, in the order in which they stand here.
 abbrev pub refusal : Event → Releases → Option ListError
-refusal (made r) [] = None
-refusal (made r) (e ∷ es) = Some ExistingRelease
-refusal (unpacked r) es = if is_some (status_of r.vsn es) then Some ExistingRelease else None
+refusal (made p) [] = None
+refusal (made p) (e ∷ es) = Some ExistingRelease
+refusal (unpacked p) es =
+    if is_some (status_of p.release.vsn es) then Some ExistingRelease
+    else if is_some (first_different es p.libraries) then Some LibDiffers
+    else None
 refusal (installed v) es = listed_refusal (λ s. if runs (has_current es) s then Some AlreadyInstalled else None) (status_of v es)
 refusal (made_permanent v) es = listed_refusal (λ s. if is_current s then None else Some (BadStatus s)) (status_of v es)
 refusal (removed v) es =
@@ -27,8 +30,8 @@ refusal boot es = None
 
 -- the event brings a release, which takes memory
 abbrev pub brings_release : Event → Bool
-brings_release (made r) = true
-brings_release (unpacked r) = true
+brings_release (made p) = true
+brings_release (unpacked p) = true
 brings_release e = false
 
 -- What an event is refused with: its refusal by the list, or want of memory for a release that the list would take.

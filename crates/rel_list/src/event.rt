@@ -2,16 +2,15 @@
 ghost use Rattle.std.specs.Prelude.{◌≡◌};
 ghost use Rattle.rel_list.specs.Event.{event_of, status_behind};
 
-use crate::Status;
-use rel_files::Rel;
+use crate::{Bundle, Status};
 
 /// A change of the list of releases. A release that is in the list is named by its version.
-#[derive(Debug, PartialEq, Drop)]
+#[derive(Drop)]
 pub enum Event {
     /// The node's first release comes in, as the permanent one.
-    Made(Rel),
+    Made(Bundle),
     /// A further release is there to be installed.
-    Unpacked(Rel),
+    Unpacked(Bundle),
     /// This release is installed: it runs until the next boot.
     Installed(String),
     /// This release, the current one, becomes the permanent one.

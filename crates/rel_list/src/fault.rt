@@ -15,6 +15,9 @@ pub enum ListError {
     /// The list has a release of this version, or has one where it is to get its first.
     #[error("ExistingRelease")]
     ExistingRelease,
+    /// A library of the release is in the list, with another specification or other tables. `first_different` finds it.
+    #[error("LibDiffers")]
+    LibDiffers,
     /// The release is to be installed, and runs.
     #[error("AlreadyInstalled")]
     AlreadyInstalled,

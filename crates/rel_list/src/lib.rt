@@ -8,6 +8,12 @@
 //! Whatever is asked of the list is answered from its entries, in order of coming; `boot_events` gives
 //! all that a boot would change. A look-up by version goes through a map, which no clause speaks of.
 //!
+//! With each release the list keeps the libraries of its applications. A release is refused of which a
+//! library differs from the list's of the same name and version (`first_different` finds it). For one that
+//! fits, `share` puts the list's own libraries in place of those that it has already, so that the terms of a
+//! library are in memory once; clauses speak of the values alone. `libs` tells each library once. A library
+//! leaves the list with the last release that names it.
+//!
 //! The functions of `laws` say of these definitions alone that versions are distinct, that one release is
 //! permanent and at most one is current, that a boot undoes nothing but installations, and that events lead
 //! from a list at rest to each other one of the same releases.
@@ -16,15 +22,18 @@
 //! the toolchain, `indexmap` and `thiserror`.
 #![tactic(auto)]
 
+mod bundle;
 mod change;
 mod event;
 mod fault;
 pub mod laws;
+mod libraries;
 mod list;
 mod listed;
 mod refusal;
 mod status;
 
+pub use bundle::Bundle;
 pub use event::Event;
 pub use fault::ListError;
 pub use list::ReleaseList;

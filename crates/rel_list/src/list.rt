@@ -4,7 +4,7 @@ ghost use Rattle.std.specs.Option.{option_map, option_copied, option_to_list};
 ghost use Rattle.rel_list.specs.Status.{is_current, is_permanent};
 
 use crate::change::StatusChange;
-use crate::{Event, ListError, ListedRelease, Status};
+use crate::{Bundle, Event, ListError, ListedRelease, Status};
 use indexmap::IndexMap;
 use rel_files::Rel;
 use std::alloc::Global;
@@ -20,8 +20,13 @@ pub struct ReleaseList {
 impl Model for ReleaseList {
     ghost use Rattle.rel_list.specs.Releases.{Releases};
     ghost use Rattle.rel_list.specs.Keyed.{entries_in, IsKept};
+    ghost use Rattle.std.specs.Coded.{codes};
+    ghost use Rattle.library.specs.Codes.{value_code};
 
     ghost Value = { Releases };
+
+    // Of terms, which hold further terms, Rattle finds no code by itself.
+    ghost coded = { Prim.hlevel (codes, value_code) };
 
     ghost view = { λ l. entries_in l.releases.entries };
 
@@ -35,7 +40,7 @@ impl ReleaseList {
     ghost use Rattle.rel_list.specs.Refusal.{IsRefusedWith};
     ghost use Rattle.rel_list.specs.Change.{status_after, AssignsNoCurrent};
     ghost use Rattle.rel_list.specs.Status.{runs};
-    ghost use Rattle.rel_list.specs.Keyed.{entry_of};
+    ghost use Rattle.rel_list.specs.Keyed.{entry_of, bundle_of};
     ghost use Rattle.rel_files.specs.Release.{release_of};
 
     /// A list without releases.
@@ -54,8 +59,8 @@ impl ReleaseList {
         ensures unchanged { OnErr result (self.new ≡ self.old) }
     {
         match event {
-            Event::Made(release) => self.make(alloc, release),
-            Event::Unpacked(release) => self.unpack(alloc, release),
+            Event::Made(bundle) => self.make(alloc, bundle),
+            Event::Unpacked(bundle) => self.unpack(alloc, bundle),
             Event::Installed(vsn) => self.install(vsn.as_str()),
             Event::MadePermanent(vsn) => self.make_permanent(vsn.as_str()),
             Event::Removed(vsn) => self.remove(vsn.as_str()),
@@ -68,28 +73,28 @@ impl ReleaseList {
     }
 
     // Takes the first release, as the permanent one.
-    fn make(&mut self, alloc: Global, release: Rel) -> Result<(), ListError>
-        ensures accepted { OnOk result (step (made (release_of release)) self.old ≡ Some self.new) }
-        ensures refused { IfErr result (IsRefusedWith (made (release_of release)) self.old) }
+    fn make(&mut self, alloc: Global, bundle: Bundle) -> Result<(), ListError>
+        ensures accepted { OnOk result (step (made (bundle_of bundle)) self.old ≡ Some self.new) }
+        ensures refused { IfErr result (IsRefusedWith (made (bundle_of bundle)) self.old) }
         ensures unchanged { OnErr result (self.new ≡ self.old) }
     {
         if !self.is_empty() {
             return Err(ListError::ExistingRelease);
         }
-        self.put(alloc, release, Status::Permanent)
+        self.put(alloc, bundle, Status::Permanent)
     }
 
     // Takes a further release, unpacked.
-    fn unpack(&mut self, alloc: Global, release: Rel) -> Result<(), ListError>
+    fn unpack(&mut self, alloc: Global, bundle: Bundle) -> Result<(), ListError>
         ensures accepted { OnOk result
-            (step (unpacked (release_of release)) self.old ≡ Some self.new) }
-        ensures refused { IfErr result (IsRefusedWith (unpacked (release_of release)) self.old) }
+            (step (unpacked (bundle_of bundle)) self.old ≡ Some self.new) }
+        ensures refused { IfErr result (IsRefusedWith (unpacked (bundle_of bundle)) self.old) }
         ensures unchanged { OnErr result (self.new ≡ self.old) }
     {
-        if self.status(release.vsn.as_str()).is_some() {
-            return Err(ListError::ExistingRelease);
+        if let Some(why) = self.unpacking_refusal(&bundle) {
+            return Err(why);
         }
-        self.put(alloc, release, Status::Unpacked)
+        self.put(alloc, bundle, Status::Unpacked)
     }
 
     // Makes the release of this version current.
@@ -158,17 +163,22 @@ impl ReleaseList {
     }
 
     // Puts a release of a new version last.
-    fn put(&mut self, alloc: Global, release: Rel, status: Status) -> Result<(), ListError>
-        requires new { status_of (string_bytes release.vsn) self.old ≡ None }
+    fn put(&mut self, alloc: Global, bundle: Bundle, status: Status) -> Result<(), ListError>
+        requires new { status_of (string_bytes bundle.release.vsn) self.old ≡ None }
         requires not_current { is_current status ≡ false }
         ensures added { OnOk result
-            (self.new ≡ self.old ++ entry (release_of release) status ∷ []) }
+            (self.new ≡ self.old ++ entry (bundle_of bundle) status ∷ []) }
         ensures memory { IfErr result (λ e. e ≡ ListError.NoMemory) }
         ensures unchanged { OnErr result (self.new ≡ self.old) }
     {
+        let Bundle { release, libraries } = bundle;
         let vsn = String::from_str(alloc, release.vsn.as_str())?;
-        self.releases
-            .insert(vsn, ListedRelease { release, status })?;
+        let listed = ListedRelease {
+            release,
+            libraries,
+            status,
+        };
+        self.releases.insert(vsn, listed)?;
         Ok(())
     }
 

@@ -1,10 +1,11 @@
 //! Why a list doesn't take an event.
 ghost use Rattle.std.specs.Prelude.{◌≡◌};
 ghost use Rattle.rel_list.specs.Event.{event_of};
-ghost use Rattle.rel_list.specs.Event.Event.{installed, made_permanent, removed, reboot_old};
+ghost use Rattle.rel_list.specs.Event.Event.{unpacked, installed, made_permanent, removed, reboot_old};
+ghost use Rattle.rel_list.specs.Keyed.{bundle_of};
 ghost use Rattle.rel_list.specs.Refusal.{refusal};
 
-use crate::{Event, ListError, ReleaseList, Status};
+use crate::{Bundle, Event, ListError, ReleaseList, Status};
 
 impl ReleaseList {
     /// Why the list doesn't take this event: the first condition that it fails. `accept` refuses it so.
@@ -14,15 +15,25 @@ impl ReleaseList {
         match event {
             Event::Made(_) if self.is_empty() => None,
             Event::Made(_) => Some(ListError::ExistingRelease),
-            Event::Unpacked(release) => match self.status(release.vsn.as_str()) {
-                Some(_) => Some(ListError::ExistingRelease),
-                None => None,
-            },
+            Event::Unpacked(bundle) => self.unpacking_refusal(bundle),
             Event::Installed(vsn) => self.install_refusal(vsn.as_str()),
             Event::MadePermanent(vsn) => self.permanence_refusal(vsn.as_str()),
             Event::Removed(vsn) => self.removal_refusal(vsn.as_str()),
             Event::RebootOld(vsn) => self.reboot_refusal(vsn.as_str()),
             Event::Boot => None,
+        }
+    }
+
+    // Why it doesn't take a further release.
+    pub(crate) fn unpacking_refusal(&self, bundle: &Bundle) -> Option<ListError>
+        ensures { result ≡ refusal (unpacked (bundle_of bundle.now)) self.now }
+    {
+        if self.status(bundle.release.vsn.as_str()).is_some() {
+            Some(ListError::ExistingRelease)
+        } else if self.first_different(bundle.libraries.as_slice()).is_some() {
+            Some(ListError::LibDiffers)
+        } else {
+            None
         }
     }
 

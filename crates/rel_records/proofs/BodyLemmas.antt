@@ -1,15 +1,19 @@
 -- A body spells one record at most.
-use Rattle.std.proofs.Common.{◌≡◌, ℕ, List, [], ◌∷◌, codes, Option, Some, None, refl, sym, ap, ◌∙◌, subst}
-use Rattle.erl_term.specs.Value.{Value}
-use Rattle.erl_term.specs.Value.Value.{atom, tuple}
-use Rattle.erl_term.specs.Value.Values.{value}
+use Rattle.std.proofs.Common.{◌≡◌, ℕ, List, [], ◌∷◌, codes, Option, Some, None, sym, ap, ◌∙◌, subst}
+use Rattle.erl_term.specs.Value.{Value, Values}
+use Rattle.erl_term.specs.Value.Value.{atom, list, tuple}
+use Rattle.erl_term.specs.Value.Values.{no_values, value}
 use Rattle.erl_term.specs.Grammar.{Reading}
 use Rattle.erl_term.specs.OneTerm.{HasTerm}
 use Rattle.erl_term.proofs.Exact.{one_reading}
 use Rattle.rel_files.specs.File.{IsReleaseTerm}
+use Rattle.rel_files.specs.Release.{Release}
 use Rattle.rel_files.proofs.Outcomes.{one_release}
+use Rattle.library.specs.Library.{Library}
+use Rattle.library.specs.Reading.{AreOfLibraries}
+use Rattle.library.proofs.TermCases.{libraries_once}
 use Rattle.rel_records.specs.Record.{Record, makes, adds, assigns, removes, release_term}
-use Rattle.rel_records.specs.Reading.{change_in, Says, Spells}
+use Rattle.rel_records.specs.Reading.{change_in, Brings, Says, Spells}
 
 -- a text has one term at most
 pub one_term : (limit : ℕ) (bytes : List ℕ) (v w : Value) → HasTerm limit bytes v → HasTerm limit bytes w → v ≡ w
@@ -22,7 +26,7 @@ one_term limit bytes v w (r, reads, is) (s, again, is_too) = sym is ∙ same (on
         first [] = v
         first (x ∷ xs) = x.term
 
--- the word of a record's term, and the term of its release
+-- the word of a record's term, the term of its release, and those of its libraries
 abbrev word_in : Value → List ℕ
 word_in (tuple (value (atom s) vs)) = s
 word_in v = []
@@ -31,43 +35,62 @@ abbrev rel_in : Value → Value
 rel_in (tuple (value w (value rel vs))) = rel
 rel_in v = v
 
-pub one_word : (word other : List ℕ) (rel again : Value) → release_term word rel ≡ release_term other again → word ≡ other
-one_word word other rel again e = ap word_in e
+abbrev libs_in : Value → Values
+libs_in (tuple (value w (value rel (value (list libs) vs)))) = libs
+libs_in v = no_values
 
-pub one_rel : (word other : List ℕ) (rel again : Value) → release_term word rel ≡ release_term other again → rel ≡ again
-one_rel word other rel again e = ap rel_in e
+module _ (word other : List ℕ) (rel again : Value) (libs others : Values) (same : release_term word rel libs ≡ release_term other again others) where
+  pub one_word : word ≡ other
+  one_word = ap word_in same
+
+  pub one_rel : rel ≡ again
+  one_rel = ap rel_in same
+
+  pub one_row : libs ≡ others
+  one_row = ap libs_in same
 
 differ : codes "made" ≡ codes "unpacked" → ⊥
 differ e = cc e
 
 -- a term that brings a release changes none
-pub no_change : (v : Value) (word : List ℕ) (rel : Value) → v ≡ release_term word rel → change_in v ≡ None
-no_change v word rel is = ap change_in is
+pub no_change : (v : Value) (word : List ℕ) (rel : Value) (libs : Values) → v ≡ release_term word rel libs → change_in v ≡ None
+no_change v word rel libs is = ap change_in is
 
-apart : (v : Value) (word : List ℕ) (rel : Value) (r : Record) → v ≡ release_term word rel → change_in v ≡ Some r → ⊥
-apart v word rel r is changes = cc (changes, no_change v word rel is)
+apart : (v : Value) (word : List ℕ) (x : Release) (ls : List Library) (r : Record) → Brings word v x ls → change_in v ≡ Some r → ⊥
+apart v word x ls r b changes = cc (changes, no_change v word b.rel b.libs b.is)
+
+-- it brings one release with one row of libraries
+brings_once : (word : List ℕ) (v : Value) (r s : Release) (ls ks : List Library) → Brings word v r ls → Brings word v s ks → (r ≡ s) × (ls ≡ ks)
+brings_once word v r s ls ks b c =
+    let same : release_term word b.rel b.libs ≡ release_term word c.rel c.libs = sym b.is ∙ c.is in (
+      one_release c.rel r s (subst (λ t. IsReleaseTerm t r) (one_rel word word b.rel c.rel b.libs c.libs same) b.release) c.release,
+      libraries_once c.libs ls ks (subst (λ t. AreOfLibraries t ls) (one_row word word b.rel c.rel b.libs c.libs same) b.libraries) c.libraries,
+    )
+
+brings_apart : (v : Value) (r s : Release) (ls ks : List Library) → Brings (codes "made") v r ls → Brings (codes "unpacked") v s ks → ⊥
+brings_apart v r s ls ks b c = differ (one_word (codes "made") (codes "unpacked") b.rel c.rel b.libs c.libs (sym b.is ∙ c.is))
 
 one_change : (o : Option Record) (r s : Record) → o ≡ Some r → o ≡ Some s → r ≡ s
 one_change o r s p q = cc
 
 -- a term says one record at most
 pub says_once : (v : Value) (r s : Record) → Says v r → Says v s → r ≡ s
-says_once v (makes x) (makes y) (rel, is, p) (again, other, q) = ap makes (one_release again x y (subst (λ t. IsReleaseTerm t x) (one_rel _ _ rel again (sym is ∙ other)) p) q)
-says_once v (adds x) (adds y) (rel, is, p) (again, other, q) = ap adds (one_release again x y (subst (λ t. IsReleaseTerm t x) (one_rel _ _ rel again (sym is ∙ other)) p) q)
-says_once v (makes x) (adds y) (rel, is, p) (again, other, q) = absurd (differ (one_word _ _ rel again (sym is ∙ other)))
-says_once v (adds x) (makes y) (rel, is, p) (again, other, q) = absurd (differ (one_word _ _ again rel (sym other ∙ is)))
+says_once v (makes x ls) (makes y ks) b c = let (r, l) = brings_once (codes "made") v x y ls ks b c in λ j. makes (r j) (l j)
+says_once v (adds x ls) (adds y ks) b c = let (r, l) = brings_once (codes "unpacked") v x y ls ks b c in λ j. adds (r j) (l j)
+says_once v (makes x ls) (adds y ks) b c = absurd (brings_apart v x y ls ks b c)
+says_once v (adds x ls) (makes y ks) b c = absurd (brings_apart v y x ks ls c b)
 says_once v (assigns given) (assigns bs) p q = one_change (change_in v) (assigns given) (assigns bs) p q
 says_once v (assigns given) (removes w) p q = one_change (change_in v) (assigns given) (removes w) p q
 says_once v (removes w) (assigns bs) p q = one_change (change_in v) (removes w) (assigns bs) p q
 says_once v (removes w) (removes u) p q = one_change (change_in v) (removes w) (removes u) p q
-says_once v (makes x) (assigns bs) (rel, is, p) q = absurd (apart v _ rel (assigns bs) is q)
-says_once v (makes x) (removes u) (rel, is, p) q = absurd (apart v _ rel (removes u) is q)
-says_once v (adds x) (assigns bs) (rel, is, p) q = absurd (apart v _ rel (assigns bs) is q)
-says_once v (adds x) (removes u) (rel, is, p) q = absurd (apart v _ rel (removes u) is q)
-says_once v (assigns given) (makes y) p (rel, is, q) = absurd (apart v _ rel (assigns given) is p)
-says_once v (assigns given) (adds y) p (rel, is, q) = absurd (apart v _ rel (assigns given) is p)
-says_once v (removes w) (makes y) p (rel, is, q) = absurd (apart v _ rel (removes w) is p)
-says_once v (removes w) (adds y) p (rel, is, q) = absurd (apart v _ rel (removes w) is p)
+says_once v (makes x ls) (assigns bs) b q = absurd (apart v (codes "made") x ls (assigns bs) b q)
+says_once v (makes x ls) (removes u) b q = absurd (apart v (codes "made") x ls (removes u) b q)
+says_once v (adds x ls) (assigns bs) b q = absurd (apart v (codes "unpacked") x ls (assigns bs) b q)
+says_once v (adds x ls) (removes u) b q = absurd (apart v (codes "unpacked") x ls (removes u) b q)
+says_once v (assigns given) (makes y ks) p c = absurd (apart v (codes "made") y ks (assigns given) c p)
+says_once v (assigns given) (adds y ks) p c = absurd (apart v (codes "unpacked") y ks (assigns given) c p)
+says_once v (removes w) (makes y ks) p c = absurd (apart v (codes "made") y ks (removes w) c p)
+says_once v (removes w) (adds y ks) p c = absurd (apart v (codes "unpacked") y ks (removes w) c p)
 
 pub spells_once : (body : List ℕ) (r s : Record) → Spells body r → Spells body s → r ≡ s
 spells_once body r s a b = says_once b.term r s (subst (λ v. Says v r) (one_term 72 body a.term b.term a.text b.text) a.says) b.says

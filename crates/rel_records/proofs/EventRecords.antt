@@ -1,25 +1,32 @@
 -- The record of an event makes of a list what the event makes of it, each as it is behind a boot.
-use Rattle.std.proofs.Common.{◌≡◌, ℕ, ◌+◌, ◌<◌, Bool, true, false, cond, List, [], ◌∷◌, ◌++◌, length, map, filter, Option, Some, None, is_some, suc, refl, sym, ap, subst, ◌∙◌, find, arith, if◌then◌else◌}
-use Rattle.std.specs.Prelude.{◌&&◌, not, nat_lt, ◌==◌}
+use Rattle.std.proofs.Common.{◌≡◌, ℕ, ◌<◌, Bool, true, false, cond, List, [], ◌∷◌, ◌++◌, length, map, filter, Option, Some, None, is_some, suc, refl, sym, ap, subst, ◌∙◌, find, arith, if◌then◌else◌}
+use Rattle.std.specs.Prelude.{◌&&◌, ◌||◌, not, nat_lt, ◌==◌}
 use Rattle.std.specs.List.{AllByRecursion}
-use Rattle.std.specs.Option.{option_map}
+use Rattle.std.specs.Option.{option_map, option_and_then}
 use Rattle.std.specs.Str.{bytes_eq}
 use Rattle.std.proofs.lemmas.Bool.Decides.{nat_tests}
 use Rattle.rel_files.specs.Release.{Release}
+use Rattle.erl_term.specs.Value.{Value}
+use Rattle.rel_files.proofs.Options.{both}
+use Rattle.library.specs.Library.{Library, AreLibrariesOf}
+use Rattle.rel_check.specs.Fault.{release_fault}
 use Rattle.rel_list.specs.declared.status.Status.{Status}
 use Rattle.rel_list.specs.declared.status.Status.TheVariants.{Unpacked, Current, Old, Permanent}
 use Rattle.rel_list.specs.Status.{is_current, is_permanent}
-use Rattle.rel_list.specs.Releases.{Releases, Entry, entry, status_of, of_status, HasDistinctVersions, has_current}
-use Rattle.rel_list.specs.Event.{Event, may_be_installed, may_be_made_permanent, may_be_removed, may_be_rebooted, booted_status, status_behind, assigned_status, with_statuses, list_installed, list_made_permanent, list_assigned, without, booted, step}
+use Rattle.rel_list.specs.Releases.{Bundle, Releases, Entry, entry, first_different, status_of, of_status, HasDistinctVersions, has_current}
+use Rattle.rel_list.specs.Event.{Event, is_barred, may_be_installed, may_be_made_permanent, may_be_removed, may_be_rebooted, booted_status, status_behind, assigned_status, with_statuses, list_installed, list_made_permanent, list_assigned, without, booted, step}
 use Rattle.rel_list.specs.Event.Event.{made, unpacked, installed, made_permanent, removed, reboot_old, boot}
 use Rattle.rel_list.proofs.EventLaws.{one_permanent-step}
 use Rattle.rel_list.proofs.Orderly.{status_or, is_itself, differs_back, first_differs, none_behind, listed-with_statuses, unlisted-with_statuses, just_as_many}
 use Rattle.rel_records.specs.Limits.{has_one_permanent, is_small, most_releases}
-use Rattle.rel_records.specs.Record.{Assignment, assigns}
-use Rattle.rel_records.specs.Lists.{may_be_assigned, assign_all, taken_by, with_one_permanent, assigned}
-use Rattle.rel_records.specs.Writing.{is_same, is_changed, assignment_of, changes, record_of, IsWithinLimits, IsOfListed, Tells}
-use Rattle.rel_records.specs.Laws.{RecordsTellEvents}
-use Rattle.rel_records.proofs.RecordPlaces.{chosen, kept, booted-push, booted-without}
+use Rattle.rel_records.specs.Record.{Assignment, Record, makes, adds, assigns, removes}
+use Rattle.rel_records.specs.Lists.{may_be_assigned, assign_all, completed, if_faultless, brought_by, taken_by, with_one_permanent, assigned, HaveLibraries}
+use Rattle.rel_records.specs.Writing.{is_same, is_changed, assignment_of, changes, new_libraries, record_of, IsComplete, IsWithinLimits, IsOfListed, Tells}
+use Rattle.rel_records.specs.Laws.{IsOfEvent, IsOfOneRelease, RecordsAreOfEvents, RecordsTellEvents}
+use Rattle.rel_records.specs.Reading.{Says}
+use Rattle.library.proofs.TermCases.{are_libraries}
+use Rattle.rel_records.proofs.CompletionLemmas.{AreCompleted, all_new, are_completed, completed_first, completed_new, first_different-booted}
+use Rattle.rel_records.proofs.RecordPlaces.{IsOfRecord, assigned_so, event_of_record, chosen, kept, booted-push, booted-without, pushed_last}
 
 -- a boot leaves permanent releases permanent, and others not
 permanent-booted : (s : Status) → is_permanent (booted_status s) ≡ is_permanent s
@@ -155,21 +162,58 @@ module _ (e : Event) where
   assigned_behind : (es : Releases) → HasDistinctVersions es → has_one_permanent (behind es) ≡ true → assigned (assigns (changes e es)) (booted es) ≡ Some (booted (behind es))
   assigned_behind es distinct one = ap with_one_permanent (changes_so es distinct) ∙ kept (booted (behind es)) (one-booted (behind es) ∙ one)
 
--- a release that comes in
-comes_in : (r : Release) (es next : Releases) → is_small r ≡ true → length es < most_releases → step (unpacked r) es ≡ Some next → taken_by (record_of (unpacked r) es) (booted es) ≡ Some (booted next)
-comes_in r es next small few is = go (is_some (status_of r.vsn es)) refl is
-  where
-    fits : nat_lt (length (booted es)) most_releases ≡ true
-    fits = grind (arith, nat_tests, length-booted es)
+-- Releases that come in
 
-    go : (b : Bool) → is_some (status_of r.vsn es) ≡ b → (if b then None else Some (es ++ entry r Unpacked ∷ [])) ≡ Some next → taken_by (record_of (unpacked r) es) (booted es) ≡ Some (booted next)
-    go true listed e = absurd cc
-    go false listed e =
-        let same : es ++ entry r Unpacked ∷ [] ≡ next = cc e in
-        ap (λ b. if b && nat_lt (length (booted es)) most_releases then step (unpacked r) (booted es) else None) small
-        ∙ ap (λ b. if b then step (unpacked r) (booted es) else None) fits
-        ∙ ap (λ b. if b then None else Some (booted es ++ entry r Unpacked ∷ [])) (listed-with_statuses (λ vsn s. booted_status s) r.vsn es ∙ listed)
-        ∙ ap (λ l. Some l) (sym (booted-push es (entry r Unpacked)) ∙ ap booted same)
+-- a record brings the release with the libraries that its new ones complete
+abbrev with_libraries : Release → List Library → Option Bundle
+with_libraries r ks = if_faultless (record { release = r; libraries = ks })
+
+brought_whole : (es : Releases) (p : Bundle) (ls : List Library) → completed es p.release.apps ls ≡ Some p.libraries → release_fault p.release.apps p.libraries ≡ None → brought_by es p.release ls ≡ Some p
+brought_whole es p ls found faultless = ap (option_and_then (with_libraries p.release)) found ∙ ap (λ o. if is_some o then None else Some p) faultless
+
+-- nothing bars a release that came in
+unbarred : (p : Bundle) (es next : Releases) → step (unpacked p) es ≡ Some next → (is_some (status_of p.release.vsn es) ≡ false) × (first_different es p.libraries ≡ None)
+unbarred p es next is = by (is_some (status_of p.release.vsn es)) (first_different es p.libraries) refl refl is
+  where
+    by : (listed : Bool) (o : Option Library) → is_some (status_of p.release.vsn es) ≡ listed → first_different es p.libraries ≡ o
+        → (if listed || is_some o then None else Some (es ++ entry p Unpacked ∷ [])) ≡ Some next → (is_some (status_of p.release.vsn es) ≡ false) × (first_different es p.libraries ≡ None)
+    by false None fresh agree e = (fresh, agree)
+    by false (Some l) fresh agree e = absurd cc
+    by true o fresh agree e = absurd cc
+
+comes_in : (p : Bundle) (es next : Releases) → HaveLibraries es → IsWithinLimits (unpacked p) es → step (unpacked p) es ≡ Some next
+    → taken_by (adds p.release (new_libraries es p.libraries)) (booted es) ≡ Some (booted next)
+comes_in p es next have fits is =
+    let (fresh, agree) = unbarred p es next is in
+    let complete = fits.2 in
+    let brought : brought_by (booted es) p.release (new_libraries es p.libraries) ≡ Some p =
+    brought_whole (booted es) p (new_libraries es p.libraries) (completed_new es have p.release.apps p.libraries complete.libraries agree) complete.faultless in
+    let enters : is_barred p (booted es) ≡ false =
+    (λ k. (listed-with_statuses (λ vsn s. booted_status s) p.release.vsn es ∙ fresh) k || is_some ((first_different-booted es p.libraries ∙ agree) k)) in
+    ap (λ b. if b && nat_lt (length (booted es)) most_releases then arrives (brought_by (booted es) p.release (new_libraries es p.libraries)) else None) fits.0
+    ∙ ap (λ b. if b then arrives (brought_by (booted es) p.release (new_libraries es p.libraries)) else None) short
+    ∙ ap arrives brought
+    ∙ ap (λ b. if b then None else Some (booted es ++ entry p Unpacked ∷ [])) enters
+    ∙ ap (λ l. Some l) (sym (booted-push es (entry p Unpacked)) ∙ ap booted (pushed_last p es next is))
+  where
+    arrives : Option Bundle → Option Releases
+    arrives o = option_and_then (λ (q : Bundle). step (unpacked q) (booted es)) o
+
+    short : nat_lt (length (booted es)) most_releases ≡ true
+    short = let few = fits.1 in grind (arith, nat_tests, length-booted es)
+
+-- a node's first release
+comes_first : (p : Bundle) (next : Releases) → IsWithinLimits (made p) [] → step (made p) [] ≡ Some next → assigned (makes p.release p.libraries) [] ≡ Some (booted next)
+comes_first p next fits is =
+    let same : entry p Permanent ∷ [] ≡ next = cc is in
+    let complete = fits.1 in
+    let brought : brought_by [] p.release p.libraries ≡ Some p = brought_whole [] p p.libraries (completed_first p.release.apps p.libraries complete.libraries) complete.faultless in
+    ap (λ b. with_one_permanent (if b then arrives (brought_by [] p.release p.libraries) else None)) fits.0
+    ∙ ap (λ o. with_one_permanent (arrives o)) brought
+    ∙ ap (λ l. Some (booted l)) same
+  where
+    arrives : Option Bundle → Option Releases
+    arrives o = option_and_then (λ (q : Bundle). step (made q) []) o
 
 -- a release that leaves
 leaves : (v : List ℕ) (es next : Releases) → step (removed v) es ≡ Some next → step (removed v) (booted es) ≡ Some (booted next)
@@ -186,28 +230,36 @@ leaves v es next is =
     still (Some Old) e = e
     still (Some Permanent) e = e
 
-pub tells : RecordsTellEvents
-tells (made r) [] next distinct is small one =
-    let same : entry r Permanent ∷ [] ≡ next = cc is in
-    ap (λ b. with_one_permanent (if b then Some (entry r Permanent ∷ []) else None)) small ∙ ap (λ l. Some (booted l)) same
-tells (made r) (x ∷ es) next distinct is small one = absurd cc
-tells (unpacked r) es next distinct is fits one = ap with_one_permanent (comes_in r es next fits.0 fits.1 is) ∙ kept (booted next) (one-booted next ∙ one)
-tells (removed v) es next distinct is fits one = ap with_one_permanent (leaves v es next is) ∙ kept (booted next) (one-booted next ∙ one)
-tells boot es next distinct is fits one =
+-- what changes the statuses of listed releases, or takes one out
+change_tells : (e : Event) (es next : Releases) → IsOfListed e → HasDistinctVersions es → step e es ≡ Some next → has_one_permanent next ≡ true → assigned (record_of e es) (booted es) ≡ Some (booted next)
+change_tells (made p) es next listed distinct is one = absurd listed
+change_tells (unpacked p) es next listed distinct is one = absurd listed
+change_tells (removed v) es next listed distinct is one = ap with_one_permanent (leaves v es next is) ∙ kept (booted next) (one-booted next ∙ one)
+change_tells boot es next listed distinct is one =
     let same : booted es ≡ next = cc is in
     subst (λ l. assigned (assigns (changes boot es)) (booted es) ≡ Some (booted l)) same (assigned_behind boot es distinct (ap has_one_permanent same ∙ one))
-tells (installed v) es next distinct is fits one =
+change_tells (installed v) es next listed distinct is one =
     let (may, there) = chosen (may_be_installed (has_current es) (status_of v es)) (Some (list_installed v es)) next is in
     let same : list_installed v es ≡ next = cc there in
     subst (λ l. assigned (assigns (changes (installed v) es)) (booted es) ≡ Some (booted l)) same (assigned_behind (installed v) es distinct (ap has_one_permanent same ∙ one))
-tells (made_permanent v) es next distinct is fits one =
+change_tells (made_permanent v) es next listed distinct is one =
     let (may, there) = chosen (may_be_made_permanent (status_of v es)) (Some (list_made_permanent v es)) next is in
     let same : list_made_permanent v es ≡ next = cc there in
     subst (λ l. assigned (assigns (changes (made_permanent v) es)) (booted es) ≡ Some (booted l)) same (assigned_behind (made_permanent v) es distinct (ap has_one_permanent same ∙ one))
-tells (reboot_old v) es next distinct is fits one =
+change_tells (reboot_old v) es next listed distinct is one =
     let (may, there) = chosen (may_be_rebooted (status_of v es)) (Some (list_made_permanent v es)) next is in
     let same : list_made_permanent v es ≡ next = cc there in
     subst (λ l. assigned (assigns (changes (reboot_old v) es)) (booted es) ≡ Some (booted l)) same (assigned_behind (reboot_old v) es distinct (ap has_one_permanent same ∙ one))
+
+pub tells : RecordsTellEvents
+tells (made p) [] next distinct have is fits one = comes_first p next fits is
+tells (made p) (x ∷ es) next distinct have is fits one = cc is
+tells (unpacked p) es next distinct have is fits one = ap with_one_permanent (comes_in p es next have fits is) ∙ kept (booted next) (one-booted next ∙ one)
+tells (installed v) es next distinct have is fits one = change_tells (installed v) es next tt distinct is one
+tells (made_permanent v) es next distinct have is fits one = change_tells (made_permanent v) es next tt distinct is one
+tells (removed v) es next distinct have is fits one = change_tells (removed v) es next tt distinct is one
+tells (reboot_old v) es next distinct have is fits one = change_tells (reboot_old v) es next tt distinct is one
+tells boot es next distinct have is fits one = change_tells boot es next tt distinct is one
 
 -- a list keeps its one permanent release
 one_behind_step : (e : Event) (es next : Releases) → HasDistinctVersions es → step e es ≡ Some next → has_one_permanent es ≡ true → has_one_permanent next ≡ true
@@ -217,23 +269,58 @@ one_behind_step e es next distinct is one = ap (λ n. n == 1) (one_permanent-ste
     is_one n e = grind (arith, nat_tests)
 
 pub told_by_record : (e : Event) (es : Releases) → HasDistinctVersions es → IsOfListed e → Tells e es
-told_by_record (made r) es distinct listed next is one = absurd listed
-told_by_record (unpacked r) es distinct listed next is one = absurd listed
-told_by_record (installed v) es distinct listed next is one = tells (installed v) es next distinct is tt (one_behind_step (installed v) es next distinct is one)
-told_by_record (made_permanent v) es distinct listed next is one = tells (made_permanent v) es next distinct is tt (one_behind_step (made_permanent v) es next distinct is one)
-told_by_record (removed v) es distinct listed next is one = tells (removed v) es next distinct is tt (one_behind_step (removed v) es next distinct is one)
-told_by_record (reboot_old v) es distinct listed next is one = tells (reboot_old v) es next distinct is tt (one_behind_step (reboot_old v) es next distinct is one)
-told_by_record boot es distinct listed next is one = tells boot es next distinct is tt (one_behind_step boot es next distinct is one)
+told_by_record e es distinct listed next is one = change_tells e es next listed distinct is (one_behind_step e es next distinct is one)
 
 -- a further release that isn't permanent leaves one permanent
 one-push : (es : Releases) (x : Entry) → is_permanent x.status ≡ false → of_status is_permanent (es ++ x ∷ []) ≡ of_status is_permanent es
 one-push [] x not_it = ap (λ b. cond b (x ∷ []) []) not_it
 one-push (e ∷ es) x not_it = ap (λ l. cond (is_permanent e.status) (e ∷ l) l) (one-push es x not_it)
 
-pub unpacked_tells : (r : Release) (es : Releases) → is_small r ≡ true → length es < most_releases → Tells (unpacked r) es
-unpacked_tells r es small few next is one =
-    ap with_one_permanent (comes_in r es next small few is) ∙ kept (booted next) (one-booted next ∙ behind (is_some (status_of r.vsn es)) is)
+pub unpacked_tells : (p : Bundle) (es : Releases) → HaveLibraries es → IsWithinLimits (unpacked p) es → Tells (unpacked p) es
+unpacked_tells p es have fits next is one = ap with_one_permanent (comes_in p es next have fits is) ∙ kept (booted next) (one-booted next ∙ behind)
   where
-    behind : (b : Bool) → (if b then None else Some (es ++ entry r Unpacked ∷ [])) ≡ Some next → has_one_permanent next ≡ true
-    behind true e = absurd cc
-    behind false e = let same : es ++ entry r Unpacked ∷ [] ≡ next = cc e in ap has_one_permanent (sym same) ∙ ap (λ l. length l == 1) (one-push es (entry r Unpacked) refl) ∙ one
+    behind : has_one_permanent next ≡ true
+    behind = ap has_one_permanent (sym (pushed_last p es next is)) ∙ ap (λ l. length l == 1) (one-push es (entry p Unpacked) refl) ∙ one
+
+-- What a record brings is complete.
+complete : (es : Releases) (r : Release) (ls : List Library) (p : Bundle) → IsOfRecord es r ls p → AreCompleted es r.apps ls p.libraries → IsComplete p
+complete es r ls p of done = record {
+  libraries = subst (λ (s : Release). AreLibrariesOf s.apps p.libraries) of.release done.libraries;
+  faultless = subst (λ (s : Release). release_fault s.apps p.libraries ≡ None) of.release of.faultless;
+}
+
+below : (n : ℕ) → nat_lt n most_releases ≡ true → n < most_releases
+below n e = grind (arith, nat_tests)
+
+-- a node's first release brings all its libraries
+all_brought : (p : Bundle) (es next : Releases) → step (made p) es ≡ Some next → new_libraries es p.libraries ≡ p.libraries
+all_brought p [] next is = all_new p.libraries
+all_brought p (f ∷ fs) next is = absurd cc
+
+-- A record of a release that comes in or leaves is that of an event.
+of_event : (v : Value) (r : Record) (es next : Releases) → HaveLibraries es → Says v r → IsOfOneRelease r → taken_by r es ≡ Some next → IsOfEvent es next r
+of_event v (makes r ls) es next have says one taken =
+    let (p, of, is) = event_of_record made (is_small r) r ls es next taken in
+    let done = are_completed es have r.apps ls p.libraries (are_libraries says.libs ls says.libraries) of.libraries in
+    record {
+      event = made p;
+      leads = is;
+      fits = (ap is_small (sym of.release) ∙ (chosen (is_small r) (option_and_then (λ (q : Bundle). step (made q) es) (brought_by es r ls)) next taken).0, complete es r ls p of done);
+      own = λ k. makes (sym of.release k) ((sym (all_brought p es next is) ∙ done.new) k);
+    }
+of_event v (adds r ls) es next have says one taken =
+    let (p, of, is) = event_of_record unpacked (is_small r && nat_lt (length es) most_releases) r ls es next taken in
+    let done = are_completed es have r.apps ls p.libraries (are_libraries says.libs ls says.libraries) of.libraries in
+    let (small, few) = both (is_small r) (nat_lt (length es) most_releases)
+    (chosen (is_small r && nat_lt (length es) most_releases) (option_and_then (λ (q : Bundle). step (unpacked q) es) (brought_by es r ls)) next taken).0 in
+    record {
+      event = unpacked p;
+      leads = is;
+      fits = (ap is_small (sym of.release) ∙ small, below (length es) few, complete es r ls p of done);
+      own = λ k. adds (sym of.release k) (done.new k);
+    }
+of_event v (removes w) es next have says one taken = record { event = removed w; leads = taken; fits = tt; own = refl }
+of_event v (assigns given) es next have says one taken = absurd one
+
+pub are_of_events : RecordsAreOfEvents
+are_of_events body r es next have spelled one taken = of_event spelled.term r es next have spelled.says one (assigned_so r es next taken).0

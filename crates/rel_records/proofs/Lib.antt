@@ -2,6 +2,7 @@ pub mod BodyLemmas
 pub mod ReadingLemmas
 pub mod ListLemmas
 pub mod RecordPlaces
+pub mod CompletionLemmas
 pub mod Progress
 pub mod Within
 pub mod TermLemmas

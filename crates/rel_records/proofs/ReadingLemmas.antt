@@ -17,40 +17,50 @@ use Rattle.rel_files.specs.Parts.{pair_in, is_word, list_in}
 use Rattle.rel_files.specs.Release.{Release}
 use Rattle.rel_files.specs.declared.fault.FileFault.{FileFault}
 use Rattle.rel_files.specs.declared.fault.FileFault.TheVariants as file
-use Rattle.rel_records.specs.Parts.{parts_in, record_read, fault_of_text, fault_of_release}
+use Rattle.library.specs.Library.{Library}
+use Rattle.library.specs.Reading.{AreOfLibraries, SaysLibrary}
+use Rattle.library.proofs.TermRows.{RowOrNot}
+use Rattle.library.proofs.TermCases.{libraries_or_not}
+use Rattle.rel_records.specs.Parts.{ReleaseParts, parts_in, parts_term, record_read, fault_of_text, fault_of_release}
 use Rattle.rel_records.specs.declared.reading.Record.{Record as RecordInMemory}
-use Rattle.rel_records.specs.Record.{Assignment, Record, makes, adds, assigns, removes, release_term}
-use Rattle.rel_records.specs.Reading.{change_of, change_in, assignments_of, version_in, Says, Spells}
+use Rattle.rel_records.specs.Record.{Assignment, Record, makes, adds, assigns, removes}
+use Rattle.rel_records.specs.Reading.{change_of, change_in, assignments_of, version_in, Brings, Says, Spells}
 use Rattle.rel_records.specs.declared.fault.RecordFault.{RecordFault}
 use Rattle.rel_records.specs.declared.fault.RecordFault.TheVariants.{Bad}
-use Rattle.rel_records.proofs.BodyLemmas.{one_term, one_word, one_rel, no_change}
-use Rattle.rel_records.proofs.TermLemmas.{SaysOrNot, says_or_not, parts_term}
+use Rattle.rel_records.proofs.BodyLemmas.{one_term, one_word, one_rel, one_row, no_change}
+use Rattle.rel_records.proofs.TermLemmas.{SaysOrNot, says_or_not, is_parts_term}
+
+-- the record is of releases that are there
+abbrev ChangesAlone : Record → Type 0
+ChangesAlone (makes x ls) = ⊥
+ChangesAlone (adds x ls) = ⊥
+ChangesAlone r = Unit {0}
 
 -- a change assigns or removes
-neither : (a b : Bool) (x : Option (List Assignment)) (y : Option (List ℕ)) (r : Record) → (if a then option_map assigns x else if b then option_map removes y else None) ≡ Some r → ((rel : Release) → r ≡ makes rel → ⊥) × ((rel : Release) → r ≡ adds rel → ⊥)
+neither : (a b : Bool) (x : Option (List Assignment)) (y : Option (List ℕ)) (r : Record) → (if a then option_map assigns x else if b then option_map removes y else None) ≡ Some r → ChangesAlone r
 neither true b None y r e = absurd cc
-neither true b (Some given) y r e = (λ rel is. cc (e, is), λ rel is. cc (e, is))
+neither true b (Some given) y r e = let same : assigns given ≡ r = cc in subst ChangesAlone same tt
 neither false true x None r e = absurd cc
-neither false true x (Some w) r e = (λ rel is. cc (e, is), λ rel is. cc (e, is))
+neither false true x (Some w) r e = let same : removes w ≡ r = cc in subst ChangesAlone same tt
 neither false false x y r e = absurd cc
 
-changes_only : (v : Value) (r : Record) → change_in v ≡ Some r → ((rel : Release) → r ≡ makes rel → ⊥) × ((rel : Release) → r ≡ adds rel → ⊥)
+changes_only : (v : Value) (r : Record) → change_in v ≡ Some r → ChangesAlone r
 changes_only v r e = by_pair (pair_in v) e
   where
-    by_pair : (o : Option (Value × Value)) → option_and_then change_of o ≡ Some r → ((rel : Release) → r ≡ makes rel → ⊥) × ((rel : Release) → r ≡ adds rel → ⊥)
+    by_pair : (o : Option (Value × Value)) → option_and_then change_of o ≡ Some r → ChangesAlone r
     by_pair None e = absurd cc
     by_pair (Some p) e = neither (is_word (codes "status") p.0) (is_word (codes "removed") p.0) (option_and_then assignments_of (list_in p.1)) (version_in p.1) r e
 
 pub change_says : (v : Value) (r : Record) → change_in v ≡ Some r → Says v r
-change_says v (makes x) e = absurd ((changes_only v (makes x) e).0 x refl)
-change_says v (adds x) e = absurd ((changes_only v (adds x) e).1 x refl)
+change_says v (makes x ls) e = absurd (changes_only v (makes x ls) e)
+change_says v (adds x ls) e = absurd (changes_only v (adds x ls) e)
 change_says v (assigns given) e = e
 change_says v (removes w) e = e
 
 -- what is said by no release's term and no change is no record
 pub says_none : (v : Value) → None ≡ parts_in v → change_in v ≡ None → (r : Record) → Says v r → ⊥
-says_none v none still (makes x) (rel, is, says) = cc (none, ap parts_in is)
-says_none v none still (adds x) (rel, is, says) = cc (none, ap parts_in is)
+says_none v none still (makes x ls) b = cc (none, ap parts_in b.is)
+says_none v none still (adds x ls) b = cc (none, ap parts_in b.is)
 says_none v none still (assigns given) says = cc (still, says)
 says_none v none still (removes w) says = cc (still, says)
 
@@ -58,42 +68,64 @@ says_none v none still (removes w) says = cc (still, says)
 abbrev pub SaysRecordOrNot : Value → Type 0
 SaysRecordOrNot v = ((r : Record) × Says v r) ⊎ ((r : Record) → Says v r → ⊥)
 
--- a word that is none of the two says none
-pub no_word : (word : List ℕ) (rel : Value) → bytes_eq word (codes "made") ≡ false → bytes_eq word (codes "unpacked") ≡ false → (r : Record) → Says (release_term word rel) r → ⊥
-no_word word rel made unpacked (makes x) (again, is, says) = cc (made, ap (λ w. bytes_eq w (codes "made")) (one_word word _ rel again is))
-no_word word rel made unpacked (adds x) (again, is, says) = cc (unpacked, ap (λ w. bytes_eq w (codes "unpacked")) (one_word word _ rel again is))
-no_word word rel made unpacked (assigns given) says = cc (says, no_change (release_term word rel) word rel refl)
-no_word word rel made unpacked (removes w) says = cc (says, no_change (release_term word rel) word rel refl)
+-- What the term with these parts doesn't say.
+module _ (p : ReleaseParts) where
+  no_change_there : change_in (parts_term p) ≡ None
+  no_change_there = no_change (parts_term p) p.word p.rel p.libs refl
 
--- nor does one whose release is none
-pub no_release : (word : List ℕ) (rel : Value) → ((x : Release) → IsReleaseTerm rel x → ⊥) → (r : Record) → Says (release_term word rel) r → ⊥
-no_release word rel never (makes x) (again, is, says) = never x (subst (λ t. IsReleaseTerm t x) (sym (one_rel word _ rel again is)) says)
-no_release word rel never (adds x) (again, is, says) = never x (subst (λ t. IsReleaseTerm t x) (sym (one_rel word _ rel again is)) says)
-no_release word rel never (assigns given) says = cc (says, no_change (release_term word rel) word rel refl)
-no_release word rel never (removes w) says = cc (says, no_change (release_term word rel) word rel refl)
+  -- a word that is none of the two says none
+  pub no_word : bytes_eq p.word (codes "made") ≡ false → bytes_eq p.word (codes "unpacked") ≡ false → (r : Record) → Says (parts_term p) r → ⊥
+  no_word made unpacked (makes x ls) b = cc (made, ap (λ w. bytes_eq w (codes "made")) (one_word p.word (codes "made") p.rel b.rel p.libs b.libs b.is))
+  no_word made unpacked (adds x ls) b = cc (unpacked, ap (λ w. bytes_eq w (codes "unpacked")) (one_word p.word (codes "unpacked") p.rel b.rel p.libs b.libs b.is))
+  no_word made unpacked (assigns given) says = cc (says, no_change_there)
+  no_word made unpacked (removes w) says = cc (says, no_change_there)
+
+  -- nor does one whose release is none
+  pub no_release : ((x : Release) → IsReleaseTerm p.rel x → ⊥) → (r : Record) → Says (parts_term p) r → ⊥
+  no_release never (makes x ls) b = never x (subst (λ t. IsReleaseTerm t x) (sym (one_rel p.word (codes "made") p.rel b.rel p.libs b.libs b.is)) b.release)
+  no_release never (adds x ls) b = never x (subst (λ t. IsReleaseTerm t x) (sym (one_rel p.word (codes "unpacked") p.rel b.rel p.libs b.libs b.is)) b.release)
+  no_release never (assigns given) says = cc (says, no_change_there)
+  no_release never (removes w) says = cc (says, no_change_there)
+
+  -- nor one of whose libraries one is none
+  pub no_libraries : ((ls : List Library) → AreOfLibraries p.libs ls → ⊥) → (r : Record) → Says (parts_term p) r → ⊥
+  no_libraries never (makes x ls) b = never ls (subst (λ t. AreOfLibraries t ls) (sym (one_row p.word (codes "made") p.rel b.rel p.libs b.libs b.is)) b.libraries)
+  no_libraries never (adds x ls) b = never ls (subst (λ t. AreOfLibraries t ls) (sym (one_row p.word (codes "unpacked") p.rel b.rel p.libs b.libs b.is)) b.libraries)
+  no_libraries never (assigns given) says = cc (says, no_change_there)
+  no_libraries never (removes w) says = cc (says, no_change_there)
+
+  -- what it says
+  pub brings : (word : List ℕ) → p.word ≡ word → (x : Release) (ls : List Library) → IsReleaseTerm p.rel x → AreOfLibraries p.libs ls → Brings word (parts_term p) x ls
+  brings word is x ls says are = record { rel = p.rel; libs = p.libs; is = ap (λ w. parts_term (record p { word = w })) is; release = says; libraries = are }
+
+  parts_say : SaysRecordOrNot (parts_term p)
+  parts_say = by_word (bytes_eq p.word (codes "made")) refl (bytes_eq p.word (codes "unpacked")) refl
+    where
+      by_libraries : (make : Release → List Library → Record) → ((x : Release) (ls : List Library) → IsReleaseTerm p.rel x → AreOfLibraries p.libs ls → Says (parts_term p) (make x ls))
+          → (x : Release) → IsReleaseTerm p.rel x → RowOrNot SaysLibrary p.libs → SaysRecordOrNot (parts_term p)
+      by_libraries make says x is (inl (ls, are)) = inl (make x ls, says x ls is are)
+      by_libraries make says x is (inr never) = inr (no_libraries never)
+
+      by_release : (make : Release → List Library → Record) → ((x : Release) (ls : List Library) → IsReleaseTerm p.rel x → AreOfLibraries p.libs ls → Says (parts_term p) (make x ls))
+          → SaysOrNot p.rel → SaysRecordOrNot (parts_term p)
+      by_release make says (inl (x, is)) = by_libraries make says x is (libraries_or_not p.libs)
+      by_release make says (inr never) = inr (no_release never)
+
+      by_word : (a : Bool) → bytes_eq p.word (codes "made") ≡ a → (b : Bool) → bytes_eq p.word (codes "unpacked") ≡ b → SaysRecordOrNot (parts_term p)
+      by_word true is b other = by_release makes (brings (codes "made") ((bytes_eq-Decides p.word (codes "made")).0 is)) (says_or_not p.rel)
+      by_word false is true other = by_release adds (brings (codes "unpacked") ((bytes_eq-Decides p.word (codes "unpacked")).0 other)) (says_or_not p.rel)
+      by_word false is false other = inr (no_word is other)
 
 says_record_or_not : (v : Value) → SaysRecordOrNot v
 says_record_or_not v = by_parts (parts_in v) refl
   where
-    by_release : (word : List ℕ) (rel : Value) → (make : Release → Record) → ((x : Release) → IsReleaseTerm rel x → Says (release_term word rel) (make x)) → SaysOrNot rel → SaysRecordOrNot (release_term word rel)
-    by_release word rel make says (inl (x, is)) = inl (make x, says x is)
-    by_release word rel make says (inr never) = inr (no_release word rel never)
-
-    by_word : (word : List ℕ) (rel : Value) (a : Bool) → bytes_eq word (codes "made") ≡ a → (b : Bool) → bytes_eq word (codes "unpacked") ≡ b → SaysRecordOrNot (release_term word rel)
-    by_word word rel true is b other =
-        by_release word rel makes (λ x says. (rel, ap (λ w. release_term w rel) ((bytes_eq-Decides word (codes "made")).0 is), says)) (says_or_not rel)
-    by_word word rel false is true other =
-        by_release word rel adds (λ x says. (rel, ap (λ w. release_term w rel) ((bytes_eq-Decides word (codes "unpacked")).0 other), says)) (says_or_not rel)
-    by_word word rel false is false other = inr (no_word word rel is other)
-
     by_change : parts_in v ≡ None → (o : Option Record) → change_in v ≡ o → SaysRecordOrNot v
     by_change none (Some r) is = inl (r, change_says v r is)
     by_change none None is = inr (says_none v (sym none) is)
 
-    by_parts : (o : Option (List ℕ × Value)) → parts_in v ≡ o → SaysRecordOrNot v
+    by_parts : (o : Option ReleaseParts) → parts_in v ≡ o → SaysRecordOrNot v
     by_parts None is = by_change is (change_in v) refl
-    by_parts (Some (word, rel)) is =
-        subst SaysRecordOrNot (sym (parts_term v word rel is)) (by_word word rel (bytes_eq word (codes "made")) refl (bytes_eq word (codes "unpacked")) refl)
+    by_parts (Some p) is = subst SaysRecordOrNot (sym (is_parts_term v p is)) (parts_say p)
 
 -- A body spells a record, or none.
 abbrev pub SpellsOrNot : List ℕ → Type 0
@@ -150,8 +182,8 @@ module _ (body : List ℕ) (v : Value) (has : HasTerm 72 body v) where
   spelled_so (Ok r) says = record { term = v; text = has; says = says }
   spelled_so (Err e) says = tt
 
-  pub release_spelled : {E : Type 0} → (word : List ℕ) (rel : Value) → Some (word, rel) ≡ parts_in v → (result : Result RecordInMemory E) → IfOk result (λ r. Says (release_term word rel) (record_read r)) → IfOk result (λ r. Spells body (record_read r))
-  release_spelled word rel parts result says = spelled_so result (subst (λ t. IfOk result (λ r. Says t (record_read r))) (sym (parts_term v word rel (sym parts))) says)
+  pub release_spelled : {E : Type 0} → (p : ReleaseParts) → Some p ≡ parts_in v → (result : Result RecordInMemory E) → IfOk result (λ r. Says (parts_term p) (record_read r)) → IfOk result (λ r. Spells body (record_read r))
+  release_spelled p parts result says = spelled_so result (subst (λ t. IfOk result (λ r. Says t (record_read r))) (sym (is_parts_term v p (sym parts))) says)
 
   pub change_spelled : {E : Type 0} → (result : Result RecordInMemory E) → IfOk result (λ r. change_in v ≡ Some (record_read r)) → IfOk result (λ r. Spells body (record_read r))
   change_spelled {E = E} result says = spelled_so result (go result says)
@@ -160,8 +192,8 @@ module _ (body : List ℕ) (v : Value) (has : HasTerm 72 body v) where
       go (Ok r) is = change_says v (record_read r) is
       go (Err e) is = tt
 
-  pub no_release_spelled : (word : List ℕ) (rel : Value) → Some (word, rel) ≡ parts_in v → ((r : Record) → Says (release_term word rel) r → ⊥) → (r : Record) → Spells body r → ⊥
-  no_release_spelled word rel parts never = unspelled body v has (subst (λ t. (r : Record) → Says t r → ⊥) (sym (parts_term v word rel (sym parts))) never)
+  pub no_release_spelled : (p : ReleaseParts) → Some p ≡ parts_in v → ((r : Record) → Says (parts_term p) r → ⊥) → (r : Record) → Spells body r → ⊥
+  no_release_spelled p parts never = unspelled body v has (subst (λ t. (r : Record) → Says t r → ⊥) (sym (is_parts_term v p (sym parts))) never)
 
   pub no_change_spelled : None ≡ parts_in v → change_in v ≡ None → (r : Record) → Spells body r → ⊥
   no_change_spelled none still = unspelled body v has (says_none v none still)

@@ -1,23 +1,21 @@
 -- What stands behind a record.
-use Rattle.std.proofs.Common.{◌≡◌, ℕ, Bool, true, false, List, [], ◌∷◌, ◌++◌, length, Some, None, Option, refl, sym, ap, ◌∙◌, subst, cond}
-use Rattle.std.specs.Prelude.{◌&&◌, not, is_some, nat_lt, if◌then◌else◌, codes}
-use Rattle.std.specs.List.{AllByRecursion}
-use Rattle.std.specs.Option.{option_map, option_and_then}
+use Rattle.std.proofs.Common.{◌≡◌, ℕ, Bool, true, false, List, [], ◌∷◌, ◌++◌, length, Some, None, Option, refl, sym, ap, ◌∙◌, subst}
+use Rattle.std.specs.Prelude.{◌&&◌, not, is_some, nat_lt, if◌then◌else◌}
+use Rattle.std.specs.Option.{option_and_then}
 use Rattle.std.specs.Str.{bytes_eq}
-use Rattle.erl_term.specs.Value.{Value, Values}
-use Rattle.erl_term.specs.Value.Values.{no_values, value}
-use Rattle.rel_files.specs.Parts.{pair_in, list_in, is_word}
 use Rattle.rel_files.specs.Release.{Release}
+use Rattle.rel_files.proofs.Options.{chained}
+use Rattle.library.specs.Library.{Library}
+use Rattle.rel_check.specs.Fault.{Fault, release_fault}
 use Rattle.rel_list.specs.declared.status.Status.{Status}
 use Rattle.rel_list.specs.declared.status.Status.TheVariants.{Unpacked, Current, Old, Permanent}
 use Rattle.rel_list.specs.Status.{is_current}
-use Rattle.rel_list.specs.Releases.{Releases, Entry, status_of}
-use Rattle.rel_list.specs.Event.{entry, booted, booted_status, step, without, list_assigned, assigned_status, may_be_removed}
-use Rattle.rel_list.specs.Event.Event.{made, unpacked, removed}
+use Rattle.rel_list.specs.Releases.{Bundle, Releases, Entry, status_of}
+use Rattle.rel_list.specs.Event.{Event, entry, is_barred, booted, booted_status, step, without, list_assigned, assigned_status, may_be_removed}
+use Rattle.rel_list.specs.Event.Event.{made, unpacked}
 use Rattle.rel_records.specs.Limits.{has_one_permanent, is_small, most_releases}
 use Rattle.rel_records.specs.Record.{Assignment, Record, makes, adds, assigns, removes}
-use Rattle.rel_records.specs.Reading.{assignment_in, assignments_of, change_of, change_in, status_in, version_in, Says, Spells}
-use Rattle.rel_records.specs.Lists.{may_be_assigned, assign_all, taken_by, with_one_permanent, assigned, MakesFrom}
+use Rattle.rel_records.specs.Lists.{may_be_assigned, assign_all, brought_by, completed, taken_by, with_one_permanent, assigned, MakesFrom}
 
 -- a choice that gives a value
 pub chosen : {A : Type 0} (b : Bool) (o : Option A) (x : A) → (if b then o else None) ≡ Some x → (b ≡ true) × (o ≡ Some x)
@@ -99,18 +97,50 @@ booted-without v (e ∷ es) = go (bytes_eq v e.release.vsn) (booted-without v es
     go true rest = refl
     go false rest = ap (λ l. record e { status = booted_status e.status } ∷ l) rest
 
--- no record makes a release current
-pub settled_behind : (r : Record) (es next : Releases) → taken_by r es ≡ Some next → booted es ≡ es → booted next ≡ next
-settled_behind (makes r) [] next e same = let (small, is) = chosen (is_small r) (step (made r) []) next e in let one : entry r Permanent ∷ [] ≡ next = cc is in subst (λ l. booted l ≡ l) one refl
-settled_behind (makes r) (f ∷ fs) next e same = let (small, is) = chosen (is_small r) (step (made r) (f ∷ fs)) next e in absurd cc
-settled_behind (adds r) es next e same =
-    let (small, is) = chosen (is_small r && nat_lt (length es) most_releases) (step (unpacked r) es) next e in
-    let pushed : es ++ entry r Unpacked ∷ [] ≡ next = unless (is_some (status_of r.vsn es)) is in
-    subst (λ l. booted l ≡ l) pushed (booted-push es (entry r Unpacked) ∙ ap (λ l. l ++ entry r Unpacked ∷ []) same)
+-- What a record brings is its release, with the libraries that the new ones complete.
+pub record IsOfRecord (es : Releases) (r : Release) (ls : List Library) (p : Bundle) : Type 0 where
+  pub release : r ≡ p.release
+  pub libraries : completed es r.apps ls ≡ Some p.libraries
+  pub faultless : release_fault r.apps p.libraries ≡ None
+
+pub of_record : (es : Releases) (r : Release) (ls : List Library) (p : Bundle) → brought_by es r ls ≡ Some p → IsOfRecord es r ls p
+of_record es r ls p e =
+    let with_release : List Library → Bundle = λ ks. record { release = r; libraries = ks } in
+    let (ks, found, whole) = chained (λ (ks : List Library). if is_some (release_fault r.apps ks) then None else Some (with_release ks)) (completed es r.apps ls) p e in
+    by ks found (release_fault r.apps ks) refl whole
   where
-    unless : (b : Bool) → (if b then None else Some (es ++ entry r Unpacked ∷ [])) ≡ Some next → es ++ entry r Unpacked ∷ [] ≡ next
+    by : (ks : List Library) → completed es r.apps ls ≡ Some ks → (o : Option Fault) → release_fault r.apps ks ≡ o → (if is_some o then None else Some (record { release = r; libraries = ks })) ≡ Some p → IsOfRecord es r ls p
+    by ks found (Some f) is whole = absurd cc
+    by ks found None is whole =
+        let same : record { release = r; libraries = ks } ≡ p = cc whole in
+        record { release = ap (λ (q : Bundle). q.release) same; libraries = found ∙ ap (λ (q : Bundle). Some q.libraries) same; faultless = ap (λ (q : Bundle). release_fault r.apps q.libraries) (sym same) ∙ is }
+
+-- A record that brings a release is the event that brings it.
+pub event_of_record : (event : Bundle → Event) (b : Bool) (r : Release) (ls : List Library) (es next : Releases) → (if b then option_and_then (λ (p : Bundle). step (event p) es) (brought_by es r ls) else None) ≡ Some next
+    → (p : Bundle) × IsOfRecord es r ls p × (step (event p) es ≡ Some next)
+event_of_record event b r ls es next e =
+    let (kept_limits, stepped) = chosen b (option_and_then (λ (p : Bundle). step (event p) es) (brought_by es r ls)) next e in
+    let (p, brought, is) = chained (λ (p : Bundle). step (event p) es) (brought_by es r ls) next stepped in
+    (p, of_record es r ls p brought, is)
+
+-- a release that comes in is last
+pub pushed_last : (p : Bundle) (es next : Releases) → step (unpacked p) es ≡ Some next → es ++ entry p Unpacked ∷ [] ≡ next
+pushed_last p es next e = unless (is_barred p es) e
+  where
+    unless : (b : Bool) → (if b then None else Some (es ++ entry p Unpacked ∷ [])) ≡ Some next → es ++ entry p Unpacked ∷ [] ≡ next
     unless true e = absurd cc
     unless false e = cc e
+
+settled_first : (p : Bundle) (es next : Releases) → step (made p) es ≡ Some next → booted next ≡ next
+settled_first p [] next is = let one : entry p Permanent ∷ [] ≡ next = cc is in subst (λ l. booted l ≡ l) one refl
+settled_first p (f ∷ fs) next is = absurd cc
+
+-- no record makes a release current
+pub settled_behind : (r : Record) (es next : Releases) → taken_by r es ≡ Some next → booted es ≡ es → booted next ≡ next
+settled_behind (makes r ls) es next e same = let (p, of, is) = event_of_record made (is_small r) r ls es next e in settled_first p es next is
+settled_behind (adds r ls) es next e same =
+    let (p, of, is) = event_of_record unpacked (is_small r && nat_lt (length es) most_releases) r ls es next e in
+    subst (λ l. booted l ≡ l) (pushed_last p es next is) (booted-push es (entry p Unpacked) ∙ ap (λ l. l ++ entry p Unpacked ∷ []) same)
 settled_behind (assigns given) es next e same = booted-assign_all given es next e same
 settled_behind (removes w) es next e same =
     let (may, is) = chosen (may_be_removed (status_of w es)) (Some (without w es)) next e in

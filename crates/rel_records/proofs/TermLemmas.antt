@@ -1,24 +1,23 @@
 -- What the term of a record says.
-use Rattle.std.proofs.Common.{◌≡◌, ◌⊎◌, inl, inr, ℕ, true, ◌&&◌, List, codes, Option, Some, None, refl, sym, ap, ◌∙◌, subst}
+use Rattle.std.proofs.Common.{◌≡◌, ◌⊎◌, inl, inr, ℕ, true, List, codes, Option, Some, None, refl, sym, ap, ◌∙◌, subst}
 use Rattle.std.specs.Prelude.{if◌then◌else◌}
 use Rattle.std.specs.Option.{option_map}
 use Rattle.std.proofs.lemmas.Slice.Eq.{bytes_eq-Decides}
-use Rattle.erl_term.specs.Value.{Value}
+use Rattle.erl_term.specs.Value.{Value, Values}
 use Rattle.erl_term.specs.Value.Value.{atom, list, tuple}
 use Rattle.erl_term.specs.Value.Values.{no_values, value}
 use Rattle.rel_files.specs.File.{IsReleaseTerm}
 use Rattle.rel_files.specs.Form.{form_of, names_in}
 use Rattle.rel_files.specs.Name.{AreDistinct, IsFirstTwice}
-use Rattle.rel_files.specs.Parts.{is_word, four_in}
+use Rattle.rel_files.specs.Parts.{is_word, four_in, list_in}
 use Rattle.rel_files.specs.Release.{Release}
 use Rattle.rel_files.specs.Sketch.{Sketch, sketch_in, release_in}
-use Rattle.rel_files.proofs.Options.{mapped, chained, passed, both}
+use Rattle.rel_files.proofs.Options.{mapped, chained, passed}
 use Rattle.rel_files.proofs.Distinct.{distinct_or_twice}
 use Rattle.rel_files.proofs.Outcomes.{sketch_names, form_names, never_both, says}
 use Rattle.rel_files.proofs.Shape.{form_sketch, sketch_in-term}
 use Rattle.rel_files.proofs.Versions.{release_in-form}
-use Rattle.rel_records.specs.Parts.{parts_in, name_in, is_empty_list}
-use Rattle.rel_records.specs.Record.{release_term}
+use Rattle.rel_records.specs.Parts.{ReleaseParts, name_in, parts_in, parts_term, parts_with}
 
 -- A term says a release, or none.
 abbrev pub SaysOrNot : Value → Type 0
@@ -57,18 +56,18 @@ word_term : (word : List ℕ) (v : Value) → is_word word v ≡ true → v ≡ 
 word_term word (atom s) e = ap atom ((bytes_eq-Decides s word).0 e)
 word_term word v e = absurd cc
 
-empty_term : (v : Value) → is_empty_list v ≡ true → v ≡ list no_values
-empty_term (list no_values) e = refl
-empty_term v e = absurd cc
+list_of_members : (v : Value) (vs : Values) → list_in v ≡ Some vs → v ≡ list vs
+list_of_members (list ws) vs e = let same : ws ≡ vs = cc in ap list same
+list_of_members v vs e = absurd cc
 
 -- the parts of a term are those of a record's term
-pub parts_term : (v : Value) (word : List ℕ) (rel : Value) → parts_in v ≡ Some (word, rel) → v ≡ release_term word rel
-parts_term v word rel e =
-    let with_word : Value → List ℕ → List ℕ × Value = λ r w. (w, r) in
-    let (m, four, rest) = chained (λ (m : Value × Value × Value × Value). if is_empty_list m.2 && is_word (codes "none") m.3 then option_map (with_word m.1) (name_in m.0) else None) (four_in v) (word, rel) e in
-    let (ends, named) = passed (is_empty_list m.2 && is_word (codes "none") m.3) (option_map (with_word m.1) (name_in m.0)) (word, rel) rest in
-    let (s, name, same) = mapped (with_word m.1) (name_in m.0) (word, rel) named in
-    let (libs, relup) = both (is_empty_list m.2) (is_word (codes "none") m.3) ends in
+pub is_parts_term : (v : Value) (p : ReleaseParts) → parts_in v ≡ Some p → v ≡ parts_term p
+is_parts_term v p e =
+    let (m, four, rest) = chained (λ (m : Value × Value × Value × Value). if is_word (codes "none") m.3 then parts_with m.0 m.1 m.2 else None) (four_in v) p e in
+    let (relup, parts) = passed (is_word (codes "none") m.3) (parts_with m.0 m.1 m.2) p rest in
+    let libs_with : List ℕ → Values → ReleaseParts = λ w vs. record { word = w; rel = m.1; libs = vs } in
+    let (s, name, listed) = chained (λ (w : List ℕ). option_map (libs_with w) (list_in m.2)) (name_in m.0) p parts in
+    let (vs, libs, same) = mapped (libs_with s) (list_in m.2) p listed in
     four_term v m four
-    ∙ (λ k. tuple (value (atom_named m.0 s name k) (value m.1 (value (empty_term m.2 libs k) (value (word_term (codes "none") m.3 relup k) no_values)))))
-    ∙ ap (λ (q : List ℕ × Value). release_term q.0 q.1) same
+    ∙ (λ k. tuple (value (atom_named m.0 s name k) (value m.1 (value (list_of_members m.2 vs libs k) (value (word_term (codes "none") m.3 relup k) no_values)))))
+    ∙ ap parts_term same

@@ -1,11 +1,16 @@
--- A record is deeper than its release by a bracket.
-use Rattle.std.proofs.Common.{◌≡◌, ℕ, zero, suc, ◌+◌, ◌-◌, ◌*◌, ◌≤◌, List, [], ◌∷◌, ◌++◌, length, arith, codes, refl, sym, subst}
+-- How deep the records are that bring releases.
+use Rattle.std.proofs.Common.{◌≡◌, ℕ, zero, suc, ◌+◌, ◌-◌, ◌*◌, ◌≤◌, Bool, true, false, List, [], ◌∷◌, ◌++◌, length, arith, codes, refl, sym, subst}
+use Rattle.std.specs.Prelude.{if◌then◌else◌}
 use Rattle.std.specs.Str.{chars, chars_after, continuation_len, lead_bits}
 use Rattle.erl_term.specs.Value.{Value}
+use Rattle.erl_term.specs.Value.Value.{list}
 use Rattle.erl_term.specs.Grammar.{Reads}
 use Rattle.erl_term.specs.OneTerm.{HasTerm}
-use Rattle.erl_term.specs.Within.{IsWithin, ReadsAs}
-use Rattle.rel_records.specs.Record.{release_term}
+use Rattle.erl_term.specs.Printing.{is_string, characters_of}
+use Rattle.erl_term.specs.Within.{IsWithin, HaveShortNames, ReadsAs, brackets, most_brackets}
+use Rattle.library.specs.Library.{Library}
+use Rattle.rel_records.specs.Record.{library_terms, release_term}
+use Rattle.rel_records.specs.Writing.{CanBeCarried}
 
 -- bytes spell no more characters than they are
 length-chars_after : (n c : ℕ) (bs : List ℕ) → length (chars_after n c bs) ≤ length bs + 1
@@ -19,8 +24,20 @@ unfolding chars
 length-chars [] = omega arith
 length-chars (b ∷ bs) = omega (arith, length-chars_after (continuation_len b) (lead_bits b) bs)
 
-pub within-release : (word : List ℕ) (v : Value) → length word ≤ 255 → IsWithin 65 v → IsWithin 72 (release_term word v)
-within-release word v few (names, nested) = ((omega (arith, length-chars word, few), (names, (tt, (omega (arith, length-chars (codes "none")), tt)))), omega (arith, nested))
+-- the terms of libraries keep within limits side by side
+terms_within : (ls : List Library) → CanBeCarried ls → HaveShortNames (library_terms ls) × (most_brackets (library_terms ls) ≤ 68)
+terms_within [] all = (tt, omega arith)
+terms_within (l ∷ ls) ((is, (short, few)), all) = let (names, nested) = terms_within ls all in ((short, names), omega (arith, few, nested))
+
+list_brackets : (is_text : Bool) (n : ℕ) → n ≤ 68 → (if is_text then 0 else n + 1) ≤ 69
+list_brackets true n few = omega arith
+list_brackets false n few = omega (arith, few)
+
+pub within-release : (word : List ℕ) (v : Value) (ls : List Library) → length word ≤ 255 → IsWithin 65 v → CanBeCarried ls → IsWithin 72 (release_term word v (library_terms ls))
+within-release word v ls few (names, nested) all =
+    let (libs, depth) = terms_within ls all in
+    let listed : brackets (list (library_terms ls)) ≤ 69 = list_brackets (is_string (characters_of (library_terms ls))) (most_brackets (library_terms ls)) depth in
+    ((omega (arith, length-chars word, few), (names, (libs, (omega (arith, length-chars (codes "none")), tt)))), omega (arith, nested, listed))
 
 -- what is printed within the limit, with a dot behind it, has the term
 pub read_back : (limit : ℕ) (out text : List ℕ) (v : Value) → IsWithin limit v → (IsWithin limit v → ReadsAs limit text v) → out ≡ text ++ 46 ∷ [] → HasTerm limit out v

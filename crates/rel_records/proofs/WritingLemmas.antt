@@ -7,9 +7,8 @@ use Rattle.std.specs.List.{AllByRecursion}
 use Rattle.std.specs.Option.{option_map, option_and_then}
 use Rattle.std.specs.Str.{bytes_eq}
 use Rattle.std.proofs.lemmas.Slice.Eq.{bytes_eq-Decides}
-use Rattle.erl_term.specs.Value.{Value, Values, values_of}
-use Rattle.erl_term.specs.Value.Value.{int, atom, list}
-use Rattle.erl_term.specs.Value.Values.{no_values, value}
+use Rattle.erl_term.specs.Value.{Value, values_of}
+use Rattle.erl_term.specs.Value.Value.{atom}
 use Rattle.erl_term.specs.OneTerm.{HasTerm}
 use Rattle.erl_term.specs.Printing.{is_string, characters_of}
 use Rattle.erl_term.specs.Within.{IsWithin, HasShortNames, HaveShortNames, brackets, most_brackets}
@@ -18,20 +17,21 @@ use Rattle.rel_files.specs.Form.{numbers_of, numbers_term, list_of}
 use Rattle.rel_files.specs.Name.{IsVersion}
 use Rattle.rel_files.specs.Release.{Release}
 use Rattle.rel_files.proofs.Texts.{numbers, text_in-numbers}
+use Rattle.library.specs.Library.{Library}
+use Rattle.library.specs.Reading.{AreOfLibraries}
 use Rattle.rel_list.specs.declared.status.Status.{Status}
 use Rattle.rel_list.specs.declared.status.Status.TheVariants.{Unpacked, Current, Old, Permanent}
 use Rattle.rel_list.specs.Refusal.{refusal, listed_refusal}
 use Rattle.rel_list.specs.Status.{is_current, is_permanent, runs, status_word}
-use Rattle.rel_list.specs.Releases.{Releases, Entry, status_of, has_current}
-use Rattle.rel_list.specs.Event.{Event, status_behind, booted_status}
+use Rattle.rel_list.specs.Releases.{Releases, Entry, library_in, status_of, has_current}
+use Rattle.rel_list.specs.Event.{Event, status_behind}
 use Rattle.rel_list.specs.Event.Event.{made, unpacked, installed, made_permanent, removed, reboot_old, boot}
-use Rattle.rel_list.specs.declared.fault.ListError.{ListError}
 use Rattle.rel_list.specs.declared.fault.ListError.TheVariants as told
 use Rattle.rel_list.proofs.Orderly.{status_or}
 use Rattle.rel_records.specs.Lists.{HaveVersions}
-use Rattle.rel_records.specs.Reading.{version_in, status_in, assignment_in, assignments_of, change_in, Says, Spells}
-use Rattle.rel_records.specs.Record.{Assignment, Record, makes, adds, assigns, removes, release_term, assignment_term, status_term, removed_term, term_of}
-use Rattle.rel_records.specs.Writing.{is_changed, assignment_of, changes, record_of, IsOfListed}
+use Rattle.rel_records.specs.Reading.{version_in, status_in, assignment_in, assignments_of, change_in, Brings, Says, Spells}
+use Rattle.rel_records.specs.Record.{Assignment, Record, makes, adds, assigns, removes, library_terms, release_term, assignment_term, status_term, removed_term, term_of}
+use Rattle.rel_records.specs.Writing.{is_changed, assignment_of, changes, new_libraries, record_of, CanBeCarried, IsOfListed}
 use Rattle.rel_records.proofs.EventRecords.{never_current}
 use Rattle.rel_records.proofs.Within.{length-chars, within-release}
 
@@ -143,13 +143,27 @@ not_refused v es e = go (status_of v es) e
 
 -- the term of an event's record says it, and is within the limits
 pub record_says : (e : Event) (es : Releases) (rel : Value) → IsOfListed e → refusal e es ≡ None → HaveVersions es → Says (term_of rel (record_of e es)) (record_of e es) × IsWithin 72 (term_of rel (record_of e es))
-record_says (made r) es rel listed allowed all = absurd listed
-record_says (unpacked r) es rel listed allowed all = absurd listed
+record_says (made p) es rel listed allowed all = absurd listed
+record_says (unpacked p) es rel listed allowed all = absurd listed
 record_says (installed v) es rel listed allowed all = (status_says (changes (installed v) es) (changes_written (installed v) es all), within-status (changes (installed v) es))
 record_says (made_permanent v) es rel listed allowed all = (status_says (changes (made_permanent v) es) (changes_written (made_permanent v) es all), within-status (changes (made_permanent v) es))
 record_says (reboot_old v) es rel listed allowed all = (status_says (changes (reboot_old v) es) (changes_written (reboot_old v) es all), within-status (changes (reboot_old v) es))
 record_says boot es rel listed allowed all = (status_says (changes boot es) (changes_written boot es all), within-status (changes boot es))
 record_says (removed v) es rel listed allowed all = (removed_says v (listed_version v es all (not_refused v es allowed)), within-removed v)
+
+-- the terms of libraries that can be carried are theirs
+carried_terms : (ls : List Library) → CanBeCarried ls → AreOfLibraries (library_terms ls) ls
+carried_terms [] all = tt
+carried_terms (l ∷ ls) all = ((all.0.0, refl), carried_terms ls all.1)
+
+-- and so can those that are new among them
+pub carried_new : (es : Releases) (ls : List Library) → CanBeCarried ls → CanBeCarried (new_libraries es ls)
+carried_new es [] all = tt
+carried_new es (l ∷ ls) all = go (not (is_some (library_in es l.app.name l.app.vsn))) (carried_new es ls all.1)
+  where
+    go : (b : Bool) → CanBeCarried (new_libraries es ls) → CanBeCarried (cond b (l ∷ new_libraries es ls) (new_libraries es ls))
+    go true rest = (all.0, rest)
+    go false rest = rest
 
 module _ {E : Type 0} (result : Result (String Global) E) (v : Value) where
   -- what is read back as this term
@@ -168,16 +182,20 @@ module _ {E : Type 0} (result : Result (String Global) E) (v : Value) where
       let (says, within) = record_says e es (list_of []) listed allowed all in
       spelled_so (record_of e es) (subst (λ t. Says t (record_of e es)) (sym is) says) (subst (IsWithin 72) (sym is) within) back
 
-  pub made_spelled : (rel : Value) → v ≡ release_term (codes "made") rel → IsWithin 65 rel → ReadsBack → IfOk result (λ body. (r : Release) → IsReleaseTerm rel r → Spells (string_bytes body) (makes r))
-  made_spelled rel is within back = go result (back (subst (IsWithin 72) (sym is) (within-release (codes "made") rel (omega arith) within)))
+  -- the term that brings a release with these libraries
+  brings_spelled : (word : List ℕ) (make : Release → Record) (rel : Value) (ls : List Library) → length word ≤ 255 → v ≡ release_term word rel (library_terms ls) → IsWithin 65 rel → CanBeCarried ls
+      → ((r : Release) → Brings word v r ls → Says v (make r)) → ReadsBack → IfOk result (λ body. (r : Release) → IsReleaseTerm rel r → Spells (string_bytes body) (make r))
+  brings_spelled word make rel ls few is within all says back = go result (back (subst (IsWithin 72) (sym is) (within-release word rel ls few within all)))
     where
-      go : (o : Result (String Global) E) → IfOk o (λ body. HasTerm 72 (string_bytes body) v) → IfOk o (λ body. (r : Release) → IsReleaseTerm rel r → Spells (string_bytes body) (makes r))
-      go (Ok body) has = λ r says. record { term = v; text = has; says = (rel, is, says) }
+      go : (o : Result (String Global) E) → IfOk o (λ body. HasTerm 72 (string_bytes body) v) → IfOk o (λ body. (r : Release) → IsReleaseTerm rel r → Spells (string_bytes body) (make r))
+      go (Ok body) has = λ r release.
+          record { term = v; text = has; says = says r (record { rel = rel; libs = library_terms ls; is = is; release = release; libraries = carried_terms ls all }) }
       go (Err e) has = tt
 
-  pub unpacked_spelled : (rel : Value) → v ≡ release_term (codes "unpacked") rel → IsWithin 65 rel → ReadsBack → IfOk result (λ body. (r : Release) → IsReleaseTerm rel r → Spells (string_bytes body) (adds r))
-  unpacked_spelled rel is within back = go result (back (subst (IsWithin 72) (sym is) (within-release (codes "unpacked") rel (omega arith) within)))
-    where
-      go : (o : Result (String Global) E) → IfOk o (λ body. HasTerm 72 (string_bytes body) v) → IfOk o (λ body. (r : Release) → IsReleaseTerm rel r → Spells (string_bytes body) (adds r))
-      go (Ok body) has = λ r says. record { term = v; text = has; says = (rel, is, says) }
-      go (Err e) has = tt
+  pub made_spelled : (rel : Value) (ls : List Library) → v ≡ release_term (codes "made") rel (library_terms ls) → IsWithin 65 rel → CanBeCarried ls → ReadsBack
+      → IfOk result (λ body. (r : Release) → IsReleaseTerm rel r → Spells (string_bytes body) (makes r ls))
+  made_spelled rel ls is within all back = brings_spelled (codes "made") (λ r. makes r ls) rel ls (omega arith) is within all (λ r b. b) back
+
+  pub unpacked_spelled : (rel : Value) (ls : List Library) → v ≡ release_term (codes "unpacked") rel (library_terms ls) → IsWithin 65 rel → CanBeCarried ls → ReadsBack
+      → IfOk result (λ body. (r : Release) → IsReleaseTerm rel r → Spells (string_bytes body) (adds r ls))
+  unpacked_spelled rel ls is within all back = brings_spelled (codes "unpacked") (λ r. adds r ls) rel ls (omega arith) is within all (λ r b. b) back

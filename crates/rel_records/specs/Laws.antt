@@ -3,7 +3,9 @@ use Rattle.std.specs.Prelude.{◌≡◌, ◌⊎◌, ℕ, true, List, Some}
 use Rattle.rel_list.specs.Releases.{Releases, HasDistinctVersions}
 use Rattle.rel_list.specs.Event.{Event, step, booted}
 use Rattle.rel_records.specs.Limits.{has_one_permanent}
-use Rattle.rel_records.specs.Lists.{assigned, Makes, IsBadRecord, HaveVersions}
+use Rattle.rel_records.specs.Lists.{assigned, Makes, IsBadRecord, HaveVersions, HaveLibraries}
+use Rattle.rel_records.specs.Reading.{Spells}
+use Rattle.rel_records.specs.Record.{Record, assigns}
 use Rattle.rel_records.specs.Writing.{record_of, IsWithinLimits}
 
 -- Bodies make a list, which is the same behind a boot, or one of them is the first bad record.
@@ -21,9 +23,31 @@ NeverBothRecords = (bodies : List (List ℕ)) (es : Releases) (i : ℕ) → Make
 -- The record of an event makes of the list, as it is behind a boot, what the event makes of it, as that is behind a boot.
 abbrev pub RecordsTellEvents : Type 0
 RecordsTellEvents =
-    (e : Event) (es next : Releases) → HasDistinctVersions es → step e es ≡ Some next → IsWithinLimits e es
+    (e : Event) (es next : Releases) → HasDistinctVersions es → HaveLibraries es → step e es ≡ Some next → IsWithinLimits e es
     → has_one_permanent next ≡ true → assigned (record_of e es) (booted es) ≡ Some (booted next)
+
+-- the record is of a release that comes in or leaves
+abbrev pub IsOfOneRelease : Record → Type 0
+IsOfOneRelease (assigns given) = ⊥
+IsOfOneRelease r = Unit {0}
+
+-- The record is that of an event behind this list, which leads to that one and is within the limits.
+pub record IsOfEvent (es next : Releases) (r : Record) : Type 0 where
+  pub event : Event
+  pub leads : step event es ≡ Some next
+  pub fits : IsWithinLimits event es
+  pub own : record_of event es ≡ r
+
+-- A record of a release that comes in or leaves may stand behind a list only where it is that of an event: so it carries the
+-- new libraries alone, in order, and the release has no fault with its libraries.
+abbrev pub RecordsAreOfEvents : Type 0
+RecordsAreOfEvents =
+    (body : List ℕ) (r : Record) (es next : Releases) → HaveLibraries es → Spells body r → IsOfOneRelease r → assigned r es ≡ Some next → IsOfEvent es next r
 
 -- The releases of the list that bodies make have the versions of files.
 abbrev pub MakeVersions : Type 0
 MakeVersions = (bodies : List (List ℕ)) (es : Releases) → Makes bodies es → HaveVersions es
+
+-- So do its libraries: each is what the files of an application say.
+abbrev pub MakeLibraries : Type 0
+MakeLibraries = (bodies : List (List ℕ)) (es : Releases) → Makes bodies es → HaveLibraries es

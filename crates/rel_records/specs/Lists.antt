@@ -1,9 +1,12 @@
 -- What records make of a list.
 use Rattle.std.specs.Prelude.{◌≡◌, ℕ, ◌+◌, Bool, true, ◌&&◌, not, List, [], ◌∷◌, ◌++◌, length, nat_lt, is_some, if◌then◌else◌, Option, None, Some}
 use Rattle.std.specs.List.{AllByRecursion}
-use Rattle.std.specs.Option.{option_and_then}
+use Rattle.std.specs.Option.{option_map, option_and_then}
 use Rattle.rel_files.specs.File.{HasVersions}
-use Rattle.rel_list.specs.Releases.{Releases, Entry, status_of}
+use Rattle.rel_files.specs.Release.{Application, Release}
+use Rattle.library.specs.Library.{Library, IsLibrary, is_at}
+use Rattle.rel_check.specs.Fault.{release_fault}
+use Rattle.rel_list.specs.Releases.{Bundle, Releases, Entry, libraries_named, library_in, status_of}
 use Rattle.rel_list.specs.Status.{is_current}
 use Rattle.rel_list.specs.Event.{step, list_assigned}
 use Rattle.rel_list.specs.Event.Event.{made, unpacked, removed}
@@ -20,10 +23,35 @@ abbrev pub assign_all : List Assignment → Releases → Option Releases
 assign_all [] es = Some es
 assign_all (a ∷ given) es = if may_be_assigned a es then assign_all given (list_assigned a.vsn a.status es) else None
 
+-- The library of an application, and those that are left of the new ones: the list's own, or else the first of these, if it is
+-- that of the application.
+abbrev pub own_or_next : Option Library → Application → List Library → Option (Library × List Library)
+own_or_next (Some own) a ls = Some (own, ls)
+own_or_next None a [] = None
+own_or_next None a (l ∷ ls) = if is_at a.name a.vsn l then Some (l, ls) else None
+
+abbrev pub next_library : Releases → Application → List Library → Option (Library × List Library)
+next_library es a ls = own_or_next (library_in es a.name a.vsn) a ls
+
+-- The libraries of applications, in their order, where these are the new ones among them, in the same order. None is left over.
+abbrev pub completed : Releases → List Application → List Library → Option (List Library)
+completed es [] [] = Some []
+completed es [] (l ∷ ls) = None
+completed es (a ∷ as') ls = option_and_then (λ n. option_map (λ ks. n.0 ∷ ks) (completed es as' n.1)) (next_library es a ls)
+
+-- the bundle, where the release has no fault with its libraries
+abbrev pub if_faultless : Bundle → Option Bundle
+if_faultless p = if is_some (release_fault p.release.apps p.libraries) then None else Some p
+
+-- what a record with this release and these new libraries brings
+abbrev pub brought_by : Releases → Release → List Library → Option Bundle
+brought_by es r ls = option_and_then (λ ks. if_faultless (record { release = r; libraries = ks })) (completed es r.apps ls)
+
 -- what a record makes of a list
 abbrev pub taken_by : Record → Releases → Option Releases
-taken_by (makes r) es = if is_small r then step (made r) es else None
-taken_by (adds r) es = if is_small r && nat_lt (length es) most_releases then step (unpacked r) es else None
+taken_by (makes r ls) es = if is_small r then option_and_then (λ p. step (made p) es) (brought_by es r ls) else None
+taken_by (adds r ls) es =
+    if is_small r && nat_lt (length es) most_releases then option_and_then (λ p. step (unpacked p) es) (brought_by es r ls) else None
 taken_by (assigns given) es = assign_all given es
 taken_by (removes v) es = step (removed v) es
 
@@ -58,3 +86,7 @@ pub data IsBadRecord : List (List ℕ) → ℕ → Type 0 where
 -- each release of the list has the versions of a file
 abbrev pub HaveVersions : Releases → Type 0
 HaveVersions es = AllByRecursion (λ (e : Entry). HasVersions e.release) es
+
+-- each library of the list is one
+abbrev pub HaveLibraries : Releases → Type 0
+HaveLibraries es = AllByRecursion IsLibrary (libraries_named es)

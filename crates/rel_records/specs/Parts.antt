@@ -1,20 +1,21 @@
 -- What was read from a body, without where it lies in memory.
-use Rattle.std.specs.Prelude.{ℕ, Bool, true, false, ◌&&◌, List, map, codes, if◌then◌else◌, Option, None, Some, string_bytes}
+use Rattle.std.specs.Prelude.{ℕ, List, map, codes, if◌then◌else◌, Option, None, Some, string_bytes}
 use Rattle.std.specs.Option.{option_map, option_and_then}
-use Rattle.erl_term.specs.Value.{Value}
-use Rattle.erl_term.specs.Value.Value.{atom, list}
-use Rattle.erl_term.specs.Value.Values.{no_values}
+use Rattle.erl_term.specs.Value.{Value, Values, members_of, value_of}
+use Rattle.erl_term.specs.Value.Value.{atom}
 use Rattle.erl_term.specs.TermFault.{TermFault}
 use Rattle.erl_term.specs.TermFault.TheVariants as term
-use Rattle.rel_files.specs.Parts.{four_in, is_word}
+use Rattle.rel_files.specs.Parts.{four_in, is_word, list_in}
 use Rattle.rel_files.specs.Release.{release_of}
 use Rattle.rel_files.specs.declared.fault.FileFault.{FileFault}
 use Rattle.rel_files.specs.declared.fault.FileFault.TheVariants as file
+use Rattle.library.specs.InMemory.{shared_of}
 use Rattle.rel_list.specs.declared.fault.ListError.{ListError}
 use Rattle.rel_list.specs.declared.fault.ListError.TheVariants as list_error
-use Rattle.rel_records.specs.Record.{Assignment, Record, makes, adds, assigns, removes}
+use Rattle.rel_records.specs.Record.{Assignment, Record, makes, adds, assigns, removes, release_term}
 use Rattle.rel_records.specs.declared.assignment.Assignment.{Assignment as AssignmentInMemory}
 use Rattle.rel_records.specs.declared.reading.Record.{Record as RecordInMemory}
+use Rattle.rel_records.specs.declared.reading.ReleaseParts.{ReleaseParts as PartsInMemory}
 use Rattle.rel_records.specs.declared.reading.Record.TheVariants as memory
 use Rattle.rel_records.specs.declared.fault.RecordFault.{RecordFault}
 use Rattle.rel_records.specs.declared.fault.RecordFault.TheVariants.{Bad, NoMemory}
@@ -24,22 +25,32 @@ abbrev pub name_in : Value → Option (List ℕ)
 name_in (atom s) = Some s
 name_in v = None
 
--- a list without members
-abbrev pub is_empty_list : Value → Bool
-is_empty_list (list no_values) = true
-is_empty_list v = false
+-- what a record that brings a release is made of: its word, the term of the release, and those of the libraries
+pub record ReleaseParts : Type 0 where
+  pub word : List ℕ
+  pub rel : Value
+  pub libs : Values
 
--- the word of a record, and the term of its release
-abbrev pub parts_in : Value → Option (List ℕ × Value)
-parts_in v =
-    option_and_then (λ m. if is_empty_list m.2 && is_word (codes "none") m.3 then option_map (λ word. (word, m.1)) (name_in m.0) else None) (four_in v)
+abbrev pub parts_with : Value → Value → Value → Option ReleaseParts
+parts_with word rel libs =
+    option_and_then (λ w. option_map (λ terms. record { word = w; rel = rel; libs = terms }) (list_in libs)) (name_in word)
+
+-- the term with these parts
+abbrev pub parts_term : ReleaseParts → Value
+parts_term p = release_term p.word p.rel p.libs
+
+abbrev pub parts_in : Value → Option ReleaseParts
+parts_in v = option_and_then (λ m. if is_word (codes "none") m.3 then parts_with m.0 m.1 m.2 else None) (four_in v)
+
+abbrev pub parts_of : PartsInMemory → ReleaseParts
+parts_of p = record { word = p.word.now; rel = value_of p.rel.now; libs = members_of p.libs.now }
 
 abbrev pub assignment_read : AssignmentInMemory → Assignment
 assignment_read a = record { vsn = string_bytes a.vsn; status = a.status }
 
 abbrev pub record_read : RecordInMemory → Record
-record_read (memory.Made r) = makes (release_of r)
-record_read (memory.Unpacked r) = adds (release_of r)
+record_read (memory.Made r ls) = makes (release_of r) (map shared_of ls.items)
+record_read (memory.Unpacked r ls) = adds (release_of r) (map shared_of ls.items)
 record_read (memory.Statuses given) = assigns (map assignment_read given.items)
 record_read (memory.Removed v) = removes (string_bytes v)
 

@@ -1,13 +1,15 @@
 -- Which record a body spells.
-use Rattle.std.specs.Prelude.{◌≡◌, ℕ, true, ◌&&◌, List, [], ◌∷◌, codes, if◌then◌else◌, Option, None, Some}
+use Rattle.std.specs.Prelude.{◌≡◌, ℕ, List, [], ◌∷◌, codes, if◌then◌else◌, Option, None, Some}
 use Rattle.std.specs.Option.{option_map, option_and_then}
 use Rattle.erl_term.specs.Value.{Value, Values}
-use Rattle.erl_term.specs.Value.Value.{atom, list}
 use Rattle.erl_term.specs.Value.Values.{no_values, value}
 use Rattle.erl_term.specs.OneTerm.{HasTerm}
 use Rattle.rel_files.specs.File.{IsReleaseTerm}
 use Rattle.rel_files.specs.Parts.{list_in, pair_in, is_word}
 use Rattle.rel_files.specs.Sketch.{text_in}
+use Rattle.rel_files.specs.Release.{Release}
+use Rattle.library.specs.Library.{Library}
+use Rattle.library.specs.Reading.{AreOfLibraries}
 use Rattle.rel_list.specs.declared.status.Status.{Status}
 use Rattle.rel_list.specs.declared.status.Status.TheVariants.{Unpacked, Old, Permanent}
 use Rattle.rel_records.specs.Record.{Assignment, Record, makes, adds, assigns, removes, release_term}
@@ -42,10 +44,18 @@ change_of p =
 abbrev pub change_in : Value → Option Record
 change_in v = option_and_then change_of (pair_in v)
 
+-- It is the term with this word of a record that brings this release and these libraries.
+pub record Brings (word : List ℕ) (v : Value) (r : Release) (ls : List Library) : Type 0 where
+  pub rel : Value
+  pub libs : Values
+  pub is : v ≡ release_term word rel libs
+  pub release : IsReleaseTerm rel r
+  pub libraries : AreOfLibraries libs ls
+
 -- The term says this record.
 abbrev pub Says : Value → Record → Type 0
-Says v (makes r) = (rel : Value) × (v ≡ release_term (codes "made") rel) × IsReleaseTerm rel r
-Says v (adds r) = (rel : Value) × (v ≡ release_term (codes "unpacked") rel) × IsReleaseTerm rel r
+Says v (makes r ls) = Brings (codes "made") v r ls
+Says v (adds r ls) = Brings (codes "unpacked") v r ls
 Says v r = change_in v ≡ Some r
 
 -- This body of a store's record spells this record. It is read with 72 brackets open at once.

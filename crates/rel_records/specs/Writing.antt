@@ -1,10 +1,14 @@
 -- Which record the command of an event writes.
-use Rattle.std.specs.Prelude.{◌≡◌, ℕ, ◌<◌, Bool, true, false, not, List, [], map, filter, length, Some}
+use Rattle.std.specs.Prelude.{◌≡◌, ◌<◌, Bool, true, false, not, List, map, filter, is_some, length, None, Some}
+use Rattle.std.specs.List.{AllByRecursion}
+use Rattle.erl_term.specs.Within.{IsWithin}
+use Rattle.library.specs.Library.{Library, AreLibrariesOf, IsLibrary, library_term}
+use Rattle.rel_check.specs.Fault.{release_fault}
 use Rattle.rel_list.specs.declared.status.Status.{Status}
 use Rattle.rel_list.specs.declared.status.Status.TheVariants.{Unpacked, Current, Old, Permanent}
-use Rattle.rel_list.specs.Releases.{Releases, Entry}
+use Rattle.rel_list.specs.Releases.{Bundle, Releases, Entry, library_in}
 use Rattle.rel_list.specs.Event.{Event, status_behind, booted_status, booted, step}
-use Rattle.rel_list.specs.Event.Event.{made, unpacked, installed, made_permanent, removed, reboot_old, boot}
+use Rattle.rel_list.specs.Event.Event.{made, unpacked, removed}
 use Rattle.rel_records.specs.Limits.{most_releases, is_small, has_one_permanent}
 use Rattle.rel_records.specs.Lists.{assigned}
 use Rattle.rel_records.specs.Record.{Assignment, Record, makes, adds, assigns, removes}
@@ -28,26 +32,40 @@ assignment_of e x = record { vsn = x.release.vsn; status = booted_status (status
 abbrev pub changes : Event → Releases → List Assignment
 changes e es = map (assignment_of e) (filter (is_changed e) es)
 
--- the record of an event behind this list
+-- those of these libraries that the list doesn't have
+abbrev pub new_libraries : Releases → List Library → List Library
+new_libraries es ls = filter (λ (l : Library). not (is_some (library_in es l.app.name l.app.vsn))) ls
+
+-- The record of an event behind this list. A release is written with its new libraries alone, in the order of its
+-- applications; to a node's first release all are new.
 abbrev pub record_of : Event → Releases → Record
-record_of (made r) es = makes r
-record_of (unpacked r) es = adds r
+record_of (made p) es = makes p.release p.libraries
+record_of (unpacked p) es = adds p.release (new_libraries es p.libraries)
 record_of (removed v) es = removes v
 record_of e es = assigns (changes e es)
 
 -- the event is of releases that are listed already
 abbrev pub IsOfListed : Event → Type 0
-IsOfListed (made r) = ⊥
-IsOfListed (unpacked r) = ⊥
+IsOfListed (made p) = ⊥
+IsOfListed (unpacked p) = ⊥
 IsOfListed e = Unit {0}
 
--- a release that the event brings is within the limits
+-- The release has the libraries of its applications, and no fault with them.
+pub record IsComplete (p : Bundle) : Type 0 where
+  pub libraries : AreLibrariesOf p.release.apps p.libraries
+  pub faultless : release_fault p.release.apps p.libraries ≡ None
+
+-- a release that the event brings is complete, and the limits are kept
 abbrev pub IsWithinLimits : Event → Releases → Type 0
-IsWithinLimits (made r) es = is_small r ≡ true
-IsWithinLimits (unpacked r) es = (is_small r ≡ true) × (length es < most_releases)
+IsWithinLimits (made p) es = (is_small p.release ≡ true) × IsComplete p
+IsWithinLimits (unpacked p) es = (is_small p.release ≡ true) × (length es < most_releases) × IsComplete p
 IsWithinLimits e es = Unit {0}
 
 -- The record of the event makes of this list, as it is behind a boot, what the event makes of it, as that is behind a boot,
 -- where one release is permanent.
 abbrev pub Tells : Event → Releases → Type 0
 Tells e es = (next : Releases) → step e es ≡ Some next → has_one_permanent es ≡ true → assigned (record_of e es) (booted es) ≡ Some (booted next)
+
+-- They are libraries whose terms are no deeper than a record can carry.
+abbrev pub CanBeCarried : List Library → Type 0
+CanBeCarried ls = AllByRecursion (λ (l : Library). IsLibrary l × IsWithin 68 (library_term l)) ls

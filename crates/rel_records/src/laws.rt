@@ -1,5 +1,5 @@
 //! Laws of records and lists, whatever reads and writes them. Each function does nothing: its contract is the law.
-ghost use Rattle.rel_records.specs.Laws.{MakeOrHaveABadOne, MakeOneList, NeverBothRecords, RecordsTellEvents, MakeVersions};
+ghost use Rattle.rel_records.specs.Laws.{MakeOrHaveABadOne, MakeOneList, NeverBothRecords, RecordsTellEvents, RecordsAreOfEvents, MakeVersions, MakeLibraries};
 
 /// The bodies of records make one list, or one of them is the first bad record, and never both.
 pub fn records_make_a_list_or_one_is_bad()
@@ -13,7 +13,17 @@ pub fn records_tell_events()
     ensures { RecordsTellEvents }
 {}
 
+/// A record of a release that comes in or leaves may stand behind a list only where it is that of an event.
+pub fn records_are_of_events()
+    ensures { RecordsAreOfEvents }
+{}
+
 /// The releases of a list that records make have the versions of files.
 pub fn records_make_versions()
     ensures { MakeVersions }
+{}
+
+/// The libraries of a list that records make are what the files of applications say.
+pub fn records_make_libraries()
+    ensures { MakeLibraries }
 {}

@@ -1,19 +1,22 @@
 //! The records in which a store keeps the list of a node's releases.
 //!
 //! A record says that the node's first release was made, that a further one came in, that releases got other statuses, or
-//! that one left (specs/Record). Its body is a printed term (`body_of`); a body spells one record at most (`Spells`).
+//! that one left (specs/Record). One that brings a release carries its new libraries alone, those that the list doesn't have.
+//! Its body is a printed term (`body_of`); a body spells one record at most (`Spells`).
 //!
 //! `read_list` gives the list that records make, each taken as what it says of the list (`Makes`), or the first record that
 //! no command could have written where it stands (`IsBadRecord`). `made_body`, `unpacked_body` and `change_body` print the
 //! record of an event (`record_of`).
 //!
 //! The laws: bodies make one list or one of them is bad, and never both. The record of an event makes of a list what the
-//! event makes of it, each as it is behind a boot (`records_tell_events`): so records say nothing of what is current.
+//! event makes of it, each as it is behind a boot (`records_tell_events`): so records say nothing of what is current. And a
+//! record of a release that comes in or leaves stands only where it is that of an event (`records_are_of_events`).
 //!
 //! Only tested: that memory is there. Trusted: the toolchain and `thiserror`.
 #![tactic(auto)]
 
 mod assignment;
+mod bundle;
 mod fault;
 pub mod laws;
 mod limits;

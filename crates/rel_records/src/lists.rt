@@ -7,6 +7,7 @@ ghost use Rattle.rel_records.specs.Reading.{Spells};
 ghost use Rattle.rel_records.specs.Record.{Record as RecordInSpecs};
 
 use crate::assignment::Assignment;
+use crate::bundle::bring;
 use crate::fault::{RecordFault, RecordsError};
 use crate::limits::{MOST_RELEASES, is_small};
 use crate::reading::{Record, record_in};
@@ -49,13 +50,15 @@ fn change(alloc: Global, list: &mut ReleaseList, said: Record) -> Result<(), Rec
     ensures bad { IsErrOf result RecordFault.Bad → taken_by (record_read said) list.old ≡ None }
 {
     match said {
-        Record::Made(release) if is_small(&release) => {
-            Ok(list.accept(alloc, Event::Made(release))?)
+        Record::Made(release, new) if is_small(&release) => {
+            let bundle = bring(alloc, list, release, new.as_slice())?;
+            Ok(list.accept(alloc, Event::Made(bundle))?)
         }
-        Record::Unpacked(release) if is_small(&release) && list.len() < MOST_RELEASES => {
-            Ok(list.accept(alloc, Event::Unpacked(release))?)
+        Record::Unpacked(release, new) if is_small(&release) && list.len() < MOST_RELEASES => {
+            let bundle = bring(alloc, list, release, new.as_slice())?;
+            Ok(list.accept(alloc, Event::Unpacked(bundle))?)
         }
-        Record::Made(_) | Record::Unpacked(_) => Err(RecordFault::Bad),
+        Record::Made(..) | Record::Unpacked(..) => Err(RecordFault::Bad),
         Record::Statuses(assignments) => assign_all(list, assignments.as_slice()),
         Record::Removed(vsn) => Ok(list.accept(alloc, Event::Removed(vsn))?),
     }

@@ -2,24 +2,26 @@
 ghost use Rattle.std.specs.Prelude.{◌≡◌, None, Some, IsErrOf, IfOk};
 ghost use Rattle.std.specs.Option.{option_map, option_and_then};
 ghost use Rattle.erl_term.specs.Value.{value_of};
-ghost use Rattle.rel_records.specs.Parts.{name_in, is_empty_list, parts_in, record_read};
+ghost use Rattle.rel_records.specs.Parts.{name_in, parts_in, parts_of, parts_term, parts_with, record_read};
 ghost use Rattle.rel_files.specs.Parts.{list_in};
 ghost use Rattle.rel_records.specs.Reading.{assignments_of, change_in, change_of, Says, Spells};
-ghost use Rattle.rel_records.specs.Record.{Record as RecordInSpecs, assigns, release_term};
+ghost use Rattle.rel_records.specs.Record.{Record as RecordInSpecs, assigns};
 
 use crate::assignment::{Assignment, assignments_in, version_in};
 use crate::fault::RecordFault;
 use crate::writing::{MADE, UNPACKED};
 use erl_term::{Term, read_record};
+use library::{Library, libraries_of_terms};
 use rel_files::parts::{four_in, is_word, list_in, pair_in};
 use rel_files::{Rel, rel_of_term};
 use std::alloc::{AllocError, Global};
+use std::rc::Rc;
 
 // What a record of a store says.
 #[derive(Drop)]
 pub(crate) enum Record {
-    Made(Rel),
-    Unpacked(Rel),
+    Made(Rel, Vec<Rc<Library>>),
+    Unpacked(Rel, Vec<Rc<Library>>),
     Statuses(Vec<Assignment>),
     Removed(String),
 }
@@ -33,28 +35,34 @@ fn name_in(term: &Term) -> Option<&str>
     }
 }
 
-fn is_empty_list(term: &Term) -> bool
-    ensures { result ≡ is_empty_list (value_of term.now) }
-{
-    match term {
-        Term::List(members) => match members.split_first() {
-            None => true,
-            Some(_) => false,
-        },
-        _ => false,
-    }
+// What a record that brings a release is made of.
+#[derive(Clone, Copy)]
+struct ReleaseParts<'a> {
+    word: &'a str,
+    rel: &'a Term,
+    libs: &'a [Term],
 }
 
-// The word of a record that brings a release, and the term of the release.
-fn parts_in(term: &Term) -> Option<(&str, &Term)>
-    ensures { option_map (λ p. (p.0.now, value_of p.1.now)) result ≡ parts_in (value_of term.now) }
+fn parts_in(term: &Term) -> Option<ReleaseParts<'_>>
+    ensures { option_map parts_of result ≡ parts_in (value_of term.now) }
 {
     let (word, rel, libs, relup) = four_in(term)?;
-    if is_empty_list(libs) && is_word(relup, "none") {
-        Some((name_in(word)?, rel))
+    if is_word(relup, "none") {
+        parts_with(word, rel, libs)
     } else {
         None
     }
+}
+
+fn parts_with<'a>(word: &'a Term, rel: &'a Term, libs: &'a Term) -> Option<ReleaseParts<'a>>
+    ensures { option_map parts_of result
+        ≡ parts_with (value_of word.now) (value_of rel.now) (value_of libs.now) }
+{
+    Some(ReleaseParts {
+        word: name_in(word)?,
+        rel,
+        libs: list_in(libs)?,
+    })
 }
 
 // The record of `{status, Assignments}` or `{removed, Vsn}`.
@@ -88,21 +96,23 @@ fn statuses_in(alloc: Global, value: &Term) -> Result<Option<Record>, AllocError
 }
 
 // The record that brings a release.
-fn release_record(alloc: Global, word: &str, rel: &Term) -> Result<Record, RecordFault>
-    ensures says { IfOk result (λ r.
-        Says (release_term word.now (value_of rel.now)) (record_read r)) }
+fn release_record(alloc: Global, parts: ReleaseParts<'_>) -> Result<Record, RecordFault>
+    ensures says { IfOk result (λ r. Says (parts_term (parts_of parts.entry)) (record_read r)) }
     ensures bad { IsErrOf result RecordFault.Bad → (r : RecordInSpecs)
-        → Says (release_term word.now (value_of rel.now)) r → ⊥ }
+        → Says (parts_term (parts_of parts.entry)) r → ⊥ }
 {
-    let made = word == MADE;
-    if !made && word != UNPACKED {
+    let made = parts.word == MADE;
+    if !made && parts.word != UNPACKED {
         return Err(RecordFault::Bad);
     }
-    let release = rel_of_term(alloc, rel, 0)?;
+    let release = rel_of_term(alloc, parts.rel, 0)?;
+    let Some(libraries) = libraries_of_terms(alloc, parts.libs)? else {
+        return Err(RecordFault::Bad);
+    };
     if made {
-        Ok(Record::Made(release))
+        Ok(Record::Made(release, libraries))
     } else {
-        Ok(Record::Unpacked(release))
+        Ok(Record::Unpacked(release, libraries))
     }
 }
 
@@ -129,7 +139,7 @@ pub(crate) fn record_in(alloc: Global, body: &[u8]) -> Result<Record, RecordFaul
 {
     let term = read_record(alloc, body)?;
     match parts_in(&term) {
-        Some((word, rel)) => release_record(alloc, word, rel),
+        Some(parts) => release_record(alloc, parts),
         None => change_record(alloc, &term),
     }
 }

@@ -1,23 +1,27 @@
 // The bodies of the records that commands write.
 ghost use Rattle.std.specs.Prelude.{◌≡◌, map, codes, string_bytes, None, IfOk, OnOk};
 ghost use Rattle.erl_term.specs.OneTerm.{HasTerm};
-ghost use Rattle.erl_term.specs.Value.{Value, value_of};
+ghost use Rattle.erl_term.specs.Value.{Value, members_of, value_of};
 ghost use Rattle.erl_term.specs.Value.Value.{atom};
 ghost use Rattle.erl_term.specs.Within.{IsWithin};
 ghost use Rattle.rel_files.specs.File.{IsReleaseTerm};
 ghost use Rattle.rel_files.specs.Form.{list_of, numbers_term, numbers_of};
 ghost use Rattle.rel_files.specs.Release.{Release};
+ghost use Rattle.library.specs.InMemory.{shared_of};
+ghost use Rattle.library.specs.Library.{library_term};
 ghost use Rattle.rel_list.specs.Event.{event_of};
 ghost use Rattle.rel_list.specs.Keyed.{entry_of};
 ghost use Rattle.rel_list.specs.Refusal.{refusal};
 ghost use Rattle.rel_records.specs.Lists.{HaveVersions};
 ghost use Rattle.rel_records.specs.Reading.{Spells};
 ghost use Rattle.rel_records.specs.Record.{makes, adds, release_term, pair_term, assignment_term, term_of, body_of, printed};
-ghost use Rattle.rel_records.specs.Writing.{changes, assignment_of, record_of, IsOfListed, Tells};
+ghost use Rattle.rel_records.specs.Writing.{changes, assignment_of, new_libraries, record_of, CanBeCarried, IsOfListed, Tells};
 
 use erl_term::{Term, print};
+use library::Library;
 use rel_list::{Event, ListedRelease, ReleaseList, Status};
 use std::alloc::{AllocError, Global};
+use std::rc::Rc;
 
 // The word of the record that makes a node.
 pub(crate) const MADE: &str = "made";
@@ -25,27 +29,38 @@ pub(crate) const MADE: &str = "made";
 // The word of the record that brings a further release.
 pub(crate) const UNPACKED: &str = "unpacked";
 
-/// The body of the record that makes a node with the release of this term.
-pub fn made_body(alloc: Global, rel: Term) -> Result<String, AllocError>
-    requires { IsWithin 65 (value_of rel) }
-    ensures body { IfOk result (λ body. (r : Release)
-        → string_bytes body ≡ body_of (value_of rel) (makes r)) }
+/// The body of the record that makes a node with the release of this term and these libraries of its applications.
+pub fn made_body(alloc: Global, rel: Term, libraries: &[Rc<Library>]) -> Result<String, AllocError>
+    requires rel { IsWithin 65 (value_of rel) }
+    requires libraries { CanBeCarried (map shared_of libraries.now) }
+    ensures body { IfOk result (λ body. (r : Release) → string_bytes body
+        ≡ body_of (value_of rel) (makes r (map shared_of libraries.now))) }
     ensures spells { IfOk result (λ body. (r : Release) → IsReleaseTerm (value_of rel) r
-        → Spells (string_bytes body) (makes r)) }
+        → Spells (string_bytes body) (makes r (map shared_of libraries.now))) }
 {
-    let term = release_term(alloc, MADE, rel)?;
+    let libs = library_terms(alloc, libraries)?;
+    let term = release_term(alloc, MADE, rel, libs)?;
     body_of(alloc, &term)
 }
 
-/// The body of the record that brings a further release, of this term.
-pub fn unpacked_body(alloc: Global, rel: Term) -> Result<String, AllocError>
-    requires { IsWithin 65 (value_of rel) }
-    ensures body { IfOk result (λ body. (r : Release)
-        → string_bytes body ≡ body_of (value_of rel) (adds r)) }
+/// The body of the record that brings a further release to this list, of this term, with these libraries of its
+/// applications. It carries those that the list doesn't have.
+pub fn unpacked_body(
+    alloc: Global,
+    list: &ReleaseList,
+    rel: Term,
+    libraries: &[Rc<Library>],
+) -> Result<String, AllocError>
+    requires rel { IsWithin 65 (value_of rel) }
+    requires libraries { CanBeCarried (map shared_of libraries.now) }
+    ensures body { IfOk result (λ body. (r : Release) → string_bytes body ≡ body_of (value_of rel)
+        (adds r (new_libraries list.now (map shared_of libraries.now)))) }
     ensures spells { IfOk result (λ body. (r : Release) → IsReleaseTerm (value_of rel) r
-        → Spells (string_bytes body) (adds r)) }
+        → Spells (string_bytes body)
+        (adds r (new_libraries list.now (map shared_of libraries.now)))) }
 {
-    let term = release_term(alloc, UNPACKED, rel)?;
+    let libs = new_library_terms(alloc, list, libraries)?;
+    let term = release_term(alloc, UNPACKED, rel, libs)?;
     body_of(alloc, &term)
 }
 
@@ -78,16 +93,48 @@ fn body_of(alloc: Global, term: &Term) -> Result<String, AllocError>
     Ok(body)
 }
 
-// The term of the record that brings a release, of this term.
-fn release_term(alloc: Global, word: &str, rel: Term) -> Result<Term, AllocError>
-    ensures { IfOk result (λ term. value_of term ≡ release_term word.now (value_of rel)) }
+// The term of the record that brings a release, of these terms.
+fn release_term(alloc: Global, word: &str, rel: Term, libs: Vec<Term>) -> Result<Term, AllocError>
+    ensures { IfOk result (λ term. value_of term
+        ≡ release_term word.now (value_of rel) (members_of libs.items)) }
 {
     let mut members = Vec::with_capacity(alloc, 4)?;
     members.push(Term::Atom(String::from_str(alloc, word)?))?;
     members.push(rel)?;
-    members.push(Term::List(Vec::new(alloc)))?;
+    members.push(Term::List(libs))?;
     members.push(Term::Atom(String::from_str(alloc, "none")?))?;
     Ok(Term::Tuple(members))
+}
+
+// The terms of libraries.
+fn library_terms(alloc: Global, libraries: &[Rc<Library>]) -> Result<Vec<Term>, AllocError>
+    ensures { IfOk result (λ terms. map value_of terms.items
+        ≡ map library_term (map shared_of libraries.now)) }
+{
+    let mut terms = Vec::with_capacity(alloc, libraries.len())?;
+    for library in libraries {
+        terms.push(library.as_ref().term(alloc)?)?;
+    }
+    Ok(terms)
+}
+
+// The terms of those that the list doesn't have.
+fn new_library_terms(
+    alloc: Global,
+    list: &ReleaseList,
+    libraries: &[Rc<Library>],
+) -> Result<Vec<Term>, AllocError>
+    ensures { IfOk result (λ terms. map value_of terms.items
+        ≡ map library_term (new_libraries list.now (map shared_of libraries.now))) }
+{
+    let mut terms = Vec::new(alloc);
+    for library in libraries {
+        let app = &library.as_ref().app;
+        if list.library(app.name.as_str(), app.vsn.as_str()).is_none() {
+            terms.push(library.as_ref().term(alloc)?)?;
+        }
+    }
+    Ok(terms)
 }
 
 // The term of the record of an event.

@@ -1,19 +1,21 @@
 -- What commands come to: each to one action, and to one at least, whose texts are whole lines.
-use Rattle.std.proofs.Common.{◌≡◌, ◌⊎◌, inl, inr, ℕ, Bool, true, false, List, Option, None, Some, Result, Ok, Err, refl, sym, ap, ◌∙◌, subst}
+use Rattle.std.proofs.Common.{◌≡◌, ◌⊎◌, inl, inr, ℕ, Bool, true, false, cond, List, [], ◌∷◌, Option, None, Some, Result, Ok, Err, refl, sym, ap, ◌∙◌, subst}
 use Rattle.std.specs.Prelude.{if◌then◌else◌, is_some}
 use Rattle.std.specs.List.{AllByRecursion}
+use Rattle.std.specs.Option.{option_map, option_or}
 use Rattle.erl_term.specs.Lines.{is_one_line}
 use Rattle.rel_files.specs.File.{HasVersions}
 use Rattle.library.specs.Library.{Library}
-use Rattle.rel_handler.specs.Unpacking.{none_there, libraries_refusal}
-use Rattle.rel_list.specs.Releases.{Releases, running as running_release, status_of}
+use Rattle.rel_handler.specs.Unpacking.{difference}
+use Rattle.rel_handler.proofs.ReleaseLemmas.{told_library}
+use Rattle.rel_list.specs.Releases.{Releases, differs, first_different, running as running_release, status_of}
 use Rattle.rel_list.specs.Event.{Event}
 use Rattle.rel_list.specs.Event.Event.{made, unpacked}
 use Rattle.rel_session.specs.AnswerLaws.{HasLinePath}
 use Rattle.session_input.specs.Commands.{Command}
 use Rattle.session_input.specs.Commands.Command.{file, create, set_unpacked, install, permanent, remove, reboot_old, boot, start, releases, relup, quit, bad}
-use Rattle.rel_unpack.proofs.LineLibraries.{IsLineBrought, IsLineLibrary, good_brought}
-use Rattle.rel_unpack.proofs.LineOutcomes.{TellsLine, IsGood, version_line}
+use Rattle.rel_unpack.proofs.LineLibraries.{IsLineBrought, good_brought}
+use Rattle.rel_unpack.proofs.LineOutcomes.{TellsLine, OrNone, IsGood, version_line}
 use Rattle.rel_unpack.proofs.OneOutcome.{one_brought}
 use Rattle.rel_unpack.proofs.SomeOutcome.{some_brought}
 use Rattle.rel_unpack.specs.Unpacking.{Brought}
@@ -53,9 +55,9 @@ on_node P x y p q kinds one is also = absurd cc
 pub one_action : (source : Source) → GivesOne source → (p q : Place) (c : Command) (x y : Action) → kind_of p ≡ kind_of q → ComesTo source p c x → ComesTo source q c y
     → (x ≡ y) ⊎ ((x ≡ answers (listed p)) × (y ≡ answers (listed q)))
 one_action source one p q (file path f) x y kinds is also = inl (is ∙ sym also)
-one_action source one p q (create path) x y kinds (found, there, is) (again, there_too, also) = inl (is ∙ ap creation (one_brought source one none_there path found again there there_too) ∙ sym also)
+one_action source one p q (create path) x y kinds (found, there, is) (again, there_too, also) = inl (is ∙ ap creation (one_brought source one path found again there there_too) ∙ sym also)
 one_action source one p q (set_unpacked path) x y kinds is also =
-    inl (on_node _ x y p q kinds (λ here here_too. here.2 ∙ ap unpacking (one_brought source one none_there path here.0 here_too.0 here.1 here_too.1) ∙ sym here_too.2) is also)
+    inl (on_node _ x y p q kinds (λ here here_too. here.2 ∙ ap unpacking (one_brought source one path here.0 here_too.0 here.1 here_too.1) ∙ sym here_too.2) is also)
 one_action source one p q (install vsn) x y kinds is also = inl (is ∙ sym also)
 one_action source one p q (permanent vsn) x y kinds is also = inl (is ∙ sym also)
 one_action source one p q (remove vsn) x y kinds is also = inl (is ∙ sym also)
@@ -71,8 +73,8 @@ one_action source one p q bad x y kinds is also = inl (is ∙ sym also)
 -- Each command but `quit` comes to an action.
 pub some_action : (source : Source) → GivesEach source → (p : Place) (c : Command) → (c ≡ quit) ⊎ ((does : Action) × ComesTo source p c does)
 some_action source each p (file path f) = inr (_, refl)
-some_action source each p (create path) = let (brought, there) = some_brought source each none_there path in inr (creation brought, (brought, there, refl))
-some_action source each (running events end) (set_unpacked path) = let (brought, there) = some_brought source each none_there path in inr (unpacking brought, (brought, there, refl))
+some_action source each p (create path) = let (brought, there) = some_brought source each path in inr (creation brought, (brought, there, refl))
+some_action source each (running events end) (set_unpacked path) = let (brought, there) = some_brought source each path in inr (unpacking brought, (brought, there, refl))
 some_action source each (raw x) (set_unpacked path) = inr (_, refl)
 some_action source each (closed s) (set_unpacked path) = inr (_, refl)
 some_action source each (dead s) (set_unpacked path) = inr (_, refl)
@@ -89,8 +91,8 @@ some_action source each p bad = inr (_, refl)
 
 -- the versions of the release that an event brings
 abbrev pub OfEvent : Event → Type 0
-OfEvent (made r) = HasVersions r
-OfEvent (unpacked r) = HasVersions r
+OfEvent (made p) = HasVersions p.release
+OfEvent (unpacked p) = HasVersions p.release
 OfEvent e = Unit {0}
 
 -- what is told of files, where they are refused, is within a line
@@ -101,7 +103,7 @@ TellsFilesLine (Some why) = HasLine (refusal_for why)
 -- An action's text ends where its last line does, and its versions are those of files.
 abbrev pub IsGoodAction : Action → Type 0
 IsGoodAction (answers text) = IsWhole text
-IsGoodAction (makes_node b) = HasVersions b.found.release × TellsFilesLine (libraries_refusal b.libraries)
+IsGoodAction (makes_node b) = HasVersions b.found.release × TellsFilesLine b.refusal
 IsGoodAction (changes_node c) = OfEvent c.event × ((list : Releases) → TellsFilesLine (c.files list)) × ((list : Releases) → is_one_line (c.details list) ≡ true)
 IsGoodAction (reboots_node vsn) = Unit {0}
 IsGoodAction boots_node = Unit {0}
@@ -120,21 +122,34 @@ told_line (no_table name) line = line
 told_line too_many line = tt
 told_line no_memory line = tt
 
-libraries_line : (r : Result (List Library) Refusal) → IsGood (AllByRecursion IsLineLibrary) r → TellsFilesLine (libraries_refusal r)
-libraries_line (Ok ls) good = tt
-libraries_line (Err why) good = told_line why good
+files_line : (o : Option Refusal) → OrNone TellsLine o → TellsFilesLine o
+files_line None good = tt
+files_line (Some why) good = told_line why good
+
+-- its name is within a line
+abbrev IsLineName : Library → Type 0
+IsLineName l = is_one_line l.app.name ≡ true
+
+-- the name of a library that differs, or what is told behind it
+difference_line : (es : Releases) (ls : List Library) (o : Option Refusal) → AllByRecursion IsLineName ls → OrNone TellsLine o → TellsFilesLine (option_or (difference ls es) o)
+difference_line es [] o names good = files_line o good
+difference_line es (l ∷ ls) o names good = go (differs es l) (difference_line es ls o names.1 good)
+  where
+    go : (b : Bool) → TellsFilesLine (option_or (difference ls es) o) → TellsFilesLine (option_or (option_map told_library (cond b (Some l) (first_different es ls))) o)
+    go true rest = names.0
+    go false rest = rest
 
 good_creation : (brought : Result Brought Refusal) → IsGood IsLineBrought brought → IsGoodAction (creation brought)
 good_creation (Err why) good = refusal_whole (refusal_for why) (told_line why good)
-good_creation (Ok b) good = (good.found.versions, libraries_line b.libraries good.libraries)
+good_creation (Ok b) good = (good.found.versions, files_line b.refusal good.refusal)
 
 good_unpacking : (brought : Result Brought Refusal) → IsGood IsLineBrought brought → IsGoodAction (unpacking brought)
 good_unpacking (Err why) good = refusal_whole (refusal_for why) (told_line why good)
-good_unpacking (Ok b) good = (good.found.versions, (λ list. unlisted (is_some (status_of b.found.release.vsn list))), λ list. version_line b.found.release.vsn good.found.versions.own)
+good_unpacking (Ok b) good = (good.found.versions, (λ list. unlisted list (is_some (status_of b.found.release.vsn list))), λ list. version_line b.found.release.vsn good.found.versions.own)
   where
-    unlisted : (listed : Bool) → TellsFilesLine (if listed then None else libraries_refusal b.libraries)
-    unlisted true = tt
-    unlisted false = libraries_line b.libraries good.libraries
+    unlisted : (list : Releases) (listed : Bool) → TellsFilesLine (if listed then None else option_or (difference b.libraries list) b.refusal)
+    unlisted list true = tt
+    unlisted list false = difference_line list b.libraries b.refusal good.libraries good.refusal
 
 good_telling : (found : Result (List ℕ) Refusal) → IsGood IsLineAnswer found → IsGoodAction (relup_telling found)
 good_telling (Err why) good = refusal_whole (refusal_for why) (told_line why good)
@@ -148,8 +163,8 @@ whole_list (dead s) behind = refl
 
 pub good_action : (source : Source) (p : Place) (c : Command) (does : Action) → HasLinePath c → ComesTo source p c does → IsGoodAction does
 good_action source p (file path f) does line is = good_as does _ is (λ behind. refl)
-good_action source p (create path) does line (found, there, is) = good_as does _ is (good_creation found (good_brought source none_there path line found there))
-good_action source (running events end) (set_unpacked path) does line (found, there, is) = good_as does _ is (good_unpacking found (good_brought source none_there path line found there))
+good_action source p (create path) does line (found, there, is) = good_as does _ is (good_creation found (good_brought source path line found there))
+good_action source (running events end) (set_unpacked path) does line (found, there, is) = good_as does _ is (good_unpacking found (good_brought source path line found there))
 good_action source (raw x) (set_unpacked path) does line is = good_as does _ is (λ behind. refl)
 good_action source (closed s) (set_unpacked path) does line is = good_as does _ is (λ behind. refl)
 good_action source (dead s) (set_unpacked path) does line is = good_as does _ is (λ behind. refl)

@@ -11,13 +11,13 @@ use Rattle.rel_handler.specs.declared.error.HandlerError.{HandlerError}
 use Rattle.rel_handler.specs.declared.error.HandlerError.TheVariants as handler_error
 use Rattle.rel_handler.specs.Events.{Events, Stored, certain}
 use Rattle.rel_handler.specs.Image.{holds_a_store}
-use Rattle.rel_records.specs.Record.{makes as makes_record, body_of}
+use Rattle.rel_handler.specs.Files.{bundle_brought, made_size}
 use Rattle.rel_handler.specs.Refusals.{IsBootRefusal}
 use Rattle.rel_handler.specs.Taking.{commanded}
 use Rattle.rel_handler.proofs.CommandLemmas.{IsListAnswer, of_command}
 use Rattle.session_input.specs.Commands.{Command}
-use Rattle.library.specs.Library.{Library}
 use Rattle.rel_files.specs.Release.{Release}
+use Rattle.rel_list.specs.Releases.{Bundle}
 use Rattle.rel_unpack.specs.Refusal.{Refusal}
 use Rattle.rel_unpack.specs.Refusal.Refusal.{missing_file, bad_file, vsn_mismatch, lib_differs, no_table, too_many, no_memory}
 use Rattle.rel_unpack.specs.Unpacking.{Brought}
@@ -54,10 +54,10 @@ effect o k = record { outcome = o; kind = k }
 abbrev pub effect_of : Reply → Effect
 effect_of a = effect a.outcome (kind_of a.after)
 
-abbrev created : Kind → Release → Report → Effect
-created k r it_is_done = effect (done (made r ∷ booting ∷ [])) runs
-created k r it_failed = effect (failed_with (Some (made r))) k
-created k r t = effect nothing k
+abbrev created : Kind → Bundle → Report → Effect
+created k p it_is_done = effect (done (made p ∷ booting ∷ [])) runs
+created k p it_failed = effect (failed_with (Some (made p))) k
+created k p t = effect nothing k
 
 -- a change is done on a node that runs, and refused on any other
 abbrev changed : Kind → Transition.Change → Report → Effect
@@ -155,22 +155,22 @@ reboots events end vsn l o plain =
     commits (reboot_old vsn) (rebooted runs vsn) refl refl events end _ o _ plain (λ a (b, boot, is). boots_behind vsn (Transition.rebooted events end vsn l) a b boot is)
 
 -- create
-makes_with : (x : List ℕ) (r : Release) (size : ℕ) (ls : Result (List Library) Refusal) (a : Reply) → Transition.MakesWith x r size ls a → HasEffect (created of_bytes r) a
-makes_with x r size (Err why) a is = effect_as (created of_bytes r) a _ is (sym (ap (created of_bytes r) (plain_files why)))
-makes_with x r size (Ok ls) a (inl (fits, is)) = effect_as (created of_bytes r) a _ is refl
-makes_with x r size (Ok ls) a (inr (over_it, is)) = effect_as (created of_bytes r) a _ is refl
+makes_with : (x : List ℕ) (p : Bundle) (size : ℕ) (why : Option Refusal) (a : Reply) → Transition.MakesWith x p size why a → HasEffect (created of_bytes p) a
+makes_with x p size (Some why) a is = effect_as (created of_bytes p) a _ is (sym (ap (created of_bytes p) (plain_files why)))
+makes_with x p size None a (inl (fits, is)) = effect_as (created of_bytes p) a _ is refl
+makes_with x p size None a (inr (over_it, is)) = effect_as (created of_bytes p) a _ is refl
 
-makes_on : (x : List ℕ) (b : Brought) (there : Bool) (a : Reply) → Transition.MakesOn x b there a → HasEffect (created of_bytes b.found.release) a
-makes_on x b true a is = effect_as (created of_bytes b.found.release) a _ is refl
-makes_on x b false a is = makes_with x b.found.release (length (body_of b.found.term (makes_record b.found.release))) b.libraries a is
+makes_on : (x : List ℕ) (b : Brought) (there : Bool) (a : Reply) → Transition.MakesOn x b there a → HasEffect (created of_bytes (bundle_brought b)) a
+makes_on x b true a is = effect_as (created of_bytes (bundle_brought b)) a _ is refl
+makes_on x b false a is = makes_with x (bundle_brought b) (made_size b) b.refusal a is
 
-makes : (p : Place) (b : Brought) (a : Reply) → Transition.MakesNode p b a → HasEffect (created (kind_of p) b.found.release) a
+makes : (p : Place) (b : Brought) (a : Reply) → Transition.MakesNode p b a → HasEffect (created (kind_of p) (bundle_brought b)) a
 makes (raw x) b a (inl is) = makes_on x b (holds_a_store x) a is
-makes (raw x) b a (inr (torn, is)) = effect_as (created of_bytes b.found.release) a _ is refl
-makes (closed s) b a (inl is) = effect_as (created at_rest b.found.release) a _ is refl
-makes (closed s) b a (inr is) = effect_as (created at_rest b.found.release) a _ is refl
-makes (running events end) b a is = effect_as (created runs b.found.release) a _ is refl
-makes (dead s) b a is = effect_as (created fails b.found.release) a _ is refl
+makes (raw x) b a (inr (torn, is)) = effect_as (created of_bytes (bundle_brought b)) a _ is refl
+makes (closed s) b a (inl is) = effect_as (created at_rest (bundle_brought b)) a _ is refl
+makes (closed s) b a (inr is) = effect_as (created at_rest (bundle_brought b)) a _ is refl
+makes (running events end) b a is = effect_as (created runs (bundle_brought b)) a _ is refl
+makes (dead s) b a is = effect_as (created fails (bundle_brought b)) a _ is refl
 
 -- boot
 boots_store : (k : Kind) (s : Stored) (a : Reply) → left k ≡ at_rest → Transition.BootsStore s a → HasEffect (booted k) a
@@ -203,7 +203,7 @@ idle a b x y is also same = ap effect_of is ∙ same ∙ sym (ap effect_of also)
 -- an action has the effect that its answer tells
 abbrev acted : Kind → Transition.Action → Report → Effect
 acted k (answers text) t = effect nothing k
-acted k (makes_node b) t = created k b.found.release t
+acted k (makes_node b) t = created k (bundle_brought b) t
 acted k (changes_node c) t = changed k c t
 acted k (reboots_node vsn) t = rebooted k vsn t
 acted k boots_node t = booted k t

@@ -1,5 +1,5 @@
 -- What `create` replies, wherever the disk stands.
-use Rattle.std.proofs.Common.{◌≡◌, ◌≢◌, ◌⊎◌, inl, inr, ℕ, ◌≤◌, Bool, true, false, List, [], ◌∷◌, Some, Result, Ok, Err, refl, sym, ap, ◌∙◌, subst}
+use Rattle.std.proofs.Common.{◌≡◌, ◌≢◌, ◌⊎◌, inl, inr, ℕ, ◌≤◌, Bool, true, false, List, [], ◌∷◌, Option, None, Some, Result, Ok, Err, refl, sym, ap, ◌∙◌, subst}
 use Rattle.std.specs.Prelude.{IfOk, MatchResult, String, string_bytes}
 use Rattle.std.specs.declared.alloc.Global.{Global}
 use Rattle.std.specs.declared.alloc.AllocError.{AllocError}
@@ -9,15 +9,13 @@ use Rattle.rel_handler.specs.declared.error.HandlerError.{HandlerError}
 use Rattle.rel_handler.specs.declared.error.HandlerError.TheVariants as handler_error
 use Rattle.rel_handler.specs.declared.handler.Handler.{Handler}
 use Rattle.rel_handler.specs.Events.{IsStoredAs, Stored}
-use Rattle.library.specs.Library.{Library}
-use Rattle.rel_handler.specs.Files.{made_size}
+use Rattle.rel_handler.specs.Files.{bundle_brought, made_size}
 use Rattle.rel_handler.specs.Image.{IsImageOf, holds_a_store, first_end, end_behind, HasSpace}
 use Rattle.rel_handler.specs.Moments.{WritesNothing}
 use Rattle.rel_handler.specs.Refusals.{MakingRefused}
 use Rattle.rel_handler.specs.State.{disk_in, list_in, is_dead, HasStarted}
-use Rattle.rel_handler.specs.Unpacking.{Brings, HasLibraries, IsOfFiles, IsMade, IsNotBegun, IsNotMade, CreationRefused}
+use Rattle.rel_handler.specs.Unpacking.{Brings, IsOfFiles, IsMade, IsNotBegun, IsNotMade, CreationRefused}
 use Rattle.rel_unpack.specs.Refusal as of_files
-use Rattle.rel_unpack.specs.Release.{Found}
 use Rattle.rel_unpack.specs.Unpacking.{Brought}
 use Rattle.rel_unpack.specs.Source.{Source}
 use Rattle.session_input.specs.Commands.Command.{create}
@@ -61,10 +59,9 @@ module _ {D : Type 0} (v : Device D) (laws : IsDevice v) (source : Source) (path
     on_raw : (found : Brought) (bytes : List ℕ) (b : Bool) (a : Reply) → holds_a_store bytes ≡ b → Transition.MakesOn bytes found b a → Transition.MakesNode (raw bytes) found a
     on_raw found bytes b a stored_there makes = inl (subst (λ m. Transition.MakesOn bytes found m a) (sym stored_there) makes)
 
-    -- what is made of libraries that are brought or not
-    with_libraries : (found : Brought) (bytes : List ℕ) (ls : Result (List Library) of_files.Refusal) (a : Reply) → found.libraries ≡ ls → Transition.MakesWith bytes found.found.release (made_size found.found) ls a
-        → Transition.MakesOn bytes found false a
-    with_libraries found bytes ls a is makes = subst (λ l. Transition.MakesWith bytes found.found.release (made_size found.found) l a) (sym is) makes
+    -- what is made of applications that are refused or not
+    by_refusal : (found : Brought) (bytes : List ℕ) (o : Option of_files.Refusal) (a : Reply) → found.refusal ≡ o → Transition.MakesWith bytes (bundle_brought found) (made_size found) o a → Transition.MakesOn bytes found false a
+    by_refusal found bytes o a is makes = subst (λ w. Transition.MakesWith bytes (bundle_brought found) (made_size found) w a) (sym is) makes
 
     store_there : (s : Stored) → ((c : List ℕ) → v.may_leave disk c → IsStoredAs s c) → holds_a_store (v.seen disk) ≡ true
     store_there s here = let of = here (v.seen disk) (laws.reads_an_image disk) in stores of.list of.image_of
@@ -77,14 +74,14 @@ module _ {D : Type 0} (v : Device D) (laws : IsDevice v) (source : Source) (path
       replies (running events end) at = absurd at
       replies (dead s) at = absurd at
       replies (raw bytes) at =
-          let found = is_made.brought.found in
-          let events = made found.release ∷ booting ∷ [] in
+          let found = is_made.brought in
+          let events = made (bundle_brought found) ∷ booting ∷ [] in
           let end = end_behind first_end (made_size found) in
           let place = runs_at v laws h events end alive (ap (λ l. Some l) (sym is_made.list)) is_made.end is_made.acknowledged started in
-          let a = reply (Transition.ok_line found.release.vsn) (done events) (running events end) in
+          let a = reply (Transition.ok_line found.found.release.vsn) (done events) (running events end) in
           record {
             given = a;
-            right = (making is_made.brought is_made.read (raw bytes) a (on_raw is_made.brought bytes false a (no_store (holds_a_store bytes) refl) (with_libraries is_made.brought bytes _ a is_made.libraries.1 (inl (is_made.fits, refl)))), refl);
+            right = (making is_made.brought is_made.read (raw bytes) a (on_raw is_made.brought bytes false a (no_store (holds_a_store bytes) refl) (by_refusal is_made.brought bytes _ a is_made.free (inl (is_made.fits, refl)))), refl);
             at = place;
             happens = record { moments = (is_made.synced, is_made.begun); holds = place.0; cause = λ e. never e; counted = counted };
           }
@@ -130,30 +127,30 @@ module _ {D : Type 0} (v : Device D) (laws : IsDevice v) (source : Source) (path
           (λ known p at. refuses p (refusal_of why) at u (creation_refused source path (refusal_of why) p (files_refuse source path why of known))) (nothing_done u)
 
       -- the files of its applications are
-      without_libraries : (why : HandlerError) → IsNotBegun v source path disk new why → Answers v Creates (Err why) (memory.Idle disk) (memory.Idle new)
-      without_libraries why n = tells_refusal v laws Creates why (memory.Idle disk) (memory.Idle new)
+      barred : (why : HandlerError) → IsNotBegun v source path disk new why → Answers v Creates (Err why) (memory.Idle disk) (memory.Idle new)
+      barred why n = tells_refusal v laws Creates why (memory.Idle disk) (memory.Idle new)
           (λ known p at. refuses p (refusal_of why) at n.unwritten (making n.brought n.read p _ (subst (λ w. Transition.MakesNode p n.brought (refused w p)) is (there p at)))) (nothing_done n.unwritten)
         where
-          is : refusal_for (of_files.refusal_of n.of_libraries.error) ≡ refusal_of why
-          is = sym (told_alike n.of_libraries.error) ∙ ap refusal_of (sym n.of_libraries.told)
+          is : refusal_for (of_files.refusal_of n.barred.error) ≡ refusal_of why
+          is = sym (told_alike n.barred.error) ∙ ap refusal_of (sym n.barred.told)
 
-          there : (p : Place) → IsAt v (memory.Idle disk) p → Transition.MakesNode p n.brought (refused (refusal_for (of_files.refusal_of n.of_libraries.error)) p)
-          there (raw bytes) at = on_raw n.brought bytes false _ (ap holds_a_store (sym at) ∙ n.free) (with_libraries n.brought bytes _ _ n.of_libraries.refused refl)
+          there : (p : Place) → IsAt v (memory.Idle disk) p → Transition.MakesNode p n.brought (refused (refusal_for (of_files.refusal_of n.barred.error)) p)
+          there (raw bytes) at = on_raw n.brought bytes false _ (ap holds_a_store (sym at) ∙ n.free) (by_refusal n.brought bytes _ _ n.barred.refused refl)
           there (closed s) at = never (sym n.free ∙ store_there s at)
           there (running events end) at = absurd at
           there (dead s) at = absurd at
 
       -- the disk, the store or memory is
       module _ (why : HandlerError) (is_not : IsNotMade v source path disk new why) (taken : holds_a_store (v.seen disk) ≡ true → WritesNothing v.seen v.may_leave v.moment v.left_since disk new) where
-        abbrev found : Found
-        found = is_not.brought.found
+        abbrev found : Brought
+        found = is_not.brought
 
         right_for : (p : Place) (a : Reply) → Transition.MakesNode p is_not.brought a → Creates p a
         right_for = making is_not.brought is_not.read
 
         device_fails : HasFailed v disk new → (p : Place) → IsAt v (memory.Idle disk) p → Replied v p (λ a. Creates p a × (a.answer ≡ refusal_line device)) (memory.Idle disk) (memory.Idle new)
         device_fails cause (raw bytes) at = record {
-          given = failed (Some (made found.release)) (raw (v.seen new));
+          given = failed (Some (made (bundle_brought found))) (raw (v.seen new));
           right = (right_for (raw bytes) _ (inr (v.seen new, refl)), refl);
           at = refl;
           happens = record { moments = is_not.any_moment; holds = refl; cause = λ e. cause; counted = counted };
@@ -162,10 +159,10 @@ module _ {D : Type 0} (v : Device D) (laws : IsDevice v) (source : Source) (path
             let u = taken (store_there s at) in
             let holds = kept v laws (IsStoredAs s) disk new at u.any_moment in
             record {
-              given = failed (Some (made found.release)) (closed s);
+              given = failed (Some (made (bundle_brought found))) (closed s);
               right = (right_for (closed s) _ (inr refl), refl);
               at = holds;
-              happens = record { moments = quiet v laws s (made found.release ∷ []) disk new at u.any_moment; holds = holds; cause = λ e. cause; counted = counted };
+              happens = record { moments = quiet v laws s (made (bundle_brought found) ∷ []) disk new at u.any_moment; holds = holds; cause = λ e. cause; counted = counted };
             }
         device_fails cause (running events end) at = absurd at
         device_fails cause (dead s) at = absurd at
@@ -176,36 +173,36 @@ module _ {D : Type 0} (v : Device D) (laws : IsDevice v) (source : Source) (path
         exists_there stored_there (running events end) at = absurd at
         exists_there stored_there (dead s) at = absurd at
 
-        full_there : HasLibraries is_not.brought → holds_a_store (v.seen disk) ≡ false → (HasSpace first_end (made_size found) → ⊥) → (p : Place) → IsAt v (memory.Idle disk) p
+        full_there : is_not.brought.refusal ≡ None → holds_a_store (v.seen disk) ≡ false → (HasSpace first_end (made_size found) → ⊥) → (p : Place) → IsAt v (memory.Idle disk) p
             → Transition.MakesNode p is_not.brought (refused full p)
-        full_there libraries stored_there over (raw bytes) at =
-            on_raw is_not.brought bytes false (refused full (raw bytes)) (ap holds_a_store (sym at) ∙ stored_there) (with_libraries is_not.brought bytes _ _ libraries.1 (inr (over, refl)))
-        full_there libraries stored_there over (closed s) at = never (sym stored_there ∙ store_there s at)
-        full_there libraries stored_there over (running events end) at = absurd at
-        full_there libraries stored_there over (dead s) at = absurd at
+        full_there clear stored_there over (raw bytes) at =
+            on_raw is_not.brought bytes false (refused full (raw bytes)) (ap holds_a_store (sym at) ∙ stored_there) (by_refusal is_not.brought bytes _ _ clear (inr (over, refl)))
+        full_there clear stored_there over (closed s) at = never (sym stored_there ∙ store_there s at)
+        full_there clear stored_there over (running events end) at = absurd at
+        full_there clear stored_there over (dead s) at = absurd at
 
-        by_error : (e : HandlerError) → (e ≢ handler_error.Exists → e ≢ handler_error.Device → HasLibraries is_not.brought) → MakingRefused (v.seen disk) (made_size found) (v.failures disk) (v.failures new) (WritesNothing v.seen v.may_leave v.moment v.left_since disk new) e
+        by_error : (e : HandlerError) → (e ≢ handler_error.Exists → e ≢ handler_error.Device → is_not.brought.refusal ≡ None) → MakingRefused (v.seen disk) (made_size found) (v.failures disk) (v.failures new) (WritesNothing v.seen v.may_leave v.moment v.left_since disk new) e
             → Answers v Creates (Err e) (memory.Idle disk) (memory.Idle new)
-        by_error handler_error.Device libraries cause = device_fails cause
-        by_error handler_error.Exists libraries (stored_there, u) = λ p at. refuses p exists at u (right_for p _ (exists_there stored_there p at))
-        by_error handler_error.Full libraries (stored_there, over, u) = λ p at. refuses p full at u (right_for p _ (full_there (libraries (λ e. cc e) (λ e. cc e)) stored_there over p at))
-        by_error handler_error.NoMemory libraries u = λ p at. inr (nothing_done u p at)
-        by_error handler_error.TooMany libraries gone = absurd gone
-        by_error handler_error.NoSuchRelease libraries gone = absurd gone
-        by_error handler_error.ExistingRelease libraries gone = absurd gone
-        by_error handler_error.AlreadyInstalled libraries gone = absurd gone
-        by_error (handler_error.BadStatus s) libraries gone = absurd gone
-        by_error handler_error.Permanent libraries gone = absurd gone
-        by_error handler_error.Running libraries gone = absurd gone
-        by_error (handler_error.LibDiffers app) libraries gone = absurd gone
-        by_error (handler_error.NoTable app) libraries gone = absurd gone
-        by_error (handler_error.BadFile q trouble) libraries gone = absurd gone
-        by_error (handler_error.MissingFile q) libraries gone = absurd gone
-        by_error (handler_error.VsnMismatch q) libraries gone = absurd gone
-        by_error handler_error.Dead libraries gone = absurd gone
+        by_error handler_error.Device clear cause = device_fails cause
+        by_error handler_error.Exists clear (stored_there, u) = λ p at. refuses p exists at u (right_for p _ (exists_there stored_there p at))
+        by_error handler_error.Full clear (stored_there, over, u) = λ p at. refuses p full at u (right_for p _ (full_there (clear (λ e. cc e) (λ e. cc e)) stored_there over p at))
+        by_error handler_error.NoMemory clear u = λ p at. inr (nothing_done u p at)
+        by_error handler_error.TooMany clear gone = absurd gone
+        by_error handler_error.NoSuchRelease clear gone = absurd gone
+        by_error handler_error.ExistingRelease clear gone = absurd gone
+        by_error handler_error.AlreadyInstalled clear gone = absurd gone
+        by_error (handler_error.BadStatus s) clear gone = absurd gone
+        by_error handler_error.Permanent clear gone = absurd gone
+        by_error handler_error.Running clear gone = absurd gone
+        by_error (handler_error.LibDiffers app) clear gone = absurd gone
+        by_error (handler_error.NoTable app) clear gone = absurd gone
+        by_error (handler_error.BadFile q trouble) clear gone = absurd gone
+        by_error (handler_error.MissingFile q) clear gone = absurd gone
+        by_error (handler_error.VsnMismatch q) clear gone = absurd gone
+        by_error handler_error.Dead clear gone = absurd gone
 
       pub creates_none : (why : HandlerError) → (holds_a_store (v.seen disk) ≡ true → WritesNothing v.seen v.may_leave v.moment v.left_since disk new)
           → CreationRefused v source path disk new why → Answers v Creates (Err why) (memory.Idle disk) (memory.Idle new)
       creates_none why taken (inl (of, u)) = unread why of u
-      creates_none why taken (inr (inl n)) = without_libraries why n
-      creates_none why taken (inr (inr is_not)) = by_error why is_not taken why is_not.libraries is_not.refused
+      creates_none why taken (inr (inl n)) = barred why n
+      creates_none why taken (inr (inr is_not)) = by_error why is_not taken why is_not.clear is_not.refused

@@ -2,6 +2,7 @@
 use Rattle.std.proofs.Common.{◌≡◌, ◌⊎◌, inl, inr, ℕ, ◌+◌, ◌<◌, ◌≤◌, Bool, true, false, List, [], ◌∷◌, ◌++◌, length, Option, None, Some, Result, Ok, Err, refl, sym, ap, ◌∙◌, subst, arith}
 use Rattle.std.proofs.lemmas.Bool.{cases_lt}
 use Rattle.rel_files.specs.Release.{Release}
+use Rattle.rel_list.specs.Releases.{Bundle}
 use Rattle.rel_list.specs.Releases.{Releases}
 use Rattle.rel_list.specs.Event.{Event, list_after, booted}
 use Rattle.rel_list.specs.Event.Event.{made, reboot_old as rebooting, boot as booting}
@@ -11,14 +12,13 @@ use Rattle.rel_handler.specs.declared.error.BootError.{BootError}
 use Rattle.rel_handler.specs.declared.error.HandlerError.{HandlerError}
 use Rattle.rel_handler.specs.Events.{Events, certain}
 use Rattle.rel_handler.specs.Image.{IsImageOf, holds_a_store, store_end, first_end, end_behind, HasSpace}
-use Rattle.rel_records.specs.Record.{makes as makes_record, body_of}
+use Rattle.rel_handler.specs.Files.{bundle_brought, made_size}
 use Rattle.rel_handler.specs.Refusals.{IsBootRefusal}
 use Rattle.rel_handler.specs.Taking.{commanded}
 use Rattle.session_input.specs.Commands.{Command}
 use Rattle.session_input.specs.Commands.Command.{quit}
 use Rattle.session_input.specs.Feed.{Feed}
 use Rattle.session_input.specs.Feed.Feed.{over, cut, next}
-use Rattle.library.specs.Library.{Library}
 use Rattle.rel_unpack.specs.Refusal.{Refusal}
 use Rattle.rel_unpack.specs.Unpacking.{Brought}
 use Rattle.rel_unpack.specs.Source.{Source, GivesEach}
@@ -90,17 +90,17 @@ changes events end list c None after =
     let size = c.size (releases_after events) in
     commits events end list c.event size _ after (λ grown then. fair_reply _ _ refl refl (runs (events ++ c.event ∷ []) (end_behind end size) grown then))
 
-makes_with : (x : List ℕ) (r : Release) (size : ℕ) (ls : Result (List Library) Refusal) → Has (Transition.MakesWith x r size ls)
-makes_with x r size (Err why) = fair_reply _ _ refl refl (of_raw x)
-makes_with x r size (Ok ls) = go (fits_or_not first_end size)
+makes_with : (x : List ℕ) (p : Bundle) (size : ℕ) (why : Option Refusal) → Has (Transition.MakesWith x p size why)
+makes_with x p size (Some why) = fair_reply _ _ refl refl (of_raw x)
+makes_with x p size None = go (fits_or_not first_end size)
   where
-    go : HasSpace first_end size ⊎ (HasSpace first_end size → ⊥) → Has (Transition.MakesWith x r size (Ok ls))
-    go (inl fits) = fair_reply _ _ (inl (fits, refl)) refl (runs (made r ∷ booting ∷ []) (end_behind first_end size) (entry r Permanent ∷ []) refl)
+    go : HasSpace first_end size ⊎ (HasSpace first_end size → ⊥) → Has (Transition.MakesWith x p size None)
+    go (inl fits) = fair_reply _ _ (inl (fits, refl)) refl (runs (made p ∷ booting ∷ []) (end_behind first_end size) (entry p Permanent ∷ []) refl)
     go (inr over_it) = fair_reply _ _ (inr (over_it, refl)) refl (of_raw x)
 
 makes_on : (x : List ℕ) (b : Brought) (there : Bool) → Has (Transition.MakesOn x b there)
 makes_on x b true = fair_reply _ _ refl refl (of_raw x)
-makes_on x b false = makes_with x b.found.release (length (body_of b.found.term (makes_record b.found.release))) b.libraries
+makes_on x b false = makes_with x (bundle_brought b) (made_size b) b.refusal
 
 makes : (p : Place) (found : Brought) → IsFair p → Has (Transition.MakesNode p found)
 makes p found (of_raw x) =

@@ -1,12 +1,12 @@
 -- A session on an empty disk.
-use Rattle.std.proofs.Common.{◌≡◌, ◌≢◌, ◌⊎◌, inl, inr, ⊎_elim, ℕ, true, false, List, [], ◌∷◌, ◌++◌, length, Result, Ok, Err, refl, sym, ◌∙◌, subst, append_assoc}
+use Rattle.std.proofs.Common.{Option, None, Some, ◌≡◌, ◌≢◌, ◌⊎◌, inl, inr, ⊎_elim, ℕ, true, false, List, [], ◌∷◌, ◌++◌, length, Result, Ok, Err, refl, sym, ◌∙◌, subst, append_assoc}
 use Rattle.rel_files.specs.Release.{Release}
+use Rattle.rel_list.specs.Releases.{Bundle}
 use Rattle.rel_list.specs.Event.Event.{made, boot as booting}
 use Rattle.session_input.specs.Commands.{Command}
 use Rattle.rel_session.specs.Device.{Device}
 use Rattle.session_input.specs.Feed.{Feed}
-use Rattle.library.specs.Library.{Library}
-use Rattle.rel_records.specs.Record.{makes as makes_record, body_of}
+use Rattle.rel_handler.specs.Files.{bundle_brought, made_size}
 use Rattle.rel_unpack.specs.Refusal.{Refusal}
 use Rattle.rel_unpack.specs.Unpacking.{Brought}
 use Rattle.rel_unpack.specs.Source.{Source}
@@ -22,9 +22,9 @@ use Rattle.rel_session.proofs.DeviceLemmas.{IsDevice}
 
 -- A reply on an empty disk leaves it empty, or the device failed, or a release was made.
 pub record IsMade (a : Reply) : Type 0 where
-  pub release : Release
-  pub acknowledged : a.outcome.acknowledged ≡ made release ∷ booting ∷ []
-  pub after : acknowledged_at a.after ≡ made release ∷ booting ∷ []
+  pub bundle : Bundle
+  pub acknowledged : a.outcome.acknowledged ≡ made bundle ∷ booting ∷ []
+  pub after : acknowledged_at a.after ≡ made bundle ∷ booting ∷ []
 
 abbrev OnEmpty : Reply → Type 0
 OnEmpty a = ((a.outcome.acknowledged ≡ []) × ((a.after ≡ raw []) ⊎ (a.outcome.failed ≡ true))) ⊎ IsMade a
@@ -32,13 +32,13 @@ OnEmpty a = ((a.outcome.acknowledged ≡ []) × ((a.after ≡ raw []) ⊎ (a.out
 on_empty_as : (a b : Reply) → a ≡ b → OnEmpty b → OnEmpty a
 on_empty_as a b is of = subst OnEmpty (sym is) of
 
-makes_with : (r : Release) (size : ℕ) (ls : Result (List Library) Refusal) (a : Reply) → Transition.MakesWith [] r size ls a → OnEmpty a
-makes_with r size (Err why) a is = on_empty_as a _ is (inl (refl, inl refl))
-makes_with r size (Ok ls) a (inl (fits, is)) = on_empty_as a _ is (inr (record { release = r; acknowledged = refl; after = refl }))
-makes_with r size (Ok ls) a (inr (over_it, is)) = on_empty_as a _ is (inl (refl, inl refl))
+makes_with : (p : Bundle) (size : ℕ) (why : Option Refusal) (a : Reply) → Transition.MakesWith [] p size why a → OnEmpty a
+makes_with p size (Some why) a is = on_empty_as a _ is (inl (refl, inl refl))
+makes_with p size None a (inl (fits, is)) = on_empty_as a _ is (inr (record { bundle = p; acknowledged = refl; after = refl }))
+makes_with p size None a (inr (over_it, is)) = on_empty_as a _ is (inl (refl, inl refl))
 
 makes : (b : Brought) (a : Reply) → Transition.MakesNode (raw []) b a → OnEmpty a
-makes b a (inl is) = makes_with b.found.release (length (body_of b.found.term (makes_record b.found.release))) b.libraries a is
+makes b a (inl is) = makes_with (bundle_brought b) (made_size b) b.refusal a is
 makes b a (inr (torn, is)) = on_empty_as a _ is (inl (refl, inr refl))
 
 boots : (a : Reply) → Transition.BootsBytes [] a → OnEmpty a
@@ -62,7 +62,7 @@ left_on_empty source p c a empty (inr stopped) = let never = sym empty ∙ stopp
 still_empty : (a : Reply) → OnEmpty a → a.outcome.failed ≡ false → a.outcome.acknowledged ≡ [] → a.after ≡ raw []
 still_empty a (inl (none, inl there)) works nothing = there
 still_empty a (inl (none, inr failed)) works nothing = let lost : true ≡ false = sym failed ∙ works in absurd cc
-still_empty a (inr of) works nothing = let lost : made of.release ∷ booting ∷ [] ≡ [] = sym of.acknowledged ∙ nothing in absurd cc
+still_empty a (inr of) works nothing = let lost : made of.bundle ∷ booting ∷ [] ≡ [] = sym of.acknowledged ∙ nothing in absurd cc
 
 -- the first reply that acknowledges an event
 first_event : (base : Source) (files : Files) (p : Place) (commands : Feed Command) (ending : Ending) (first : List Reply) (a : Reply) (rest : List Reply) → p ≡ raw []
@@ -86,7 +86,7 @@ module _ {D : Type 0} (v : Device D) (laws : IsDevice v) where
   begins_with_a_making base files commands ending first a rest old new right empty leads works none some =
       let of = first_event base files (raw []) commands ending first a rest refl right works none some in
       let same : first ++ a ∷ rest ≡ (first ++ a ∷ []) ++ rest = sym (append_assoc first (a ∷ []) rest) in (
-        of.release,
+        of.bundle,
         of.acknowledged,
         of.after,
         loses_nothing v laws base files (raw []) commands ending (first ++ a ∷ []) rest old new (subst (Replies base files (raw []) commands ending) same right) empty

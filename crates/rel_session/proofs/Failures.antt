@@ -6,12 +6,12 @@ use Rattle.rel_list.specs.Event.Event.{reboot_old as rebooting}
 use Rattle.rel_handler.specs.declared.error.HandlerError.{HandlerError}
 use Rattle.rel_handler.specs.Events.{Events, Stored, certain}
 use Rattle.rel_handler.specs.Image.{holds_a_store}
-use Rattle.rel_records.specs.Record.{makes as makes_record, body_of}
+use Rattle.rel_handler.specs.Files.{bundle_brought, made_size}
 use Rattle.rel_handler.specs.Taking.{commanded}
 use Rattle.session_input.specs.Commands.{Command}
 use Rattle.rel_session.specs.Device.{Device, HasFailed}
-use Rattle.library.specs.Library.{Library}
 use Rattle.rel_files.specs.Release.{Release}
+use Rattle.rel_list.specs.Releases.{Bundle}
 use Rattle.rel_unpack.specs.Refusal.{Refusal}
 use Rattle.rel_unpack.specs.Unpacking.{Brought}
 use Rattle.rel_unpack.specs.Source.{Source}
@@ -44,14 +44,14 @@ changes : (events : Events) (end : ℕ) (c : Transition.Change) (l : Releases) (
 changes events end c l (Some why) o a is = plain a _ is (inl refl)
 changes events end c l None o a is = commits events end c.event (c.size l) o _ (λ a is. plain a _ is (inl refl)) a is
 
-makes_with : (bytes : List ℕ) (r : Release) (size : ℕ) (ls : Result (List Library) Refusal) (a : Reply) → Transition.MakesWith bytes r size ls a → IsPlain a
-makes_with bytes r size (Err why) a is = plain a _ is (inl refl)
-makes_with bytes r size (Ok ls) a (inl (fits, is)) = plain a _ is (inl refl)
-makes_with bytes r size (Ok ls) a (inr (over, is)) = plain a _ is (inl refl)
+makes_with : (bytes : List ℕ) (p : Bundle) (size : ℕ) (why : Option Refusal) (a : Reply) → Transition.MakesWith bytes p size why a → IsPlain a
+makes_with bytes p size (Some why) a is = plain a _ is (inl refl)
+makes_with bytes p size None a (inl (fits, is)) = plain a _ is (inl refl)
+makes_with bytes p size None a (inr (over, is)) = plain a _ is (inl refl)
 
 makes_on : (bytes : List ℕ) (b : Brought) (there : Bool) (a : Reply) → Transition.MakesOn bytes b there a → IsPlain a
 makes_on bytes b true a is = plain a _ is (inl refl)
-makes_on bytes b false a is = makes_with bytes b.found.release (length (body_of b.found.term (makes_record b.found.release))) b.libraries a is
+makes_on bytes b false a is = makes_with bytes (bundle_brought b) (made_size b) b.refusal a is
 
 makes : (p : Place) (found : Brought) (a : Reply) → Transition.MakesNode p found a → IsPlain a
 makes (raw bytes) found a (inl is) = makes_on bytes found (holds_a_store bytes) a is

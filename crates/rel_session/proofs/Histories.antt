@@ -3,11 +3,10 @@ use Rattle.std.proofs.Common.{◌≡◌, ◌⊎◌, inl, inr, ℕ, Bool, true, f
 use Rattle.std.specs.Prelude.{◌&&◌, ◌==◌, not, nat_lt}
 use Rattle.std.specs.Option.{option_and_then}
 use Rattle.std.proofs.lemmas.Bool.Decides.{nat_tests}
-use Rattle.rel_files.specs.Release.{Release}
 use Rattle.rel_list.specs.declared.status.Status.{Status}
 use Rattle.rel_list.specs.Keyed.{IsOrderly}
-use Rattle.rel_list.specs.Laws.{releases_of, IsAtRest}
-use Rattle.rel_list.specs.Releases.{Releases, of_status, status_of}
+use Rattle.rel_list.specs.Laws.{bundles_of, IsAtRest}
+use Rattle.rel_list.specs.Releases.{Bundle, Releases, bundle_in, of_status, status_of}
 use Rattle.rel_list.specs.Status.{is_current, is_permanent}
 use Rattle.rel_list.specs.Event.{Event, booted, step, list_assigned, list_from, list_after}
 use Rattle.rel_list.specs.Event.Event.{made, unpacked, removed, boot as booting}
@@ -16,27 +15,27 @@ use Rattle.rel_list.proofs.RestLaws.{rest_reached}
 use Rattle.rel_records.specs.Limits.{has_one_permanent, is_small, most_releases}
 use Rattle.rel_records.specs.Lists.{may_be_assigned, assign_all, assigned, MakesFrom}
 use Rattle.rel_records.specs.Record.{Assignment, Record, makes, adds, assigns, removes}
-use Rattle.rel_records.proofs.RecordPlaces.{chosen, both, assigned_so, settled_behind}
+use Rattle.rel_records.proofs.RecordPlaces.{chosen, both, assigned_so, event_of_record, settled_behind}
 use Rattle.rel_handler.specs.Events.{Events}
 use Rattle.rel_handler.specs.Image.{IsImageOf}
 use Rattle.rel_session.proofs.ListLemmas.{list_after-push, list_from-append}
 
 -- Assignments keep the releases, and no version stands twice behind them.
-releases-assigned : (v : List ℕ) (t : Status) (es : Releases) → releases_of (list_assigned v t es) ≡ releases_of es
-releases-assigned v t [] = refl
-releases-assigned v t (e ∷ es) = ap (λ (l : List Release). e.release ∷ l) (releases-assigned v t es)
+bundles-assigned : (v : List ℕ) (t : Status) (es : Releases) → bundles_of (list_assigned v t es) ≡ bundles_of es
+bundles-assigned v t [] = refl
+bundles-assigned v t (e ∷ es) = ap (λ (l : List Bundle). bundle_in e ∷ l) (bundles-assigned v t es)
 
 not_so : (b : Bool) → not b ≡ true → b ≡ false
 not_so true e = absurd cc
 not_so false e = refl
 
-kept_by : (given : List Assignment) (es next : Releases) → IsOrderly es → assign_all given es ≡ Some next → IsOrderly next × (releases_of next ≡ releases_of es)
-kept_by [] es next orderly is = let same : es ≡ next = cc is in (subst IsOrderly same orderly, ap releases_of (sym same))
+kept_by : (given : List Assignment) (es next : Releases) → IsOrderly es → assign_all given es ≡ Some next → IsOrderly next × (bundles_of next ≡ bundles_of es)
+kept_by [] es next orderly is = let same : es ≡ next = cc is in (subst IsOrderly same orderly, ap bundles_of (sym same))
 kept_by (a ∷ given) es next orderly is =
     let (may, rest) = chosen (may_be_assigned a es) (assign_all given (list_assigned a.vsn a.status es)) next is in
     let (settled, there) = both (not (is_current a.status)) (is_some (status_of a.vsn es)) may in
     let (so, same) = kept_by given (list_assigned a.vsn a.status es) next (orderly-assigned a.vsn a.status es (not_so (is_current a.status) settled) orderly) rest in
-    (so, same ∙ releases-assigned a.vsn a.status es)
+    (so, same ∙ bundles-assigned a.vsn a.status es)
 
 is_one : (n : ℕ) → (n == 1) ≡ true → n ≡ 1
 is_one n e = grind (arith, nat_tests)
@@ -52,15 +51,16 @@ one_event : (e : Event) (es next : Releases) → step e es ≡ Some next → Lea
 one_event e es next is = (e ∷ [], ap (option_and_then (λ (l : Releases). Some l)) is)
 
 -- a list without releases has no permanent one
-none_permanent : (next : Releases) → releases_of next ≡ [] → has_one_permanent next ≡ true → ⊥
+none_permanent : (next : Releases) → bundles_of next ≡ [] → has_one_permanent next ≡ true → ⊥
 none_permanent [] same one = cc one
 none_permanent (e ∷ next) same one = cc same
 
 -- What a record makes of a list, events make of it.
 behind_record : (r : Record) (es next : Releases) → IsOrderly es → booted es ≡ es → (es ≡ []) ⊎ (has_one_permanent es ≡ true) → assigned r es ≡ Some next → Leads es next
-behind_record (makes x) es next orderly still one taken = one_event (made x) es next (chosen (is_small x) (step (made x) es) next (assigned_so (makes x) es next taken).0).1
-behind_record (adds x) es next orderly still one taken =
-    one_event (unpacked x) es next (chosen (is_small x && nat_lt (length es) most_releases) (step (unpacked x) es) next (assigned_so (adds x) es next taken).0).1
+behind_record (makes x ls) es next orderly still one taken =
+    let (p, of, is) = event_of_record made (is_small x) x ls es next (assigned_so (makes x ls) es next taken).0 in one_event (made p) es next is
+behind_record (adds x ls) es next orderly still one taken =
+    let (p, of, is) = event_of_record unpacked (is_small x && nat_lt (length es) most_releases) x ls es next (assigned_so (adds x ls) es next taken).0 in one_event (unpacked p) es next is
 behind_record (removes v) es next orderly still one taken = one_event (removed v) es next (assigned_so (removes v) es next taken).0
 behind_record (assigns given) es next orderly still one taken = by_one one
   where
@@ -68,7 +68,7 @@ behind_record (assigns given) es next orderly still one taken = by_one one
     assigned_there = (assigned_so (assigns given) es next taken).0
 
     by_one : (es ≡ []) ⊎ (has_one_permanent es ≡ true) → Leads es next
-    by_one (inl none) = absurd (none_permanent next ((kept_by given es next orderly assigned_there).1 ∙ ap releases_of none) (assigned_so (assigns given) es next taken).1)
+    by_one (inl none) = absurd (none_permanent next ((kept_by given es next orderly assigned_there).1 ∙ ap bundles_of none) (assigned_so (assigns given) es next taken).1)
     by_one (inr permanent) =
         let (so, same) = kept_by given es next orderly assigned_there in
         rest_reached es next (at_rest es orderly still permanent)

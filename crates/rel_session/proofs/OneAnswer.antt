@@ -10,15 +10,15 @@ use Rattle.rel_handler.specs.declared.error.BootError.TheVariants as boot_error
 use Rattle.rel_handler.specs.declared.error.HandlerError.{HandlerError}
 use Rattle.rel_handler.specs.Events.{Events, MayHave, certain}
 use Rattle.rel_handler.specs.Image.{holds_a_store, first_end, end_behind}
-use Rattle.rel_records.specs.Record.{makes as makes_record, body_of}
+use Rattle.rel_handler.specs.Files.{bundle_brought, made_size}
 use Rattle.rel_handler.specs.Refusals.{IsBootRefusal}
 use Rattle.rel_handler.specs.Taking.{commanded}
 use Rattle.session_input.specs.Commands.{Command}
 use Rattle.session_input.specs.Commands.Command.{quit}
 use Rattle.session_input.specs.Feed.{Feed}
 use Rattle.session_input.specs.Feed.Feed.{over, cut, next}
-use Rattle.library.specs.Library.{Library}
 use Rattle.rel_files.specs.Release.{Release}
+use Rattle.rel_list.specs.Releases.{Bundle}
 use Rattle.rel_unpack.specs.Refusal.{Refusal}
 use Rattle.rel_unpack.specs.Unpacking.{Brought}
 use Rattle.rel_unpack.specs.Source.{Source, GivesOne}
@@ -101,17 +101,17 @@ module _ (a b : Reply) (both : Both a b) where
       let behind_it = same_lists (events ++ c.event ∷ []) (others ++ c.event ∷ []) (end_behind end (c.size l)) (same_list events others c.event same) in
       commits events others end c.event (c.size l) o _ _ (λ is also. as_these a b _ _ is also (refl, refl, behind_it)) same is also
 
-  makes_with : (x : List ℕ) (r : Release) (size : ℕ) (ls : Result (List Library) Refusal) → Transition.MakesWith x r size ls a → Transition.MakesWith x r size ls b → Same a b
-  makes_with x r size (Err why) is also = as_these a b _ _ is also (refl, refl, same_bytes x)
-  makes_with x r size (Ok ls) (inl (fits, is)) (inl (fits_too, also)) =
-      as_these a b _ _ is also (refl, refl, same_lists (made r ∷ booting ∷ []) (made r ∷ booting ∷ []) (end_behind first_end size) refl)
-  makes_with x r size (Ok ls) (inl (fits, is)) (inr (over_it, also)) = absurd (over_it fits)
-  makes_with x r size (Ok ls) (inr (over_it, is)) (inl (fits, also)) = absurd (over_it fits)
-  makes_with x r size (Ok ls) (inr (over_it, is)) (inr (over_too, also)) = as_these a b _ _ is also (refl, refl, same_bytes x)
+  makes_with : (x : List ℕ) (p : Bundle) (size : ℕ) (why : Option Refusal) → Transition.MakesWith x p size why a → Transition.MakesWith x p size why b → Same a b
+  makes_with x p size (Some why) is also = as_these a b _ _ is also (refl, refl, same_bytes x)
+  makes_with x p size None (inl (fits, is)) (inl (fits_too, also)) =
+      as_these a b _ _ is also (refl, refl, same_lists (made p ∷ booting ∷ []) (made p ∷ booting ∷ []) (end_behind first_end size) refl)
+  makes_with x p size None (inl (fits, is)) (inr (over_it, also)) = absurd (over_it fits)
+  makes_with x p size None (inr (over_it, is)) (inl (fits, also)) = absurd (over_it fits)
+  makes_with x p size None (inr (over_it, is)) (inr (over_too, also)) = as_these a b _ _ is also (refl, refl, same_bytes x)
 
   makes_on : (x : List ℕ) (found : Brought) (m : Bool) → Transition.MakesOn x found m a → Transition.MakesOn x found m b → Same a b
   makes_on x found true is also = as_these a b _ _ is also (refl, refl, same_bytes x)
-  makes_on x found false is also = makes_with x found.found.release (length (body_of found.found.term (makes_record found.found.release))) found.libraries is also
+  makes_on x found false is also = makes_with x (bundle_brought found) (made_size found) found.refusal is also
 
   makes : (p q : Place) (found : Brought) → Alike p q → Transition.MakesNode p found a → Transition.MakesNode q found b → Same a b
   makes p q found (same_bytes x) (inl is) (inl also) = makes_on x found (holds_a_store x) is also

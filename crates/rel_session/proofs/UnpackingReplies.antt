@@ -2,14 +2,12 @@
 use Rattle.std.proofs.Common.{◌≡◌, inl, inr, ℕ, true, false, List, Option, None, Some, Ok, Err, refl, sym, ap, ◌∙◌, subst}
 use Rattle.std.specs.Prelude.{String, string_bytes, is_some, if◌then◌else◌}
 use Rattle.std.specs.declared.alloc.Global.{Global}
-use Rattle.rel_list.specs.declared.status.Status.{Status}
 use Rattle.rel_handler.specs.declared.error.HandlerError.{HandlerError}
 use Rattle.rel_handler.specs.declared.error.HandlerError.TheVariants as handler_error
 use Rattle.rel_handler.specs.declared.handler.Handler.{Handler}
 use Rattle.rel_handler.specs.Events.{Events}
 use Rattle.rel_handler.specs.State.{is_dead, list_in}
-use Rattle.rel_handler.specs.Unpacking.{Brings, IsBarred, IsUnpacked, UnpackingRefused, files_refusal, libraries_refusal}
-use Rattle.rel_handler.proofs.ReleaseLemmas.{brought_free}
+use Rattle.rel_handler.specs.Unpacking.{Brings, IsBarred, IsUnpacked, UnpackingRefused}
 use Rattle.rel_unpack.specs.Refusal as of_files
 use Rattle.rel_unpack.specs.Unpacking.{Brought}
 use Rattle.rel_unpack.specs.Source.{Source}
@@ -38,11 +36,11 @@ module _ {D : Type 0} (v : Device D) (laws : IsDevice v) (source : Source) (path
   changing b read events end a is = (changes_node (Transition.unpacked_change b), (Ok b, read, refl), is)
 
   pub unpacks : (vsn text : String Global) → IsUnpacked v source path h new (string_bytes vsn) → string_bytes text ≡ Transition.ok_line (string_bytes vsn) → Answers v Unpacks (Ok text) (memory.Made h) (memory.Made new)
-  unpacks vsn text u is = changes v laws Unpacks h alive (Transition.unpacked_change u.brought) (changing u.brought u.read) (brought_free u.brought (list_in h) u.libraries) new u.commits u.works u.done text (is ∙ ap Transition.ok_line u.version)
+  unpacks vsn text u is = changes v laws Unpacks h alive (Transition.unpacked_change u.brought) (changing u.brought u.read) u.free new u.commits u.works u.done text (is ∙ ap Transition.ok_line u.version)
 
   -- memory was refused for the answer
   pub unpacks_untold : (vsn : List ℕ) → IsUnpacked v source path h new vsn → Answers v Unpacks (Err handler_error.NoMemory) (memory.Made h) (memory.Made new)
-  unpacks_untold vsn u = changes_untold v laws Unpacks h alive (Transition.unpacked_change u.brought) (changing u.brought u.read) (brought_free u.brought (list_in h) u.libraries) new u.commits u.works u.done
+  unpacks_untold vsn u = changes_untold v laws Unpacks h alive (Transition.unpacked_change u.brought) (changing u.brought u.read) u.free new u.commits u.works u.done
 
   -- its files are refused
   barred : (why : HandlerError) → IsBarred source path h new why → Answers v Unpacks (Err why) (memory.Made h) (memory.Made new)
@@ -50,12 +48,10 @@ module _ {D : Type 0} (v : Device D) (laws : IsDevice v) (source : Source) (path
     where
       told : (p : Place) → IsAt v (memory.Made h) p → Replied v p (λ a. Unpacks p a × (a.answer ≡ refusal_line (refusal_of why))) (memory.Made h) (memory.Made new)
       told p at =
-          let error = b.of_libraries.error in
-          let line = ap refusal_line (sym (told_alike error)) ∙ ap (λ w. refusal_line (refusal_of w)) (sym b.of_libraries.told) in
-          let bars : files_refusal b.brought (list_in h) ≡ Some (of_files.refusal_of error) =
-          ap (λ (o : Option Status). if is_some o then None else libraries_refusal b.brought.libraries) b.fresh ∙ ap libraries_refusal b.of_libraries.refused in
+          let error = b.barred.error in
+          let line = ap refusal_line (sym (told_alike error)) ∙ ap (λ w. refusal_line (refusal_of w)) (sym b.barred.told) in
           subst (λ l. Replied v p (λ a. Unpacks p a × (a.answer ≡ l)) (memory.Made h) (memory.Made new)) line
-          (files_refused v laws Unpacks h alive (Transition.unpacked_change b.brought) (changing b.brought b.read) new b.same (of_files.refusal_of error) bars p at)
+          (files_refused v laws Unpacks h alive (Transition.unpacked_change b.brought) (changing b.brought b.read) new b.same (of_files.refusal_of error) b.barred.refused p at)
 
   pub unpacks_none : (why : HandlerError) → UnpackingRefused v source path h new why → Answers v Unpacks (Err why) (memory.Made h) (memory.Made new)
   unpacks_none why (inl (is, gone, same)) = never (sym alive ∙ gone)

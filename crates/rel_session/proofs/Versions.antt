@@ -7,14 +7,15 @@ use Rattle.erl_term.specs.Lines.{is_one_line}
 use Rattle.rel_unpack.proofs.LineOutcomes.{version_line}
 use Rattle.rel_files.specs.File.{HasVersions}
 use Rattle.rel_files.specs.Release.{Release}
+use Rattle.rel_list.specs.Releases.{Bundle}
 use Rattle.rel_list.specs.Releases.{Releases, Entry, status_of, has_current, permanent, current, running as running_release}
 use Rattle.rel_list.specs.Status.{is_current, is_permanent}
-use Rattle.rel_list.specs.Event.{Event, may_be_installed, may_be_made_permanent, may_be_removed, may_be_rebooted, booted_status, with_statuses, list_installed, list_made_permanent, without, step, list_after, booted, entry}
+use Rattle.rel_list.specs.Event.{Event, is_barred, may_be_installed, may_be_made_permanent, may_be_removed, may_be_rebooted, booted_status, with_statuses, list_installed, list_made_permanent, without, step, list_after, booted, entry}
 use Rattle.rel_list.specs.declared.status.Status.{Status}
 use Rattle.rel_list.specs.declared.status.Status.TheVariants.{Unpacked, Permanent}
 use Rattle.rel_list.specs.Event.Event.{made, unpacked, installed, made_permanent, removed, reboot_old, boot as booting}
 use Rattle.rel_records.specs.Lists.{HaveVersions}
-use Rattle.rel_records.specs.Record.{makes as makes_record, body_of}
+use Rattle.rel_handler.specs.Files.{bundle_brought, made_size}
 use Rattle.rel_handler.proofs.CommandLemmas.{IsListRefusal, IsListAnswer, of_command}
 use Rattle.rel_handler.proofs.Commits.{have_versions}
 use Rattle.rel_handler.proofs.RepairLemmas.{permanent_versions}
@@ -24,8 +25,6 @@ use Rattle.rel_handler.specs.Events.{Events, Stored, MayHave, certain, uncertain
 use Rattle.rel_handler.specs.Image.{holds_a_store}
 use Rattle.rel_handler.specs.Taking.{commanded}
 use Rattle.session_input.specs.Commands.{Command}
-use Rattle.library.specs.Library.{Library}
-use Rattle.rel_handler.specs.Unpacking.{libraries_refusal}
 use Rattle.rel_unpack.specs.Refusal.{Refusal}
 use Rattle.rel_unpack.specs.Unpacking.{Brought}
 use Rattle.rel_unpack.specs.Source.{Source}
@@ -67,13 +66,13 @@ where_allowed true next end all is = let same : next ≡ end = cc in subst HaveV
 where_allowed false next end all is = absurd cc
 
 step_versions : (e : Event) (es end : Releases) → OfEvent e → HaveVersions es → step e es ≡ Some end → HaveVersions end
-step_versions (made r) [] end of all is = let same : entry r Permanent ∷ [] ≡ end = cc in subst HaveVersions same (of, tt)
-step_versions (made r) (f ∷ es) end of all is = absurd cc
-step_versions (unpacked r) es end of all is = go (is_some (status_of r.vsn es)) is
+step_versions (made p) [] end of all is = let same : entry p Permanent ∷ [] ≡ end = cc in subst HaveVersions same (of, tt)
+step_versions (made p) (f ∷ es) end of all is = absurd cc
+step_versions (unpacked p) es end of all is = go (is_barred p es) is
   where
-    go : (b : Bool) → (if b then None else Some (es ++ entry r Unpacked ∷ [])) ≡ Some end → HaveVersions end
+    go : (b : Bool) → (if b then None else Some (es ++ entry p Unpacked ∷ [])) ≡ Some end → HaveVersions end
     go true is = absurd cc
-    go false is = let same : es ++ entry r Unpacked ∷ [] ≡ end = cc in subst HaveVersions same (more_versions es (entry r Unpacked) all of)
+    go false is = let same : es ++ entry p Unpacked ∷ [] ≡ end = cc in subst HaveVersions same (more_versions es (entry p Unpacked) all of)
 step_versions (installed v) es end of all is =
     where_allowed (may_be_installed (has_current es) (status_of v es)) (list_installed v es) end (restated_versions _ es all) is
 step_versions (made_permanent v) es end of all is =
@@ -161,14 +160,14 @@ changes events end c list (Some why) o plain of told line all a is = good_as a _
 changes events end c list None o plain of told line all a is =
     commits events end c.event (c.size list) o _ plain (λ a is. good_as a _ is (done_whole (c.details list) line, list_versions events c.event of all)) of all a is
 
-makes_with : (x : List ℕ) (r : Release) (size : ℕ) (ls : Result (List Library) Refusal) → HasVersions r → TellsFilesLine (libraries_refusal ls) → (a : Reply) → Transition.MakesWith x r size ls a → IsGood a
-makes_with x r size (Err why) of told a is = good_as a _ is (refusal_whole (refusal_for why) told, tt)
-makes_with x r size (Ok ls) of told a (inl (fits, is)) = good_as a _ is (ok_whole r.vsn (version_line r.vsn of.own), list_versions (made r ∷ []) booting tt (list_versions [] (made r) of (λ l e. let same : [] ≡ l = cc in subst HaveVersions same tt)))
-makes_with x r size (Ok ls) of told a (inr (over_it, is)) = good_as a _ is ((λ behind. refl), tt)
+makes_with : (x : List ℕ) (p : Bundle) (size : ℕ) (why : Option Refusal) → HasVersions p.release → TellsFilesLine (why) → (a : Reply) → Transition.MakesWith x p size why a → IsGood a
+makes_with x p size (Some why) of told a is = good_as a _ is (refusal_whole (refusal_for why) told, tt)
+makes_with x p size None of told a (inl (fits, is)) = good_as a _ is (ok_whole p.release.vsn (version_line p.release.vsn of.own), list_versions (made p ∷ []) booting tt (list_versions [] (made p) of (λ l e. let same : [] ≡ l = cc in subst HaveVersions same tt)))
+makes_with x p size None of told a (inr (over_it, is)) = good_as a _ is ((λ behind. refl), tt)
 
 makes_on : (x : List ℕ) (b : Brought) (there : Bool) → IsGoodAction (makes_node b) → (a : Reply) → Transition.MakesOn x b there a → IsGood a
 makes_on x b true good a is = good_as a _ is ((λ behind. refl), tt)
-makes_on x b false good a is = makes_with x b.found.release (length (body_of b.found.term (makes_record b.found.release))) b.libraries good.0 good.1 a is
+makes_on x b false good a is = makes_with x (bundle_brought b) (made_size b) b.refusal good.0 good.1 a is
 
 makes : (p : Place) (found : Brought) → IsGoodAction (makes_node found) → HasVersionsAt p → (a : Reply) → Transition.MakesNode p found a → IsGood a
 makes (raw x) found good all a (inl is) = makes_on x found (holds_a_store x) good a is

@@ -56,10 +56,10 @@ pub record IsReached (k : Known) (command : Events) (image : List ℕ) : Type 0 
 -- doubt if there was such a sync. A boot that is done or that the device failed leaves nothing new but the start record;
 -- any other command nothing at all.
 abbrev pub MomentsOf : {D : Type 0} → Device D → Events → Option Event → Bool → D → D → Type 0
-MomentsOf {D} v (made r ∷ more) doubt failed old new =
-    (at : D) × BeginsAt v.seen v.may_leave v.moment v.left_since (doubted [] (made r)) old new at
-MomentsOf v [] (Some (made r)) failed old new =
-    Begins v.seen v.may_leave v.moment v.left_since (doubted [] (made r)) old new
+MomentsOf {D} v (made p ∷ more) doubt failed old new =
+    (at : D) × BeginsAt v.seen v.may_leave v.moment v.left_since (doubted [] (made p)) old new at
+MomentsOf v [] (Some (made p)) failed old new =
+    Begins v.seen v.may_leave v.moment v.left_since (doubted [] (made p)) old new
 MomentsOf v [] None false old new = LeavesOnly v old new (v.may_leave old)
 MomentsOf v acknowledged doubt failed old new = LeavesOnly v old new (λ c. v.may_leave old c ⊎ IsRepairOf (v.seen old) c)
 

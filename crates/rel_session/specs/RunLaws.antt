@@ -1,8 +1,7 @@
 -- What is so of whole sessions at each of their moments, and of sessions one after another.
 use Rattle.std.specs.Prelude.{◌≡◌, ◌≢◌, ◌⊎◌, ℕ, zero, suc, false, List, [], ◌∷◌, ◌++◌, Some}
 use Rattle.rel_disk.specs.Damage.{Only}
-use Rattle.rel_files.specs.Release.{Release}
-use Rattle.rel_list.specs.Releases.{Releases}
+use Rattle.rel_list.specs.Releases.{Bundle, Releases}
 use Rattle.rel_list.specs.Event.{list_after}
 use Rattle.rel_list.specs.Event.Event.{made, boot as booting}
 use Rattle.rel_handler.specs.Events.{Events, Stored, with_doubt, certain, HasStart, IsStoredAs, IsOfPrefix}
@@ -160,5 +159,5 @@ BeginsWithAMaking {D} v base =
     → Replies base files (raw []) commands ending (first ++ a ∷ rest)
     → v.seen old ≡ [] → Executes v (raw []) (first ++ a ∷ rest) old new
     → NoneFails first → NoneAcknowledged first → a.outcome.acknowledged ≢ []
-    → (r : Release) × (a.outcome.acknowledged ≡ made r ∷ booting ∷ [])
-    × (acknowledged_at a.after ≡ made r ∷ booting ∷ []) × KeepsAll v (raw []) (first ++ a ∷ []) rest old new
+    → (p : Bundle) × (a.outcome.acknowledged ≡ made p ∷ booting ∷ [])
+    × (acknowledged_at a.after ≡ made p ∷ booting ∷ []) × KeepsAll v (raw []) (first ++ a ∷ []) rest old new

@@ -1,20 +1,19 @@
 -- What a node replies to a command: what the command comes to, and what the node does then.
-use Rattle.std.specs.Prelude.{◌≡◌, ◌⊎◌, ℕ, Bool, true, false, List, [], ◌∷◌, ◌++◌, length, codes, Option, None, Some, Result, Ok, Err}
+use Rattle.std.specs.Prelude.{◌≡◌, ◌⊎◌, ℕ, Bool, true, false, List, [], ◌∷◌, ◌++◌, codes, Option, None, Some, Result, Ok, Err}
 use Rattle.erl_term.specs.Printing.{text_of}
 use Rattle.rel_files.specs.Release.{Release}
-use Rattle.rel_list.specs.Releases.{Releases, running as running_release, permanent as permanent_release}
+use Rattle.rel_list.specs.Releases.{Bundle, Releases, running as running_release, permanent as permanent_release}
 use Rattle.rel_list.specs.Event.{Event, list_after}
 use Rattle.rel_list.specs.Event.Event.{made, unpacked, installed, made_permanent, removed, reboot_old as rebooting, boot as booting}
-use Rattle.rel_records.specs.Record.{makes, adds, body_of}
 use Rattle.rel_handler.specs.declared.error.BootError.{BootError}
 use Rattle.rel_handler.specs.declared.error.BootError.TheVariants as boot_error
 use Rattle.rel_handler.specs.declared.error.HandlerError.{HandlerError}
+use Rattle.rel_handler.specs.Files.{bundle_brought, made_size, unpacked_size}
 use Rattle.rel_handler.specs.Events.{Events, Stored, MayHave, certain, uncertain}
 use Rattle.rel_handler.specs.Image.{IsImageAt, holds_a_store, first_end, end_behind, HasSpace}
 use Rattle.rel_handler.specs.Refusals.{IsBootRefusal}
 use Rattle.rel_handler.specs.Taking.{commanded, change_size}
 use Rattle.rel_handler.specs.Unpacking.{Brings, files_refusal}
-use Rattle.library.specs.Library.{Library}
 pub use Rattle.rel_handler.specs.State.{version_of}
 use Rattle.rel_unpack.specs.Refusal.{Refusal as FilesRefusal}
 use Rattle.rel_unpack.specs.Source.{Source}
@@ -68,9 +67,9 @@ creation (Ok brought) = makes_node brought
 -- a release comes in as unpacked
 abbrev pub unpacked_change : Brought → Change
 unpacked_change b = record {
-  event = unpacked b.found.release;
+  event = unpacked (bundle_brought b);
   files = files_refusal b;
-  size = λ list. length (body_of b.found.term (adds b.found.release));
+  size = unpacked_size b;
   details = λ list. codes " " ++ b.found.release.vsn;
 }
 
@@ -164,27 +163,26 @@ Changes events end c list (Some why) taken a = a ≡ refused (refusal_for why) (
 Changes events end c list None taken a =
     IsCommit events end c.event (c.size list) taken (λ a. a ≡ changed events end c list) a
 
--- A node is made with a release on a disk with these bytes, and booted, unless its libraries are refused or the record does
--- not fit.
-abbrev pub MakesWith : List ℕ → Release → ℕ → Result (List Library) FilesRefusal → Reply → Type 0
-MakesWith bytes r size (Err why) a = a ≡ refused (refusal_for why) (raw bytes)
-MakesWith bytes r size (Ok ls) a =
+-- A node is made with a release on a disk with these bytes, and booted, unless its applications are refused or the record
+-- does not fit.
+abbrev pub MakesWith : List ℕ → Bundle → ℕ → Option FilesRefusal → Reply → Type 0
+MakesWith bytes p size (Some why) a = a ≡ refused (refusal_for why) (raw bytes)
+MakesWith bytes p size None a =
     (HasSpace first_end size
-    × (a ≡ reply (ok_line r.vsn) (done (made r ∷ booting ∷ [])) (running (made r ∷ booting ∷ []) (end_behind first_end size))))
+    × (a ≡ reply (ok_line p.release.vsn) (done (made p ∷ booting ∷ [])) (running (made p ∷ booting ∷ []) (end_behind first_end size))))
     ⊎ ((HasSpace first_end size → ⊥) × (a ≡ refused full (raw bytes)))
 
 -- So it is where these bytes hold no store.
 abbrev pub MakesOn : List ℕ → Brought → Bool → Reply → Type 0
 MakesOn bytes b true a = a ≡ refused exists (raw bytes)
-MakesOn bytes b false a =
-    MakesWith bytes b.found.release (length (body_of b.found.term (makes b.found.release))) b.libraries a
+MakesOn bytes b false a = MakesWith bytes (bundle_brought b) (made_size b) b.refusal a
 
 -- Where the device fails in it, the event is in doubt.
 abbrev pub MakesNode : Place → Brought → Reply → Type 0
 MakesNode (raw bytes) b a =
     MakesOn bytes b (holds_a_store bytes) a
-    ⊎ ((torn : List ℕ) × (a ≡ failed (Some (made b.found.release)) (raw torn)))
-MakesNode (closed s) b a = (a ≡ refused exists (closed s)) ⊎ (a ≡ failed (Some (made b.found.release)) (closed s))
+    ⊎ ((torn : List ℕ) × (a ≡ failed (Some (made (bundle_brought b))) (raw torn)))
+MakesNode (closed s) b a = (a ≡ refused exists (closed s)) ⊎ (a ≡ failed (Some (made (bundle_brought b))) (closed s))
 MakesNode p b a = a ≡ refused exists p
 
 -- A boot of a store with these events is done. The answer names the version of the release that runs.

@@ -207,6 +207,113 @@ fn a_module_of_two_applications(rt: HostRuntime) -> Result<(), Fail> {
     script.runs(&rt, alloc)
 }
 
+/// The application of B, under the name of another release.
+fn release(vsn: &str) -> &'static str {
+    match vsn {
+        "C" => r#"{release,{"ch_rel","C"},{erts,"14.2"},[{ch_app,"2"}]}."#,
+        _ => r#"{release,{"ch_rel","D"},{erts,"14.2"},[{ch_app,"2"}]}."#,
+    }
+}
+
+const OTHER_CH3: &str =
+    r#"{worker,ch3,"2",101,[{add,1,2},{change,"1",[],[{3,103}]},{change,{down,"1"},[],[{103,3}]}]}."#;
+
+/// These commands, each with what it is to answer.
+fn answers(script: &mut Script, commands: &[(&str, &str)]) -> Result<(), AllocError> {
+    for (command, answer) in commands {
+        write!(script.input, "{command}\n")?;
+        write!(script.answer, "{answer}\n")?;
+    }
+    Ok(())
+}
+
+#[test]
+fn a_library_that_differs(rt: HostRuntime) -> Result<(), Fail> {
+    let mut script = Script::of_files(rt.alloc(), "", "")?;
+    script.give("releases/C/ch_rel.rel", release("C"))?;
+    let commands = [
+        ("create releases/A/ch_rel.rel", "ok A"),
+        ("set_unpacked releases/B/ch_rel.rel", "ok B"),
+        (
+            "set_unpacked releases/B/ch_rel.rel",
+            "error handler 2 ExistingRelease",
+        ),
+    ];
+    answers(&mut script, &commands)?;
+    script.give(CH3_B, OTHER_CH3)?;
+    let refusals = [
+        (
+            "set_unpacked releases/C/ch_rel.rel",
+            "error handler 7 LibDiffers ch_app",
+        ),
+        (
+            "set_unpacked releases/X/x.rel",
+            "error handler 9 MissingFile releases/X/x.rel",
+        ),
+    ];
+    answers(&mut script, &refusals)?;
+    script.runs(&rt, rt.alloc())
+}
+
+/// The library of B and C stays with C, also behind a boot, and leaves with it.
+#[test]
+fn a_library_that_two_releases_name(rt: HostRuntime) -> Result<(), Fail> {
+    let mut script = Script::of_files(rt.alloc(), "", "")?;
+    script.give("releases/C/ch_rel.rel", release("C"))?;
+    script.give("releases/D/ch_rel.rel", release("D"))?;
+    let commands = [
+        ("create releases/A/ch_rel.rel", "ok A"),
+        ("set_unpacked releases/B/ch_rel.rel", "ok B"),
+        ("set_unpacked releases/C/ch_rel.rel", "ok C"),
+        ("remove B", "ok"),
+    ];
+    answers(&mut script, &commands)?;
+    script.give(CH3_B, OTHER_CH3)?;
+    still_there_until_removed(&mut script)?;
+    script.runs(&rt, rt.alloc())
+}
+
+fn still_there_until_removed(script: &mut Script) -> Result<(), AllocError> {
+    let differs = "error handler 7 LibDiffers ch_app";
+    let commands = [
+        ("set_unpacked releases/D/ch_rel.rel", differs),
+        ("boot", "ok A"),
+        ("set_unpacked releases/D/ch_rel.rel", differs),
+        ("remove C", "ok"),
+        ("set_unpacked releases/D/ch_rel.rel", "ok D"),
+        ("boot", "ok A"),
+    ];
+    answers(script, &commands)
+}
+
+/// The file of an application whose term has so many brackets open at once.
+fn deep_application(alloc: Global, brackets: usize) -> Result<String, AllocError> {
+    let mut text = String::from_str(alloc, r#"{application,ch_app,[{vsn,"2"},{env,"#)?;
+    for _ in 3..brackets {
+        text.push('[')?;
+    }
+    for _ in 3..brackets {
+        text.push(']')?;
+    }
+    text.push_str("}]}.")?;
+    Ok(text)
+}
+
+/// The deepest file is read, and read back by a boot. One with a bracket more is refused.
+#[test]
+fn deepest_application(rt: HostRuntime) -> Result<(), Fail> {
+    let alloc = rt.alloc();
+    let mut script = Script::of_files(alloc, APP_B, deep_application(alloc, 65)?.as_str())?;
+    script.refuses("8 BadFile lib/ch_app-2/ebin/ch_app.app Deep 97")?;
+    script.give(APP_B, deep_application(alloc, 64)?.as_str())?;
+    script.takes()?;
+    answers(
+        &mut script,
+        &[("boot", "ok A"), ("remove B", "ok"), ("boot", "ok A")],
+    )?;
+    script.runs(&rt, alloc)
+}
+
 /// The release is there already, and its application has no file.
 const ORDER: &str = r#"file a.rel
 {release,{"ch_rel","A"},{erts,"14.2"},[]}.

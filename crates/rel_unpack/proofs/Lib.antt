@@ -1,7 +1,9 @@
 pub mod Turns
+pub mod LibraryTurns
 pub mod Steps
 pub mod OneOutcome
 pub mod SomeOutcome
 pub mod LineOutcomes
 pub mod FileNames
 pub mod LineLibraries
+pub mod BroughtLibraries

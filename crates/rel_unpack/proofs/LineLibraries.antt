@@ -1,5 +1,5 @@
 -- What is told of the libraries of a release stays within a line.
-use Rattle.std.proofs.Common.{◌≡◌, ◌⊎◌, inl, inr, ℕ, Bool, true, false, List, [], ◌∷◌, ◌++◌, codes, Contains, Option, Some, None, Ok, refl, subst}
+use Rattle.std.proofs.Common.{◌≡◌, ◌⊎◌, inl, inr, ℕ, Bool, true, false, List, [], ◌∷◌, ◌++◌, codes, Contains, Option, Some, None, Ok, Err, refl, sym, subst}
 use Rattle.std.specs.Prelude.{◌||◌, if◌then◌else◌}
 use Rattle.std.specs.List.{AllByRecursion, flat_map}
 use Rattle.std.specs.Option.{option_map, option_or}
@@ -9,6 +9,7 @@ use Rattle.erl_term.specs.Value.{Value}
 use Rattle.erl_term.proofs.Lines.{append_line}
 use Rattle.rel_files.specs.Name.{IsName}
 use Rattle.rel_files.specs.Release.{Application}
+use Rattle.app_file.specs.File.{Specification}
 use Rattle.mod_table.specs.declared.table.Table.{Table}
 use Rattle.mod_table.specs.declared.table.Table.TheVariants.{Worker, Super}
 use Rattle.mod_table.specs.File.{table_in}
@@ -23,15 +24,16 @@ use Rattle.rel_check.specs.Names.{Named, first_met, first_again, first_module_ag
 use Rattle.rel_check.specs.Walk.{first_missing}
 use Rattle.rel_check.proofs.Members.{no_member, member_cases}
 use Rattle.rel_check.proofs.MissingLemmas.{missing_named}
-use Rattle.rel_unpack.specs.Applications.{AppAt, LibraryAt, LibraryBeside, LibrariesBeside, ModuleAt, Shelf, TableAt, agrees, app_form, is_named, is_of, mod_form}
+use Rattle.rel_unpack.specs.Applications.{AppAt, LibraryAt, LibrariesAt, ModuleAt, TableAt, app_form, is_named, is_of, mod_form}
 use Rattle.rel_unpack.specs.Order.{Then, Each}
 use Rattle.rel_unpack.specs.Paths.{app_path, mod_path}
-use Rattle.rel_unpack.specs.Refusal.Refusal.{vsn_mismatch, lib_differs}
+use Rattle.rel_unpack.specs.Refusal.{Refusal}
+use Rattle.rel_unpack.specs.Refusal.Refusal.{vsn_mismatch}
 use Rattle.rel_unpack.specs.Source.{Source, FileSays}
 use Rattle.rel_unpack.specs.Release.{Found, ReleaseAt}
-use Rattle.rel_unpack.specs.Unpacking.{Brought, BroughtAt, TestedLibraries, UnpackedLibraries, WithLibraries, refusal_for, unless_faulty}
+use Rattle.rel_unpack.specs.Unpacking.{Brought, BroughtAt, UnpackedLibraries, WithLibraries, refusal_for}
 use Rattle.rel_unpack.proofs.FileNames.{NamesModules, StartsNamed, application_names, table_names}
-use Rattle.rel_unpack.proofs.LineOutcomes.{AreGood, IsGood, IsLineApplication, IsLineFound, IsSaid, OrNone, TellsLine, app_path_line, folder_line, good_each, good_file, good_outcome, good_release, good_then, good_where_there, name_line, tested}
+use Rattle.rel_unpack.proofs.LineOutcomes.{AreGood, IsLineApplication, IsLineFound, IsLineSpecification, IsSaid, OrNone, TellsLine, app_path_line, folder_line, good_each, good_file, good_outcome, good_release, good_then, good_where_there, name_line, specification_line, tested}
 
 -- what holds of all holds of a member, of two lists of both, and of what each member gives
 module _ {X : Type 0} (P : X → Type 0) where
@@ -70,10 +72,16 @@ table_line v (Super s) is = starts_line s.children (table_names v s is)
 abbrev pub HasLineTable : TableTerm → Type 0
 HasLineTable t = IsLineTable t.table
 
--- So do the files of a library.
+-- So do the files of a library, and what it is called by.
 pub record IsLineLibrary (l : Library) : Type 0 where
+  pub own : is_one_line l.app.name ≡ true
   pub top : (m : List ℕ) → l.app.top ≡ Some m → is_one_line m ≡ true
   pub tables : AllByRecursion (OrNone HasLineTable) l.tables
+
+-- What the `.app` file of such an application says is within a line.
+record IsRead (s : Specification) : Type 0 where
+  pub lines : IsLineSpecification s
+  pub names : NamesModules s
 
 mod_path_line : (a : Application) (m : List ℕ) → IsLineApplication a → is_one_line m ≡ true → is_one_line (mod_path a m) ≡ true
 mod_path_line a m lines line = folder_line a.name a.vsn (m ++ codes ".mod") lines (append_line m (codes ".mod") line refl)
@@ -88,23 +96,19 @@ module _ (source : Source) (a : Application) (lines : IsLineApplication a) where
   good_module : (m : List ℕ) → IsName m → AreGood (ModuleAt source a m) (OrNone HasLineTable)
   good_module m name = good_where_there source (mod_path a m) (TableAt source a m) HasLineTable (good_table m name)
 
-  good_names : AreGood (AppAt source a) NamesModules
-  good_names =
+  good_specification : AreGood (AppAt source a) IsRead
+  good_specification =
       let line = app_path_line a lines in
-      good_then (FileSays app_form source (app_path a)) _ (IsSaid app_form source (app_path a) line) NamesModules (good_file app_form source (app_path a) line)
-      (λ s said. good_outcome NamesModules _ (tested NamesModules s (vsn_mismatch (app_path a)) line (is_named a s) (λ same. application_names said.1.1 s said.1.3.shape)))
+      good_then (FileSays app_form source (app_path a)) _ (IsSaid app_form source (app_path a) line) IsRead (good_file app_form source (app_path a) line)
+      (λ s said. good_outcome IsRead _ (tested IsRead s (vsn_mismatch (app_path a)) line (is_named a s)
+      (λ same. record { lines = specification_line a s lines same; names = application_names said.1.1 s said.1.3.shape })))
 
   good_library : AreGood (LibraryAt source a) IsLineLibrary
   good_library =
-      good_then (AppAt source a) (λ s. Then (Each (ModuleAt source a) s.modules) (λ ts r. r ≡ Ok (record { app = s; tables = ts }))) NamesModules IsLineLibrary good_names
-      (λ s names. good_then (Each (ModuleAt source a) s.modules) (λ ts r. r ≡ Ok (record { app = s; tables = ts })) (AllByRecursion (OrNone HasLineTable)) IsLineLibrary
-      (good_each (ModuleAt source a) IsName (OrNone HasLineTable) good_module s.modules names.modules)
-      (λ ts all. good_outcome IsLineLibrary (Ok (record { app = s; tables = ts })) (record { top = λ m is. name_line m (names.top m is); tables = all })))
-
-  good_beside : (there : Shelf) → AreGood (LibraryBeside source there a) IsLineLibrary
-  good_beside there =
-      good_then (LibraryAt source a) _ IsLineLibrary IsLineLibrary good_library
-      (λ l line. good_outcome IsLineLibrary _ (tested IsLineLibrary l (lib_differs a.name) lines.own (agrees (there a.name a.vsn) l) (λ same. line)))
+      good_then (AppAt source a) (λ s. Then (Each (ModuleAt source a) s.modules) (λ ts r. r ≡ Ok (record { app = s; tables = ts }))) IsRead IsLineLibrary good_specification
+      (λ s read. good_then (Each (ModuleAt source a) s.modules) (λ ts r. r ≡ Ok (record { app = s; tables = ts })) (AllByRecursion (OrNone HasLineTable)) IsLineLibrary
+      (good_each (ModuleAt source a) IsName (OrNone HasLineTable) good_module s.modules read.names.modules)
+      (λ ts all. good_outcome IsLineLibrary (Ok (record { app = s; tables = ts })) (record { own = read.lines.own; top = λ m is. name_line m (read.names.top m is); tables = all })))
 
 -- So does a release of such applications and libraries.
 pub record IsLinePart (p : Part) : Type 0 where
@@ -198,25 +202,45 @@ fault_line ps f all is = of_modules (first_module_again ps) refl is
         let lines = names_line (modules_in ps) (of_each IsLineModule IsLinePart modules_of part_modules_line ps all) in
         subst (λ g. TellsLine (refusal_for g)) same (app_path_line n.app (met_line _ (module_names (modules_in ps)) n lines found))
 
-pub good_unpacking : (source : Source) (there : Shelf) (apps : List Application) → AllByRecursion IsLineApplication apps → AreGood (UnpackedLibraries source there apps) (AllByRecursion IsLineLibrary)
-good_unpacking source there apps lines =
-    good_then (LibrariesBeside source there apps) (TestedLibraries apps) (AllByRecursion IsLineLibrary) (AllByRecursion IsLineLibrary)
-    (good_each (LibraryBeside source there) IsLineApplication IsLineLibrary (λ a line. good_beside source a line there) apps lines)
-    (λ ls all. good_outcome (AllByRecursion IsLineLibrary) _ (told ls all (release_fault apps ls) refl))
+-- The libraries of such applications, and why they are refused.
+good_read : (source : Source) (apps : List Application) (ls : List Library) (why : Option Refusal) → AllByRecursion IsLineApplication apps → LibrariesAt source apps ls why
+    → AllByRecursion IsLineLibrary ls × OrNone TellsLine why
+good_read source [] [] None lines gives = (tt, tt)
+good_read source [] [] (Some why) lines gives = absurd gives
+good_read source [] (l ∷ ls) why lines gives = absurd gives
+good_read source (a ∷ apps) [] None lines gives = absurd gives
+good_read source (a ∷ apps) [] (Some why) lines gives = (tt, good_library source a lines.0 (Err why) gives)
+good_read source (a ∷ apps) (l ∷ ls) why lines (here, later) =
+    let (all, told) = good_read source apps ls why lines.1 later in
+    ((good_library source a lines.0 (Ok l) here, all), told)
+
+pub good_unpacking : (source : Source) (apps : List Application) (ls : List Library) (why : Option Refusal) → AllByRecursion IsLineApplication apps → UnpackedLibraries source apps ls why
+    → AllByRecursion IsLineLibrary ls × OrNone TellsLine why
+good_unpacking source apps ls why lines (read, gives, is) =
+    let (all, met) = good_read source apps ls read lines gives in
+    (all, subst (OrNone TellsLine) (sym is) (told all read met (release_fault apps ls) refl))
   where
-    told : (ls : List Library) → AllByRecursion IsLineLibrary ls → (f : Option Fault) → release_fault apps ls ≡ f → IsGood (AllByRecursion IsLineLibrary) (unless_faulty ls f)
-    told ls all None is = all
-    told ls all (Some f) is = fault_line (parts apps ls) f (parts_line apps ls lines all) is
+    told : AllByRecursion IsLineLibrary ls → (met : Option Refusal) → OrNone TellsLine met → (f : Option Fault) → release_fault apps ls ≡ f
+        → OrNone TellsLine (option_or met (option_map refusal_for f))
+    told all (Some w) line f at = line
+    told all None line None at = tt
+    told all None line (Some f) at = fault_line (parts apps ls) f (parts_line apps ls lines all) at
 
 -- What the path of a release brings tells what is within a line.
 pub record IsLineBrought (b : Brought) : Type 0 where
   pub found : IsLineFound b.found
-  pub libraries : IsGood (AllByRecursion IsLineLibrary) b.libraries
+  pub libraries : AllByRecursion (λ (l : Library). is_one_line l.app.name ≡ true) b.libraries
+  pub refusal : OrNone TellsLine b.refusal
 
-pub good_brought : (source : Source) (there : Shelf) (path : List ℕ) → is_one_line path ≡ true → AreGood (BroughtAt source there path) IsLineBrought
-good_brought source there path line =
-    good_then (ReleaseAt source path) (WithLibraries source there) IsLineFound IsLineBrought (good_release source path line) rest
+names_of_libraries : (ls : List Library) → AllByRecursion IsLineLibrary ls → AllByRecursion (λ (l : Library). is_one_line l.app.name ≡ true) ls
+names_of_libraries [] all = tt
+names_of_libraries (l ∷ ls) all = (all.0.own, names_of_libraries ls all.1)
+
+pub good_brought : (source : Source) (path : List ℕ) → is_one_line path ≡ true → AreGood (BroughtAt source path) IsLineBrought
+good_brought source path line =
+    good_then (ReleaseAt source path) (WithLibraries source) IsLineFound IsLineBrought (good_release source path line) rest
   where
-    rest : (f : Found) → IsLineFound f → AreGood (WithLibraries source there f) IsLineBrought
-    rest f lines r (ls, gives, is) =
-        good_outcome IsLineBrought (Ok (record { found = f; libraries = ls })) (record { found = lines; libraries = good_unpacking source there f.release.apps lines.apps ls gives }) r is
+    rest : (f : Found) → IsLineFound f → AreGood (WithLibraries source f) IsLineBrought
+    rest f lines r (ls, why, gives, is) =
+        let (all, told) = good_unpacking source f.release.apps ls why lines.apps gives in
+        good_outcome IsLineBrought (Ok (record { found = f; libraries = ls; refusal = why })) (record { found = lines; libraries = names_of_libraries ls all; refusal = told }) r is

@@ -181,8 +181,8 @@ good_release source path line =
 abbrev pub IsLineSpecification : Specification → Type 0
 IsLineSpecification s = HasLines s.name s.vsn
 
-named_line : (a : Application) (s : Specification) → IsLineApplication a → is_named a s ≡ true → IsLineSpecification s
-named_line a s lines is =
+pub specification_line : (a : Application) (s : Specification) → IsLineApplication a → is_named a s ≡ true → IsLineSpecification s
+specification_line a s lines is =
     let (name, vsn) = and_parts (bytes_eq s.name a.name) (bytes_eq s.vsn a.vsn) is in
     let same_name : s.name ≡ a.name = (bytes_eq-Decides s.name a.name).0 name in
     let same_vsn : s.vsn ≡ a.vsn = (bytes_eq-Decides s.vsn a.vsn).0 vsn in
@@ -192,4 +192,4 @@ pub good_application : (source : Source) (a : Application) → IsLineApplication
 good_application source a lines =
     let line = app_path_line a lines in
     good_then (FileSays app_form source (app_path a)) _ (IsSaid app_form source (app_path a) line) IsLineSpecification (good_file app_form source (app_path a) line)
-    (λ s said. good_outcome IsLineSpecification _ (tested IsLineSpecification s (vsn_mismatch (app_path a)) line (is_named a s) (named_line a s lines)))
+    (λ s said. good_outcome IsLineSpecification _ (tested IsLineSpecification s (vsn_mismatch (app_path a)) line (is_named a s) (specification_line a s lines)))

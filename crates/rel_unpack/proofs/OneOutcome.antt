@@ -1,6 +1,7 @@
 -- What files say has one outcome at most, where each path of their source has one answer.
-use Rattle.std.proofs.Common.{◌≡◌, ◌≢◌, ◌⊎◌, inl, inr, ℕ, Bool, true, false, List, [], ◌∷◌, Some, None, Result, Ok, Err, refl, sym, ap, ◌∙◌, subst}
+use Rattle.std.proofs.Common.{◌≡◌, ◌≢◌, ◌⊎◌, inl, inr, ℕ, Bool, true, false, List, [], ◌∷◌, Option, Some, None, Result, Ok, Err, refl, sym, ap, ◌∙◌, subst}
 use Rattle.std.specs.Prelude.{if◌then◌else◌}
+use Rattle.std.specs.Option.{option_map, option_or}
 use Rattle.erl_reader.proofs.Exact.{one_reading}
 use Rattle.erl_reader.specs.Grammar.{Reading}
 use Rattle.file_source.specs.declared.files.FilesError.{FilesError}
@@ -12,7 +13,8 @@ use Rattle.rel_files.specs.Release.{Application}
 use Rattle.app_file.specs.File.{app_files}
 use Rattle.library.specs.Library.{Library}
 use Rattle.mod_table.specs.File.{mod_files}
-use Rattle.rel_unpack.specs.Applications.{AppAt, LibraryAt, LibraryBeside, LibrariesBeside, ModuleAt, Shelf, TableAt, app_form, is_of, mod_form}
+use Rattle.rel_check.specs.Fault.{release_fault}
+use Rattle.rel_unpack.specs.Applications.{AppAt, LibraryAt, LibrariesAt, ModuleAt, TableAt, app_form, is_of, mod_form}
 use Rattle.rel_unpack.specs.Order.{Outcome, Then, Each}
 use Rattle.rel_unpack.specs.Paths.{mod_path}
 use Rattle.rel_unpack.specs.Refusal.{Refusal, Trouble, IsFault, is_missing}
@@ -20,7 +22,7 @@ use Rattle.rel_unpack.specs.Refusal.Refusal.{missing_file, bad_file, vsn_mismatc
 use Rattle.rel_unpack.specs.Refusal.Trouble.{unreadable, faulty, misshapen}
 use Rattle.rel_unpack.specs.Release.{Found, ReleaseAt, rel_form}
 use Rattle.rel_unpack.specs.Source.{Source, Form, GivesOne, HasBytes, HasValue, FileSays, IfThere}
-use Rattle.rel_unpack.specs.Unpacking.{BroughtAt, TestedLibraries, UnpackedLibraries, WithLibraries}
+use Rattle.rel_unpack.specs.Unpacking.{Brought, BroughtAt, UnpackedLibraries, WithLibraries, refusal_for}
 
 abbrev pub IsOne : {X : Type 0} → Outcome X → Type 0
 IsOne {X} P = (a b : Result X Refusal) → P a → P b → a ≡ b
@@ -241,17 +243,42 @@ module _ (source : Source) (one : GivesOne source) where
       one_then (AppAt source a) _ (one_application source one a) (λ s.
       one_then (Each (ModuleAt source a) s.modules) _ (one_each (ModuleAt source a) (one_module a) s.modules) (λ ts. one_outcome _))
 
-  one_beside : (there : Shelf) (a : Application) → IsOne (LibraryBeside source there a)
-  one_beside there a = one_then (LibraryAt source a) _ (one_library a) (λ l. one_outcome _)
+  -- The same libraries are read of applications, and the same refusal is met or none.
+  one_read : (apps : List Application) (ls ks : List Library) (why other : Option Refusal) → LibrariesAt source apps ls why → LibrariesAt source apps ks other → (ls ≡ ks) × (why ≡ other)
+  one_read [] [] [] None None gives also = (refl, refl)
+  one_read [] [] [] None (Some v) gives also = absurd also
+  one_read [] [] [] (Some w) other gives also = absurd gives
+  one_read [] [] (k ∷ ks) why other gives also = absurd also
+  one_read [] (l ∷ ls) ks why other gives also = absurd gives
+  one_read (a ∷ apps) [] ks None other gives also = absurd gives
+  one_read (a ∷ apps) [] [] (Some w) None gives also = absurd also
+  one_read (a ∷ apps) [] [] (Some w) (Some v) gives also =
+      let same : Err w ≡ Err v = one_library a (Err w) (Err v) gives also in
+      let refusal : w ≡ v = cc in
+      (refl, ap (λ (r : Refusal). Some r) refusal)
+  one_read (a ∷ apps) [] (k ∷ ks) (Some w) other gives (here, later) = let never : Err w ≡ Ok k = one_library a (Err w) (Ok k) gives here in absurd cc
+  one_read (a ∷ apps) (l ∷ ls) [] why None gives also = absurd also
+  one_read (a ∷ apps) (l ∷ ls) [] why (Some v) (here, later) also = let never : Ok l ≡ Err v = one_library a (Ok l) (Err v) here also in absurd cc
+  one_read (a ∷ apps) (l ∷ ls) (k ∷ ks) why other (here, later) (here_too, later_too) =
+      let same : Ok l ≡ Ok k = one_library a (Ok l) (Ok k) here here_too in
+      let library : l ≡ k = cc in
+      let (libraries, refusal) = one_read apps ls ks why other later later_too in
+      ((λ i. library i ∷ libraries i), refusal)
 
-  pub one_unpacking : (there : Shelf) (apps : List Application) → IsOne (UnpackedLibraries source there apps)
-  one_unpacking there apps =
-      one_then (LibrariesBeside source there apps) (TestedLibraries apps)
-      (one_each (LibraryBeside source there) (one_beside there) apps) (λ ls. one_outcome _)
+  pub one_unpacking : (apps : List Application) (ls ks : List Library) (why other : Option Refusal) → UnpackedLibraries source apps ls why → UnpackedLibraries source apps ks other
+      → (ls ≡ ks) × (why ≡ other)
+  one_unpacking apps ls ks why other (met, gives, is) (met_too, gives_too, also) =
+      let (libraries, refusal) = one_read apps ls ks met met_too gives gives_too in
+      let told : Option Refusal → List Library → Option Refusal = λ first found. option_or first (option_map refusal_for (release_fault apps found)) in
+      let same : told met ls ≡ told met_too ks = λ i. told (refusal i) (libraries i) in
+      (libraries, is ∙ same ∙ sym also)
 
-  one_with_libraries : (there : Shelf) (f : Found) → IsOne (WithLibraries source there f)
-  one_with_libraries there f r s (ls, gives, is) (ks, gives_too, also) =
-      is ∙ ap (λ (x : Result (List Library) Refusal). Ok (record { found = f; libraries = x })) (one_unpacking there f.release.apps ls ks gives gives_too) ∙ sym also
+  one_with_libraries : (f : Found) → IsOne (WithLibraries source f)
+  one_with_libraries f r s (ls, why, gives, is) (ks, other, gives_too, also) =
+      let (libraries, refusal) = one_unpacking f.release.apps ls ks why other gives gives_too in
+      let brought : List Library → Option Refusal → Result Brought Refusal = λ found met. Ok (record { found = f; libraries = found; refusal = met }) in
+      let same : brought ls why ≡ brought ks other = λ i. brought (libraries i) (refusal i) in
+      is ∙ same ∙ sym also
 
-  pub one_brought : (there : Shelf) (path : List ℕ) → IsOne (BroughtAt source there path)
-  one_brought there path = one_then (ReleaseAt source path) (WithLibraries source there) (one_release source one path) (one_with_libraries there)
+  pub one_brought : (path : List ℕ) → IsOne (BroughtAt source path)
+  one_brought path = one_then (ReleaseAt source path) (WithLibraries source) (one_release source one path) one_with_libraries

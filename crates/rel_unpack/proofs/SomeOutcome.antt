@@ -1,5 +1,6 @@
 -- What files say has an outcome, where each path of their source has an answer.
-use Rattle.std.proofs.Common.{◌≡◌, ◌≢◌, ◌⊎◌, inl, inr, ℕ, Bool, true, false, List, [], ◌∷◌, Some, None, Result, Ok, Err, refl, subst}
+use Rattle.std.proofs.Common.{◌≡◌, ◌≢◌, ◌⊎◌, inl, inr, ℕ, Bool, true, false, List, [], ◌∷◌, Option, Some, None, Result, Ok, Err, refl, subst}
+use Rattle.std.specs.Option.{option_map, option_or}
 use Rattle.file_source.specs.declared.files.FilesError.{FilesError}
 use Rattle.file_source.specs.declared.files.FilesError.TheVariants as read
 use Rattle.rel_files.proofs.Either.{says_or_fault}
@@ -9,10 +10,11 @@ use Rattle.rel_files.specs.File.{SaysRelease, HasFault}
 use Rattle.rel_files.specs.Kind.{Says, HasFault as KindHasFault}
 use Rattle.rel_files.specs.Release.{Release, Application}
 use Rattle.app_file.specs.File.{Specification, app_files}
-use Rattle.library.specs.Library.{TableTerm}
+use Rattle.library.specs.Library.{Library, TableTerm}
 use Rattle.mod_table.specs.declared.table.Table.{Table}
 use Rattle.mod_table.specs.File.{mod_files}
-use Rattle.rel_unpack.specs.Applications.{AppAt, LibraryAt, LibraryBeside, LibrariesBeside, ModuleAt, Shelf, TableAt, app_form, is_of, mod_form}
+use Rattle.rel_check.specs.Fault.{release_fault}
+use Rattle.rel_unpack.specs.Applications.{AppAt, LibraryAt, LibrariesAt, ModuleAt, TableAt, app_form, is_of, mod_form}
 use Rattle.rel_unpack.specs.Order.{Outcome, Then, Each}
 use Rattle.rel_unpack.specs.Paths.{mod_path}
 use Rattle.rel_unpack.specs.Refusal.{Refusal, Trouble, is_missing}
@@ -20,7 +22,7 @@ use Rattle.rel_unpack.specs.Refusal.Refusal.{missing_file, bad_file, vsn_mismatc
 use Rattle.rel_unpack.specs.Refusal.Trouble.{unreadable, faulty}
 use Rattle.rel_unpack.specs.Release.{Found, ReleaseAt, rel_form}
 use Rattle.rel_unpack.specs.Source.{Source, Form, GivesEach, FileSays, IfThere}
-use Rattle.rel_unpack.specs.Unpacking.{BroughtAt, TestedLibraries, UnpackedLibraries, WithLibraries}
+use Rattle.rel_unpack.specs.Unpacking.{BroughtAt, UnpackedLibraries, WithLibraries, refusal_for}
 use Rattle.rel_unpack.proofs.Steps.{missing_path, none_read, none_there}
 
 abbrev pub HasSome : {X : Type 0} → Outcome X → Type 0
@@ -123,16 +125,25 @@ module _ (source : Source) (each : GivesEach source) where
       some_then (AppAt source a) _ (some_application source each a) (λ s.
       some_then (Each (ModuleAt source a) s.modules) _ (some_each (ModuleAt source a) (some_module a) s.modules) (λ ts. some_outcome _))
 
-  some_beside : (there : Shelf) (a : Application) → HasSome (LibraryBeside source there a)
-  some_beside there a = some_then (LibraryAt source a) _ (some_library a) (λ l. some_outcome _)
+  -- Of applications so many libraries are read, up to a refusal if there is one.
+  some_read : (apps : List Application) → (ls : List Library) × (why : Option Refusal) × LibrariesAt source apps ls why
+  some_read [] = ([], None, tt)
+  some_read (a ∷ apps) = go (some_library a) (some_read apps)
+    where
+      go : HasSome (LibraryAt source a) → ((ls : List Library) × (why : Option Refusal) × LibrariesAt source apps ls why)
+          → (ls : List Library) × (why : Option Refusal) × LibrariesAt source (a ∷ apps) ls why
+      go (Err why, here) later = ([], Some why, here)
+      go (Ok l, here) (ls, why, later) = (l ∷ ls, why, (here, later))
 
-  pub some_unpacking : (there : Shelf) (apps : List Application) → HasSome (UnpackedLibraries source there apps)
-  some_unpacking there apps =
-      some_then (LibrariesBeside source there apps) (TestedLibraries apps)
-      (some_each (LibraryBeside source there) (some_beside there) apps) (λ ls. some_outcome _)
+  pub some_unpacking : (apps : List Application) → (ls : List Library) × (why : Option Refusal) × UnpackedLibraries source apps ls why
+  some_unpacking apps =
+      let (ls, met, gives) = some_read apps in
+      (ls, option_or met (option_map refusal_for (release_fault apps ls)), (met, gives, refl))
 
-  some_with_libraries : (there : Shelf) (f : Found) → HasSome (WithLibraries source there f)
-  some_with_libraries there f = let (ls, gives) = some_unpacking there f.release.apps in (Ok (record { found = f; libraries = ls }), (ls, gives, refl))
+  some_with_libraries : (f : Found) → HasSome (WithLibraries source f)
+  some_with_libraries f =
+      let (ls, why, gives) = some_unpacking f.release.apps in
+      (Ok (record { found = f; libraries = ls; refusal = why }), (ls, why, gives, refl))
 
-  pub some_brought : (there : Shelf) (path : List ℕ) → HasSome (BroughtAt source there path)
-  some_brought there path = some_then (ReleaseAt source path) (WithLibraries source there) (some_release source each path) (some_with_libraries there)
+  pub some_brought : (path : List ℕ) → HasSome (BroughtAt source path)
+  some_brought path = some_then (ReleaseAt source path) (WithLibraries source) (some_release source each path) some_with_libraries

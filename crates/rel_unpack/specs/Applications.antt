@@ -1,13 +1,13 @@
 -- The libraries of a release's applications, from their files.
-use Rattle.std.specs.Prelude.{◌≡◌, ℕ, Bool, true, ◌&&◌, List, Option, None, Some, if◌then◌else◌, Ok, Err}
+use Rattle.std.specs.Prelude.{◌≡◌, ℕ, Bool, ◌&&◌, List, [], ◌∷◌, Option, None, Some, if◌then◌else◌, Ok, Err}
 use Rattle.std.specs.Str.{bytes_eq}
 use Rattle.rel_files.specs.Kind.{HasFault}
 use Rattle.rel_files.specs.Release.{Application}
 use Rattle.app_file.specs.File.{Specification, SaysApp, app_files}
 use Rattle.mod_table.specs.File.{SaysWith, name_of, mod_files}
-use Rattle.library.specs.Library.{Library, TableTerm, is_same_library}
-use Rattle.rel_unpack.specs.Refusal.{IsFault}
-use Rattle.rel_unpack.specs.Refusal.Refusal.{vsn_mismatch, lib_differs}
+use Rattle.library.specs.Library.{Library, TableTerm}
+use Rattle.rel_unpack.specs.Refusal.{Refusal, IsFault}
+use Rattle.rel_unpack.specs.Refusal.Refusal.{vsn_mismatch}
 use Rattle.rel_unpack.specs.Order.{Outcome, Then, Each}
 use Rattle.rel_unpack.specs.Paths.{app_path, mod_path}
 use Rattle.rel_unpack.specs.Source.{Source, Form, FileSays, IfThere}
@@ -43,20 +43,9 @@ ModuleAt source a m = IfThere source (mod_path a m) (TableAt source a m)
 abbrev pub LibraryAt : Source → Application → Outcome Library
 LibraryAt source a = Then (AppAt source a) (λ s. Then (Each (ModuleAt source a) s.modules) (λ ts r. r ≡ Ok (record { app = s; tables = ts })))
 
--- the libraries that are there, by name and version
-abbrev pub Shelf : Type 0
-Shelf = List ℕ → List ℕ → Option Library
-
--- it is the same as what is there of its name and version, if there is something
-abbrev pub agrees : Option Library → Library → Bool
-agrees None l = true
-agrees (Some k) l = is_same_library k l
-
--- the library of an application, which has to be the one that is there
-abbrev pub LibraryBeside : Source → Shelf → Application → Outcome Library
-LibraryBeside source there a =
-    Then (LibraryAt source a) (λ l r. r ≡ (if agrees (there a.name a.vsn) l then Ok l else Err (lib_differs a.name)))
-
--- the libraries of applications, in their order
-abbrev pub LibrariesBeside : Source → Shelf → List Application → Outcome (List Library)
-LibrariesBeside source there apps = Each (LibraryBeside source there) apps
+-- The libraries of applications, in their order: all of them, or those before the first refusal.
+abbrev pub LibrariesAt : Source → List Application → List Library → Option Refusal → Type 0
+LibrariesAt source [] [] None = Unit {0}
+LibrariesAt source (a ∷ as') [] (Some why) = LibraryAt source a (Err why)
+LibrariesAt source (a ∷ as') (l ∷ ls) why = LibraryAt source a (Ok l) × LibrariesAt source as' ls why
+LibrariesAt source as' ls why = ⊥

@@ -1,12 +1,12 @@
 //! The libraries of a release's applications.
-ghost use Rattle.std.specs.Prelude.{◌≡◌, map};
-ghost use Rattle.std.specs.Option.{option_map};
+ghost use Rattle.std.specs.Prelude.{◌≡◌, map, IfOk};
 ghost use Rattle.app_file.specs.InMemory.{specification_of};
 ghost use Rattle.library.specs.InMemory.{library_of};
 ghost use Rattle.rel_files.specs.Release.{application_of};
-ghost use Rattle.rel_unpack.specs.Applications.{AppAt, LibraryAt, LibraryBeside, LibrariesBeside, agrees, app_form, is_named};
+ghost use Rattle.rel_unpack.specs.Applications.{AppAt, LibrariesAt, LibraryAt, app_form, is_named};
 ghost use Rattle.rel_unpack.specs.Order.{Answers};
 ghost use Rattle.rel_unpack.specs.Source.{FileSays};
+ghost use Rattle.rel_unpack.specs.Unpacking.{libraries_of, refusal_in};
 
 use crate::error::UnpackError;
 use crate::paths::app_path;
@@ -16,69 +16,44 @@ use app_file::{App, read_app};
 use file_source::Files;
 use library::Library;
 use rel_files::RelApp;
-use std::alloc::Global;
+use std::alloc::{AllocError, Global};
+use std::rc::Rc;
 
-/// The libraries that are there already.
-pub trait Libraries {
-    ghost use Rattle.rel_unpack.specs.Applications.{Shelf};
-    ghost use Rattle.library.specs.InMemory.{library_of};
-
-    /// The libraries that are there, by name and version.
-    ghost there: { Self → Shelf };
-
-    /// The library of an application and a version.
-    fn library(&self, name: &str, vsn: &str) -> Option<&Library>
-        ensures { option_map (λ l. library_of l.now) result ≡ there self.now name.now vsn.now };
+/// What the files of a release's applications gave.
+#[derive(Drop)]
+pub struct ApplicationFiles {
+    /// The libraries of the applications, in their order: all of them, or those before the first file that isn't taken.
+    pub libraries: Vec<Rc<Library>>,
+    /// Why the release is refused for its applications, if it is. That is never `NoMemory`.
+    pub refusal: Option<UnpackError>,
 }
 
-/// The libraries of a release's applications, in their order, from their files. A library that is there already has to be
-/// the same.
-pub fn read_libraries<F: Files, L: Libraries>(
+/// The libraries of a release's applications, in their order, from their files, up to the first file that isn't taken.
+pub fn read_libraries<F: Files>(
     alloc: Global,
     files: &F,
-    there: &L,
     apps: &[RelApp],
-) -> Result<Vec<Library>, UnpackError>
-    ensures { Answers (λ v. map library_of v.items)
-        (LibrariesBeside (F.gives files.now) (L.there there.now) (map application_of apps.now))
-        result }
+) -> Result<ApplicationFiles, AllocError>
+    ensures { IfOk result (λ read. LibrariesAt (F.gives files.now) (map application_of apps.now)
+        (libraries_of read) (refusal_in read)) }
 {
     let mut libraries = Vec::with_capacity(alloc, apps.len())?;
     for app in apps {
-        libraries.push(read_beside(alloc, files, there, app)?)?;
+        match read_library(alloc, files, app) {
+            Ok(library) => libraries.push(Rc::new(alloc, library)?)?,
+            Err(UnpackError::NoMemory) => return Err(AllocError),
+            Err(why) => {
+                return Ok(ApplicationFiles {
+                    libraries,
+                    refusal: Some(why),
+                });
+            }
+        }
     }
-    Ok(libraries)
-}
-
-// The library of an application, which has to be the one that is there.
-fn read_beside<F: Files, L: Libraries>(
-    alloc: Global,
-    files: &F,
-    there: &L,
-    app: &RelApp,
-) -> Result<Library, UnpackError>
-    ensures { Answers library_of
-        (LibraryBeside (F.gives files.now) (L.there there.now) (application_of app.now)) result }
-{
-    let library = read_library(alloc, files, app)?;
-    let other = there.library(app.name.as_str(), app.vsn.as_str());
-    if agrees(other, &library) {
-        Ok(library)
-    } else {
-        let name = String::from_str(alloc, app.name.as_str())?;
-        Err(UnpackError::LibDiffers(name))
-    }
-}
-
-// It is the same as what is there of its name and version, if there is something.
-fn agrees(other: Option<&Library>, library: &Library) -> bool
-    ensures { result ≡ agrees (option_map (λ l. library_of l.now) other.entry)
-        (library_of library.now) }
-{
-    match other {
-        Some(other) => other.is_same(library),
-        None => true,
-    }
+    Ok(ApplicationFiles {
+        libraries,
+        refusal: None,
+    })
 }
 
 // The library of an application, from its files.

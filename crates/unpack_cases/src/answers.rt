@@ -1,21 +1,21 @@
 //! The answer to a case.
-use crate::there::CaseLibrary;
 use library::{Library, library_of_term};
-use rel_unpack::{UnpackError, read_libraries, read_release};
+use rel_unpack::{ApplicationFiles, UnpackError, read_libraries, read_release};
 use std::alloc::{AllocError, Global};
+use std::rc::Rc;
 use text_cases::CaseFiles;
 
 /// The answer in one of four modes. A text is a line for each file: its path, a blank and its bytes. The release is that of
 /// the file `r.rel`.
 ///
-/// `release`: the release. `unpack`: the libraries of its applications. `twice`: the same where the last of these
-/// libraries is there already. `differs`: the same where the one is there that the text up to a line `--` gives.
+/// `release`: the release. `unpack`: the libraries of its applications, behind the refusal where a file isn't taken. `differs`:
+/// whether the last of these libraries is the same as the last that the text up to a line `--` gives. `twice`: the same where
+/// that text is the text behind it too.
 pub(crate) fn answer(alloc: Global, mode: &str, text: &[u8]) -> Result<String, AllocError> {
-    let none = CaseLibrary { library: None };
     let files = CaseFiles { lines: text };
     match mode {
         "release" => release(alloc, &files),
-        "unpack" => shown(alloc, unpacked(alloc, &files, &none)),
+        "unpack" => unpack(alloc, &files),
         "twice" => beside(alloc, &files, &files),
         "differs" => differs(alloc, text),
         _ => String::from_str(alloc, "no such mode"),
@@ -34,29 +34,25 @@ fn release(alloc: Global, files: &CaseFiles<'_>) -> Result<String, AllocError> {
     }
 }
 
-fn unpacked(
-    alloc: Global,
-    files: &CaseFiles<'_>,
-    there: &CaseLibrary,
-) -> Result<Vec<Library>, UnpackError> {
+fn unpacked(alloc: Global, files: &CaseFiles<'_>) -> Result<ApplicationFiles, UnpackError> {
     let file = read_release(alloc, files, "r.rel")?;
-    read_libraries(alloc, files, there, file.release.apps.as_slice())
+    Ok(read_libraries(alloc, files, file.release.apps.as_slice())?)
 }
 
-// Each library as its record's term has it, once it was read back from this.
-fn shown(
-    alloc: Global,
-    libraries: Result<Vec<Library>, UnpackError>,
-) -> Result<String, AllocError> {
-    match libraries {
-        Ok(libraries) => all_shown(alloc, libraries.as_slice()),
+fn unpack(alloc: Global, files: &CaseFiles<'_>) -> Result<String, AllocError> {
+    match unpacked(alloc, files) {
+        Ok(read) => shown(alloc, &read),
         Err(error) => error.to_string(alloc),
     }
 }
 
-fn all_shown(alloc: Global, libraries: &[Library]) -> Result<String, AllocError> {
-    let mut text = String::from_str(alloc, "ok")?;
-    for library in libraries {
+// The refusal, if there is one, and each library as its record's term has it, once it was read back from this.
+fn shown(alloc: Global, read: &ApplicationFiles) -> Result<String, AllocError> {
+    let mut text = match &read.refusal {
+        Some(why) => why.to_string(alloc)?,
+        None => String::from_str(alloc, "ok")?,
+    };
+    for library in read.libraries.as_slice() {
         let term = library.term(alloc)?;
         match library_of_term(alloc, &term)? {
             Some(again) if again.is_same(library) => {
@@ -69,17 +65,44 @@ fn all_shown(alloc: Global, libraries: &[Library]) -> Result<String, AllocError>
     Ok(text)
 }
 
-// What the new files give where the last library of the old ones is there.
+// Whether the last library of the old files is the same as that of the new ones.
 fn beside(alloc: Global, old: &CaseFiles<'_>, new: &CaseFiles<'_>) -> Result<String, AllocError> {
-    let none = CaseLibrary { library: None };
-    match unpacked(alloc, old, &none) {
-        Ok(mut libraries) => {
-            let there = CaseLibrary {
-                library: libraries.pop(),
-            };
-            shown(alloc, unpacked(alloc, new, &there))
-        }
+    match compared(alloc, old, new) {
+        Ok(text) => Ok(text),
         Err(error) => error.to_string(alloc),
+    }
+}
+
+fn compared(
+    alloc: Global,
+    old: &CaseFiles<'_>,
+    new: &CaseFiles<'_>,
+) -> Result<String, UnpackError> {
+    let before = last_library(alloc, old)?;
+    let after = last_library(alloc, new)?;
+    match (before, after) {
+        (Some(before), Some(after)) => Ok(sameness(alloc, before.as_ref(), after.as_ref())?),
+        _ => Ok(String::from_str(alloc, "no library")?),
+    }
+}
+
+fn sameness(alloc: Global, before: &Library, after: &Library) -> Result<String, AllocError> {
+    if before.is_same(after) {
+        String::from_str(alloc, "same")
+    } else {
+        format!(in alloc; "differs {}", after.app.name)
+    }
+}
+
+// The last library of files, where each is taken.
+fn last_library(alloc: Global, files: &CaseFiles<'_>) -> Result<Option<Rc<Library>>, UnpackError> {
+    let ApplicationFiles {
+        mut libraries,
+        refusal,
+    } = unpacked(alloc, files)?;
+    match refusal {
+        Some(why) => Err(why),
+        None => Ok(libraries.pop()),
     }
 }
 

@@ -2,7 +2,6 @@
 #![tactic(auto)]
 
 mod answers;
-mod there;
 
 use crate::answers::answer;
 use std::io;

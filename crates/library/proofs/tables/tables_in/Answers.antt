@@ -1,17 +1,16 @@
-use Rattle.std.proofs.Common.{◌≡◌, map}
+use Rattle.std.proofs.Common.{map}
 use Rattle.erl_term.specs.Value.{value_of}
-use Rattle.mod_table.specs.File.{IsTableTerm}
 use Rattle.mod_table.proofs.RowLemmas.{viewed}
 use Rattle.library.specs.InMemory.{table_term_of}
-use Rattle.library.proofs.TableRows.{reads_more, reads_all}
+use Rattle.library.specs.Reading.{SaysTable}
+use Rattle.library.proofs.TermRows.{reads_more, reads_all}
 use Rattle.library.proofs.tables.tables_in.Goals as goal
 
 pub loop-term-preserved : goal.loop-term-preserved
 loop-term-preserved c =
-    let says : (value_of c.in-Some.file.term ≡ value_of c.term-item.result) × IsTableTerm (value_of c.term-item.result) c.in-Some.file.table =
-    rw c.in-Some.is at c.in_ok-file.ensures in
-    reads_more c.args.terms.now c.loop-term.term-index c.term-item.result (map table_term_of c.loop-term.files.items) (map table_term_of c.push_back.new.self.items) (table_term_of c.in-Some.file)
-    c.loop-term-test.true c.term-item.is says.0 says.1 (viewed table_term_of _ _ c.in-Some.file c.in_ok-push_back.ensures.items) c.loop-term.invariant
+    let says : SaysTable (value_of c.term-item.result) (table_term_of c.in-Some.file) = rw c.in-Some.is at c.in_ok-file.ensures in
+    reads_more SaysTable c.args.terms.now c.loop-term.term-index c.term-item.result (map table_term_of c.loop-term.files.items) (map table_term_of c.push_back.new.self.items) (table_term_of c.in-Some.file)
+    c.loop-term-test.true c.term-item.is says (viewed table_term_of _ _ c.in-Some.file c.in_ok-push_back.ensures.items) c.loop-term.invariant
 
 pub returns : goal.returns
-returns c = reads_all c.args.terms.now c.loop-term.term-index (map table_term_of c.loop-term.files.items) c.loop-term-test.false c.loop-term.invariant
+returns c = reads_all SaysTable c.args.terms.now c.loop-term.term-index (map table_term_of c.loop-term.files.items) c.loop-term-test.false c.loop-term.invariant

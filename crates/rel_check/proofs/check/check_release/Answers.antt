@@ -1,7 +1,7 @@
 use Rattle.std.proofs.Common.{◌≡◌, ◌∙◌, map, None, Some, true, false, if◌then◌else◌, sym, ap}
 use Rattle.std.specs.Option.{option_map, option_or}
 use Rattle.rel_files.specs.Release.{application_of}
-use Rattle.library.specs.InMemory.{library_of}
+use Rattle.library.specs.InMemory.{shared_of}
 use Rattle.rel_check.specs.InMemory.{part_of, module_of, named_of}
 use Rattle.rel_check.specs.Modules.{parts, modules_in}
 use Rattle.rel_check.specs.Fault.Fault.{module_twice, id_twice, no_table, too_many}
@@ -13,7 +13,7 @@ pub returns-in-Some-missing : goal.returns-in-Some-missing
 returns-in-Some-missing c =
     let ps = map part_of c.as_slice-parts.result.now in
     let ms = map module_of c.as_slice-modules.result.now in
-    let all = parts (map application_of c.args.apps.now) (map library_of c.args.libraries.now) in
+    let all = parts (map application_of c.args.apps.now) (map shared_of c.args.libraries.now) in
     let are : ps ≡ all = ap (map part_of) c.as_slice-parts.ensures.value ∙ c.in_ok-found_parts.ensures in
     let modules : ms ≡ modules_in ps = ap (map module_of) c.as_slice-modules.ensures.value ∙ c.in_ok-found_modules.ensures in
     let first : option_map named_of c.in_ok-named.field-0 ≡ None = ap (option_map named_of) c.in_default.is in
@@ -28,7 +28,7 @@ pub returns-then-keeps_limits : goal.returns-then-keeps_limits
 returns-then-keeps_limits c =
     let ps = map part_of c.as_slice-parts.result.now in
     let ms = map module_of c.as_slice-modules.result.now in
-    let all = parts (map application_of c.args.apps.now) (map library_of c.args.libraries.now) in
+    let all = parts (map application_of c.args.apps.now) (map shared_of c.args.libraries.now) in
     let are : ps ≡ all = ap (map part_of) c.as_slice-parts.ensures.value ∙ c.in_ok-found_parts.ensures in
     let modules : ms ≡ modules_in ps = ap (map module_of) c.as_slice-modules.ensures.value ∙ c.in_ok-found_modules.ensures in
     let first : option_map named_of c.in_ok-named.field-0 ≡ None = ap (option_map named_of) c.in_default.is in
@@ -44,7 +44,7 @@ pub returns : goal.returns
 returns c =
     let ps = map part_of c.as_slice-parts.result.now in
     let ms = map module_of c.as_slice-modules.result.now in
-    let all = parts (map application_of c.args.apps.now) (map library_of c.args.libraries.now) in
+    let all = parts (map application_of c.args.apps.now) (map shared_of c.args.libraries.now) in
     let are : ps ≡ all = ap (map part_of) c.as_slice-parts.ensures.value ∙ c.in_ok-found_parts.ensures in
     let modules : ms ≡ modules_in ps = ap (map module_of) c.as_slice-modules.ensures.value ∙ c.in_ok-found_modules.ensures in
     let first : option_map named_of c.in_ok-named.field-0 ≡ None = ap (option_map named_of) c.in_default.is in

@@ -1,4 +1,5 @@
-use Rattle.rel_handler.proofs.ReleaseLemmas.{brought_file, refused_as}
+use Rattle.rel_unpack.specs.Unpacking.{brought_of}
+use Rattle.rel_handler.proofs.ReleaseLemmas.{brought_file, brought_whole, refused_as}
 use Rattle.rel_handler.proofs.unpacking.bring_release.Goals as goal
 
 pub returns-in_err-unpack_release-clause-refused : goal.returns-in_err-unpack_release-clause-refused
@@ -10,3 +11,8 @@ returns-in_err-unpack_release-clause-refused g c =
 pub returns-clause-file : goal.returns-clause-file
 returns-clause-file g c =
     brought_file (g.F.Files.gives c.args.files.now) c.args.path.now c.in_ok-unpack_release.field-0 c.in_ok-unpack_release.ensures.answer c.in_ok-unpack_release.ensures.within
+
+-- and where it isn't refused a node may have it
+pub returns-clause-whole : goal.returns-clause-whole
+returns-clause-whole g c = λ free.
+    brought_whole (g.F.Files.gives c.args.files.now) c.args.path.now (brought_of c.in_ok-unpack_release.field-0) c.in_ok-unpack_release.ensures.answer free

@@ -1,14 +1,16 @@
 use Rattle.std.proofs.Common.{◌≡◌, ◌<◌, false, length, string_bytes, ap, rules}
 use Rattle.std.specs.Prelude.{is_some}
-use Rattle.rel_files.specs.Release.{release_of}
-use Rattle.rel_list.specs.Releases.{status_of}
+use Rattle.rel_list.specs.Releases.{first_different, status_of}
+use Rattle.rel_unpack.specs.Unpacking.{brought_of, libraries_of}
+use Rattle.rel_handler.specs.Files.{bundle_brought}
 use Rattle.rel_handler.proofs.CommandLemmas.{with_it, comes_in}
 use Rattle.rel_handler.proofs.unpacking.unpacking_refusal.Goals as goal
 
 pub returns : goal.returns
 returns c =
-    let r = release_of c.args.release.now in
+    let p = bundle_brought (brought_of c.args.brought.now) in
     let es = c.args.list.now in
-    let fresh : is_some (status_of (string_bytes c.args.release.now.vsn) es) ≡ false = ap is_some c.requires.fresh in
+    let fresh : is_some (status_of (string_bytes c.args.brought.now.file.release.vsn) es) ≡ false = ap is_some c.requires.fresh in
+    let agree : is_some (first_different es (libraries_of c.args.brought.now.applications)) ≡ false = ap is_some c.requires.agree in
     let few : length es < 32 = search rules in
-    (with_it r es, comes_in r es c.requires.small fresh few)
+    (with_it p es, comes_in p es c.requires.small fresh agree few)

@@ -1,4 +1,4 @@
-use Rattle.std.proofs.Common.{◌≡◌, ◌∙◌, ap, []}
+use Rattle.std.proofs.Common.{◌∙◌, ap, []}
 use Rattle.rel_files.specs.Form.{list_of}
 use Rattle.rel_list.specs.Event.{event_of}
 use Rattle.rel_records.specs.Record.{term_of}

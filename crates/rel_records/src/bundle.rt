@@ -1,0 +1,97 @@
+// What a record brings.
+ghost use Rattle.std.specs.Prelude.{◌≡◌, is_some, map, None, Some, IsErrOf, IfOk};
+ghost use Rattle.std.specs.Option.{option_map};
+ghost use Rattle.library.specs.InMemory.{shared_of};
+ghost use Rattle.rel_check.specs.Fault.{release_fault};
+ghost use Rattle.rel_files.specs.Release.{application_of, release_of};
+ghost use Rattle.rel_list.specs.Keyed.{bundle_of};
+ghost use Rattle.rel_records.specs.Lists.{brought_by, completed, next_library};
+
+use crate::fault::RecordFault;
+use library::Library;
+use rel_check::{ReleaseFault, check_release};
+use rel_files::{Rel, RelApp};
+use rel_list::{Bundle, ReleaseList};
+use std::alloc::{AllocError, Global};
+use std::rc::Rc;
+
+// The release with the libraries of its applications, of which these are the new ones, where it has no fault with them.
+pub(crate) fn bring(
+    alloc: Global,
+    list: &ReleaseList,
+    release: Rel,
+    new: &[Rc<Library>],
+) -> Result<Bundle, RecordFault>
+    ensures brought { IfOk result (λ bundle. brought_by list.now (release_of release)
+        (map shared_of new.now) ≡ Some (bundle_of bundle)) }
+    ensures bad { IsErrOf result RecordFault.Bad
+        → brought_by list.now (release_of release) (map shared_of new.now) ≡ None }
+{
+    let Some(libraries) = complete(alloc, list, release.apps.as_slice(), new)? else {
+        return Err(RecordFault::Bad);
+    };
+    if has_fault(alloc, release.apps.as_slice(), libraries.as_slice())? {
+        return Err(RecordFault::Bad);
+    }
+    Ok(Bundle { release, libraries })
+}
+
+// The libraries of applications, in their order, of which these are the new ones. None may be left over.
+fn complete(
+    alloc: Global,
+    list: &ReleaseList,
+    apps: &[RelApp],
+    new: &[Rc<Library>],
+) -> Result<Option<Vec<Rc<Library>>>, AllocError>
+    ensures { IfOk result (λ libraries. option_map (λ v. map shared_of v.items) libraries
+        ≡ completed list.now (map application_of apps.now) (map shared_of new.now)) }
+{
+    let mut libraries = Vec::with_capacity(alloc, apps.len())?;
+    let mut rest = new;
+    for app in apps {
+        let Some((library, left)) = next_library(list, app, rest)? else {
+            return Ok(None);
+        };
+        libraries.push(library)?;
+        rest = left;
+    }
+    if rest.is_empty() {
+        Ok(Some(libraries))
+    } else {
+        Ok(None)
+    }
+}
+
+// The library of an application, and those that are left of the new ones: the list's own, or else the first of these.
+fn next_library<'a>(
+    list: &ReleaseList,
+    app: &RelApp,
+    new: &'a [Rc<Library>],
+) -> Result<Option<(Rc<Library>, &'a [Rc<Library>])>, AllocError>
+    ensures { IfOk result (λ next. option_map (λ n. (shared_of n.0, map shared_of n.1.now)) next
+        ≡ next_library list.now (application_of app.now) (map shared_of new.now)) }
+{
+    if let Some(own) = list.library(app.name.as_str(), app.vsn.as_str()) {
+        return Ok(Some((own.clone()?, new)));
+    }
+    let Some((library, left)) = new.split_first() else {
+        return Ok(None);
+    };
+    if library.as_ref().is_at(app.name.as_str(), app.vsn.as_str()) {
+        Ok(Some((library.clone()?, left)))
+    } else {
+        Ok(None)
+    }
+}
+
+// Whether a release of these applications has a fault with these libraries.
+fn has_fault(alloc: Global, apps: &[RelApp], libraries: &[Rc<Library>]) -> Result<bool, AllocError>
+    ensures { IfOk result (λ has. has ≡ is_some
+        (release_fault (map application_of apps.now) (map shared_of libraries.now))) }
+{
+    match check_release(alloc, apps, libraries) {
+        Ok(()) => Ok(false),
+        Err(ReleaseFault::NoMemory) => Err(AllocError),
+        Err(_) => Ok(true),
+    }
+}
