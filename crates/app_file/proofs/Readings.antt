@@ -5,11 +5,11 @@ use Rattle.erl_term.specs.Value.{Value}
 use Rattle.rel_files.specs.declared.fault.FileFault.{FileFault}
 use Rattle.rel_files.specs.declared.fault.FileFault.TheVariants.{NoMemory}
 use Rattle.rel_files.specs.Kind.{HasTermAt}
-use Rattle.rel_files.specs.Name.{IsFirstTwice}
-use Rattle.rel_files.proofs.Outcomes.{never_both}
+use Rattle.rel_files.specs.Fault.{fault_of}
+use Rattle.rel_files.proofs.OneTermFiles.{never_of_term}
 use Rattle.app_file.specs.declared.app.App.{App}
 use Rattle.app_file.specs.Parts.{Entries, Contents, value_at, vsn_in, modules_at, top_at, contents, contents_in}
-use Rattle.app_file.specs.File.{Specification, with_term, specification_in, IsAppTerm, SaysApp, IsTermFault, IsAppFault}
+use Rattle.app_file.specs.File.{Specification, app_files, with_term, specification_in, IsAppTerm, SaysApp, IsTermFault, IsAppFault}
 use Rattle.app_file.specs.InMemory.{specification_of}
 
 -- what keys say, from what each of them says
@@ -25,12 +25,10 @@ of_its_keys e name vsn modules top name_is vsn_is modules_is top_is =
 pub read : (v : Value) (c : Contents) → Some c ≡ contents_in v → specification_in v ≡ Some (with_term v c)
 read v c some = sym (ap (option_map (with_term v)) some)
 
--- a term of which a module stands twice says no application
-pub none_twice : (v : Value) (c : Contents) (a : Specification) (n : List ℕ) → Some c ≡ contents_in v → IsFirstTwice c.modules n → IsAppTerm v a → ⊥
-none_twice v c a n some twice is =
-    let same : Some (with_term v c) ≡ Some a = sym (read v c some) ∙ is.shape in
-    let one : with_term v c ≡ a = cc in
-    never_both a.modules n is.distinct (subst (λ (x : Specification). IsFirstTwice x.modules n) one twice)
+-- a term that says an application has no fault: want of memory is none
+pub only_memory : (v : Value) (at : ℕ) (a : Specification) (f : FileFault) → IsAppTerm v a → (f ≢ NoMemory → IsTermFault v at f) → f ≡ NoMemory
+only_memory v at a NoMemory is fault = λ i. NoMemory
+only_memory v at a f is fault = absurd (never_of_term app_files v at a (fault_of f) is (fault (λ same. cc)))
 
 -- what a file says, its term says
 pub of_its_term : (bytes : List ℕ) (a : Specification) (v : Value) (says : SaysApp bytes a) → v ≡ says.2.0.term → IsAppTerm v a

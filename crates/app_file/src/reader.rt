@@ -1,9 +1,11 @@
 //! From a `.app` file to an application.
-ghost use Rattle.std.specs.Prelude.{◌≡◌, ◌≢◌, IfOk, IfErr, MatchResult};
-ghost use Rattle.erl_term.specs.Value.{value_of};
+ghost use Rattle.std.specs.Prelude.{◌≡◌, ◌≢◌, ℕ, true, Some, IfOk, IfErr, MatchResult};
+ghost use Rattle.erl_term.specs.Value.{Value, value_of};
 ghost use Rattle.erl_term.specs.Within.{IsWithin};
-ghost use Rattle.app_file.specs.File.{Specification, IsAppTerm, SaysApp, IsTermFault, IsAppFault};
-ghost use Rattle.app_file.specs.InMemory.{specification_of};
+ghost use Rattle.rel_files.specs.Name.{is_text, AreDistinct};
+ghost use Rattle.app_file.specs.File.{Specification, with_term, IsAppTerm, SaysApp, IsTermFault, IsAppFault};
+ghost use Rattle.app_file.specs.InMemory.{contents_of, specification_of};
+ghost use Rattle.app_file.specs.Parts.{contents_in};
 
 use crate::App;
 use crate::contents::Contents;
@@ -35,15 +37,7 @@ pub fn app_of_term(alloc: Global, term: Term, at: usize) -> Result<App, FileFaul
     ensures fault { IfErr result (λ f.
         f ≢ FileFault.NoMemory → IsTermFault (value_of term) at f) }
 {
-    let Some(contents) = Contents::read(alloc, &term)? else {
-        return Err(FileFault::BadShape(at));
-    };
-    if let Some(module) = contents.module_twice(alloc)? {
-        return Err(FileFault::Duplicate(String::from_str(alloc, module)?));
-    }
-    if !is_version(contents.vsn.as_str()) {
-        return Err(FileFault::BadVersion);
-    }
+    let contents = contents_of_term(alloc, &term, at)?;
     Ok(App {
         name: contents.name,
         vsn: contents.vsn,
@@ -51,4 +45,37 @@ pub fn app_of_term(alloc: Global, term: Term, at: usize) -> Result<App, FileFaul
         top: contents.top,
         whole: term,
     })
+}
+
+// What a term says that describes an application.
+fn contents_of_term(alloc: Global, term: &Term, at: usize) -> Result<Contents, FileFault>
+    ensures says { IfOk result (λ c.
+        IsAppTerm (value_of term.now) (with_term (value_of term.now) (contents_of c))) }
+    ensures only { (a : Specification) → IsAppTerm (value_of term.now) a →
+        MatchResult result (λ c. with_term (value_of term.now) (contents_of c) ≡ a)
+        (λ f. f ≡ FileFault.NoMemory) }
+    ensures fault { IfErr result (λ f.
+        f ≢ FileFault.NoMemory → IsTermFault (value_of term.now) at f) }
+{
+    let Some(contents) = Contents::read(alloc, term)? else {
+        return Err(FileFault::BadShape(at));
+    };
+    check_contents(alloc, &contents)?;
+    Ok(contents)
+}
+
+// Looks that no module stands twice, and that the version is one. A fault is that of each term that says this.
+fn check_contents(alloc: Global, contents: &Contents) -> Result<(), FileFault>
+    ensures sound { IfOk result (λ _. AreDistinct (contents_of contents.now).modules
+        × (is_text 0x21 (contents_of contents.now).vsn ≡ true)) }
+    ensures fault { (v : Value) (at : ℕ) → Some (contents_of contents.now) ≡ contents_in v →
+        IfErr result (λ f. f ≢ FileFault.NoMemory → IsTermFault v at f) }
+{
+    if let Some(module) = contents.module_twice(alloc)? {
+        return Err(FileFault::Duplicate(String::from_str(alloc, module)?));
+    }
+    if !is_version(contents.vsn.as_str()) {
+        return Err(FileFault::BadVersion);
+    }
+    Ok(())
 }

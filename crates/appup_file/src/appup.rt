@@ -2,7 +2,7 @@
 use crate::AppupInstr;
 
 /// The version of an application at the other end of an entry.
-#[derive(Debug, PartialEq, Drop)]
+#[derive(Drop)]
 pub enum OtherVersion {
     /// This version.
     Text(String),
@@ -11,14 +11,14 @@ pub enum OtherVersion {
 }
 
 /// The instructions between a version of an application and another one.
-#[derive(Debug, PartialEq, Drop)]
+#[derive(Drop)]
 pub struct AppupEntry {
     pub vsn: OtherVersion,
     pub instrs: Vec<AppupInstr>,
 }
 
 /// What an appup file says.
-#[derive(Debug, PartialEq, Drop)]
+#[derive(Drop)]
 pub struct Appup {
     /// The version of the application that the file belongs to.
     pub vsn: String,

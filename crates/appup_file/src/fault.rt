@@ -10,7 +10,7 @@ use std::fmt::{self, Display, Formatter};
 
 /// What is wrong with an appup file. Of several faults the one that stands first here is reported. It is shown by its name,
 /// and a fault of a term by its place too.
-#[derive(Clone, Copy, Debug, PartialEq, Eq)]
+#[derive(Clone, Copy, Debug)]
 pub enum AppupFault {
     /// It is no row of terms.
     BadTerm(TermFault),

@@ -5,7 +5,7 @@ use rel_files::StartType;
 use relup_file::{Instr, PurgeMode, Timeout};
 
 /// Whether the processes of a module go over to new code of it by themselves.
-#[derive(Clone, Copy, Debug, PartialEq, Eq)]
+#[derive(Clone, Copy)]
 pub enum ModType {
     /// They don't. Code is loaded before states are changed, in both directions.
     Static,
@@ -14,7 +14,7 @@ pub enum ModType {
 }
 
 /// What an update asks of the processes of a module.
-#[derive(Debug, PartialEq, Drop)]
+#[derive(Drop)]
 pub enum StateChange {
     /// Their states stay. The default.
     Soft,
@@ -23,7 +23,7 @@ pub enum StateChange {
 }
 
 /// `{update, Mod, ModType, Timeout, Change, PrePurge, PostPurge, DepMods}`.
-#[derive(Debug, PartialEq, Drop)]
+#[derive(Drop)]
 pub struct Update {
     pub name: String,
     pub mod_type: ModType,
@@ -38,7 +38,7 @@ pub struct Update {
 }
 
 /// `{load_module, Mod, PrePurge, PostPurge, DepMods}`.
-#[derive(Debug, PartialEq, Drop)]
+#[derive(Drop)]
 pub struct ModuleLoad {
     pub name: String,
     /// `brutal_purge` by default, as is the other.
@@ -49,7 +49,7 @@ pub struct ModuleLoad {
 }
 
 /// `{add_module, Mod, DepMods}` or `{delete_module, Mod, DepMods}`, without the word.
-#[derive(Debug, PartialEq, Drop)]
+#[derive(Drop)]
 pub struct Dependent {
     pub name: String,
     /// The modules on which it depends, none by default.
@@ -57,7 +57,7 @@ pub struct Dependent {
 }
 
 /// `{add_application, Application, Type}`.
-#[derive(Debug, PartialEq, Drop)]
+#[derive(Drop)]
 pub struct AddedApp {
     pub name: String,
     /// `permanent` by default.
@@ -65,7 +65,7 @@ pub struct AddedApp {
 }
 
 /// An instruction of an appup.
-#[derive(Debug, PartialEq, Drop)]
+#[derive(Drop)]
 pub enum AppupInstr {
     Update(Update),
     /// `{update, Mod, supervisor}`.

@@ -9,7 +9,7 @@ use relup_file::Direction;
 use std::fmt::{self, Display, Formatter};
 
 /// Why an appup has no instructions for a version. It is shown by its name.
-#[derive(Clone, Copy, Debug, PartialEq, Eq)]
+#[derive(Clone, Copy, Debug)]
 pub enum EntryFault {
     /// It has no entry of the version, and none of a regular expression.
     NoEntry,

@@ -29,6 +29,13 @@ values_on old mid new bs front more e a b =
     b ∙ (ap (λ vs. vs ++ character_values more) a ∙ (append_assoc old (character_values front) (character_values more)
     ∙ ap (λ vs. old ++ vs) (sym (ap (map (λ n. int (pos n))) e ∙ map-append (λ n. int (pos n)) (chars front) (chars more)))))
 
+-- members and one further
+pub value_on : (old mid new : List Value) (cs : List ℕ) (c : ℕ) → mid ≡ old ++ map (λ n. int (pos n)) cs → new ≡ mid ++ int (pos c) ∷ [] →
+    new ≡ old ++ map (λ n. int (pos n)) (cs ++ c ∷ [])
+value_on old mid new cs c a b =
+    b ∙ (ap (λ vs. vs ++ int (pos c) ∷ []) a ∙ (append_assoc old (map (λ n. int (pos n)) cs) (int (pos c) ∷ [])
+    ∙ ap (λ vs. old ++ vs) (sym (map-append (λ n. int (pos n)) cs (c ∷ [])))))
+
 -- all are bytes, or not
 all_bytes : (cs : List ℕ) → bytes_of cs ≡ Some cs → list_all (λ n. nat_lt n 256) cs ≡ true
 all_bytes cs e = go (list_all (λ n. nat_lt n 256) cs) e

@@ -1,5 +1,6 @@
 -- Texts with commas between them.
-use Rattle.std.proofs.Common.{◌≡◌, ℕ, ◌+◌, ◌<◌, zero, suc, List, [], ◌∷◌, ◌++◌, length, map, get_or, take, refl, ap, sym, ◌∙◌, append_assoc, append-nil, arith}
+use Rattle.std.proofs.Common.{◌≡◌, ℕ, ◌+◌, ◌<◌, ◌≤◌, zero, suc, List, [], ◌∷◌, ◌++◌, length, map, get_or, take, if◌then◌else◌, Result, Ok, Err, OnOk, is_ok, refl, ap, sym, ◌∙◌, append_assoc, append-nil, arith}
+use Rattle.std.proofs.lemmas.List.{take_all}
 use Rattle.std.proofs.lemmas.List.{take_more, map-append, length-map, length-take}
 use Rattle.erl_reader.specs.declared.term.Term.{Term}
 use Rattle.erl_reader.specs.Value.{value_of, members_of}
@@ -40,3 +41,19 @@ prints-next f xs i d h z old out mid new e m n =
     let some = with_commas (map f (take i xs)) in
     let text = f (get_or xs i d) in
     n ∙ ap (λ y. y ++ text) m ∙ append_assoc out (44 ∷ []) text ∙ ap (λ y. y ++ 44 ∷ text) e ∙ append_assoc old some (44 ∷ text) ∙ sym (ap (λ y. old ++ y) (with_commas-next f xs i d h z))
+
+-- all the texts are written, and then the end
+pub prints-end : {X T E : Type 0} (r : Result T E) (f : X → List ℕ) (xs : List X) (i : ℕ) → length xs ≤ i → (begin end old mid out new : List ℕ) →
+    mid ≡ old ++ begin → out ≡ mid ++ with_commas (map f (take i xs)) → new ≡ (if is_ok r then out ++ end else out)
+    → OnOk r (new ≡ old ++ (begin ++ (with_commas (map f xs) ++ end)))
+prints-end (Ok v) f xs i h begin end old mid out new m o n =
+    let texts = with_commas (map f xs) in
+    let all : out ≡ (old ++ begin) ++ texts = o ∙ (λ j. m j ++ with_commas (map f (take_all i xs h j))) in
+    n ∙ ap (λ y. y ++ end) all ∙ append_assoc (old ++ begin) texts end ∙ append_assoc old begin (texts ++ end)
+prints-end (Err e) f xs i h begin end old mid out new m o n = tt
+
+-- numbers that fit bytes are small, whatever stands behind them
+pub all_bytes : (bs : List ℕ) → ((i : ℕ) → get_or bs i 0 < 256) → (k d : ℕ) → k < length bs → get_or bs k d < 256
+all_bytes [] h k d l = absurd (omega arith)
+all_bytes (b ∷ bs) h zero d l = h zero
+all_bytes (b ∷ bs) h (suc k) d l = all_bytes bs (λ i. h (suc i)) k d (omega arith)

@@ -10,6 +10,7 @@ pub mod JoinLemmas
 pub mod NameLemmas
 pub mod Pieces
 pub mod Lexemes
+pub mod Spellings
 pub mod Sizes
 pub mod CutLemmas
 pub mod NumberCuts

@@ -2,7 +2,7 @@
 use Rattle.std.proofs.Common.{◌≡◌, ◌≢◌, ℕ, suc, ◌+◌, ◌-◌, ◌<◌, ◌≤◌, Bool, true, false, eqb, if◌then◌else◌, nat_lt, List, [], ◌∷◌, ◌++◌, length, take, drop, get_or, slice_get, Some, None, refl, sym, ◌∙◌, ap, subst, arith, append-nil}
 use Rattle.std.proofs.lemmas.List.{drop_more, drop-append-le, length-drop, length-append, get_or-drop, get_or_append_left, get_or-append_right}
 use Rattle.std.proofs.lemmas.Bool.Decides.{nat_tests}
-use Rattle.std.proofs.lemmas.Str.{IsCharBoundary-after_ascii}
+use Rattle.std.proofs.lemmas.Str.{IsCharBoundary-before_ascii, IsCharBoundary-after_ascii}
 use Rattle.std.specs.Str.{IsUtf8, IsCharBoundary}
 use Rattle.std.specs.Prelude.{slice_range}
 use Rattle.erl_token.specs.declared.class.Class.TheVariants.{Letter}
@@ -105,6 +105,9 @@ is_run run valid b from to l ascii passes e =
 pub name_run : (valid : List ℕ) (b : Bool) (from to : ℕ) → from < length (valid ++ seal b) → class_of (get_or (valid ++ seal b) from 0) ≡ Letter
     → to ≡ from + length (front (goes_on_with InName) (drop from (valid ++ seal b))) → IsRun InName valid (valid ++ seal b) from to
 name_run valid b from to l k e = let (ascii, passes) = letter_in_name (get_or (valid ++ seal b) from 0) k in is_run InName valid b from to l ascii passes e
+
+pub name_begins : {valid bytes : List ℕ} {from to : ℕ} → IsRun InName valid bytes from to → IsCharBoundary valid from
+name_begins {valid = valid} {from = from} r = IsCharBoundary-before_ascii valid from (omega (arith, r.some, r.within)) r.begins
 
 pub name_ends : {valid bytes : List ℕ} {from to : ℕ} → IsRun InName valid bytes from to → IsUtf8 valid → IsCharBoundary valid to
 name_ends {valid = valid} {from = from} {to = to} r utf8 = ascii_in_run InName name_ascii valid from to utf8 r.some r.within r.end

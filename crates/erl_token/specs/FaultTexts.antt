@@ -1,5 +1,5 @@
 -- How the fault of a text is shown.
-use Rattle.std.specs.Prelude.{ℕ, List, ◌++◌, codes, decimal}
+use Rattle.std.specs.Prelude.{ℕ, List, ◌++◌, Option, Some, None, codes, decimal}
 use Rattle.erl_token.specs.declared.fault.TermFault.{TermFault}
 use Rattle.erl_token.specs.declared.fault.TermFault.TheVariants.{BadToken, BadNumber, Unclosed, MissingDot, Unsupported, Deep, NoMemory}
 
@@ -12,3 +12,8 @@ term_fault_text (MissingDot at) = codes "MissingDot " ++ decimal at
 term_fault_text (Unsupported at) = codes "Unsupported " ++ decimal at
 term_fault_text (Deep at) = codes "Deep " ++ decimal at
 term_fault_text NoMemory = codes "NoMemory"
+
+-- a name, and behind it the place if there is one
+abbrev pub placed_text : List ℕ → Option ℕ → List ℕ
+placed_text name (Some at) = name ++ (codes " " ++ decimal at)
+placed_text name None = name

@@ -25,6 +25,25 @@ pub enum TermFault {
     NoMemory,
 }
 
+impl TermFault {
+    ghost use Rattle.erl_token.specs.FaultTexts.{term_fault_text, placed_text};
+
+    /// Its name, and its place if it has one.
+    fn name_and_place(self) -> (&'static str, Option<usize>)
+        ensures { term_fault_text self ≡ placed_text result.0.now result.1 }
+    {
+        match self {
+            TermFault::BadToken(at) => ("BadToken", Some(at)),
+            TermFault::BadNumber(at) => ("BadNumber", Some(at)),
+            TermFault::Unclosed(at) => ("Unclosed", Some(at)),
+            TermFault::MissingDot(at) => ("MissingDot", Some(at)),
+            TermFault::Unsupported(at) => ("Unsupported", Some(at)),
+            TermFault::Deep(at) => ("Deep", Some(at)),
+            TermFault::NoMemory => ("NoMemory", None),
+        }
+    }
+}
+
 impl From<AllocError> for TermFault {
     ghost from_gives = { λ _ f. f ≡ NoMemory };
 
@@ -48,14 +67,9 @@ impl Display for TermFault {
     ghost output = { λ f. Some (term_fault_text f) };
 
     fn fmt<W: fmt::Write>(&self, f: &mut Formatter<W>) -> fmt::Result {
-        match self {
-            TermFault::BadToken(at) => write!(f, "BadToken {at}"),
-            TermFault::BadNumber(at) => write!(f, "BadNumber {at}"),
-            TermFault::Unclosed(at) => write!(f, "Unclosed {at}"),
-            TermFault::MissingDot(at) => write!(f, "MissingDot {at}"),
-            TermFault::Unsupported(at) => write!(f, "Unsupported {at}"),
-            TermFault::Deep(at) => write!(f, "Deep {at}"),
-            TermFault::NoMemory => f.write_str("NoMemory"),
+        match self.name_and_place() {
+            (name, Some(at)) => write!(f, "{name} {at}"),
+            (name, None) => f.write_str(name),
         }
     }
 }

@@ -9,15 +9,33 @@ pub(crate) fn follow(alloc: Global, events: &[u8]) -> Result<String, AllocError>
     let events = String::from_utf8_lossy(alloc, events)?;
     let mut list = ReleaseList::new(alloc);
     let mut text = String::new(alloc);
-    for words in events.as_str().split(", ") {
-        match event(alloc, &list, words)? {
-            Some(event) => push_answer(alloc, &mut text, &mut list, event)?,
-            None => text.push_str("no such event, ")?,
-        }
-    }
-    push_list(&mut text, &list)?;
-    push_libraries(alloc, &mut text, &list)?;
+    push_followed(alloc, &mut text, &mut list, events.as_str())?;
     Ok(text)
+}
+
+fn push_followed(
+    alloc: Global,
+    text: &mut String,
+    list: &mut ReleaseList,
+    events: &str,
+) -> Result<(), AllocError> {
+    for words in events.split(", ") {
+        push_event(alloc, text, list, words)?;
+    }
+    push_list(text, list)?;
+    push_libraries(alloc, text, list)
+}
+
+fn push_event(
+    alloc: Global,
+    text: &mut String,
+    list: &mut ReleaseList,
+    words: &str,
+) -> Result<(), AllocError> {
+    match event(alloc, list, words)? {
+        Some(event) => push_answer(alloc, text, list, event),
+        None => text.push_str("no such event, "),
+    }
 }
 
 /// Has the list take an event, and appends what it answers.
@@ -58,6 +76,10 @@ pub(crate) fn push_list(text: &mut String, list: &ReleaseList) -> Result<(), All
         let status = list.status(listed.release.vsn.as_str());
         write!(text, "{} {status:?}, ", listed.release.vsn)?;
     }
+    push_rest(text, list)
+}
+
+fn push_rest(text: &mut String, list: &ReleaseList) -> Result<(), AllocError> {
     write!(text, "len {}", list.len())?;
     write!(text, ", permanent {}", version(list.permanent()))?;
     write!(text, ", runs {}", version(list.running()))?;

@@ -10,15 +10,37 @@ pub(crate) fn follow(alloc: Global, events: &[u8]) -> Result<String, AllocError>
     let events = String::from_utf8_lossy(alloc, events)?;
     let mut list = ReleaseList::new(alloc);
     let mut text = String::new(alloc);
-    push_readers(&mut text, &list)?;
-    for words in events.as_str().split(", ") {
-        if let Some(event) = event(alloc, &list, words)? {
-            push_answer(alloc, &mut text, &mut list, event)?;
-            push_readers(&mut text, &list)?;
-        }
-    }
-    push_whether_permanent(alloc, &mut text, &list)?;
+    push_followed(alloc, &mut text, &mut list, events.as_str())?;
     Ok(text)
+}
+
+fn push_followed(
+    alloc: Global,
+    text: &mut String,
+    list: &mut ReleaseList,
+    events: &str,
+) -> Result<(), AllocError> {
+    push_readers(text, list)?;
+    for words in events.split(", ") {
+        push_event(alloc, text, list, words)?;
+    }
+    push_whether_permanent(alloc, text, list)
+}
+
+// The answer to the event of these words, and what each reader gives behind it. Other words are passed over.
+fn push_event(
+    alloc: Global,
+    text: &mut String,
+    list: &mut ReleaseList,
+    words: &str,
+) -> Result<(), AllocError> {
+    match event(alloc, list, words)? {
+        Some(event) => {
+            push_answer(alloc, text, list, event)?;
+            push_readers(text, list)
+        }
+        None => Ok(()),
+    }
 }
 
 // What each reader gives: the releases with their statuses, and the rest. No list here has a release D.
@@ -26,10 +48,14 @@ fn push_readers(text: &mut String, list: &ReleaseList) -> Result<(), AllocError>
     for listed in list.releases() {
         write!(text, "{} {}, ", listed.release.vsn, listed.status.as_str())?;
     }
-    write!(text, "permanent {}, ", version(list.permanent()))?;
-    write!(text, "runs {}, ", version(list.running()))?;
+    push_current(text, list)?;
     write!(text, "A {:?}, D {:?}, ", list.status("A"), list.status("D"))?;
     write!(text, "len {}, empty {}; ", list.len(), list.is_empty())
+}
+
+fn push_current(text: &mut String, list: &ReleaseList) -> Result<(), AllocError> {
+    write!(text, "permanent {}, ", version(list.permanent()))?;
+    write!(text, "runs {}, ", version(list.running()))
 }
 
 // Whether the release A, as the events have it, is the permanent one and runs.

@@ -11,14 +11,16 @@ use std::alloc::{AllocError, Global};
 /// The list that these bodies make, each on a line of its own, or which one is bad.
 pub(crate) fn list(alloc: Global, bodies: &[u8]) -> Result<String, AllocError> {
     let bodies = lines(alloc, bodies)?;
-    let mut text = String::new(alloc);
     match read_list(alloc, bodies.as_slice()) {
-        Ok(list) => {
-            push_list(&mut text, &list)?;
-            push_libraries(alloc, &mut text, &list)?;
-        }
-        Err(error) => write!(text, "{error}")?,
+        Ok(list) => shown(alloc, &list),
+        Err(error) => format!(in alloc; "{error}"),
     }
+}
+
+fn shown(alloc: Global, list: &ReleaseList) -> Result<String, AllocError> {
+    let mut text = String::new(alloc);
+    push_list(&mut text, list)?;
+    push_libraries(alloc, &mut text, list)?;
     Ok(text)
 }
 
@@ -27,14 +29,24 @@ pub(crate) fn written(alloc: Global, text: &[u8]) -> Result<String, AllocError> 
     let Some(end) = text.iter().position(|byte| *byte == b'\n') else {
         return String::from_str(alloc, "no list");
     };
-    let words = String::from_utf8_lossy(alloc, &text[..end])?;
     let bodies = lines(alloc, &text[end + 1..])?;
+    written_behind(alloc, bodies.as_slice(), &text[..end])
+}
+
+fn written_behind(alloc: Global, bodies: &[Vec<u8>], words: &[u8]) -> Result<String, AllocError> {
     records_make_versions();
-    let Ok(list) = read_list(alloc, bodies.as_slice()) else {
-        return String::from_str(alloc, "no list");
-    };
-    match event(alloc, &list, words.as_str())? {
-        Some(event) => body(alloc, &list, &event),
+    match read_list(alloc, bodies) {
+        Ok(list) => body_of_words(alloc, &list, words),
+        Err(_) => String::from_str(alloc, "no list"),
+    }
+}
+
+fn body_of_words(alloc: Global, list: &ReleaseList, words: &[u8]) -> Result<String, AllocError>
+    requires { HaveVersions list.now }
+{
+    let words = String::from_utf8_lossy(alloc, words)?;
+    match event(alloc, list, words.as_str())? {
+        Some(event) => body(alloc, list, &event),
         None => String::from_str(alloc, "no such event"),
     }
 }

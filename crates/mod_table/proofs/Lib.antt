@@ -1,6 +1,5 @@
-pub mod Triples
+pub mod Rows
 pub mod Sameness
 pub mod FirstChange
 pub mod Readings
-pub mod RowLemmas
 pub mod HeadedLemmas

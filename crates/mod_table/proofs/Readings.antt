@@ -1,17 +1,17 @@
 -- What a file says, from its one term.
-use Rattle.std.proofs.Common.{◌≡◌, ℕ, List, Some, sym, subst, ◌∙◌}
+use Rattle.std.proofs.Common.{◌≡◌, ◌≢◌, ℕ, List, sym, subst, ◌∙◌}
 use Rattle.erl_term.specs.Value.{Value}
-use Rattle.rel_files.specs.Name.{IsFirstTwice}
-use Rattle.rel_files.proofs.Outcomes.{never_both}
+use Rattle.rel_files.specs.declared.fault.FileFault.{FileFault}
+use Rattle.rel_files.specs.declared.fault.FileFault.TheVariants.{NoMemory}
+use Rattle.rel_files.specs.Fault.{fault_of}
+use Rattle.rel_files.proofs.OneTermFiles.{never_of_term}
 use Rattle.mod_table.specs.declared.table.Table.{Table}
-use Rattle.mod_table.specs.File.{table_in, ids_of, IsTableTerm, SaysTable}
+use Rattle.mod_table.specs.File.{mod_files, IsTableTerm, IsTermFault, SaysTable}
 
--- a term of which an id stands twice says no table
-pub none_twice : (v : Value) (s t : Table) (n : List ℕ) → Some s ≡ table_in v → IsFirstTwice (ids_of s) n → IsTableTerm v t → ⊥
-none_twice v s t n some twice is =
-    let same : Some s ≡ Some t = some ∙ is.shape in
-    let one : s ≡ t = cc in
-    never_both (ids_of t) n is.distinct (subst (λ (x : Table). IsFirstTwice (ids_of x) n) one twice)
+-- a term that says a table has no fault: want of memory is none
+pub only_memory : (v : Value) (at : ℕ) (t : Table) (f : FileFault) → IsTableTerm v t → (f ≢ NoMemory → IsTermFault v at f) → f ≡ NoMemory
+only_memory v at t NoMemory is fault = λ i. NoMemory
+only_memory v at t f is fault = absurd (never_of_term mod_files v at t (fault_of f) is (fault (λ same. cc)))
 
 -- what a file says, its term says
 pub of_its_term : (bytes : List ℕ) (t : Table) (v : Value) (says : SaysTable bytes t) → v ≡ says.2.0.term → IsTableTerm v t

@@ -6,7 +6,7 @@ ghost use Rattle.mod_table.specs.Children.{atom_in, start_in, restart_of, restar
 ghost use Rattle.mod_table.specs.InMemory.{child_of};
 
 use erl_term::Term;
-use rel_files::parts::three;
+use rel_files::parts::{is_word, three};
 use rel_files::text::name_in;
 use std::alloc::{AllocError, Global};
 
@@ -119,14 +119,8 @@ fn lists_only(name: &str, term: &Term) -> bool
 fn is_only(name: &str, items: &[Term]) -> bool
     ensures { result ≡ is_only name.now (members_of items.now) }
 {
-    let Some((first, rest)) = items.split_first() else {
-        return false;
-    };
-    match first {
-        Term::Atom(word) => match rest.split_first() {
-            None => word.as_str() == name,
-            Some(_) => false,
-        },
+    match items {
+        [item] => is_word(item, name),
         _ => false,
     }
 }
@@ -148,7 +142,6 @@ fn child_parts(term: &Term) -> Option<ChildParts<'_>>
     }
 }
 
-#[tactic(auto, using(crate::proofs::Triples::three_more))]
 fn child_members(members: &[Term]) -> Option<ChildParts<'_>>
     ensures { option_map (λ p. record {
       id = value_of p.id.now;
@@ -160,18 +153,17 @@ fn child_members(members: &[Term]) -> Option<ChildParts<'_>>
     }) result
         ≡ child_members (members_of members.now) }
 {
-    let (id, rest) = members.split_first()?;
-    let (start, rest) = rest.split_first()?;
-    let (restart, rest) = rest.split_first()?;
-    let (shutdown, kind, modules) = three(rest)?;
-    Some(ChildParts {
-        id,
-        start,
-        restart,
-        shutdown,
-        kind,
-        modules,
-    })
+    match members {
+        [id, start, restart, shutdown, kind, modules] => Some(ChildParts {
+            id,
+            start,
+            restart,
+            shutdown,
+            kind,
+            modules,
+        }),
+        _ => None,
+    }
 }
 
 impl Child {

@@ -1,9 +1,10 @@
 //! From a `.mod` file to a table.
-ghost use Rattle.std.specs.Prelude.{◌≡◌, ◌≢◌, IfOk, IfErr, MatchResult};
-ghost use Rattle.erl_term.specs.Value.{value_of};
+ghost use Rattle.std.specs.Prelude.{◌≡◌, ◌≢◌, ℕ, true, Some, IfOk, IfErr, MatchResult};
+ghost use Rattle.erl_term.specs.Value.{Value, value_of};
 ghost use Rattle.erl_term.specs.Within.{IsWithin};
 ghost use Rattle.mod_table.specs.declared.table.Table.{Table};
-ghost use Rattle.mod_table.specs.File.{IsTableTerm, SaysTable, SaysWith, IsTermFault, IsModFault};
+ghost use Rattle.mod_table.specs.File.{table_in, ids_of, versions_of, IsTableTerm, SaysTable, SaysWith, IsTermFault, IsModFault};
+ghost use Rattle.rel_files.specs.Name.{AreDistinct};
 
 use crate::Table;
 use erl_term::Term;
@@ -57,11 +58,23 @@ pub fn table_of_term(alloc: Global, term: &Term, at: usize) -> Result<Table, Fil
     let Some(table) = Table::read(alloc, term)? else {
         return Err(FileFault::BadShape(at));
     };
+    check_table(alloc, &table)?;
+    Ok(table)
+}
+
+// Looks that no id stands twice in the table, and that each version in it is one. A fault is that of each term that describes
+// this table.
+fn check_table(alloc: Global, table: &Table) -> Result<(), FileFault>
+    ensures sound { IfOk result (λ _.
+        AreDistinct (ids_of table.now) × (versions_of table.now ≡ true)) }
+    ensures fault { (v : Value) (at : ℕ) → Some table.now ≡ table_in v →
+        IfErr result (λ f. f ≢ FileFault.NoMemory → IsTermFault v at f) }
+{
     if let Some(id) = table.id_twice(alloc)? {
         return Err(FileFault::Duplicate(String::from_str(alloc, id)?));
     }
     if table.has_versions() {
-        Ok(table)
+        Ok(())
     } else {
         Err(FileFault::BadVersion)
     }

@@ -4,6 +4,7 @@ ghost use Rattle.erl_term.specs.Value.{value_of};
 ghost use Rattle.mod_table.specs.Decide.{fits_call, call_of, fits_change, moved, moved_by};
 ghost use Rattle.mod_table.specs.Headed.{row_has_version};
 ghost use Rattle.mod_table.specs.InMemory.{old_of, row_of};
+ghost use Rattle.mod_table.specs.Table.Row.{change};
 
 use crate::same::is_same;
 use crate::{Old, Step};
@@ -79,13 +80,25 @@ impl Row {
             Row::On(from, at, next, reply) => Ok(Row::On(*from, *at, *next, *reply)),
             Row::Add(at, summand) => Ok(Row::Add(*at, *summand)),
             Row::Stop(from, at, reply) => Ok(Row::Stop(*from, *at, *reply)),
-            Row::Change(old, extra, moves) => Ok(Row::Change(
-                old.copy(alloc)?,
-                extra.clone()?,
-                Vec::from_slice(alloc, moves.as_slice())?,
-            )),
+            Row::Change(old, extra, moves) => copied_change(alloc, old, extra, moves.as_slice()),
         }
     }
+}
+
+fn copied_change(
+    alloc: Global,
+    old: &Old,
+    extra: &Term,
+    moves: &[(u32, u32)],
+) -> Result<Row, AllocError>
+    ensures { IfOk result (λ row.
+        row_of row ≡ change (old_of old.now) (value_of extra.now) moves.now) }
+{
+    Ok(Row::Change(
+        old.copy(alloc)?,
+        extra.clone()?,
+        Vec::from_slice(alloc, moves)?,
+    ))
 }
 
 // The new state of a state, which stays where no pair names it.

@@ -25,11 +25,15 @@ use works::{Calls, Locked, Steps, Work, four_at_once, two_at_once};
 /// It counts its calls.
 const COUNTER: &[u8] = b"{worker,counter,\"1\",0,[{add,1,1}]}.";
 
+fn name(alloc: Global, text: &str) -> Option<Name> {
+    Some(Name::new(String::from_str(alloc, text).ok()?))
+}
+
 // A process that counts its calls.
 fn beginning(alloc: Global, worker: &Worker) -> Option<Beginning> {
     Some(Beginning {
-        app: Name::new(String::from_str(alloc, "bench").ok()?),
-        id: Name::new(String::from_str(alloc, "counter").ok()?),
+        app: name(alloc, "bench")?,
+        id: name(alloc, "counter")?,
         restart: Restart::Permanent,
         table: worker.copy(alloc).ok()?,
     })
@@ -38,15 +42,18 @@ fn beginning(alloc: Global, worker: &Worker) -> Option<Beginning> {
 // It begins in this slot.
 fn begin<R: Wait>(
     rt: &R,
+    alloc: Global,
     table: &ProcTable,
     seat: &mut HandlerSeat,
     slot: usize,
-    begins: Option<Beginning>,
+    worker: &Worker,
 ) -> Option<Pid>
     requires { seat.old.table ≡ table.now }
     ensures { seat.new.table ≡ seat.old.table }
 {
-    table.begin(rt, seat, Pid::new(slot, 0)?, begins?).ok()
+    let pid = Pid::new(slot, 0)?;
+    let begins = beginning(alloc, worker)?;
+    table.begin(rt, seat, pid, begins).ok()
 }
 
 fn by_one<R: Wait + Clock + CpuClock + Eprint, A: Work + Drop>(
@@ -130,24 +137,22 @@ fn steps(alloc: Global, worker: &Worker) -> Option<Steps> {
     })
 }
 
+fn two_steps(alloc: Global, worker: &Worker) -> Option<(Steps, Steps)> {
+    let first = steps(alloc, worker)?;
+    Some((first, steps(alloc, worker)?))
+}
+
 // The same work without a table of processes.
 fn plain<R: Threads + Wait + Sync + Clock + CpuClock + Eprint>(
     rt: &R,
     alloc: Global,
     worker: &Worker,
 ) -> Option<()> {
-    by_one(rt, "plain calls", steps(alloc, worker)?)?;
-    let first = steps(alloc, worker)?;
-    let second = steps(alloc, worker)?;
-    let third = steps(alloc, worker)?;
-    by_four(
-        rt,
-        "plain calls",
-        first,
-        second,
-        third,
-        steps(alloc, worker)?,
-    )
+    let what = "plain calls";
+    by_one(rt, what, steps(alloc, worker)?)?;
+    let (first, second) = two_steps(alloc, worker)?;
+    let (third, fourth) = two_steps(alloc, worker)?;
+    by_four(rt, what, first, second, third, fourth)
 }
 
 fn locked<'l>(alloc: Global, worker: &Worker, state: &'l Mutex<u32>) -> Option<Locked<'l>> {
@@ -155,6 +160,15 @@ fn locked<'l>(alloc: Global, worker: &Worker, state: &'l Mutex<u32>) -> Option<L
         worker: worker.copy(alloc).ok()?,
         state,
     })
+}
+
+fn two_locked<'l>(
+    alloc: Global,
+    worker: &Worker,
+    state: &'l Mutex<u32>,
+) -> Option<(Locked<'l>, Locked<'l>)> {
+    let first = locked(alloc, worker, state)?;
+    Some((first, locked(alloc, worker, state)?))
 }
 
 // The same work under a lock of std.
@@ -166,17 +180,9 @@ fn under_a_lock<R: Threads + Wait + Sync + Clock + CpuClock + Eprint>(
 ) -> Option<()> {
     let what = "steps under one lock";
     by_one(rt, what, locked(alloc, worker, state)?)?;
-    let first = locked(alloc, worker, state)?;
-    let second = locked(alloc, worker, state)?;
-    let third = locked(alloc, worker, state)?;
-    by_four(
-        rt,
-        what,
-        first,
-        second,
-        third,
-        locked(alloc, worker, state)?,
-    )
+    let (first, second) = two_locked(alloc, worker, state)?;
+    let (third, fourth) = two_locked(alloc, worker, state)?;
+    by_four(rt, what, first, second, third, fourth)
 }
 
 // Four processes, each in its slot.
@@ -193,14 +199,43 @@ fn begin_four<R: Wait>(
 {
     let [one, two, three, four] = slots;
     Some([
-        begin(rt, table, seat, one, beginning(alloc, worker))?,
-        begin(rt, table, seat, two, beginning(alloc, worker))?,
-        begin(rt, table, seat, three, beginning(alloc, worker))?,
-        begin(rt, table, seat, four, beginning(alloc, worker))?,
+        begin(rt, alloc, table, seat, one, worker)?,
+        begin(rt, alloc, table, seat, two, worker)?,
+        begin(rt, alloc, table, seat, three, worker)?,
+        begin(rt, alloc, table, seat, four, worker)?,
     ])
 }
 
 // Calls of processes. The words of eight slots side by side lie in one line of a processor's cache.
+fn calls_at<R: Threads + Wait + Sync + Clock + CpuClock + Eprint>(
+    rt: &R,
+    alloc: Global,
+    table: &ProcTable,
+    seat: &mut HandlerSeat,
+    worker: &Worker,
+) -> Option<()>
+    requires { seat.old.table ≡ table.now }
+{
+    let near = begin_four(rt, alloc, table, seat, [0, 1, 2, 3], worker)?;
+    let apart = begin_four(rt, alloc, table, seat, [8, 24, 40, 56], worker)?;
+    of_one(rt, table, seat, near[0])?;
+    of_four(
+        rt,
+        "calls of four processes side by side",
+        table,
+        seat,
+        near,
+    )?;
+    of_four(
+        rt,
+        "calls of four processes in slots apart",
+        table,
+        seat,
+        apart,
+    )
+}
+
+// They are called at a new table.
 fn calls<R: Threads + Wait + Sync + Clock + CpuClock + Eprint>(
     rt: &R,
     alloc: Global,
@@ -208,35 +243,28 @@ fn calls<R: Threads + Wait + Sync + Clock + CpuClock + Eprint>(
 ) -> Option<()> {
     let (table, seat) = ProcTable::new(alloc).ok()?;
     let mut seat = seat;
-    let near = begin_four(rt, alloc, &table, &mut seat, [0, 1, 2, 3], worker)?;
-    let apart = begin_four(rt, alloc, &table, &mut seat, [8, 24, 40, 56], worker)?;
-    of_one(rt, &table, &mut seat, near[0])?;
-    of_four(
-        rt,
-        "calls of four processes side by side",
-        &table,
-        &mut seat,
-        near,
-    )?;
-    of_four(
-        rt,
-        "calls of four processes in slots apart",
-        &table,
-        &mut seat,
-        apart,
-    )
+    calls_at(rt, alloc, &table, &mut seat, worker)
+}
+
+// All that is measured, with this table of the processes.
+fn bench_of<R: Threads + Wait + Sync + Clock + CpuClock + Eprint>(
+    rt: &R,
+    alloc: Global,
+    worker: &Worker,
+) -> Option<()> {
+    calls(rt, alloc, worker)?;
+    plain(rt, alloc, worker)?;
+    under_a_lock(rt, alloc, worker, &Mutex::new(0))
 }
 
 fn bench<R: Threads + Wait + Sync + Clock + CpuClock + Eprint>(
     rt: &R,
     alloc: Global,
 ) -> Option<()> {
-    let Ok(Table::Worker(worker)) = read_mod(alloc, COUNTER) else {
-        return None;
-    };
-    calls(rt, alloc, &worker)?;
-    plain(rt, alloc, &worker)?;
-    under_a_lock(rt, alloc, &worker, &Mutex::new(0))
+    match read_mod(alloc, COUNTER) {
+        Ok(Table::Worker(worker)) => bench_of(rt, alloc, &worker),
+        _ => None,
+    }
 }
 
 fn main(rt: HostRuntime) -> ExitCode {

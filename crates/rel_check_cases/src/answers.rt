@@ -1,8 +1,11 @@
 //! The answer to a case.
 use crate::made;
+use library::Library;
 use rel_check::{Named, ReleaseFault, check_release};
+use rel_files::RelApp;
 use rel_unpack::{ApplicationFiles, UnpackError, read_libraries, read_release};
 use std::alloc::{AllocError, Global};
+use std::rc::Rc;
 use text_cases::CaseFiles;
 
 /// The answer in one of five modes. `files`: the text is a line for each file, its path, a blank and its bytes. The release
@@ -17,15 +20,24 @@ pub(crate) fn answer(alloc: Global, mode: &str, text: &[u8]) -> Result<String, A
     let Some((first, second)) = numbers(text) else {
         return String::from_str(alloc, "no numbers");
     };
-    let worker = made::worker(alloc, 1)?;
-    let files = match mode {
-        "tree" => made::tree(alloc, first, second, worker.as_str())?,
-        "lost" => made::tree(alloc, first, second, "")?,
-        "modules" => made::modules(alloc, first)?,
-        "rows" => made::tree(alloc, 1, 1, made::worker(alloc, first)?.as_str())?,
-        _ => String::from_str(alloc, "no such mode")?,
-    };
+    let files = made_files(alloc, mode, first, second)?;
     checked(alloc, files.as_bytes())
+}
+
+fn made_files(alloc: Global, mode: &str, first: u32, second: u32) -> Result<String, AllocError> {
+    match mode {
+        "tree" => tree_with_rows(alloc, first, second, 1),
+        "lost" => made::tree(alloc, first, second, ""),
+        "modules" => made::modules(alloc, first),
+        "rows" => tree_with_rows(alloc, 1, 1, first),
+        _ => String::from_str(alloc, "no such mode"),
+    }
+}
+
+// A tree with the file of its worker, whose table has this many rows.
+fn tree_with_rows(alloc: Global, width: u32, depth: u32, rows: u32) -> Result<String, AllocError> {
+    let worker = made::worker(alloc, rows)?;
+    made::tree(alloc, width, depth, worker.as_str())
 }
 
 // One number or two; a number that isn't there is 0.
@@ -54,14 +66,29 @@ fn checked(alloc: Global, lines: &[u8]) -> Result<String, AllocError> {
 
 fn checked_files(alloc: Global, files: &CaseFiles<'_>) -> Result<String, UnpackError> {
     let file = read_release(alloc, files, "r.rel")?;
-    let apps = file.release.apps.as_slice();
+    checked_applications(alloc, files, file.release.apps.as_slice())
+}
+
+fn checked_applications(
+    alloc: Global,
+    files: &CaseFiles<'_>,
+    apps: &[RelApp],
+) -> Result<String, UnpackError> {
     let ApplicationFiles { libraries, refusal } = read_libraries(alloc, files, apps)?;
-    if let Some(why) = refusal {
-        return Err(why);
+    match refusal {
+        Some(why) => Err(why),
+        None => Ok(checked_libraries(alloc, apps, libraries.as_slice())?),
     }
-    match check_release(alloc, apps, libraries.as_slice()) {
-        Ok(()) => Ok(String::from_str(alloc, "ok")?),
-        Err(fault) => Ok(shown(alloc, fault)?),
+}
+
+fn checked_libraries(
+    alloc: Global,
+    apps: &[RelApp],
+    libraries: &[Rc<Library>],
+) -> Result<String, AllocError> {
+    match check_release(alloc, apps, libraries) {
+        Ok(()) => String::from_str(alloc, "ok"),
+        Err(fault) => shown(alloc, fault),
     }
 }
 

@@ -1,20 +1,13 @@
 -- What a file says, or its fault, from the terms in it.
-use Rattle.std.proofs.Common.{◌≡◌, ◌≢◌, ℕ, List, [], ◌∷◌, ◌++◌, map, Some, None, slice_get, refl, sym, ap, subst, ◌∙◌}
-use Rattle.erl_term.specs.TermFault.{TermFault}
-use Rattle.erl_term.specs.TermFault.TheVariants as term
+use Rattle.std.proofs.Common.{◌≡◌, ℕ, List, [], ◌∷◌, ◌++◌, ◌⊎◌, inl, inr, map, Some, None, slice_get, refl, sym, ap, subst, ◌∙◌}
 use Rattle.erl_term.specs.Spanned.{Spanned}
 use Rattle.erl_term.specs.Value.{Value, value_of}
-use Rattle.erl_term.specs.Grammar.{Reading, Reads}
-use Rattle.erl_term.specs.Answers.{TellsFault, reading_of_spanned}
-use Rattle.rel_files.specs.declared.fault.FileFault.TheVariants.{NoMemory}
-use Rattle.rel_files.specs.Fault.{file_fault_of}
-use Rattle.rel_files.specs.Release.{Release}
-use Rattle.rel_files.specs.File.{IsReleaseTerm, SaysRelease, IsRelFault}
-
--- a fault of the terms is the file's
-pub tells_terms : (bytes : List ℕ) (e : TermFault) → TellsFault 64 bytes e → file_fault_of e ≢ NoMemory → IsRelFault bytes (file_fault_of e)
-tells_terms bytes term.NoMemory fault other = absurd (other refl)
-tells_terms bytes e fault other = fault
+use Rattle.erl_term.specs.Grammar.{Reading}
+use Rattle.erl_term.specs.Answers.{reading_of_spanned}
+use Rattle.rel_files.specs.Fault.{Fault}
+use Rattle.rel_files.specs.Fault.Fault.{bad_term}
+use Rattle.rel_files.specs.File.{HasTermFault, HasFault, HasFileTerm}
+use Rattle.rel_files.specs.Kind.{HasTermAt, HasNoTerm}
 
 -- more than one term
 pub several : (xs all : List Spanned) (first last : Spanned) (r : Reading) → Some first ≡ slice_get xs 0 → all ≡ xs ++ last ∷ []
@@ -29,9 +22,19 @@ pub alone : (xs all : List Spanned) (last : Spanned) (r : Reading) → None ≡ 
 alone [] all last r none split one = let same = ap (map reading_of_spanned) split in cc
 alone (x ∷ xs) all last r none split one = absurd cc
 
--- says this of a release, if the file does
-pub says_alone : (xs all : List Spanned) (last : Spanned) (bytes : List ℕ) (r : Release) → None ≡ slice_get xs 0 → all ≡ xs ++ last ∷ []
-    → ((rs : List Reading) → Reads 64 bytes rs → map reading_of_spanned all ≡ rs) → SaysRelease bytes r → IsReleaseTerm (value_of last.term) r
-says_alone xs all last bytes r none split only (v, has, is) =
-    let read = alone xs all last has.0 none split (only (has.0 ∷ []) has.1) in
-    subst (λ (w : Value). IsReleaseTerm w r) (sym has.2 ∙ ap (λ (s : Reading). s.term) read) is
+-- a file has the one term that it has at a place
+pub has_term : (bytes : List ℕ) (at : ℕ) (v : Value) → HasTermAt bytes at v → HasFileTerm bytes v
+has_term bytes at v (r, reads, is, from) = (r, reads, is)
+
+-- the fault of a file that hasn't one term
+pub of_count : (bytes : List ℕ) (f : Fault) → HasNoTerm bytes f → HasFault bytes f
+of_count bytes f (inl (e, is, fault)) = subst (HasFault bytes) (sym is) fault
+of_count bytes f (inr ([], reads, is)) = subst (HasFault bytes) (sym is) ([], reads, refl)
+of_count bytes f (inr (r ∷ [], reads, is)) = absurd is
+of_count bytes f (inr (r ∷ s ∷ rs, reads, is)) = subst (HasFault bytes) (sym is) (r ∷ s ∷ rs, reads, refl)
+
+-- the fault of its one term
+pub of_term : (bytes : List ℕ) (at : ℕ) (v : Value) (f : Fault) → HasTermAt bytes at v → HasTermFault v at f → HasFault bytes f
+of_term bytes at v (bad_term e) has fault = absurd fault
+of_term bytes at v f (r, reads, is, from) fault =
+    (r ∷ [], reads, subst (λ a. HasTermFault r.term a f) (sym from) (subst (λ w. HasTermFault w at f) (sym is) fault))

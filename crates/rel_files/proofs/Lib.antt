@@ -1,5 +1,6 @@
 pub mod Pairs
 mod Members
+pub mod Rows
 pub mod Distinct
 pub mod Options
 pub mod Texts

@@ -62,7 +62,7 @@ module _ {X : Type 0} (k : Kind X) where
   one_of_term v at bad_version bad_version p q = refl
 
   -- a term that says something has no fault
-  never_of_term : (v : Value) (at : ℕ) (x : X) (f : Fault) → TermSays k v x → HasTermFault k v at f → ⊥
+  pub never_of_term : (v : Value) (at : ℕ) (x : X) (f : Fault) → TermSays k v x → HasTermFault k v at f → ⊥
   never_of_term v at x (bad_term e) says p = p
   never_of_term v at x (bad_shape a) says p = shapeless v x p.0 says.shape
   never_of_term v at x (duplicate n) says p = never_both (k.names x) n says.distinct (same_twice v p.0 x n p.1 says.shape p.2)

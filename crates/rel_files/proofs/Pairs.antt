@@ -1,20 +1,26 @@
--- The members of a tuple, from those of a smaller one.
-use Rattle.std.proofs.Common.{◌≡◌, refl}
-use Rattle.std.specs.Option.{option_map}
-use Rattle.erl_term.specs.Value.{Value, Values}
-use Rattle.erl_term.specs.Value.Values.{no_values, value}
+-- Rows of another number of terms.
+use Rattle.std.proofs.Common.{◌≡◌, ◌+◌, List, [], ◌∷◌, length, Option, None, refl}
+use Rattle.erl_term.specs.Term.{Term}
+use Rattle.erl_term.specs.Value.{members_of}
 use Rattle.rel_files.specs.Parts.{two, three, four}
 
--- one in front of two are three
-pub one_more : (v : Value) (vs : Values) → three (value v vs) ≡ option_map (λ (p : Value × Value). (v, p.0, p.1)) (two vs)
-one_more v no_values = refl
-one_more v (value w no_values) = refl
-one_more v (value w (value x no_values)) = refl
-one_more v (value w (value x (value y vs))) = refl
+pub not_two : (ts : List Term) → (length ts ≡ 2 → ⊥) → None ≡ two (members_of ts)
+not_two [] other = refl
+not_two (t ∷ []) other = refl
+not_two (t ∷ u ∷ []) other = absurd (other refl)
+not_two (t ∷ u ∷ v ∷ ts) other = refl
 
--- two in front of two are four
-pub two_more : (v w : Value) (vs : Values) → four (value v (value w vs)) ≡ option_map (λ (p : Value × Value). (v, w, p.0, p.1)) (two vs)
-two_more v w no_values = refl
-two_more v w (value x no_values) = refl
-two_more v w (value x (value y no_values)) = refl
-two_more v w (value x (value y (value z vs))) = refl
+pub not_three : (ts : List Term) → (length ts ≡ 3 → ⊥) → None ≡ three (members_of ts)
+not_three [] other = refl
+not_three (t ∷ []) other = refl
+not_three (t ∷ u ∷ []) other = refl
+not_three (t ∷ u ∷ v ∷ []) other = absurd (other refl)
+not_three (t ∷ u ∷ v ∷ w ∷ ts) other = refl
+
+pub not_four : (ts : List Term) → (length ts ≡ 4 → ⊥) → None ≡ four (members_of ts)
+not_four [] other = refl
+not_four (t ∷ []) other = refl
+not_four (t ∷ u ∷ []) other = refl
+not_four (t ∷ u ∷ v ∷ []) other = refl
+not_four (t ∷ u ∷ v ∷ w ∷ []) other = absurd (other refl)
+not_four (t ∷ u ∷ v ∷ w ∷ x ∷ ts) other = refl

@@ -1,16 +1,20 @@
 -- The release that a sketch is, where each version is one.
-use Rattle.std.proofs.Common.{◌≡◌, ℕ, ℤ, List, [], ◌∷◌, map, Some, refl, sym, ap, subst, ◌∙◌}
+use Rattle.std.proofs.Common.{◌≡◌, ℕ, ℤ, List, [], ◌∷◌, ◌++◌, map, Option, Some, refl, sym, ap, subst, ◌∙◌}
 use Rattle.std.specs.List.{AllByRecursion}
 use Rattle.std.specs.Option.{option_map, option_and_then}
 use Rattle.erl_term.specs.Value.{Values}
 use Rattle.erl_term.specs.Value.Value.{int}
 use Rattle.erl_term.specs.Value.Values.{no_values, value}
+use Rattle.rel_files.specs.declared.draft.AppDraft.{AppDraft}
+use Rattle.rel_files.specs.declared.release.RelApp.{RelApp}
 use Rattle.rel_files.specs.Name.{IsVersion}
-use Rattle.rel_files.specs.Release.{Release, Application}
+use Rattle.rel_files.specs.Release.{Release, Application, application_of}
 use Rattle.rel_files.specs.Form.{AppForm, Form, app_form_of, form_of, numbers_of}
 use Rattle.rel_files.specs.File.{HasVersions}
 use Rattle.rel_files.specs.Sketch.{text_in, app_in, apps_in, release_in}
+use Rattle.rel_files.specs.Sketched.{app_sketch_of}
 use Rattle.rel_files.proofs.Options.{mapped, chained}
+use Rattle.rel_files.proofs.Rows.{joined, viewed}
 use Rattle.rel_files.proofs.Texts.{numbers, text_in-numbers, from_text}
 use Rattle.rel_files.proofs.Shape.{app_form_sketch, form_sketch}
 
@@ -81,3 +85,17 @@ from_release f r e =
       (λ j. record { name = f.name; vsn = own.0 j; erts = runtime.0 j; apps = each.0 j }) ∙ ap form_of listed.2,
       subst HasVersions listed.2 (record { own = own.1; erts = runtime.1; apps = each.1 }),
     )
+
+-- one application more
+pub apps-more : (before after : List AppDraft) (d : AppDraft) (old new : List RelApp) (a : RelApp) (whole : Option (List Application))
+    → before ≡ d ∷ after → Some (application_of a) ≡ app_in (app_sketch_of d) → new ≡ old ++ a ∷ []
+    → option_map (λ as'. map application_of old ++ as') (apps_in (map app_sketch_of before)) ≡ whole
+    → option_map (λ as'. map application_of new ++ as') (apps_in (map app_sketch_of after)) ≡ whole
+apps-more before after d old new a whole split made grown so_far =
+    let front = map application_of old in
+    let later = apps_in (map app_sketch_of after) in
+    ap (λ (fs : List Application). option_map (λ (as' : List Application). fs ++ as') later) (viewed application_of old new a grown)
+    ∙ (sym (joined front (application_of a) later)
+    ∙ (ap (λ (o : Option Application). option_map (λ (as' : List Application). front ++ as')
+    (option_and_then (λ (b : Application). option_map (λ (bs : List Application). b ∷ bs) later) o)) made
+    ∙ (ap (λ (ds : List AppDraft). option_map (λ (as' : List Application). front ++ as') (apps_in (map app_sketch_of ds))) (sym split) ∙ so_far)))

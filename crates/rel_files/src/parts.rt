@@ -55,23 +55,21 @@ pub fn two(members: &[Term]) -> Option<(&Term, &Term)>
     ensures { option_map (λ p. (value_of p.0.now, value_of p.1.now)) result
         ≡ two (members_of members.now) }
 {
-    let (first, rest) = members.split_first()?;
-    let (second, rest) = rest.split_first()?;
-    match rest.split_first() {
-        None => Some((first, second)),
-        Some(_) => None,
+    match members {
+        [first, second] => Some((first, second)),
+        _ => None,
     }
 }
 
 /// The three terms of a row of three.
-#[tactic(auto, using(crate::proofs::Pairs::one_more))]
 pub fn three(members: &[Term]) -> Option<(&Term, &Term, &Term)>
     ensures { option_map (λ t. (value_of t.0.now, value_of t.1.now, value_of t.2.now)) result
         ≡ three (members_of members.now) }
 {
-    let (first, rest) = members.split_first()?;
-    let (second, third) = two(rest)?;
-    Some((first, second, third))
+    match members {
+        [first, second, third] => Some((first, second, third)),
+        _ => None,
+    }
 }
 
 /// The four members of a tuple of four.
@@ -87,16 +85,15 @@ pub fn four_in(term: &Term) -> Option<(&Term, &Term, &Term, &Term)>
 }
 
 /// The four terms of a row of four.
-#[tactic(auto, using(crate::proofs::Pairs::two_more))]
 pub fn four(members: &[Term]) -> Option<(&Term, &Term, &Term, &Term)>
     ensures { option_map (λ p.
         (value_of p.0.now, value_of p.1.now, value_of p.2.now, value_of p.3.now)) result
         ≡ four (members_of members.now) }
 {
-    let (first, rest) = members.split_first()?;
-    let (second, rest) = rest.split_first()?;
-    let (third, fourth) = two(rest)?;
-    Some((first, second, third, fourth))
+    match members {
+        [first, second, third, fourth] => Some((first, second, third, fourth)),
+        _ => None,
+    }
 }
 
 /// Whether it is the atom of this text.

@@ -7,8 +7,9 @@ ghost use Rattle.rel_files.specs.File.{HasFileTerm, IsReleaseTerm, IsTermFault, 
 
 use crate::draft::Draft;
 use crate::duplicates::first_twice;
+use crate::one_term::read_one_term;
 use crate::{FileFault, Rel};
-use erl_term::{Term, read_terms};
+use erl_term::Term;
 use std::alloc::Global;
 
 /// A `.rel` file: its term, and the release that this describes.
@@ -40,16 +41,10 @@ pub fn read_rel_file(alloc: Global, bytes: &[u8]) -> Result<RelFile, FileFault>
     // The term has short atoms, and few brackets are open at once when it is printed.
     ensures within { IfOk result (λ file. IsWithin 65 (value_of file.term)) }
 {
-    let mut terms = read_terms(alloc, bytes)?;
-    let Some(last) = terms.pop() else {
-        return Err(FileFault::BadShape(0));
-    };
-    if let Some(first) = terms.first() {
-        return Err(FileFault::BadShape(first.from));
-    }
-    let release = rel_of_term(alloc, &last.term, last.from)?;
+    let file = read_one_term(alloc, bytes)?;
+    let release = rel_of_term(alloc, &file.term, file.at)?;
     Ok(RelFile {
-        term: last.term,
+        term: file.term,
         release,
     })
 }

@@ -81,10 +81,7 @@ impl FileDisk {
     ) -> Result<Self, OpenError>
         ensures { IfOk result IsOpened }
     {
-        let file = open_file(host, path).map_err(|_| OpenError::CantOpen)?;
-        if file.try_lock().is_err() {
-            return Err(OpenError::InUse);
-        }
+        let file = open_locked(host, path)?;
         let bytes = read_file(alloc, &file)?;
         match MemDisk::with_bytes(alloc, &bytes, CAPACITY, LOG) {
             Ok(memory) => Ok(FileDisk::over(file, memory)),
@@ -225,6 +222,17 @@ impl Disk for FileDisk {
     }
 }
 
+// Opens a file, or makes it, and locks it.
+fn open_locked<R: Files<File = File>>(host: &R, path: &str) -> Result<File, OpenError> {
+    let Ok(file) = open_file(host, path) else {
+        return Err(OpenError::CantOpen);
+    };
+    if file.try_lock().is_err() {
+        return Err(OpenError::InUse);
+    }
+    Ok(file)
+}
+
 // Opens a file for reads and writes, or makes it.
 fn open_file<R: Files<File = File>>(host: &R, path: &str) -> io::Result<File> {
     let found = OpenOptions::new().read(true).write(true).open(host, path);
@@ -245,8 +253,13 @@ fn make_file<R: Files<File = File>>(host: &R, path: &str) -> io::Result<File> {
         .write(true)
         .create(true)
         .open(host, path)?;
-    fs::open(host, folder_of(path))?.sync_all()?;
+    sync_folder(host, path)?;
     Ok(file)
+}
+
+// Syncs the folder of a file.
+fn sync_folder<R: Files<File = File>>(host: &R, path: &str) -> io::Result<()> {
+    fs::open(host, folder_of(path))?.sync_all()
 }
 
 // The folder of a file.

@@ -1,11 +1,11 @@
 // The options of the program.
-ghost use Rattle.std.specs.Prelude.{◌≡◌, [], map, true, IfOk, IfErr, option_map, string_bytes};
-ghost use Rattle.clap.specs.Words.{app_of, fault_of, takes, kind_of};
-ghost use Rattle.rel_host.specs.Options.{relnode, IsGiven, refusal_of};
+ghost use Rattle.std.specs.Prelude.{◌≡◌, List, [], map, true, false, IfOk, IfErr, option_map, string_bytes};
+ghost use Rattle.clap.specs.Words.{HasMatchesOf, Text, app_of, fault_of, takes, kind_of, rule_of};
+ghost use Rattle.rel_host.specs.Options.{relnode, relnode_alone, option_rule, IsGiven, refusal_of};
 ghost use Rattle.rel_host.specs.declared.options.OptionsError.TheVariants as refusal;
 
 use clap::error::ErrorKind;
-use clap::{Arg, Command};
+use clap::{Arg, ArgMatches, Command};
 use std::alloc::{AllocError, Global};
 use std::convert::AsStr;
 use thiserror::Error;
@@ -61,23 +61,42 @@ pub fn read_options<'a, S: AsStr>(alloc: Global, words: &'a [S]) -> Result<Optio
         → e ≡ OptionsError.NoMemory) }
 {
     let matches = command(alloc)?.try_get_matches_from(words)?;
-    Ok(Options {
-        store: owned(alloc, matches.get_str("store"))?,
-        root: owned(alloc, matches.get_str("root"))?,
-    })
+    Ok(options_of(alloc, &matches)?)
+}
+
+// The options that clap found.
+fn options_of(alloc: Global, matches: &ArgMatches<'_>) -> Result<Options, AllocError>
+    ensures { (words : List Text) → HasMatchesOf relnode words matches.now
+        → IfOk result (IsGiven words) }
+{
+    let store = owned(alloc, matches.get_str("store"))?;
+    let root = owned(alloc, matches.get_str("root"))?;
+    Ok(Options { store, root })
 }
 
 // The command that clap reads.
 fn command<'a>(alloc: Global) -> Result<Command<'a>, AllocError>
     ensures { IfOk result (λ command. app_of command ≡ relnode) }
 {
-    let store = Arg::new(alloc, "store").long("store");
-    let root = Arg::new(alloc, "root").long("root");
+    bare_command(alloc)
+        .arg(option(alloc, "store"))?
+        .arg(option(alloc, "root"))
+}
+
+fn bare_command<'a>(alloc: Global) -> Command<'a>
+    ensures { app_of result ≡ relnode_alone }
+{
     Command::new(alloc, "relnode")
         .no_binary_name(true)
         .disable_help_flag(true)
-        .arg(store)?
-        .arg(root)
+}
+
+// The option `--NAME VALUE`.
+fn option<'a>(alloc: Global, name: &'a str) -> Arg<'a>
+    ensures rule { rule_of result ≡ option_rule name.entry.now }
+    ensures local { result.global ≡ false }
+{
+    Arg::new(alloc, name).long(name)
 }
 
 fn owned(alloc: Global, text: Option<&str>) -> Result<Option<String>, AllocError>

@@ -24,12 +24,22 @@ fn edited<D: Disk + Drop>(alloc: Global, mut disk: D) -> Result<Vec<u8>, Fail> {
     Ok(before)
 }
 
+// The bytes of the file of a path before it is edited as a disk.
+fn edited_file(host: &HostRuntime, path: &str) -> Result<Vec<u8>, Fail> {
+    edited(host.alloc(), FileDisk::open(host, host.alloc(), path)?)
+}
+
+// The bytes of the file of a path, as a disk reads them.
+fn read_as_a_disk(host: &HostRuntime, path: &str) -> Result<Vec<u8>, Fail> {
+    let mut disk = FileDisk::open(host, host.alloc(), path)?;
+    all_bytes(host.alloc(), &mut disk)
+}
+
 #[test]
 fn a_missing_file_is_made_and_keeps_its_bytes(host: HostRuntime) -> Result<(), Fail> {
-    let alloc = host.alloc();
     let path = own_path(&host, "made")?;
-    let new = edited(alloc, FileDisk::open(&host, alloc, path.as_str())?)?;
-    let found = all_bytes(alloc, &mut FileDisk::open(&host, alloc, path.as_str())?)?;
+    let new = edited_file(&host, path.as_str())?;
+    let found = read_as_a_disk(&host, path.as_str())?;
     let in_file = fs::read(&host, path.as_str())?;
     fs::remove_file(&host, path)?;
     assert!(host; new.is_empty());

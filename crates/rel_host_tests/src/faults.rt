@@ -23,25 +23,45 @@ fn follow(alloc: Global, file: File, steps: &str) -> Result<String, Fail> {
     let memory = MemDisk::with_bytes(alloc, b"abc", 4, 1024)?;
     let mut disk = FileDisk::over(file, memory);
     let mut text = String::new(alloc);
+    push_answers(&mut text, &mut disk, steps)?;
+    push_state(alloc, &mut text, &mut disk)?;
+    Ok(text)
+}
+
+fn push_answers(text: &mut String, disk: &mut FileDisk, steps: &str) -> Result<(), Fail> {
     for name in steps.split(' ') {
+        let is_ok = step(disk, name).is_ok();
         text.push_str(name)?;
-        text.push_str(if step(&mut disk, name).is_ok() {
-            " ok, "
-        } else {
-            " failed, "
-        })?;
+        text.push_str(if is_ok { " ok, " } else { " failed, " })?;
     }
+    Ok(())
+}
+
+fn push_state(alloc: Global, text: &mut String, disk: &mut FileDisk) -> Result<(), Fail> {
     let failures = disk.failures();
-    let bytes = all_bytes(alloc, &mut disk)?;
+    let bytes = all_bytes(alloc, disk)?;
     let bytes = String::from_utf8_lossy(alloc, &bytes)?;
     write!(text, "{failures} failures, {bytes}")?;
-    Ok(text)
+    Ok(())
 }
 
 // A file that takes a sync, and no write or cut, since it is open for reads alone.
 fn read_only(host: &HostRuntime, path: &str) -> Result<File, Fail> {
     fs::write(host, path, "abc")?;
     Ok(File::open(host, path)?)
+}
+
+// A file that takes all.
+fn read_and_written(host: &HostRuntime, path: &str) -> Result<File, Fail> {
+    fs::write(host, path, "abc")?;
+    Ok(OpenOptions::new().read(true).write(true).open(host, path)?)
+}
+
+// What stands in a file, which is removed.
+fn taken_away(host: &HostRuntime, path: &str) -> Result<String, Fail> {
+    let text = fs::read_to_string(host, path)?;
+    fs::remove_file(host, path)?;
+    Ok(text)
 }
 
 // A file that takes nothing.
@@ -54,8 +74,7 @@ fn after_a_failed_write_all_fails(host: HostRuntime) -> Result<(), Fail> {
     let path = own_path(&host, "write")?;
     let file = read_only(&host, path.as_str())?;
     let found = follow(host.alloc(), file, "sync write write cut sync")?;
-    let kept = fs::read_to_string(&host, path.as_str())?;
-    fs::remove_file(&host, path)?;
+    let kept = taken_away(&host, path.as_str())?;
     assert_eq!(host;
         found.as_str(),
         "sync ok, write failed, write failed, cut failed, sync failed, 4 failures, Xbc"
@@ -95,14 +114,9 @@ fn after_a_failed_sync_all_fails(host: HostRuntime) -> Result<(), Fail> {
 #[test]
 fn a_call_without_room_leaves_the_file_alone(host: HostRuntime) -> Result<(), Fail> {
     let path = own_path(&host, "room")?;
-    fs::write(&host, path.as_str(), "abc")?;
-    let file = OpenOptions::new()
-        .read(true)
-        .write(true)
-        .open(&host, path.as_str())?;
+    let file = read_and_written(&host, path.as_str())?;
     let found = follow(host.alloc(), file, "long write sync")?;
-    let kept = fs::read_to_string(&host, path.as_str())?;
-    fs::remove_file(&host, path)?;
+    let kept = taken_away(&host, path.as_str())?;
     assert_eq!(host;
         found.as_str(),
         "long failed, write ok, sync ok, 1 failures, Xbc"

@@ -1,11 +1,13 @@
 -- The new libraries of a release complete those of a list.
-use Rattle.std.proofs.Common.{◌≡◌, ℕ, Bool, true, false, cond, List, [], ◌∷◌, Option, Some, None, is_some, refl, sym, ap, subst, ◌∙◌, find}
+use Rattle.std.proofs.Common.{◌≡◌, ℕ, ◌+◌, ◌<◌, ◌++◌, length, map, drop, get_or, append_assoc, Bool, true, false, cond, List, [], ◌∷◌, Option, Some, None, is_some, refl, sym, ap, subst, ◌∙◌, find}
 use Rattle.std.specs.Prelude.{not, if◌then◌else◌}
 use Rattle.std.specs.List.{AllByRecursion}
 use Rattle.std.specs.Option.{option_map, option_and_then, unwrap_or}
 use Rattle.std.specs.Str.{bytes_eq}
 use Rattle.std.proofs.lemmas.Slice.Eq.{bytes_eq-Decides}
-use Rattle.rel_files.specs.Release.{Application}
+use Rattle.std.proofs.lemmas.List.{drop_more}
+use Rattle.rel_files.specs.Release.{Application, application_of}
+use Rattle.rel_files.specs.declared.release.RelApp.{RelApp}
 use Rattle.rel_files.proofs.Options.{both, chained, mapped}
 use Rattle.library.specs.Library.{Library, AreLibrariesOf, IsLibrary, agrees, is_at, library_at}
 use Rattle.rel_list.specs.Releases.{Releases, first_different, libraries_named, library_in}
@@ -44,6 +46,24 @@ found_passes test (k ∷ ls) l is = go (test k) refl (found_passes test ls l) is
 -- what stands behind the library of an application
 abbrev behind_library : Releases → List Application → Library × List Library → Option (List Library)
 behind_library es apps n = option_map (λ (ks : List Library). n.0 ∷ ks) (completed es apps n.1)
+
+-- one application more, of which the library is this one
+joined : (front : List Library) (l : Library) (o : Option (List Library))
+    → option_map (λ more. front ++ more) (option_map (λ ks. l ∷ ks) o) ≡ option_map (λ more. (front ++ l ∷ []) ++ more) o
+joined front l None = refl
+joined front l (Some more) = ap Some (sym (append_assoc front (l ∷ []) more))
+
+pub completed_more : (es : Releases) (apps : List RelApp) (i : ℕ) (app : RelApp) (old new : List Library) (l : Library) (rest left : List Library) (whole : Option (List Library))
+    → i < length apps → app ≡ get_or apps i app → Some (l, left) ≡ next_library es (application_of app) rest → new ≡ old ++ l ∷ []
+    → option_map (λ more. old ++ more) (completed es (map application_of (drop i apps)) rest) ≡ whole
+    → option_map (λ more. new ++ more) (completed es (map application_of (drop (i + 1) apps)) left) ≡ whole
+completed_more es apps i app old new l rest left whole within at found grown so_far =
+    let later : List Application = map application_of (drop (i + 1) apps) in
+    let split : drop i apps ≡ app ∷ drop (i + 1) apps = drop_more apps i app within ∙ ap (λ (a : RelApp). a ∷ drop (i + 1) apps) (sym at) in
+    ap (λ (front : List Library). option_map (λ (more : List Library). front ++ more) (completed es later left)) grown
+    ∙ (sym (joined old l (completed es later left))
+    ∙ (ap (λ (n : Option (Library × List Library)). option_map (λ (more : List Library). old ++ more) (option_and_then (behind_library es later) n)) found
+    ∙ (ap (λ (as' : List RelApp). option_map (λ (more : List Library). old ++ more) (completed es (map application_of as') rest)) (sym split) ∙ so_far)))
 
 -- The libraries of a node's first release are all new.
 pub completed_first : (apps : List Application) (ls : List Library) → AreLibrariesOf apps ls → completed [] apps ls ≡ Some ls

@@ -8,4 +8,5 @@ pub mod Within
 pub mod TermLemmas
 pub mod RecordLaws
 pub mod EventRecords
+pub mod Characters
 pub mod WritingLemmas

@@ -1,8 +1,8 @@
 // The bodies of the records that commands write.
-ghost use Rattle.std.specs.Prelude.{◌≡◌, map, codes, string_bytes, None, IfOk, OnOk};
+ghost use Rattle.std.specs.Prelude.{◌≡◌, map, codes, pos, string_bytes, None, IfOk, OnOk};
 ghost use Rattle.erl_term.specs.OneTerm.{HasTerm};
 ghost use Rattle.erl_term.specs.Value.{Value, members_of, value_of};
-ghost use Rattle.erl_term.specs.Value.Value.{atom};
+ghost use Rattle.erl_term.specs.Value.Value.{atom, int};
 ghost use Rattle.erl_term.specs.Within.{IsWithin};
 ghost use Rattle.rel_files.specs.File.{IsReleaseTerm};
 ghost use Rattle.rel_files.specs.Form.{list_of, numbers_term, numbers_of};
@@ -190,9 +190,15 @@ fn version_term(alloc: Global, vsn: &str) -> Result<Term, AllocError>
     let bytes = vsn.as_bytes();
     let mut characters = Vec::new(alloc);
     for byte in bytes {
-        characters.push(Term::Int(i64::from(*byte)))?;
+        characters.push(character_term(*byte))?;
     }
     Ok(list_term(characters))
+}
+
+fn character_term(byte: u8) -> Term
+    ensures { value_of result ≡ int (pos byte) }
+{
+    Term::Int(i64::from(byte))
 }
 
 fn list_term(members: Vec<Term>) -> Term

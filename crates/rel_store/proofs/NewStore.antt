@@ -5,16 +5,17 @@ use Rattle.std.specs.Int.{w64, from_be_bytes, to_be_bytes}
 use Rattle.std.proofs.lemmas.Bool.{cases_eq}
 use Rattle.std.proofs.lemmas.Bool.Decides.{nat_tests}
 use Rattle.std.proofs.lemmas.List.{take_at, drop_at, drop-drop, length-replicate}
-use Rattle.rel_disk.specs.Damage.{overwritten, Torn, Only}
+use Rattle.rel_disk.specs.Damage.{overwritten, Torn, Only, Within}
 use Rattle.rel_disk.specs.Moments.{LeavesOnly}
 use Rattle.rel_disk.proofs.Moments.{joined, weakened}
-use Rattle.rel_store.specs.Creation.{IsNoneOrNew, IsBegunAt, new_store}
+use Rattle.rel_store.specs.Creation.{IsNoneOrNew, IsBegunAt, Creates, new_store}
 use Rattle.rel_store.specs.Layout.{magic, has_magic, base_slot, base_of, text_of, slot_with, new_layout}
 use Rattle.rel_store.specs.Moments.{IsTornFrom}
 use Rattle.rel_store.specs.Records.{record_bytes, records_from, records_of, Stands}
 use Rattle.rel_store.specs.declared.error.StoreError.TheVariants.{NotAStore, Damaged}
 use Rattle.rel_store.specs.Changed.{IsInNewStore}
 use Rattle.rel_store.proofs.Append.{one}
+use Rattle.rel_store.proofs.Moments.{touched}
 use Rattle.rel_store.proofs.Ownership.{Owns, one_write, two_writes}
 use Rattle.rel_store.proofs.ReadLemmas.{length-record}
 use Rattle.rel_store.proofs.Whole.{Head, readable, stands, grown}
@@ -146,22 +147,6 @@ module _ (start : List ℕ) (few : length start ≤ 127) where
         let whole : c ≡ byte.0 ∷ ((bytes ++ is.0) ++ from.tail) = from.is ∙ ap (λ (l : List ℕ). l ++ ((bytes ++ is.0) ++ from.tail)) byte.1 in
         subst (IsNoneOrNew first start) (sym whole) (any_gate byte.0 ((bytes ++ is.0) ++ from.tail) (is.0 ++ from.tail) (append_assoc bytes is.0 from.tail ∙ behind bytes (is.0 ++ from.tail) spelled))
 
-    -- once it is opened, the new store stands over what there was
-    pub opened_over : (old closed laid bytes opened : List ℕ) → bytes ≡ new_layout start ++ (1 ∷ (record_bytes first ++ 0 ∷ [])) → closed ≡ overwritten 0 (0 ∷ []) old → laid ≡ overwritten 1 bytes closed
-        → opened ≡ overwritten 0 (1 ∷ []) laid → opened ≡ overwritten 0 (new_store first start) old
-    opened_over old closed laid bytes opened spelled is written opens =
-        let here : laid ≡ 0 ∷ (bytes ++ drop (1 + length bytes) (0 ∷ drop 1 old)) = written ∙ ap (overwritten 1 bytes) is in
-        opens
-        ∙ ap (overwritten 0 (1 ∷ [])) here
-        ∙ ap (λ (l : List ℕ). 1 ∷ (bytes ++ l)) rest
-        ∙ ap (λ (l : List ℕ). overwritten 0 (1 ∷ l) old) spelled
-      where
-        rest : drop (1 + length bytes) (0 ∷ drop 1 old) ≡ drop (0 + length (1 ∷ bytes)) old
-        rest =
-            let first : 1 + length bytes ≡ suc (length bytes) = omega arith in
-            let whole : 1 + length bytes ≡ 0 + length (1 ∷ bytes) = omega arith in
-            ap (λ n. drop n (0 ∷ drop 1 old)) first ∙ drop-drop (length bytes) 1 old ∙ ap (λ n. drop n old) whole
-
     -- A creation whose first write is done: where it stands in the second write, and in the third.
     module _ {D : Type 0} (moment : D → ℕ) (left_since : D → ℕ → List ℕ → Type 0) (seen : D → List ℕ) (may_leave : D → List ℕ → Type 0) (old at : D)
         (until : LeavesOnly moment left_since old at (IsTornFrom (may_leave old) 0 1)) (closed : seen at ≡ overwritten 0 (0 ∷ []) (seen old)) (synced : Only (seen at) (may_leave at)) where
@@ -197,3 +182,31 @@ module _ (start : List ℕ) (few : length start ≤ 127) where
                 (weakened moment left_since laid new _ _ (gate_leaves (seen laid) bytes (may_leave laid) spelled (laid_out (seen at) (seen old) (seen laid) bytes closed written) durable) third);
             others = two_writes moment left_since seen may_leave (IsInNewStore (length first)) at laid synced 1 (length bytes) (own_bytes bytes spelled) second bytes refl written durable new 0 1 (λ i from within. omega (arith, within)) third;
           }
+
+-- Once the gate is opened, the store stands over what there was.
+pub opened_over : (old closed laid bytes opened : List ℕ) → closed ≡ overwritten 0 (0 ∷ []) old → laid ≡ overwritten 1 bytes closed → opened ≡ overwritten 0 (1 ∷ []) laid → opened ≡ overwritten 0 (1 ∷ bytes) old
+opened_over old closed laid bytes opened is written opens =
+    let here : laid ≡ 0 ∷ (bytes ++ drop (1 + length bytes) (0 ∷ drop 1 old)) = written ∙ ap (overwritten 1 bytes) is in
+    opens ∙ ap (overwritten 0 (1 ∷ [])) here ∙ ap (λ (l : List ℕ). 1 ∷ (bytes ++ l)) rest
+  where
+    rest : drop (1 + length bytes) (0 ∷ drop 1 old) ≡ drop (0 + length (1 ∷ bytes)) old
+    rest =
+        let first : 1 + length bytes ≡ suc (length bytes) = omega arith in
+        let whole : 1 + length bytes ≡ 0 + length (1 ∷ bytes) = omega arith in
+        ap (λ n. drop n (0 ∷ drop 1 old)) first ∙ drop-drop (length bytes) 1 old ∙ ap (λ n. drop n old) whole
+
+-- A creation that has read the disk before it writes.
+module _ {D : Type 0} (moment : D → ℕ) (left_since : D → ℕ → List ℕ → Type 0) (seen : D → List ℕ) (may_leave : D → List ℕ → Type 0) (first start : List ℕ) (old mid new : D)
+    (reads : LeavesOnly moment left_since old mid (may_leave old)) (within : Within (may_leave old) (may_leave mid)) (same : seen mid ≡ seen old) where
+  pub begun_after_reading : (at : D) → IsBegunAt seen may_leave moment left_since first start mid new at → IsBegunAt seen may_leave moment left_since first start old new at
+  begun_after_reading at begun = record {
+    until = touched moment left_since may_leave old mid at reads within begun.until;
+    closed = begun.closed ∙ ap (overwritten 0 (0 ∷ [])) same;
+    synced = begun.synced;
+    from = begun.from;
+    others = begun.others;
+  }
+
+  pub creates_after_reading : Creates seen may_leave moment left_since first start mid new → Creates seen may_leave moment left_since first start old new
+  creates_after_reading (inl until) = inl (touched moment left_since may_leave old mid new reads within until)
+  creates_after_reading (inr (at, begun)) = inr (at, begun_after_reading at begun)

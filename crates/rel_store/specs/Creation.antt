@@ -1,5 +1,5 @@
 -- What a creation of a store leaves.
-use Rattle.std.specs.Prelude.{◌≡◌, ◌⊎◌, ℕ, true, false, List, [], ◌∷◌, ◌++◌, length, Err}
+use Rattle.std.specs.Prelude.{◌≡◌, ◌⊎◌, ◌≤◌, ℕ, true, false, List, [], ◌∷◌, ◌++◌, length, Err}
 use Rattle.rel_disk.specs.Damage.{overwritten, Only}
 use Rattle.rel_disk.specs.Moments.{LeavesOnly, HasFailed}
 use Rattle.rel_store.specs.Changed.{LeavesOthers, IsInNewStore}
@@ -17,6 +17,12 @@ IsNoneOrNew first start bytes = (records_of bytes ≡ Err NotAStore) ⊎ Stands 
 -- the bytes of a new store: its layout, its record behind an open gate, and a closed gate
 abbrev pub new_store : List ℕ → List ℕ → List ℕ
 new_store first start = 1 ∷ (new_layout start ++ (1 ∷ (record_bytes first ++ 0 ∷ [])))
+
+-- these are the bytes of a new store behind its gate, of a start text and a record that are no longer than they may be
+pub record IsBehindGate (first start bytes : List ℕ) : Type 0 where
+  pub few : length start ≤ 127
+  pub short : length first ≤ 16777216
+  pub spelled : bytes ≡ new_layout start ++ (1 ∷ (record_bytes first ++ 0 ∷ []))
 
 -- Nothing has been written: the bytes are as they were, and no crash leaves anything that none before would have left.
 pub record IsUnwritten {D : Type 0} (seen : D → List ℕ) (may_leave : D → List ℕ → Type 0) (moment : D → ℕ) (left_since : D → ℕ → List ℕ → Type 0) (old new : D) : Type 0 where

@@ -61,14 +61,23 @@ pub(crate) fn spell_store(alloc: Global, first: &[u8], start: &[u8]) -> Result<V
         (λ bytes. bytes.items ≡ new_layout start.now ++ (1 ∷ (record_bytes first.now ++ 0 ∷ []))) }
 {
     let mut bytes = Vec::with_capacity(alloc, SHORTEST + RECORD_HEAD + first.len())?;
-    bytes.extend_from_slice(&MAGIC)?;
-    bytes.extend_from_slice(&[0; 7])?;
-    bytes.extend_from_slice(&start_slot(start))?;
-    bytes.extend_from_slice(&[0; 128])?;
-    bytes.extend_from_slice(&FIRST_RECORD.to_be_bytes())?;
-    bytes.extend_from_slice(&[0; 8])?;
+    push_layout(&mut bytes, start)?;
     push_record(&mut bytes, first)?;
     Ok(bytes)
+}
+
+// Appends the layout of a new store, which is what stands between its gate and its first record.
+fn push_layout(buffer: &mut Vec<u8>, start: &[u8]) -> Result<(), AllocError>
+    requires { length start.now ≤ 127 }
+    ensures { OnOk result (buffer.new.items ≡ buffer.old.items ++ new_layout start.now) }
+{
+    buffer.extend_from_slice(&MAGIC)?;
+    buffer.extend_from_slice(&[0; 7])?;
+    buffer.extend_from_slice(&start_slot(start))?;
+    buffer.extend_from_slice(&[0; 128])?;
+    buffer.extend_from_slice(&FIRST_RECORD.to_be_bytes())?;
+    buffer.extend_from_slice(&[0; 8])?;
+    Ok(())
 }
 
 // A start slot with this text.

@@ -1,8 +1,8 @@
 // A store is made.
-ghost use Rattle.std.specs.Prelude.{◌≡◌, ◌+◌, ◌≤◌, [], ◌∷◌, map, true, length, IfOk, IfErr, OnOk, IsErr};
+ghost use Rattle.std.specs.Prelude.{◌≡◌, ℕ, List, ◌+◌, ◌≤◌, [], ◌∷◌, map, true, length, IfOk, IfErr, OnOk, IsErr};
 ghost use Rattle.rel_disk.specs.Damage.{overwritten, Only, Within};
 ghost use Rattle.rel_disk.specs.Moments.{LeavesOnly, HasFailed};
-ghost use Rattle.rel_store.specs.Creation.{new_store, IsBegunAt, Creates, IsUnwritten, CreationRefused};
+ghost use Rattle.rel_store.specs.Creation.{new_store, IsBehindGate, IsBegunAt, Creates, IsUnwritten, CreationRefused};
 ghost use Rattle.rel_store.specs.Layout.{has_magic, slot_with};
 ghost use Rattle.rel_store.specs.State.{disk_in, disk_of, end_in, records_in, text_in, Fits, IsSettled, IsSoundStore};
 
@@ -101,10 +101,27 @@ fn lay_out<D: Disk>(
     }
     let bytes = spell_store(alloc, first, start)?;
     let records = only_record(alloc, first)?;
-    write_through(disk, 0, &[CLOSED])?;
-    write_through(disk, 1, &bytes)?;
-    write_through(disk, 0, &[OPEN])?;
+    write_store(disk, &bytes)?;
     Ok(records)
+}
+
+// Writes a store whose bytes behind its gate are these: closes the gate, writes them, and opens it.
+fn write_store<D: Disk>(disk: &mut D, bytes: &[u8]) -> Result<(), DeviceFault>
+    ensures written { OnOk result
+        (D.seen disk.new ≡ overwritten 0 (1 ∷ bytes.now) (D.seen disk.old)) }
+    ensures durable { OnOk result (Only (D.seen disk.new) (D.may_leave disk.new)) }
+    ensures any_moment { (first : List ℕ) → (start : List ℕ) → IsBehindGate first start bytes.now
+        → Creates D.seen D.may_leave D.moment D.left_since first start disk.old disk.new }
+    ensures begun { OnOk result
+        ((first : List ℕ) → (start : List ℕ) → IsBehindGate first start bytes.now
+        → (at : D)
+        × IsBegunAt D.seen D.may_leave D.moment D.left_since first start disk.old disk.new at) }
+    ensures counted { D.failures disk.old ≤ D.failures disk.new }
+    ensures cause { IsErr result → HasFailed (D.failures disk.old) (D.failures disk.new) }
+{
+    write_through(disk, 0, &[CLOSED])?;
+    write_through(disk, 1, bytes)?;
+    write_through(disk, 0, &[OPEN])
 }
 
 /// Whether the disk begins as one with a store does, with an open gate and the magic, whole or damaged: [`Store::create`]

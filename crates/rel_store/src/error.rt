@@ -4,32 +4,50 @@ ghost use Rattle.rel_store.specs.declared.error.StoreError.TheVariants.{Device, 
 
 use rel_disk::DeviceFault;
 use std::alloc::{AllocError, AllocFailed};
+use std::fmt::{self, Display, Formatter};
 use thiserror::Error;
 
 /// A refusal. Each call says which of them it can answer, and what stands after it.
 #[derive(Clone, Copy, Debug, PartialEq, Eq, Error)]
 pub enum StoreError {
     /// The disk has fewer than 289 bytes, or doesn't begin with an open gate and the magic.
-    #[error("the disk is no store")]
     NotAStore,
     /// The place of a base slot that tells no place of a record, or of the open gate of a record that isn't whole.
-    #[error("the store is damaged at {0}")]
     Damaged(u64),
     /// A store stands on the disk already.
-    #[error("the disk is a store already")]
     Exists,
     /// The store would end past 67,108,864 bytes, or the body is longer than 16,777,216.
-    #[error("the store is full")]
     Full,
     /// The device failed in this call.
-    #[error("the device failed")]
     Device,
     /// Memory was refused.
-    #[error("out of memory")]
     NoMemory,
     /// The device failed in an earlier call, and the store has to be opened again.
-    #[error("the store must be opened again")]
     MustReopen,
+}
+
+impl StoreError {
+    // What is shown of it, without a place.
+    fn text(self) -> &'static str {
+        match self {
+            StoreError::NotAStore => "the disk is no store",
+            StoreError::Damaged(_) => "the store is damaged",
+            StoreError::Exists => "the disk is a store already",
+            StoreError::Full => "the store is full",
+            StoreError::Device => "the device failed",
+            StoreError::NoMemory => "out of memory",
+            StoreError::MustReopen => "the store must be opened again",
+        }
+    }
+}
+
+impl Display for StoreError {
+    fn fmt<W: fmt::Write>(&self, f: &mut Formatter<W>) -> fmt::Result {
+        match self {
+            StoreError::Damaged(at) => write!(f, "{} at {at}", self.text()),
+            _ => f.write_str(self.text()),
+        }
+    }
 }
 
 impl From<DeviceFault> for StoreError {

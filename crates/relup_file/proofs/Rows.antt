@@ -44,6 +44,16 @@ row_more {A} {B} f view items i item old new x all within at read grown so_far =
     ∙ (sym (one_more f (map view old) (view x) (value_of item) (members_of (drop (i + 1) items)) read)
     ∙ (ap (λ (ts : List Term). option_map (λ (rest : List B). map view old ++ rest) (all_in f (members_of ts))) (sym split) ∙ so_far))
 
+-- of the next nothing is read
+pub row_none : {A B : Type 0} (f : Value → Option B) (view : A → B) (items : List Term) (i : ℕ) (item : Term) (old : List A) (all : Option (List B))
+    → i < length items → item ≡ get_or items i item → None ≡ f (value_of item)
+    → option_map (λ rest. map view old ++ rest) (all_in f (members_of (drop i items))) ≡ all → None ≡ all
+row_none {A} {B} f view items i item old all within at none so_far =
+    let later : Values = members_of (drop (i + 1) items) in
+    let split : drop i items ≡ item ∷ drop (i + 1) items = drop_more items i item within ∙ ap (λ (t : Term). t ∷ drop (i + 1) items) (sym at) in
+    (λ j. option_map (λ (rest : List B). map view old ++ rest) (option_and_then (λ (b : B). option_map (λ (bs : List B). b ∷ bs) (all_in f later)) (none j)))
+    ∙ (ap (λ (ts : List Term). option_map (λ (rest : List B). map view old ++ rest) (all_in f (members_of ts))) (sym split) ∙ so_far)
+
 -- no step is left
 pub row_all : {A B : Type 0} (f : Value → Option B) (view : A → B) (items : List Term) (i : ℕ) (read : List A) → length items ≤ i
     → option_map (λ rest. map view read ++ rest) (all_in f (members_of (drop i items))) ≡ all_in f (members_of items)

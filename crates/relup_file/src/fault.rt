@@ -8,7 +8,7 @@ use std::alloc::{AllocError, AllocFailed};
 use std::fmt::{self, Display, Formatter};
 
 /// What is wrong with a relup file. It is shown by its name, and by its place or its entry.
-#[derive(Clone, Copy, Debug, PartialEq, Eq)]
+#[derive(Clone, Copy, Debug)]
 pub enum RelupFault {
     /// It is no row of terms.
     BadTerm(TermFault),

@@ -3,14 +3,14 @@
 use erl_term::Term;
 
 /// Whether a script leads to a higher release or back to a lower one.
-#[derive(Clone, Copy, Debug, PartialEq, Eq)]
+#[derive(Clone, Copy, Debug)]
 pub enum Direction {
     Up,
     Down,
 }
 
 /// How long a process is given to be suspended.
-#[derive(Clone, Copy, Debug, PartialEq, Eq)]
+#[derive(Clone, Copy, Debug)]
 pub enum Timeout {
     Default,
     Infinity,
@@ -19,7 +19,7 @@ pub enum Timeout {
 }
 
 /// How processes that run old code are purged.
-#[derive(Clone, Copy, Debug, PartialEq, Eq)]
+#[derive(Clone, Copy, Debug)]
 pub enum PurgeMode {
     /// `soft_purge`
     Soft,
@@ -28,7 +28,7 @@ pub enum PurgeMode {
 }
 
 /// `{App, Vsn, [Mod]}`: modules of a library.
-#[derive(Debug, PartialEq, Drop)]
+#[derive(Debug, Drop)]
 pub struct Fetch {
     pub app: String,
     pub vsn: String,
@@ -36,14 +36,14 @@ pub struct Fetch {
 }
 
 /// `Mod` or `{Mod, Timeout}`.
-#[derive(Debug, PartialEq, Drop)]
+#[derive(Debug, Drop)]
 pub struct Suspension {
     pub name: String,
     pub timeout: Option<Timeout>,
 }
 
 /// `{Mod, PrePurge, PostPurge}`.
-#[derive(Debug, PartialEq, Drop)]
+#[derive(Debug, Drop)]
 pub struct Purging {
     pub name: String,
     pub pre: PurgeMode,
@@ -51,21 +51,21 @@ pub struct Purging {
 }
 
 /// `{Mod, Extra}`.
-#[derive(Debug, PartialEq, Drop)]
+#[derive(Debug, Drop)]
 pub struct Change {
     pub name: String,
     pub extra: Term,
 }
 
 /// `Mode, [{Mod, Extra}]`; where no mode is written it is up.
-#[derive(Debug, PartialEq, Drop)]
+#[derive(Debug, Drop)]
 pub struct Conversion {
     pub mode: Option<Direction>,
     pub changes: Vec<Change>,
 }
 
 /// `{M, F, A}`.
-#[derive(Debug, PartialEq, Drop)]
+#[derive(Debug, Drop)]
 pub struct Call {
     pub name: String,
     pub function: String,
@@ -73,7 +73,7 @@ pub struct Call {
 }
 
 /// An instruction of a script.
-#[derive(Debug, PartialEq, Drop)]
+#[derive(Debug, Drop)]
 pub enum Instr {
     LoadObjectCode(Fetch),
     PointOfNoReturn,

@@ -12,7 +12,7 @@ use erl_term::{Term, read_terms};
 use std::alloc::Global;
 
 /// A relup file: its term, and the relup that this says.
-#[derive(Debug, PartialEq, Drop)]
+#[derive(Drop)]
 pub struct RelupFile {
     pub term: Term,
     pub relup: Relup,

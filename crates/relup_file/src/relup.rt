@@ -3,7 +3,7 @@ use crate::Instr;
 use erl_term::Term;
 
 /// The script between a release and another one.
-#[derive(Debug, PartialEq, Drop)]
+#[derive(Drop)]
 pub struct RelupEntry {
     /// The version of the other release.
     pub vsn: String,
@@ -14,7 +14,7 @@ pub struct RelupEntry {
 }
 
 /// What a relup file says.
-#[derive(Debug, PartialEq, Drop)]
+#[derive(Drop)]
 pub struct Relup {
     /// The version of the release that the file belongs to.
     pub vsn: String,

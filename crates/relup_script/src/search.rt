@@ -10,7 +10,7 @@ use relup_file::{Direction, Instr, Relup, RelupEntry};
 use std::fmt::{self, Display, Formatter};
 
 /// No relup has a script between two releases. It is shown by its name.
-#[derive(Clone, Copy, Debug, PartialEq, Eq)]
+#[derive(Clone, Copy, Debug)]
 pub struct NoMatchingRelup;
 
 impl Display for NoMatchingRelup {

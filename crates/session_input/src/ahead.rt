@@ -14,7 +14,7 @@ const ROOM: usize = 8192;
 pub const MOST_BYTES: usize = 16_777_216;
 
 /// The bytes that were taken from a reader and not used yet, and how many were taken in all.
-#[derive(Debug, Drop)]
+#[derive(Drop)]
 pub struct Ahead {
     room: Vec<u8>,
     start: usize,

@@ -2,7 +2,7 @@
 use crate::given::GivenFile;
 
 /// A command of a session. Paths and versions are texts, which are compared byte by byte.
-#[derive(Debug, Drop)]
+#[derive(Drop)]
 pub enum Command {
     /// Gives the file of a path, in place of one that was given before.
     File(String, GivenFile),

@@ -9,7 +9,7 @@ use std::alloc::Global;
 pub const MOST_FILE: usize = 1_048_576;
 
 /// A file as it is given in a session.
-#[derive(Debug, Drop)]
+#[derive(Drop)]
 pub enum GivenFile {
     /// All its bytes.
     Bytes(Vec<u8>),

@@ -12,7 +12,7 @@ use std::alloc::Global;
 use std::io::Read;
 
 /// The input of a session: a reader, of which at most 16,777,216 bytes are taken.
-#[derive(Debug, Drop)]
+#[derive(Drop)]
 pub struct Input<R> {
     reader: CountedReader<R>,
     ahead: Ahead,

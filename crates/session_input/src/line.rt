@@ -4,7 +4,7 @@ ghost use Rattle.std.specs.Prelude.{◌≡◌, ◌≤◌, ℕ, List, [], ◌∷�
 use crate::error::SessionError;
 
 /// A line of the input, without its newline.
-#[derive(Debug, Drop)]
+#[derive(Drop)]
 pub enum Line {
     /// All its bytes.
     Text(Vec<u8>),

@@ -1,5 +1,5 @@
 //! What a line says where a command may stand.
-ghost use Rattle.std.specs.Prelude.{◌≡◌, ℕ, List, map, string_bytes, IfOk, MatchOption};
+ghost use Rattle.std.specs.Prelude.{◌≡◌, ℕ, List, map, string_bytes, IfOk};
 ghost use Rattle.std.specs.List.{list_all};
 ghost use Rattle.std.specs.Option.{option_map};
 ghost use Rattle.session_input.specs.Commands.{command_of, is_blank as blank, is_path, path_in as path_within, path_of, paths_of, relup_of, version_in as version_of, change_named as named_change};
@@ -14,7 +14,7 @@ use std::alloc::{AllocError, Global};
 pub const MOST_LINE: usize = 4_096;
 
 /// What a line says where a command may stand.
-#[derive(Debug, Drop)]
+#[derive(Drop)]
 pub enum ParsedLine {
     /// It is blank.
     Blank,
@@ -26,9 +26,9 @@ pub enum ParsedLine {
 
 impl ParsedLine {
     ghost use Rattle.session_input.specs.ParsedLine.{parsed_line_of};
-    ghost use Rattle.session_input.specs.Commands.{parse_line, parse_words, parse_command, parse_path_command, parse_relup, parse_change, without_words, command_of, words_of, most_line};
-    ghost use Rattle.session_input.specs.Commands.Command.{bad};
-    ghost use Rattle.session_input.specs.Commands.ParsedLine.{whole_command};
+    ghost use Rattle.session_input.specs.Commands.{parse_line, parse_words, parse_command, parse_path_command, parse_relup, parse_change, without_words, with_word, command_of, words_of, most_line};
+    ghost use Rattle.session_input.specs.Commands.Command.{create, set_unpacked};
+    ghost use Rattle.session_input.specs.Commands.ParsedLine.{file_begins, whole_command};
     ghost use Rattle.session_input.specs.Lines.{IsKept};
 
     /// What the line says. One that is too long says no command.
@@ -85,17 +85,47 @@ impl ParsedLine {
             ≡ parse_path_command word.now (map (λ word. word.now) words.now)) }
     {
         match word {
-            "file" => match path_in(alloc, words)? {
-                Some(path) => Ok(ParsedLine::FileBegins(path)),
-                None => Ok(ParsedLine::Command(Command::Bad)),
-            },
-            "create" => Ok(ParsedLine::of_option(path_in(alloc, words)?.map(Command::Create))),
-            "set_unpacked" => Ok(ParsedLine::of_option(path_in(alloc, words)?.map(
-                Command::SetUnpacked,
-            ))),
+            "file" => ParsedLine::of_file(alloc, words),
+            "create" => ParsedLine::of_create(alloc, words),
+            "set_unpacked" => ParsedLine::of_set_unpacked(alloc, words),
             "relup" => ParsedLine::of_relup(alloc, words),
             _ => ParsedLine::of_change(alloc, word, words),
         }
+    }
+
+    // What the word of a file says with the words behind it.
+    fn of_file(alloc: Global, words: &[&str]) -> Result<ParsedLine, AllocError>
+        ensures { IfOk result (λ parsed. parsed_line_of parsed
+            ≡ with_word (path_within (map (λ word. word.now) words.now)) file_begins) }
+    {
+        Ok(match path_in(alloc, words)? {
+            Some(path) => ParsedLine::FileBegins(path),
+            None => ParsedLine::Command(Command::Bad),
+        })
+    }
+
+    // What the word of a new node says with the words behind it.
+    fn of_create(alloc: Global, words: &[&str]) -> Result<ParsedLine, AllocError>
+        ensures { IfOk result (λ parsed. parsed_line_of parsed
+            ≡ with_word (path_within (map (λ word. word.now) words.now))
+            (λ path. whole_command (create path))) }
+    {
+        Ok(ParsedLine::Command(match path_in(alloc, words)? {
+            Some(path) => Command::Create(path),
+            None => Command::Bad,
+        }))
+    }
+
+    // What the word of a release to take in says with the words behind it.
+    fn of_set_unpacked(alloc: Global, words: &[&str]) -> Result<ParsedLine, AllocError>
+        ensures { IfOk result (λ parsed. parsed_line_of parsed
+            ≡ with_word (path_within (map (λ word. word.now) words.now))
+            (λ path. whole_command (set_unpacked path))) }
+    {
+        Ok(ParsedLine::Command(match path_in(alloc, words)? {
+            Some(path) => Command::SetUnpacked(path),
+            None => Command::Bad,
+        }))
     }
 
     // What the word of a relup's request says with the words behind it.
@@ -103,13 +133,10 @@ impl ParsedLine {
         ensures { IfOk result (λ parsed.
             parsed_line_of parsed ≡ parse_relup (map (λ word. word.now) words.now)) }
     {
-        let [new, ups, downs] = words else {
-            return Ok(ParsedLine::Command(Command::Bad));
-        };
-        let new = path_of(alloc, new)?;
-        let ups = paths_of(alloc, ups)?;
-        let downs = paths_of(alloc, downs)?;
-        Ok(ParsedLine::Command(relup_of(new, ups, downs)))
+        match words {
+            [new, ups, downs] => Ok(ParsedLine::Command(relup_in(alloc, new, ups, downs)?)),
+            _ => Ok(ParsedLine::Command(Command::Bad)),
+        }
     }
 
     // What the word of a command on a listed release says with the words behind it.
@@ -132,17 +159,6 @@ impl ParsedLine {
         match words {
             [] => ParsedLine::Command(command),
             _ => ParsedLine::Command(Command::Bad),
-        }
-    }
-
-    // A command whose words were of their kinds, or a bad one.
-    fn of_option(command: Option<Command>) -> ParsedLine
-        ensures { MatchOption command (parsed_line_of result ≡ whole_command bad)
-            (λ command. parsed_line_of result ≡ whole_command (command_of command)) }
-    {
-        match command {
-            Some(command) => ParsedLine::Command(command),
-            None => ParsedLine::Command(Command::Bad),
         }
     }
 }
@@ -218,6 +234,17 @@ fn copies(alloc: Global, texts: &[&str]) -> Result<Vec<String>, AllocError>
         copies.push(String::from_str(alloc, text)?)?;
     }
     Ok(copies)
+}
+
+// The request of a relup that these words say.
+fn relup_in(alloc: Global, new: &str, ups: &str, downs: &str) -> Result<Command, AllocError>
+    ensures { IfOk result (λ command. command_of command
+        ≡ relup_of (path_of new.now) (paths_of ups.now) (paths_of downs.now)) }
+{
+    let new = path_of(alloc, new)?;
+    let ups = paths_of(alloc, ups)?;
+    let downs = paths_of(alloc, downs)?;
+    Ok(relup_of(new, ups, downs))
 }
 
 // The request of a relup, or a bad command where one of its words was not of its kind.

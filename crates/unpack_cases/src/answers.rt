@@ -1,4 +1,5 @@
 //! The answer to a case.
+use erl_term::Term;
 use library::{Library, library_of_term};
 use rel_unpack::{ApplicationFiles, UnpackError, read_libraries, read_release};
 use std::alloc::{AllocError, Global};
@@ -53,16 +54,25 @@ fn shown(alloc: Global, read: &ApplicationFiles) -> Result<String, AllocError> {
         None => String::from_str(alloc, "ok")?,
     };
     for library in read.libraries.as_slice() {
-        let term = library.term(alloc)?;
-        match library_of_term(alloc, &term)? {
-            Some(again) if again.is_same(library) => {
-                let printed = erl_term::print(alloc, &term)?;
-                write!(text, " {printed}")?;
-            }
-            _ => text.push_str(" not read back")?,
-        }
+        push_library(alloc, &mut text, library)?;
     }
     Ok(text)
+}
+
+fn push_library(alloc: Global, text: &mut String, library: &Library) -> Result<(), AllocError> {
+    let term = library.term(alloc)?;
+    if !is_read_back(alloc, &term, library)? {
+        return text.push_str(" not read back");
+    }
+    let printed = erl_term::print(alloc, &term)?;
+    write!(text, " {printed}")
+}
+
+fn is_read_back(alloc: Global, term: &Term, library: &Library) -> Result<bool, AllocError> {
+    match library_of_term(alloc, term)? {
+        Some(again) => Ok(again.is_same(library)),
+        None => Ok(false),
+    }
 }
 
 // Whether the last library of the old files is the same as that of the new ones.

@@ -1,11 +1,11 @@
-use Rattle.std.proofs.Common.{◌≡◌, ◌∙◌, sym, subst, true}
+use Rattle.std.proofs.Common.{◌≡◌, ◌∙◌, ◌∷◌, [], refl, sym, subst, true, append-nil}
 use Rattle.std.specs.Str.{chars}
 use Rattle.std.proofs.lemmas.List.{map-id}
 use Rattle.std.proofs.lemmas.Iterator.{YieldsList-from_chars}
 use Rattle.std.proofs.lemmas.Iterator.Consumers.{YieldsList-end, YieldsList-turn}
 use Rattle.erl_reader.specs.Views.{IsAdded}
 use Rattle.erl_reader.proofs.ParserLemmas.{bytes_of-but}
-use Rattle.erl_reader.proofs.TextCharacters.{no_byte}
+use Rattle.erl_reader.proofs.TextCharacters.{no_byte, bytes_on}
 use Rattle.erl_reader.proofs.character.push_part.Goals as goal
 
 pub returns-then-not-branch-clause-added : goal.returns-then-not-branch-clause-added
@@ -19,3 +19,15 @@ returns-clause-added c =
     let done = YieldsList-end (YieldsList-from_chars c.args.part.now c.utf8.part cc) c.loop-character.yielded _ c.loop-character.yielded_by _ _ c.in-None.is c.next.ensures.steps in
     let all : c.loop-character.yielded ≡ chars c.args.part.now = sym (map-id c.loop-character.yielded) ∙ done.0 in
     subst (λ cs. IsAdded true cs c.args.bytes.now.items c.loop-character.bytes.items) all c.loop-character.invariant
+
+pub loop-character-init : goal.loop-character-init
+loop-character-init c = (refl, sym (append-nil c.args.bytes.now.items))
+
+pub loop-character-preserved : goal.loop-character-preserved
+loop-character-preserved c = bytes_on _ _ _ _ _ (c.in-Some.character ∷ []) refl c.loop-character.invariant (rw c.if-not-branch.false at c.in_ok-push_character.ensures.added)
+
+pub returns-clause-utf8 : goal.returns-clause-utf8
+returns-clause-utf8 c = c.utf8.part
+
+pub returns-then-not-branch-clause-utf8 : goal.returns-then-not-branch-clause-utf8
+returns-then-not-branch-clause-utf8 c = c.utf8.part

@@ -1,4 +1,4 @@
-use Rattle.std.proofs.Common.{◌≡◌, ℕ, ◌+◌, ◌-◌, ◌<◌, slice_get, length, List, Some, sym, ◌∙◌, ap, subst, arith, rules}
+use Rattle.std.proofs.Common.{◌≡◌, ℕ, ◌+◌, ◌-◌, ◌<◌, slice_get, length, List, Some, sym, ◌∙◌, ap, subst, arith}
 use Rattle.std.proofs.lemmas.Option.{slice_get_within}
 use Rattle.erl_token.specs.Quotes.Quoted.{faulty}
 use Rattle.erl_token.specs.Views.{text_bytes}
@@ -81,4 +81,15 @@ loop-at-preserved c =
     }
 
 pub returns-in-End : goal.returns-in-End
-returns-in-End c = open_quote c.args.quote c.args.from (text_bytes c.args.text) (content_bytes c.loop-at.content) c.loop-at.at c.loop-at.invariant.read (search rules)
+returns-in-End c = open_quote c.args.quote c.args.from (text_bytes c.args.text) (content_bytes c.loop-at.content) c.loop-at.at c.loop-at.invariant.read (sym c.in-End.ensures.byte)
+
+pub part-requires-clause-ordered : goal.part-requires-clause-ordered
+part-requires-clause-ordered c = omega (arith, c.run_end-end.ensures.end)
+
+pub part-requires-clause-begins : goal.part-requires-clause-begins
+part-requires-clause-begins c = c.loop-at.invariant.cut
+
+pub loop-at-smaller-in-Means : goal.loop-at-smaller-in-Means
+loop-at-smaller-in-Means c =
+    let within : c.loop-at.at < length (text_bytes c.args.text) = slice_get_within (text_bytes c.args.text) c.loop-at.at c.in-Byte.byte (sym c.in-Byte.ensures.byte) in
+    omega (arith, c.in-Means.ensures.ends.0)

@@ -1,6 +1,6 @@
 use Rattle.std.proofs.Common.{map, subst, sym}
 use Rattle.erl_term.specs.Value.{value_of}
-use Rattle.mod_table.proofs.RowLemmas.{viewed}
+use Rattle.rel_files.proofs.Rows.{viewed}
 use Rattle.library.specs.InMemory.{library_of, shared_of}
 use Rattle.library.specs.Reading.{SaysLibrary}
 use Rattle.library.proofs.TermRows.{reads_more, reads_all}

@@ -1,7 +1,7 @@
 use Rattle.std.proofs.Common.{◌≡◌, ◌+◌, ◌∷◌, Option, map, drop, string_bytes, sym, ap, ◌∙◌}
 use Rattle.std.specs.Option.{option_map}
 use Rattle.std.proofs.lemmas.List.{drop_more}
-use Rattle.mod_table.proofs.RowLemmas.{viewed}
+use Rattle.rel_files.proofs.Rows.{viewed}
 use Rattle.mod_table.specs.declared.reader.ModFile.{ModFile}
 use Rattle.library.specs.InMemory.{table_term_of}
 use Rattle.library.specs.Library.{TableTerm}

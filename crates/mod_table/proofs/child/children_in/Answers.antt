@@ -1,7 +1,7 @@
 use Rattle.std.proofs.Common.{map, refl}
 use Rattle.mod_table.specs.InMemory.{child_of}
 use Rattle.mod_table.specs.Children.{child_in, children_in}
-use Rattle.mod_table.proofs.RowLemmas.{ReadsEach, row_more, row_all, viewed}
+use Rattle.rel_files.proofs.Rows.{ReadsEach, row_more, row_all, viewed}
 use Rattle.mod_table.proofs.child.children_in.Goals as goal
 
 each : ReadsEach child_in children_in

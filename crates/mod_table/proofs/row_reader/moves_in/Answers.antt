@@ -1,6 +1,6 @@
 use Rattle.std.proofs.Common.{refl}
 use Rattle.mod_table.specs.Rows.{move_in, moves_in}
-use Rattle.mod_table.proofs.RowLemmas.{ReadsEach, row_more, row_all}
+use Rattle.rel_files.proofs.Rows.{ReadsEach, row_more, row_all}
 use Rattle.mod_table.proofs.row_reader.moves_in.Goals as goal
 
 each : ReadsEach move_in moves_in

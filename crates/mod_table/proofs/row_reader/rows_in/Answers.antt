@@ -1,7 +1,7 @@
 use Rattle.std.proofs.Common.{map, refl}
 use Rattle.mod_table.specs.InMemory.{row_of}
 use Rattle.mod_table.specs.Rows.{row_in, rows_in}
-use Rattle.mod_table.proofs.RowLemmas.{ReadsEach, row_more, row_all, viewed}
+use Rattle.rel_files.proofs.Rows.{ReadsEach, row_more, row_all, viewed}
 use Rattle.mod_table.proofs.row_reader.rows_in.Goals as goal
 
 each : ReadsEach row_in rows_in

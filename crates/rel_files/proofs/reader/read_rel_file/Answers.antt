@@ -1,12 +1,12 @@
-use Rattle.std.proofs.Common.{rules, ◌≡◌, ◌≢◌, ◌∙◌, ℕ, List, ◌∷◌, [], Some, None, slice_get, Result, Ok, Err, MatchResult, IfErr, IsErr, IsErrAnd, ap, subst, sym}
+use Rattle.std.proofs.Common.{◌≡◌, ◌≢◌, ◌∙◌, ℕ, List, Result, Ok, Err, MatchResult, IfErr, IsErr, IsErrAnd, subst, sym}
+use Rattle.erl_term.specs.Value.{value_of}
 use Rattle.rel_files.specs.declared.fault.FileFault.{FileFault}
 use Rattle.rel_files.specs.declared.fault.FileFault.TheVariants.{NoMemory}
 use Rattle.rel_files.specs.declared.reader.RelFile.{RelFile}
-use Rattle.rel_files.specs.Fault.{file_fault_of}
+use Rattle.rel_files.specs.Fault.{fault_of}
 use Rattle.rel_files.specs.Release.{Release, release_of}
-use Rattle.rel_files.specs.File.{IsRelFault}
-use Rattle.rel_files.proofs.Files.{tells_terms, several, says_alone}
-use Rattle.rel_files.proofs.Limits.{last_keeps_limits}
+use Rattle.rel_files.specs.File.{IsReleaseTerm, IsRelFault}
+use Rattle.rel_files.proofs.Files.{has_term, of_count, of_term}
 use Rattle.rel_files.proofs.reader.read_rel_file.Goals as goal
 
 -- an error that is passed on
@@ -20,34 +20,32 @@ tells : (result : Result RelFile FileFault) (f : FileFault) (bytes : List ℕ) �
 tells (Ok x) f bytes is fault = tt
 tells (Err g) f bytes is fault = let P : FileFault → Type 0 = λ h. h ≢ NoMemory → IsRelFault bytes h in subst P (sym is.1) fault
 
-pub returns-in_err-terms-clause-only : goal.returns-in_err-terms-clause-only
-returns-in_err-terms-clause-only c = λ r says.
-    only_memory c.from_residual.result (file_fault_of c.in_err-terms.field-0.0) r c.from_residual.ensures
-    (ap file_fault_of (c.in_err-terms.ensures.only (says.1.0 ∷ []) says.1.1))
+pub returns-in_err-file-clause-only : goal.returns-in_err-file-clause-only
+returns-in_err-file-clause-only c = λ r says.
+    only_memory c.from_residual.result c.in_err-file.field-0.0 r c.from_residual.ensures (c.in_err-file.ensures.only says.1.0 says.1.1)
 
-pub returns-in_err-terms-clause-fault : goal.returns-in_err-terms-clause-fault
-returns-in_err-terms-clause-fault c =
-    tells c.from_residual.result (file_fault_of c.in_err-terms.field-0.0) c.args.bytes.now c.from_residual.ensures
-    (tells_terms c.args.bytes.now c.in_err-terms.field-0.0 c.in_err-terms.ensures.fault)
-
-pub returns-in-Some-first-clause-only : goal.returns-in-Some-first-clause-only
-returns-in-Some-first-clause-only c = λ r says.
-    let some : Some c.in-Some-first.first.now ≡ slice_get c.pop.new.self.items 0 = search rules in
-    absurd (several c.pop.new.self.items c.in_ok-terms.terms.items _ c.in-Some.last says.1.0 some c.in-Some.ensures.items
-    (c.in_ok-terms.ensures.only (says.1.0 ∷ []) says.1.1))
+pub returns-in_err-file-clause-fault : goal.returns-in_err-file-clause-fault
+returns-in_err-file-clause-fault c =
+    let f = c.in_err-file.field-0.0 in
+    tells c.from_residual.result f c.args.bytes.now c.from_residual.ensures (λ other. of_count c.args.bytes.now (fault_of f) (c.in_err-file.ensures.fault other))
 
 pub returns-in_err-release-clause-only : goal.returns-in_err-release-clause-only
 returns-in_err-release-clause-only c = λ r says.
-    let none : None ≡ slice_get c.pop.new.self.items 0 = search rules in
-    only_memory c.from_residual-in_err-release.result c.in_err-release.field-0.0 r c.from_residual-in_err-release.ensures
-    (c.in_err-release.ensures.only r
-    (says_alone c.pop.new.self.items c.in_ok-terms.terms.items c.in-Some.last c.args.bytes.now r none c.in-Some.ensures.items c.in_ok-terms.ensures.only says))
+    let read = c.in_ok-file.ensures.only says.1.0 says.1.1 in
+    let is : IsReleaseTerm (value_of c.in_ok-file.file.term) r = subst (λ v. IsReleaseTerm v r) (sym says.1.2 ∙ sym read.1) says.2 in
+    only_memory c.from_residual-in_err-release.result c.in_err-release.field-0.0 r c.from_residual-in_err-release.ensures (c.in_err-release.ensures.only r is)
+
+pub returns-in_err-release-clause-fault : goal.returns-in_err-release-clause-fault
+returns-in_err-release-clause-fault c =
+    let f = c.in_err-release.field-0.0 in
+    tells c.from_residual-in_err-release.result f c.args.bytes.now c.from_residual-in_err-release.ensures
+    (λ other. of_term c.args.bytes.now c.in_ok-file.file.at (value_of c.in_ok-file.file.term) (fault_of f) c.in_ok-file.ensures.says (c.in_err-release.ensures.fault other))
+
+pub returns-clause-says : goal.returns-clause-says
+returns-clause-says c =
+    (has_term c.args.bytes.now c.in_ok-file.file.at (value_of c.in_ok-file.file.term) c.in_ok-file.ensures.says, c.in_ok-release.ensures.says)
 
 pub returns-clause-only : goal.returns-clause-only
 returns-clause-only c = λ r says.
-    let none : None ≡ slice_get c.pop.new.self.items 0 = search rules in
-    c.in_ok-release.ensures.only r
-    (says_alone c.pop.new.self.items c.in_ok-terms.terms.items c.in-Some.last c.args.bytes.now r none c.in-Some.ensures.items c.in_ok-terms.ensures.only says)
-
-pub returns-clause-within : goal.returns-clause-within
-returns-clause-within c = last_keeps_limits 64 c.args.bytes.now c.pop.new.self.items c.in_ok-terms.terms.items c.in-Some.last c.in-Some.ensures.items c.in_ok-terms.ensures.found
+    let read = c.in_ok-file.ensures.only says.1.0 says.1.1 in
+    c.in_ok-release.ensures.only r (subst (λ v. IsReleaseTerm v r) (sym says.1.2 ∙ sym read.1) says.2)

@@ -1,7 +1,7 @@
-use Rattle.std.proofs.Common.{◌≡◌, ◌∙◌, ap, codes, map, sym, subst, true}
+use Rattle.std.proofs.Common.{◌≡◌, ◌∙◌, ap, map, sym, subst, true}
 use Rattle.clap.specs.Words.{App, HasMatchesOf, fault_of, is_simple_and_free, takes}
 use Rattle.rel_host.specs.Options.{relnode}
-use Rattle.rel_host.proofs.OptionLemmas.{relnode_is_simple, relnode_is_free, refusal_is, value_is}
+use Rattle.rel_host.proofs.OptionLemmas.{relnode_is_free, refusal_is}
 use Rattle.rel_host.proofs.options.read_options.Goals as goal
 
 pub returns-in_err-matches-clause-refused : goal.returns-in_err-matches-clause-refused
@@ -14,11 +14,7 @@ returns-in_err-matches-clause-refused g c =
 pub returns-clause-given : goal.returns-clause-given
 returns-clause-given g c =
     let words = map g.S.AsStr.text c.args.words.now in
-    let has = subst (λ (a : App). HasMatchesOf a words c.in_ok-matches.matches) c.in_ok-command.ensures c.in_ok-matches.ensures.matches in
-    record {
-      store = c.in_ok-owned.ensures ∙ c.get_str.ensures ∙ value_is relnode words c.in_ok-matches.matches (codes "store") relnode_is_simple has;
-      root = c.in_ok-owned-2.ensures ∙ c.get_str-2.ensures ∙ value_is relnode words c.in_ok-matches.matches (codes "root") relnode_is_simple has;
-    }
+    c.in_ok-options_of.ensures words (subst (λ (a : App). HasMatchesOf a words c.in_ok-matches.matches) c.in_ok-command.ensures c.in_ok-matches.ensures.matches)
 
 pub returns-clause-taken : goal.returns-clause-taken
 returns-clause-taken g c =

@@ -1,16 +1,9 @@
-use Rattle.std.proofs.Common.{◌≡◌, List, ℕ, [], ◌++◌, ◌∙◌, ap, append_assoc}
+use Rattle.std.proofs.Common.{◌++◌, [], ◌∷◌, ◌∙◌, ap}
+use Rattle.rel_store.specs.Layout.{new_layout}
+use Rattle.rel_store.specs.Records.{record_bytes}
 use Rattle.rel_store.proofs.bytes.spell_store.Goals as goal
-
--- one append after another
-chained : (a b s z p q r v0 v1 v2 v3 v4 v5 v6 v7 : List ℕ) → v0 ≡ [] → v1 ≡ v0 ++ a → v2 ≡ v1 ++ b → v3 ≡ v2 ++ s → v4 ≡ v3 ++ z → v5 ≡ v4 ++ p → v6 ≡ v5 ++ q → v7 ≡ v6 ++ r
-    → v7 ≡ (a ++ (b ++ (s ++ (z ++ (p ++ q))))) ++ r
-chained a b s z p q r v0 v1 v2 v3 v4 v5 v6 v7 e0 e1 e2 e3 e4 e5 e6 e7 =
-    let whole : v7 ≡ (((((([] ++ a) ++ b) ++ s) ++ z) ++ p) ++ q) ++ r = cc in
-    whole ∙ simp append_assoc
 
 pub returns : goal.returns
 returns c =
-    chained _ _ _ _ _ _ _ _ _ _ _ _ _ _ _ c.in_ok-bytes.ensures.items c.in_ok-extend_from_slice.ensures.items c.in_ok-extend_from_slice-2.ensures.items
-    (c.in_ok-extend_from_slice-3.ensures.items ∙ ap (λ slot. c.extend_from_slice-2.new.self.items ++ slot) c.start_slot.ensures) c.in_ok-extend_from_slice-4.ensures.items
-    (c.in_ok-extend_from_slice-5.ensures.items ∙ ap (λ place. c.extend_from_slice-4.new.self.items ++ place) c.to_be_bytes.ensures)
-    c.in_ok-extend_from_slice-6.ensures.items c.in_ok-push_record.ensures.ok
+    c.in_ok-push_record.ensures.ok
+    ∙ ap (λ l. l ++ (1 ∷ (record_bytes c.args.first.now ++ 0 ∷ []))) (c.in_ok-push_layout.ensures ∙ ap (λ l. l ++ new_layout c.args.start.now) c.in_ok-bytes.ensures.items)

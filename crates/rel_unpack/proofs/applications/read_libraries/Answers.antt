@@ -1,6 +1,6 @@
 use Rattle.std.proofs.Common.{◌≡◌, ◌≢◌, ◌∷◌, ◌+◌, map, drop, rules, Ok, sym, ap, subst, ◌∙◌}
 use Rattle.std.proofs.lemmas.List.{drop_more, drop_all}
-use Rattle.mod_table.proofs.RowLemmas.{viewed}
+use Rattle.rel_files.proofs.Rows.{viewed}
 use Rattle.rel_files.specs.Release.{application_of}
 use Rattle.library.specs.InMemory.{library_of, shared_of}
 use Rattle.rel_unpack.specs.Applications.{LibraryAt}

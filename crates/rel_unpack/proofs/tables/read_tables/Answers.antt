@@ -1,7 +1,7 @@
 use Rattle.std.proofs.Common.{◌≡◌, ◌∷◌, ◌+◌, map, drop, string_bytes, sym, ap, ◌∙◌}
 use Rattle.std.specs.Option.{option_map}
 use Rattle.std.proofs.lemmas.List.{drop_more, drop_all}
-use Rattle.mod_table.proofs.RowLemmas.{viewed}
+use Rattle.rel_files.proofs.Rows.{viewed}
 use Rattle.rel_files.specs.Release.{application_of}
 use Rattle.library.specs.InMemory.{table_term_of}
 use Rattle.rel_unpack.specs.Order.{Each}

@@ -1,6 +1,6 @@
 use Rattle.std.proofs.Common.{◌≡◌, ◌∷◌, ◌+◌, map, drop, string_bytes, sym, ap, ◌∙◌}
 use Rattle.std.proofs.lemmas.List.{drop_more, drop_all}
-use Rattle.mod_table.proofs.RowLemmas.{viewed}
+use Rattle.rel_files.proofs.Rows.{viewed}
 use Rattle.rel_unpack.specs.Order.{Each}
 use Rattle.rel_unpack.proofs.Steps.{passed_on}
 use Rattle.rel_unpack.proofs.Turns.{at_first, one_more, refused, at_last}

@@ -1,6 +1,6 @@
 use Rattle.relup_file.specs.Instruction.{change_of}
 use Rattle.relup_file.specs.Parts.{change_in}
-use Rattle.relup_file.proofs.Rows.{row_more, row_all}
+use Rattle.relup_file.proofs.Rows.{row_more, row_none, row_all}
 use Rattle.relup_file.proofs.payloads.all_changes.Goals as goal
 
 pub loop-item-preserved : goal.loop-item-preserved
@@ -10,3 +10,8 @@ loop-item-preserved c =
 
 pub returns : goal.returns
 returns c = row_all change_in change_of c.args.items.now c.loop-item.item-index c.loop-item.all.items c.loop-item-test.false c.loop-item.invariant
+
+pub returns-in_default : goal.returns-in_default
+returns-in_default c =
+    row_none change_in change_of c.args.items.now c.loop-item.item-index c.item-item.result c.loop-item.all.items _
+    c.loop-item-test.true c.item-item.is (rw c.in_default.is at c.in_ok-change.ensures) c.loop-item.invariant

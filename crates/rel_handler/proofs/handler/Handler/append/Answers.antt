@@ -1,12 +1,26 @@
-use Rattle.std.proofs.Common.{◌≡◌, ◌+◌, [], ◌∷◌, ◌++◌, arith, rules, refl, sym, ap, subst, length}
+use Rattle.std.proofs.Common.{◌≡◌, ◌+◌, [], ◌∷◌, ◌++◌, arith, rules, refl, sym, ap, ◌∙◌, subst, length}
 use Rattle.rel_disk.specs.Moments.{HasFailed}
 use Rattle.rel_list.specs.Event.{event_of}
 use Rattle.rel_store.specs.Layout.{text_of}
 use Rattle.rel_store.specs.State as store
 use Rattle.rel_handler.specs.Commits.{Commits}
 use Rattle.rel_handler.proofs.CommandLemmas.{commanded_then}
-use Rattle.rel_handler.proofs.Commits.{opened, rested, failed_so, reserved_works, commits, ready_next, is_done}
+use Rattle.rel_handler.proofs.Commits.{opened, rested, unchanged, failed_so, reserved_works, commits, ready_next, is_done}
 use Rattle.rel_handler.proofs.handler.Handler.append.Goals as goal
+
+-- the store is full
+pub returns-then-not-fits-clause-commits : goal.returns-then-not-fits-clause-commits
+returns-then-not-fits-clause-commits g c = unchanged g.D.Disk c.args.self.now c.requires.sound (g.met.D.Disk.only_now _) (event_of c.args.event) (length c.args.body.now)
+
+-- there is no memory for the record
+pub returns-then-is_err-clause-commits : goal.returns-then-is_err-clause-commits
+returns-then-is_err-clause-commits g c =
+    rested g.D.Disk c.args.self.now c.requires.sound (g.met.D.Disk.only_now _) (event_of c.args.event) (length c.args.body.now) c.reserve.new.self c.reserve.ensures.sound c.reserve.ensures.kept
+
+pub returns-then-is_err-clause-refused : goal.returns-then-is_err-clause-refused
+returns-then-is_err-clause-refused g c =
+    let kept = c.reserve.ensures.kept in
+    (c.requires.allowed.0, record { disk = kept.disk; list = refl; dead = refl; end = kept.end })
 
 -- the list has no memory for the event
 pub returns-then-is_err-2-clause-commits : goal.returns-then-is_err-2-clause-commits
@@ -17,6 +31,12 @@ returns-then-is_err-2-clause-commits g c =
     let same : c.accept.new.self ≡ h.list = search rules in
     subst (λ l. Commits g.D.Disk e size h (record { store = c.reserve.new.self; list = l; dead = h.dead })) (sym same)
     (rested g.D.Disk h c.requires.sound (g.met.D.Disk.only_now _) e size c.reserve.new.self c.reserve.ensures.sound c.reserve.ensures.kept)
+
+pub returns-then-is_err-2-clause-refused : goal.returns-then-is_err-2-clause-refused
+returns-then-is_err-2-clause-refused g c =
+    let kept = c.reserve.ensures.kept in
+    let same : c.accept.new.self ≡ c.args.self.now.list = search rules in
+    (c.requires.allowed.0, record { disk = kept.disk; list = same; dead = refl; end = kept.end })
 
 -- the device failed
 pub returns-then-is_err-3-clause-commits : goal.returns-then-is_err-3-clause-commits
@@ -57,6 +77,11 @@ returns-clause-ready g c =
     let added : store.records_in c.append.new.self ≡ store.records_in c.reserve.new.self ++ c.as_bytes.result.now ∷ [] = opened c.append.result _ c.if-is_err-3.ensures.value c.append.ensures.added in
     ready_next g.D.Disk h c.requires.sound c.requires.allowed.0 c.reserve.new.self c.reserve.ensures.kept e c.accept.new.self c.args.body.now c.requires.told stepped
     c.append.new.self (opened c.append.result _ c.if-is_err-3.ensures.value c.append.ensures.settled) (rw c.as_bytes.ensures.value at added)
+
+pub returns-clause-start : goal.returns-clause-start
+returns-clause-start g c =
+    let kept = opened c.append.result _ c.if-is_err-3.ensures.value c.append.ensures.start in
+    kept ∙ ap (λ d. text_of (g.D.Disk.seen d)) c.reserve.ensures.kept.disk
 
 pub returns-clause-done : goal.returns-clause-done
 returns-clause-done g c =

@@ -1,9 +1,12 @@
-use Rattle.std.proofs.Common.{◌≡◌, None, rules, length, ap, ◌∙◌, subst}
-use Rattle.std.specs.Prelude.{OnOk}
+use Rattle.std.proofs.Common.{◌≡◌, None, rules, length, ap, sym, ◌∙◌, subst}
+use Rattle.std.specs.Prelude.{IfErr, OnOk}
 use Rattle.rel_list.specs.Event.{event_of}
 use Rattle.rel_list.specs.Refusal.{refusal}
+use Rattle.rel_records.specs.Reading.{Spells}
+use Rattle.rel_records.specs.Writing.{record_of}
 use Rattle.rel_store.specs.State.{records_in}
-use Rattle.rel_handler.specs.Commits.{IsDone}
+use Rattle.rel_handler.specs.Commits.{Commits, IsDone}
+use Rattle.rel_handler.specs.Refusals.{CommandRefused}
 use Rattle.rel_handler.specs.State.{list_in}
 use Rattle.rel_handler.specs.Taking.{change_size}
 use Rattle.rel_handler.proofs.Commits.{unchanged, have_versions}
@@ -15,6 +18,10 @@ change_body-requires-clause-versions g c =
     have_versions (records_in c.args.self.now.store) (list_in c.args.self.now) (c.requires.sound.ready c.requires.works).list
 
 -- nothing was written yet
+pub returns-in-Some-clause-commits : goal.returns-in-Some-clause-commits
+returns-in-Some-clause-commits g c =
+    unchanged g.D.Disk c.args.self.now c.requires.sound (g.met.D.Disk.only_now _) (event_of c.args.event) (change_size (event_of c.args.event) (list_in c.args.self.now))
+
 pub returns-in_err-body-clause-commits : goal.returns-in_err-body-clause-commits
 returns-in_err-body-clause-commits g c =
     unchanged g.D.Disk c.args.self.now c.requires.sound (g.met.D.Disk.only_now _) (event_of c.args.event) (change_size (event_of c.args.event) (list_in c.args.self.now))
@@ -23,6 +30,27 @@ pub append-requires-clause-allowed : goal.append-requires-clause-allowed
 append-requires-clause-allowed g c =
     let allowed : refusal (event_of c.args.event) (list_in c.args.self.now) ≡ None = search rules in
     (c.requires.works, list_allows (event_of c.args.event) (list_in c.args.self.now) c.requires.listed allowed)
+
+pub append-requires-clause-told : goal.append-requires-clause-told
+append-requires-clause-told g c =
+    record {
+      spells = subst (λ bytes. Spells bytes (record_of (event_of c.args.event) (list_in c.args.self.now))) (sym c.as_str.ensures.value) c.in_ok-body.ensures.spells;
+      tells = c.in_ok-body.ensures.tells;
+    }
+
+pub returns-clause-commits : goal.returns-clause-commits
+returns-clause-commits g c =
+    let e = event_of c.args.event in
+    let h = c.args.self.now in
+    let long : length c.as_str.result.now ≡ change_size e (list_in h) = ap length (c.as_str.ensures.value ∙ c.in_ok-body.ensures.body _) in
+    subst (λ n. Commits g.D.Disk e n h c.append.new.self) long c.append.ensures.commits
+
+pub returns-clause-refused : goal.returns-clause-refused
+returns-clause-refused g c =
+    let e = event_of c.args.event in
+    let h = c.args.self.now in
+    let long : length c.as_str.result.now ≡ change_size e (list_in h) = ap length (c.as_str.ensures.value ∙ c.in_ok-body.ensures.body _) in
+    subst (λ n. IfErr c.append.result (CommandRefused g.D.Disk.failures e n h c.append.new.self)) long c.append.ensures.refused
 
 pub returns-clause-done : goal.returns-clause-done
 returns-clause-done g c =

@@ -4,7 +4,7 @@ use Rattle.rel_handler.specs.Refusals.{CommandRefused}
 use Rattle.rel_handler.specs.Taking.{change_size}
 use Rattle.rel_handler.specs.State.{list_in}
 use Rattle.rel_handler.specs.declared.error.HandlerError.TheVariants.{Device}
-use Rattle.rel_handler.proofs.Commits.{refuses_with}
+use Rattle.rel_handler.proofs.Commits.{refuses_with, unchanged}
 use Rattle.rel_handler.proofs.PermanenceLemmas.{brings_none, are_versions, moving, not_moved, moved_start, is_moved}
 use Rattle.rel_handler.proofs.handler.Handler.move_permanent.Goals as goal
 
@@ -14,6 +14,15 @@ append_change-requires-clause-listed g c = brings_none c.args.vsn.now (event_of 
 pub commit_start-requires-clause-versions : goal.commit_start-requires-clause-versions
 commit_start-requires-clause-versions g c =
     are_versions g.D.Disk c.args.self.now c.requires.sound c.requires.works c.args.vsn.now (versions_of c.in_ok-start.start) c.in_ok-start.ensures.found
+
+-- nothing was written yet
+pub returns-in_err-start-clause-commits : goal.returns-in_err-start-clause-commits
+returns-in_err-start-clause-commits g c =
+    unchanged g.D.Disk c.args.self.now c.requires.sound (g.met.D.Disk.only_now _) (event_of c.args.event) (change_size (event_of c.args.event) (list_in c.args.self.now))
+
+-- the first write failed, or was refused
+pub returns-in_err-append_change-clause-commits : goal.returns-in_err-append_change-clause-commits
+returns-in_err-append_change-clause-commits g c = c.in_err-append_change.ensures.commits
 
 -- the device failed in the second write
 pub returns-in_err-commit_start-clause-commits : goal.returns-in_err-commit_start-clause-commits

@@ -42,46 +42,49 @@ write_through-requires g c =
 
 pub returns-in_err-write_through-clause-any_moment : goal.returns-in_err-write_through-clause-any_moment
 returns-in_err-write_through-clause-any_moment g c = λ works.
-    let short : length c.args.body.now ≤ 16777216 = search rules in
-    let spelled = behind_gate c.deref.result.now c.args.body.now (search rules) in
+    let short = (c.if-not-fits.ensures.0 refl).0 in
+    let spelled = behind_gate c.deref.result.now c.args.body.now (c.deref.ensures.value ∙ c.in_ok-spell_record.ensures.ok) in
     after_first g.D.Disk.moment g.D.Disk.left_since g.D.Disk.seen g.D.Disk.may_leave c.args.self.now (c.requires.settled works) c.args.body.now _ short spelled c.write_through.new.disk c.write_through.ensures.any_moment
 
 pub write_through-requires-2 : goal.write_through-requires-2
 write_through-requires-2 g c =
     let s = c.requires.settled c.if-self.false in
-    let short : length c.args.body.now ≤ 16777216 = search rules in
-    let spelled = behind_gate c.deref.result.now c.args.body.now (search rules) in
+    let short = (c.if-not-fits.ensures.0 refl).0 in
+    let spelled = behind_gate c.deref.result.now c.args.body.now (c.deref.ensures.value ∙ c.in_ok-spell_record.ensures.ok) in
     staged_within _ _ _ _ _ _ (staged_now g.D.Disk.moment g.D.Disk.left_since g.D.Disk.seen g.D.Disk.may_leave c.args.self.now s c.args.body.now _ short spelled c.write_through.new.disk c.in_ok-write_through.ensures.written)
 
 pub returns-in_err-write_through-2-clause-any_moment : goal.returns-in_err-write_through-2-clause-any_moment
 returns-in_err-write_through-2-clause-any_moment g c = λ works.
-    let short : length c.args.body.now ≤ 16777216 = search rules in
-    let spelled = behind_gate c.deref.result.now c.args.body.now (search rules) in
+    let short = (c.if-not-fits.ensures.0 refl).0 in
+    let spelled = behind_gate c.deref.result.now c.args.body.now (c.deref.ensures.value ∙ c.in_ok-spell_record.ensures.ok) in
     after_second g.D.Disk.moment g.D.Disk.left_since g.D.Disk.seen g.D.Disk.may_leave c.args.self.now (c.requires.settled works) c.args.body.now _ short spelled c.write_through.new.disk c.write_through-2.new.disk
     c.write_through.ensures.any_moment c.in_ok-write_through.ensures.written c.in_ok-write_through.ensures.durable c.write_through-2.ensures.any_moment
 
 pub returns-clause-any_moment : goal.returns-clause-any_moment
 returns-clause-any_moment g c = λ works.
-    let short : length c.args.body.now ≤ 16777216 = search rules in
-    let spelled = behind_gate c.deref.result.now c.args.body.now (search rules) in
+    let short = (c.if-not-fits.ensures.0 refl).0 in
+    let spelled = behind_gate c.deref.result.now c.args.body.now (c.deref.ensures.value ∙ c.in_ok-spell_record.ensures.ok) in
     after_second g.D.Disk.moment g.D.Disk.left_since g.D.Disk.seen g.D.Disk.may_leave c.args.self.now (c.requires.settled works) c.args.body.now _ short spelled c.write_through.new.disk c.write_through-2.new.disk
     c.write_through.ensures.any_moment c.in_ok-write_through.ensures.written c.in_ok-write_through.ensures.durable c.write_through-2.ensures.any_moment
 
 pub returns-clause-start : goal.returns-clause-start
 returns-clause-start g c =
     let s = c.requires.settled c.if-self.false in
-    let short : length c.args.body.now ≤ 16777216 = search rules in
-    let spelled = behind_gate c.deref.result.now c.args.body.now (search rules) in
+    let short = (c.if-not-fits.ensures.0 refl).0 in
+    let spelled = behind_gate c.deref.result.now c.args.body.now (c.deref.ensures.value ∙ c.in_ok-spell_record.ensures.ok) in
     let a = appended_now g.D.Disk.moment g.D.Disk.left_since g.D.Disk.seen g.D.Disk.may_leave c.args.self.now s c.args.body.now _ short spelled c.write_through.new.disk c.write_through-2.new.disk c.in_ok-write_through.ensures.written c.in_ok-write_through-2.ensures.written in
     a.here.start
+
+pub returns-clause-added : goal.returns-clause-added
+returns-clause-added g c = grind (arith, common_steps)
 
 pub returns-clause-settled : goal.returns-clause-settled
 returns-clause-settled g c =
     let s = c.requires.settled c.if-self.false in
-    let short : length c.args.body.now ≤ 16777216 = search rules in
-    let spelled = behind_gate c.deref.result.now c.args.body.now (search rules) in
+    let short = (c.if-not-fits.ensures.0 refl).0 in
+    let spelled = behind_gate c.deref.result.now c.args.body.now (c.deref.ensures.value ∙ c.in_ok-spell_record.ensures.ok) in
     let a = appended_now g.D.Disk.moment g.D.Disk.left_since g.D.Disk.seen g.D.Disk.may_leave c.args.self.now s c.args.body.now _ short spelled c.write_through.new.disk c.write_through-2.new.disk c.in_ok-write_through.ensures.written c.in_ok-write_through-2.ensures.written in
-    let added : map (λ v. v.items) c.push.new.self.items ≡ records_in c.args.self.now ++ c.args.body.now ∷ [] = grind (arith, common_steps) in
+    let added = returns-clause-added g c in
     record {
       works = refl;
       records = a.here.records ∙ ap (λ bodies. Ok bodies) (sym added);
@@ -104,18 +107,18 @@ returns-in_err-spell_record-clause-others g c = λ works. at_rest g.D.Disk.momen
 
 pub returns-in_err-write_through-clause-others : goal.returns-in_err-write_through-clause-others
 returns-in_err-write_through-clause-others g c = λ works.
-    let spelled = behind_gate c.deref.result.now c.args.body.now (search rules) in
+    let spelled = behind_gate c.deref.result.now c.args.body.now (c.deref.ensures.value ∙ c.in_ok-spell_record.ensures.ok) in
     one_write g.D.Disk.moment g.D.Disk.left_since g.D.Disk.seen g.D.Disk.may_leave _ c.args.self.now.disk c.write_through.new.disk (c.requires.settled works).durable _ _ (in_record _ c.args.self.now.gate c.args.body.now spelled) c.write_through.ensures.any_moment
 
 pub returns-in_err-write_through-2-clause-others : goal.returns-in_err-write_through-2-clause-others
 returns-in_err-write_through-2-clause-others g c = λ works.
-    let spelled = behind_gate c.deref.result.now c.args.body.now (search rules) in
+    let spelled = behind_gate c.deref.result.now c.args.body.now (c.deref.ensures.value ∙ c.in_ok-spell_record.ensures.ok) in
     two_writes g.D.Disk.moment g.D.Disk.left_since g.D.Disk.seen g.D.Disk.may_leave _ c.args.self.now.disk c.write_through.new.disk (c.requires.settled works).durable _ _ (in_record _ c.args.self.now.gate c.args.body.now spelled) c.write_through.ensures.any_moment
     _ refl c.in_ok-write_through.ensures.written c.in_ok-write_through.ensures.durable c.write_through-2.new.disk _ _ (is_gate c.args.self.now.gate (length c.args.body.now)) c.write_through-2.ensures.any_moment
 
 pub returns-clause-others : goal.returns-clause-others
 returns-clause-others g c = λ works.
-    let spelled = behind_gate c.deref.result.now c.args.body.now (search rules) in
+    let spelled = behind_gate c.deref.result.now c.args.body.now (c.deref.ensures.value ∙ c.in_ok-spell_record.ensures.ok) in
     two_writes g.D.Disk.moment g.D.Disk.left_since g.D.Disk.seen g.D.Disk.may_leave _ c.args.self.now.disk c.write_through.new.disk (c.requires.settled works).durable _ _ (in_record _ c.args.self.now.gate c.args.body.now spelled) c.write_through.ensures.any_moment
     _ refl c.in_ok-write_through.ensures.written c.in_ok-write_through.ensures.durable c.write_through-2.new.disk _ _ (is_gate c.args.self.now.gate (length c.args.body.now)) c.write_through-2.ensures.any_moment
 
@@ -123,7 +126,7 @@ pub returns-clause-bytes : goal.returns-clause-bytes
 returns-clause-bytes g c =
     let s = c.requires.settled c.if-self.false in
     let old = g.D.Disk.seen c.args.self.now.disk in
-    let spelled = behind_gate c.deref.result.now c.args.body.now (search rules) in
+    let spelled = behind_gate c.deref.result.now c.args.body.now (c.deref.ensures.value ∙ c.in_ok-spell_record.ensures.ok) in
     let within = gate_within _ _ _ _ (stands_now g.D.Disk.moment g.D.Disk.left_since g.D.Disk.seen g.D.Disk.may_leave c.args.self.now s) s.end in
     c.in_ok-write_through-2.ensures.written
     ∙ ap (overwritten c.args.self.now.gate (1 ∷ [])) (c.in_ok-write_through.ensures.written ∙ ap (λ l. overwritten (c.args.self.now.gate + 1) l old) spelled)

@@ -1,0 +1,7 @@
+use Rattle.std.proofs.Common.{◌≡◌, length, arith}
+use Rattle.std.proofs.lemmas.Grind.{common_steps}
+use Rattle.rel_files.proofs.Pairs.{not_three}
+use Rattle.rel_files.proofs.parts.three.Goals as goal
+
+pub returns-in_default : goal.returns-in_default
+returns-in_default c = not_three c.args.members.now (λ (is : length c.args.members.now ≡ 3). absurd (grind (arith, common_steps)))

@@ -1,0 +1,36 @@
+use Rattle.std.proofs.Common.{subst}
+use Rattle.rel_list.specs.Event.Event.{made_permanent}
+use Rattle.rel_handler.specs.Commits.{Commits, IsDone}
+use Rattle.rel_handler.specs.State.{list_in}
+use Rattle.rel_handler.specs.Taking.{change_size}
+use Rattle.rel_handler.proofs.Commits.{unchanged, revived_is_sound}
+use Rattle.rel_handler.proofs.handler.Handler.make_permanent.Goals as goal
+
+-- nothing was done yet
+pub returns-then-self-clause-commits : goal.returns-then-self-clause-commits
+returns-then-self-clause-commits g c =
+    unchanged g.D.Disk c.args.self.now c.requires (g.met.D.Disk.only_now _) (made_permanent c.args.vsn.now) (change_size (made_permanent c.args.vsn.now) (list_in c.args.self.now))
+
+pub returns-in_err-from_str-clause-commits : goal.returns-in_err-from_str-clause-commits
+returns-in_err-from_str-clause-commits g c =
+    unchanged g.D.Disk c.args.self.now c.requires (g.met.D.Disk.only_now _) (made_permanent c.args.vsn.now) (change_size (made_permanent c.args.vsn.now) (list_in c.args.self.now))
+
+-- the move was refused
+pub returns-in_err-move_permanent-clause-commits : goal.returns-in_err-move_permanent-clause-commits
+returns-in_err-move_permanent-clause-commits g c =
+    let h = c.args.self.now in
+    subst (λ vsn. Commits g.D.Disk (made_permanent vsn) (change_size (made_permanent vsn) (list_in h)) h c.move_permanent.new.self) c.in_ok-from_str.ensures.ok c.in_err-move_permanent.ensures.commits
+
+-- it was done, and the handler works again
+pub returns-clause-commits : goal.returns-clause-commits
+returns-clause-commits g c =
+    let h = c.args.self.now in
+    let moved = c.in_ok-move_permanent.ensures in
+    let commits = subst (λ vsn. Commits g.D.Disk (made_permanent vsn) (change_size (made_permanent vsn) (list_in h)) h c.move_permanent.new.self) c.in_ok-from_str.ensures.ok moved.commits in
+    record { sound = revived_is_sound g.D.Disk c.move_permanent.new.self moved.ready moved.started; any_moment = commits.any_moment; counted = commits.counted }
+
+pub returns-clause-done : goal.returns-clause-done
+returns-clause-done g c =
+    let h = c.args.self.now in
+    let done = subst (λ vsn. IsDone g.D.Disk (made_permanent vsn) (change_size (made_permanent vsn) (list_in h)) h c.move_permanent.new.self) c.in_ok-from_str.ensures.ok c.in_ok-move_permanent.ensures.done in
+    record { worked = done.worked; accepted = done.accepted; acknowledged = done.acknowledged; fits = done.fits; end = done.end }

@@ -1,0 +1,34 @@
+use Rattle.std.proofs.Common.{subst}
+use Rattle.std.specs.Prelude.{IfErr, OnOk}
+use Rattle.rel_list.specs.Event.Event.{reboot_old}
+use Rattle.rel_handler.specs.Commits.{Commits, IsDone}
+use Rattle.rel_handler.specs.Refusals.{CommandRefused}
+use Rattle.rel_handler.specs.State.{list_in}
+use Rattle.rel_handler.specs.Taking.{change_size}
+use Rattle.rel_handler.proofs.Commits.{unchanged}
+use Rattle.rel_handler.proofs.handler.Handler.reboot_old_release.Goals as goal
+
+-- nothing was done yet
+pub returns-then-self-clause-commits : goal.returns-then-self-clause-commits
+returns-then-self-clause-commits g c =
+    unchanged g.D.Disk c.args.self.now c.requires (g.met.D.Disk.only_now _) (reboot_old c.args.vsn.now) (change_size (reboot_old c.args.vsn.now) (list_in c.args.self.now))
+
+pub returns-in_err-from_str-clause-commits : goal.returns-in_err-from_str-clause-commits
+returns-in_err-from_str-clause-commits g c =
+    unchanged g.D.Disk c.args.self.now c.requires (g.met.D.Disk.only_now _) (reboot_old c.args.vsn.now) (change_size (reboot_old c.args.vsn.now) (list_in c.args.self.now))
+
+-- it was moved or refused
+pub returns-clause-commits : goal.returns-clause-commits
+returns-clause-commits g c =
+    let h = c.args.self.now in
+    subst (λ vsn. Commits g.D.Disk (reboot_old vsn) (change_size (reboot_old vsn) (list_in h)) h c.move_permanent.new.self) c.in_ok-from_str.ensures.ok c.move_permanent.ensures.commits
+
+pub returns-clause-done : goal.returns-clause-done
+returns-clause-done g c =
+    let h = c.args.self.now in
+    subst (λ vsn. OnOk c.move_permanent.result (IsDone g.D.Disk (reboot_old vsn) (change_size (reboot_old vsn) (list_in h)) h c.move_permanent.new.self)) c.in_ok-from_str.ensures.ok c.move_permanent.ensures.done
+
+pub returns-clause-refused : goal.returns-clause-refused
+returns-clause-refused g c =
+    let h = c.args.self.now in
+    subst (λ vsn. IfErr c.move_permanent.result (CommandRefused g.D.Disk.failures (reboot_old vsn) (change_size (reboot_old vsn) (list_in h)) h c.move_permanent.new.self)) c.in_ok-from_str.ensures.ok c.move_permanent.ensures.refused
