@@ -8,3 +8,4 @@ mod BadRecords
 pub mod Commits
 pub mod ReleaseLemmas
 pub mod CreationLemmas
+pub mod PlaceLemmas

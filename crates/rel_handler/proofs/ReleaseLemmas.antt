@@ -128,8 +128,8 @@ fresh_refusal b es fresh = ap (λ (there : Bool). if there then None else option
 pub differs_so : (b : Brought) (es : Releases) (l : Library) → is_some (status_of b.found.release.vsn es) ≡ false → first_different es b.libraries ≡ Some l → files_refusal b es ≡ Some (told_library l)
 differs_so b es l fresh found = fresh_refusal b es fresh ∙ ap (λ o. option_or (option_map told_library o) b.refusal) found
 
-pub agrees_so : (b : Brought) (es : Releases) → is_some (status_of b.found.release.vsn es) ≡ false → first_different es b.libraries ≡ None → files_refusal b es ≡ b.refusal
-agrees_so b es fresh agree = fresh_refusal b es fresh ∙ ap (λ o. option_or (option_map told_library o) b.refusal) agree
+pub agrees_so : (b : Brought) (es : Releases) → status_of b.found.release.vsn es ≡ None → first_different es b.libraries ≡ None → files_refusal b es ≡ b.refusal
+agrees_so b es fresh agree = fresh_refusal b es (ap is_some fresh) ∙ ap (λ o. option_or (option_map told_library o) b.refusal) agree
 
 -- nothing of a handler has changed
 pub unchanged_handler : {D : Type 0} (h : Handler D) → IsSame h h

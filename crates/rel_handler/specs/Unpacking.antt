@@ -22,7 +22,7 @@ use Rattle.rel_handler.specs.Moments.{Begins, BeginsAt, WritesNothing}
 use Rattle.rel_handler.specs.Refusals.{CommandRefused, MakingRefused}
 use Rattle.rel_handler.specs.State.{disk_in, list_in, is_dead, end_in, start_in, IsSame}
 use Rattle.rel_handler.specs.declared.error.HandlerError.{HandlerError}
-use Rattle.rel_handler.specs.declared.error.HandlerError.TheVariants.{MissingFile, BadFile, VsnMismatch, LibDiffers, NoTable, TooMany, NoMemory, Dead, Device, Exists}
+use Rattle.rel_handler.specs.declared.error.HandlerError.TheVariants.{ExistingRelease, MissingFile, BadFile, VsnMismatch, LibDiffers, NoTable, TooMany, NoMemory, Dead, Device, Exists}
 use Rattle.rel_handler.specs.declared.handler.Handler.{Handler}
 
 -- what is told of a release that isn't taken for its files
@@ -80,6 +80,14 @@ pub record IsBarred {D : Type 0} (source : Source) (path : List ℕ) (old new : 
   pub fresh : status_of brought.found.release.vsn (list_in old) ≡ None
   pub barred : IsToldAs (files_refusal brought (list_in old)) e
   pub same : IsSame old new
+
+-- Why a list has no place for what was brought: its version is listed, or one of its libraries differs from the list's. Out of
+-- memory comes in place of either.
+abbrev pub HasNoPlace : Brought → Releases → HandlerError → Type 0
+HasNoPlace b es e =
+    (e ≡ NoMemory)
+    ⊎ (((e ≡ ExistingRelease) × (is_some (status_of b.found.release.vsn es) ≡ true))
+    ⊎ ((status_of b.found.release.vsn es ≡ None) × IsToldAs (files_refusal b es) e))
 
 -- Its files are not why, and its event was not acknowledged.
 pub record IsNotUnpacked {D : Type 0} (v : Ghosts D) (source : Source) (path : List ℕ) (old new : Handler D) (e : HandlerError) : Type 0 where

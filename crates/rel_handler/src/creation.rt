@@ -3,6 +3,7 @@ ghost use Rattle.std.specs.Prelude.{◌≡◌, ℕ, ◌≤◌, List, [], ◌∷�
 ghost use Rattle.rel_files.specs.Release.{release_of};
 ghost use Rattle.rel_list.specs.Releases.{Releases, entry};
 ghost use Rattle.rel_list.specs.Event.Event.{made};
+ghost use Rattle.rel_list.specs.Keyed.{bundle_of};
 ghost use Rattle.rel_records.specs.Limits.{is_small};
 ghost use Rattle.rel_records.specs.Reading.{Spells};
 ghost use Rattle.rel_records.specs.Writing.{record_of};
@@ -151,19 +152,26 @@ impl NewNode {
         ensures list { IfOk result (λ new.
             new.list ≡ entry (bundle_brought (brought_of brought)) Permanent ∷ []) }
     {
+        let start = start_text(alloc, &brought.file.release)?;
         let ReleaseFiles { file, applications } = brought;
-        let libraries = applications.libraries;
-        let start = start_text(alloc, &file.release)?;
-        let body = made_body(alloc, file.term, libraries.as_slice())?;
-        let mut list = ReleaseList::new(alloc);
+        let body = made_body(alloc, file.term, applications.libraries.as_slice())?;
         let bundle = Bundle {
             release: file.release,
-            libraries,
+            libraries: applications.libraries,
         };
-        if list.accept(alloc, Event::Made(bundle)).is_err() {
-            return Err(AllocError);
-        }
+        let list = list_of(alloc, bundle)?;
         Ok(NewNode { body, start, list })
+    }
+}
+
+// The list of a node that is made with a release.
+fn list_of(alloc: Global, bundle: Bundle) -> Result<ReleaseList, AllocError>
+    ensures { IfOk result (λ list. list ≡ entry (bundle_of bundle) Permanent ∷ []) }
+{
+    let mut list = ReleaseList::new(alloc);
+    match list.accept(alloc, Event::Made(bundle)) {
+        Ok(_) => Ok(list),
+        Err(_) => Err(AllocError),
     }
 }
 

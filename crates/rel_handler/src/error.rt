@@ -11,63 +11,87 @@ use rel_list::{ListError, Status};
 use rel_records::RecordsError;
 use rel_unpack::{FileTrouble, UnpackError};
 use std::alloc::{AllocError, AllocFailed};
+use std::fmt::{self, Display, Formatter};
 use thiserror::Error;
 
 /// Why a command was refused. Nothing has changed then, but after `Device`.
 #[derive(Debug, Drop, Error)]
 pub enum HandlerError {
     /// The list has no release of this version.
-    #[error("NoSuchRelease")]
     NoSuchRelease,
     /// The list has a release of this version.
-    #[error("ExistingRelease")]
     ExistingRelease,
     /// The release is to be installed, and runs.
-    #[error("AlreadyInstalled")]
     AlreadyInstalled,
     /// The release has this status, and would need another one.
-    #[error("BadStatus {}", .0.as_str())]
     BadStatus(Status),
     /// The release is to be removed, and is the one that is booted.
-    #[error("Permanent")]
     Permanent,
     /// The release is to be removed, and runs.
-    #[error("Running")]
     Running,
     /// The library of this application is there, with another specification or other tables.
-    #[error("LibDiffers {0}")]
     LibDiffers(String),
     /// The file of this path can't be used.
-    #[error("BadFile {0} {1}")]
     BadFile(String, FileTrouble),
     /// There is no file of this path.
-    #[error("MissingFile {0}")]
     MissingFile(String),
     /// The file of this path is of another application, version or module than its path says.
-    #[error("VsnMismatch {0}")]
     VsnMismatch(String),
     /// This module has no table, or not one of the kind that a child or a top asks for.
-    #[error("NoTable {0}")]
     NoTable(String),
     /// A file is too large, the release passes a limit on a release or on what its applications have, or it would be one more
     /// than a node may have.
-    #[error("TooMany")]
     TooMany,
     /// The device failed. The handler is dead until the next boot, which finds the command's event or not.
-    #[error("Device")]
     Device,
     /// The store would be longer than it may be.
-    #[error("Full")]
     Full,
     /// The device failed in an earlier command, and the node has to be booted.
-    #[error("Dead")]
     Dead,
     /// No memory was left. It says nothing of the command.
-    #[error("NoMemory")]
     NoMemory,
     /// A node is on the disk already.
-    #[error("Exists")]
     Exists,
+}
+
+impl HandlerError {
+    // The word with which it is shown.
+    fn word(&self) -> &'static str {
+        match self {
+            HandlerError::NoSuchRelease => "NoSuchRelease",
+            HandlerError::ExistingRelease => "ExistingRelease",
+            HandlerError::AlreadyInstalled => "AlreadyInstalled",
+            HandlerError::BadStatus(_) => "BadStatus",
+            HandlerError::Permanent => "Permanent",
+            HandlerError::Running => "Running",
+            HandlerError::LibDiffers(_) => "LibDiffers",
+            HandlerError::BadFile(..) => "BadFile",
+            HandlerError::MissingFile(_) => "MissingFile",
+            HandlerError::VsnMismatch(_) => "VsnMismatch",
+            HandlerError::NoTable(_) => "NoTable",
+            HandlerError::TooMany => "TooMany",
+            HandlerError::Device => "Device",
+            HandlerError::Full => "Full",
+            HandlerError::Dead => "Dead",
+            HandlerError::NoMemory => "NoMemory",
+            HandlerError::Exists => "Exists",
+        }
+    }
+}
+
+impl Display for HandlerError {
+    fn fmt<W: fmt::Write>(&self, f: &mut Formatter<W>) -> fmt::Result {
+        f.write_str(self.word())?;
+        match self {
+            HandlerError::BadStatus(status) => write!(f, " {}", status.as_str()),
+            HandlerError::BadFile(path, trouble) => write!(f, " {path} {trouble}"),
+            HandlerError::LibDiffers(name)
+            | HandlerError::MissingFile(name)
+            | HandlerError::VsnMismatch(name)
+            | HandlerError::NoTable(name) => write!(f, " {name}"),
+            _ => Ok(()),
+        }
+    }
 }
 
 impl From<ListError> for HandlerError {
@@ -131,20 +155,34 @@ impl<T: Drop> From<AllocFailed<T>> for HandlerError {
 #[derive(Clone, Copy, Debug, PartialEq, Eq, Error)]
 pub enum BootError {
     /// The disk is no store.
-    #[error("NotAStore")]
     NotAStore,
     /// The place of a base slot that tells no place of a record, or of the open gate of a record that isn't whole.
-    #[error("Damaged")]
     Damaged(u64),
     /// The device failed.
-    #[error("Device")]
     Device,
     /// No memory was left. It says nothing of the disk.
-    #[error("NoMemory")]
     NoMemory,
     /// The number of the first record, from 1, that no command could have written where it stands; 1 where there is none.
-    #[error("BadRecord")]
     BadRecord(u64),
+}
+
+impl BootError {
+    // What is shown of it.
+    fn word(self) -> &'static str {
+        match self {
+            BootError::NotAStore => "NotAStore",
+            BootError::Damaged(_) => "Damaged",
+            BootError::Device => "Device",
+            BootError::NoMemory => "NoMemory",
+            BootError::BadRecord(_) => "BadRecord",
+        }
+    }
+}
+
+impl Display for BootError {
+    fn fmt<W: fmt::Write>(&self, f: &mut Formatter<W>) -> fmt::Result {
+        f.write_str(self.word())
+    }
 }
 
 impl From<DeviceFault> for BootError {

@@ -10,7 +10,7 @@ ghost use Rattle.rel_handler.specs.Files.{IsRelFile, IsWhole, bundle_brought, un
 ghost use Rattle.rel_handler.specs.Refusals.{CommandRefused};
 ghost use Rattle.rel_handler.specs.State.{is_dead, list_in, start_in, IsSound};
 ghost use Rattle.rel_handler.specs.Taking.{commanded};
-ghost use Rattle.rel_handler.specs.Unpacking.{Brings, IsOfFiles, IsToldAs, IsUnpacked, UnpackingRefused};
+ghost use Rattle.rel_handler.specs.Unpacking.{Brings, HasNoPlace, IsOfFiles, IsToldAs, IsUnpacked, UnpackingRefused};
 
 use crate::{Handler, HandlerError};
 use file_source::Files;
@@ -46,20 +46,8 @@ impl<D: Disk> Handler<D> {
             return Err(HandlerError::Dead);
         }
         let brought = bring_release(alloc, files, path)?;
-        if self
-            .list
-            .status(brought.file.release.vsn.as_str())
-            .is_some()
-        {
-            return Err(HandlerError::ExistingRelease);
-        }
-        let libraries = brought.applications.libraries.as_slice();
-        if let Some(library) = self.list.first_different(libraries) {
-            let name = String::from_str(alloc, library.app.name.as_str())?;
-            return Err(HandlerError::from(UnpackError::LibDiffers(name)));
-        }
+        let vsn = new_version(alloc, &self.list, &brought)?;
         let brought = unless_refused(brought)?;
-        let vsn = String::from_str(alloc, brought.file.release.vsn.as_str())?;
         self.take_in(alloc, brought)?;
         Ok(vsn)
     }
@@ -113,6 +101,32 @@ pub fn bring_release<F: Files>(
     ensures refused { IfErr result (IsOfFiles (F.gives files.now) path.now) }
 {
     Ok(unpack_release(alloc, files, path)?)
+}
+
+// The version of what was brought, where it is new to the list and no library differs from the list's.
+fn new_version(
+    alloc: Global,
+    list: &ReleaseList,
+    brought: &ReleaseFiles,
+) -> Result<String, HandlerError>
+    ensures version { IfOk result (λ vsn.
+        string_bytes vsn ≡ string_bytes brought.now.file.release.vsn) }
+    ensures fresh { OnOk result
+        (status_of (string_bytes brought.now.file.release.vsn) list.now ≡ None) }
+    ensures agree { OnOk result
+        (first_different list.now (libraries_of brought.now.applications) ≡ None) }
+    ensures refused { IfErr result (HasNoPlace (brought_of brought.now) list.now) }
+{
+    let vsn = brought.file.release.vsn.as_str();
+    if list.status(vsn).is_some() {
+        return Err(HandlerError::ExistingRelease);
+    }
+    let libraries = brought.applications.libraries.as_slice();
+    if let Some(library) = list.first_different(libraries) {
+        let name = String::from_str(alloc, library.app.name.as_str())?;
+        return Err(HandlerError::from(UnpackError::LibDiffers(name)));
+    }
+    Ok(String::from_str(alloc, vsn)?)
 }
 
 // What was brought, where its applications are not refused.

@@ -9,7 +9,8 @@ ghost use Rattle.rel_host.specs.FileState.{IsOpened, Does, Fails, FailsToSync, a
 
 use crate::read_within;
 use rel_disk::{DeviceFault, Disk, MemDisk};
-use std::alloc::{AllocError, Global};
+use std::alloc::Global;
+use std::fmt::{self, Display, Formatter};
 use std::fs::{File, OpenOptions};
 use std::io::ErrorKind;
 use std::marker::Model;
@@ -28,20 +29,34 @@ const LOG: usize = 134_217_728;
 #[derive(Clone, Copy, Debug, PartialEq, Eq, Error)]
 pub enum OpenError {
     /// It can't be opened or made, or is no file.
-    #[error("the file can't be opened")]
     CantOpen,
     /// Another process has it open as a disk, or it can't be locked.
-    #[error("the file is in use")]
     InUse,
     /// It can't be read, or what is read can't be made durable.
-    #[error("the file can't be read")]
     CantRead,
     /// It has more than 67,108,864 bytes.
-    #[error("the file is too long")]
     TooLong,
     /// No memory was left. It says nothing of the file.
-    #[error("no memory was left")]
     NoMemory,
+}
+
+impl OpenError {
+    // What is shown of it.
+    fn text(self) -> &'static str {
+        match self {
+            OpenError::CantOpen => "the file can't be opened",
+            OpenError::InUse => "the file is in use",
+            OpenError::CantRead => "the file can't be read",
+            OpenError::TooLong => "the file is too long",
+            OpenError::NoMemory => "no memory was left",
+        }
+    }
+}
+
+impl Display for OpenError {
+    fn fmt<W: fmt::Write>(&self, f: &mut Formatter<W>) -> fmt::Result {
+        f.write_str(self.text())
+    }
 }
 
 /// A disk over a file. Reads come from a disk in memory, which has the file's bytes. Sizes are in bytes.
@@ -233,17 +248,20 @@ fn open_locked<R: Files<File = File>>(host: &R, path: &str) -> Result<File, Open
     Ok(file)
 }
 
-// Opens a file for reads and writes, or makes it.
+// Opens a file for reads and writes, or makes it. What is no file is refused.
 fn open_file<R: Files<File = File>>(host: &R, path: &str) -> io::Result<File> {
-    let found = OpenOptions::new().read(true).write(true).open(host, path);
-    let file = match found {
-        Err(e) if e.kind() == ErrorKind::NotFound => make_file(host, path)?,
-        found => found?,
-    };
+    let file = open_or_make(host, path)?;
     if !file.metadata()?.is_file() {
         return Err(io::Error::from(ErrorKind::InvalidInput));
     }
     Ok(file)
+}
+
+fn open_or_make<R: Files<File = File>>(host: &R, path: &str) -> io::Result<File> {
+    match OpenOptions::new().read(true).write(true).open(host, path) {
+        Err(e) if e.kind() == ErrorKind::NotFound => make_file(host, path),
+        found => found,
+    }
 }
 
 // Makes a file, which outlives a crash once its folder is synced.

@@ -1,5 +1,5 @@
 -- What an answer tells of its command: with the command, its file and the kind of place it determines the events.
-use Rattle.std.proofs.Common.{◌≡◌, ◌⊎◌, inl, inr, ℕ, Bool, true, false, List, [], ◌∷◌, length, Option, Some, None, Result, Ok, Err, refl, sym, ap, ◌∙◌, subst}
+use Rattle.std.proofs.Common.{◌≡◌, ◌⊎◌, inl, inr, ℕ, Bool, true, false, List, [], ◌∷◌, Option, Some, None, Result, Ok, Err, refl, sym, ap, ◌∙◌, subst}
 use Rattle.std.specs.Prelude.{if◌then◌else◌, ◌==◌}
 use Rattle.std.specs.Str.{bytes_eq}
 use Rattle.rel_list.specs.Releases.{Releases}
@@ -16,7 +16,6 @@ use Rattle.rel_handler.specs.Refusals.{IsBootRefusal}
 use Rattle.rel_handler.specs.Taking.{commanded}
 use Rattle.rel_handler.proofs.CommandLemmas.{IsListAnswer, of_command}
 use Rattle.session_input.specs.Commands.{Command}
-use Rattle.rel_files.specs.Release.{Release}
 use Rattle.rel_list.specs.Releases.{Bundle}
 use Rattle.rel_unpack.specs.Refusal.{Refusal}
 use Rattle.rel_unpack.specs.Refusal.Refusal.{missing_file, bad_file, vsn_mismatch, lib_differs, no_table, too_many, no_memory}

@@ -1,6 +1,5 @@
 -- A session on an empty disk.
-use Rattle.std.proofs.Common.{Option, None, Some, ◌≡◌, ◌≢◌, ◌⊎◌, inl, inr, ⊎_elim, ℕ, true, false, List, [], ◌∷◌, ◌++◌, length, Result, Ok, Err, refl, sym, ◌∙◌, subst, append_assoc}
-use Rattle.rel_files.specs.Release.{Release}
+use Rattle.std.proofs.Common.{Option, None, Some, ◌≡◌, ◌≢◌, ◌⊎◌, inl, inr, ⊎_elim, ℕ, true, false, List, [], ◌∷◌, ◌++◌, refl, sym, ◌∙◌, subst, append_assoc}
 use Rattle.rel_list.specs.Releases.{Bundle}
 use Rattle.rel_list.specs.Event.Event.{made, boot as booting}
 use Rattle.session_input.specs.Commands.{Command}

@@ -1,5 +1,5 @@
 -- What a failure of the device is told as, and that nothing else leaves a doubt.
-use Rattle.std.proofs.Common.{◌≡◌, ◌⊎◌, inl, inr, ℕ, ◌≤◌, Bool, true, false, List, [], ◌∷◌, length, Option, Some, None, Result, Ok, Err, refl, sym, ap, ◌∙◌, subst, arith}
+use Rattle.std.proofs.Common.{◌≡◌, ◌⊎◌, inl, inr, ℕ, ◌≤◌, Bool, true, false, List, [], ◌∷◌, Option, Some, None, Result, Ok, Err, refl, sym, ap, ◌∙◌, subst, arith}
 use Rattle.rel_list.specs.Releases.{Releases}
 use Rattle.rel_list.specs.Event.{Event}
 use Rattle.rel_list.specs.Event.Event.{reboot_old as rebooting}
@@ -10,7 +10,6 @@ use Rattle.rel_handler.specs.Files.{bundle_brought, made_size}
 use Rattle.rel_handler.specs.Taking.{commanded}
 use Rattle.session_input.specs.Commands.{Command}
 use Rattle.rel_session.specs.Device.{Device, HasFailed}
-use Rattle.rel_files.specs.Release.{Release}
 use Rattle.rel_list.specs.Releases.{Bundle}
 use Rattle.rel_unpack.specs.Refusal.{Refusal}
 use Rattle.rel_unpack.specs.Unpacking.{Brought}

@@ -1,5 +1,6 @@
 -- Lists made one by one.
-use Rattle.std.proofs.Common.{◌≡◌, ℕ, pos, List, [], ◌∷◌, map, ◌≤◌, length, take, refl, ap, sym, ◌∙◌, arith}
+use Rattle.std.proofs.Common.{◌≡◌, ℕ, ◌+◌, ◌<◌, ◌++◌, pos, List, [], ◌∷◌, map, ◌≤◌, length, take, get_or, refl, ap, sym, ◌∙◌, arith}
+use Rattle.std.proofs.lemmas.List.{map-append, take_more}
 use Rattle.std.specs.Prelude.{Result, Ok, Err, IfOk}
 use Rattle.std.proofs.lemmas.Grind.{common_steps}
 use Rattle.erl_term.specs.Value.{Value, value_of, values_of}
@@ -14,6 +15,14 @@ use Rattle.erl_term.specs.Grammar.{numbers}
 pub values_of-numbers : (ns : List ℕ) → values_of (map (λ n. int (pos n)) ns) ≡ numbers ns
 values_of-numbers [] = refl
 values_of-numbers (n ∷ ns) = ap (value (int (pos n))) (values_of-numbers ns)
+
+-- one more term, of the number in its place
+pub number_more : (ns : List ℕ) (i n : ℕ) (old new : List Term) (term : Term) → i < length ns → n ≡ get_or ns i 0 → value_of term ≡ int (pos n) → new ≡ old ++ term ∷ []
+    → map value_of old ≡ map (λ m. int (pos m)) (take i ns) → map value_of new ≡ map (λ m. int (pos m)) (take (i + 1) ns)
+number_more ns i n old new term within at made grown so_far =
+    let split : take (i + 1) ns ≡ take i ns ++ n ∷ [] = take_more ns i 0 within ∙ ap (λ (m : ℕ). take i ns ++ m ∷ []) (sym at) in
+    let spelled : map (λ m. int (pos m)) (take (i + 1) ns) ≡ map (λ m. int (pos m)) (take i ns) ++ int (pos n) ∷ [] = ap (map (λ m. int (pos m))) split ∙ map-append (λ m. int (pos m)) (take i ns) (n ∷ []) in
+    (ap (map value_of) grown ∙ map-append value_of old (term ∷ [])) ∙ ((λ j. so_far j ++ made j ∷ []) ∙ sym spelled)
 
 -- all of them are there
 pub whole_numbers : (vs : List Value) (ns xs : List ℕ) → vs ≡ map (λ n. int (pos n)) ns → ns ≡ xs → list (values_of vs) ≡ list (numbers xs)

@@ -1,7 +1,7 @@
 //! The releases of a node as text.
-ghost use Rattle.std.specs.Prelude.{◌≡◌, [], ◌∷◌, ◌++◌, map, string_bytes, IfOk, OnOk};
+ghost use Rattle.std.specs.Prelude.{◌≡◌, [], ◌∷◌, ◌++◌, map, pos, string_bytes, IfOk, OnOk};
 ghost use Rattle.erl_term.specs.Value.{value_of, values_of};
-ghost use Rattle.erl_term.specs.Value.Value.{atom, list, tuple};
+ghost use Rattle.erl_term.specs.Value.Value.{atom, int, list, tuple};
 ghost use Rattle.rel_files.specs.Release.{application_of};
 ghost use Rattle.rel_list.specs.Keyed.{entry_of};
 ghost use Rattle.rel_session.specs.Listing.{listing as listing_of, release_line, release_value, application_value, text_value};
@@ -78,9 +78,16 @@ pub(crate) fn text_term(alloc: Global, text: &str) -> Result<Term, AllocError>
     let bytes = text.as_bytes();
     let mut characters = Vec::new(alloc);
     for byte in bytes {
-        characters.push(Term::Int(i64::from(*byte)))?;
+        characters.push(character_term(*byte))?;
     }
     Ok(list_term(characters))
+}
+
+// A character of ASCII as a term.
+fn character_term(byte: u8) -> Term
+    ensures { value_of result ≡ int (pos byte) }
+{
+    Term::Int(i64::from(byte))
 }
 
 fn tuple_of_four(

@@ -1,0 +1,32 @@
+-- A release that was brought, and a list that has no place for it.
+use Rattle.std.proofs.Common.{◌≡◌, inl, inr, ℕ, true, false, List, Ok, sym, subst}
+use Rattle.rel_disk.specs.declared.disk.Disk.{Ghosts}
+use Rattle.rel_list.specs.Event.Event.{unpacked}
+use Rattle.rel_records.specs.Limits.{is_small}
+use Rattle.rel_unpack.specs.Source.{Source}
+use Rattle.rel_unpack.specs.Unpacking.{Brought}
+use Rattle.rel_handler.specs.Commits.{Commits}
+use Rattle.rel_handler.specs.Files.{bundle_brought, unpacked_size}
+use Rattle.rel_handler.specs.State.{is_dead, list_in}
+use Rattle.rel_handler.specs.Unpacking.{Brings, HasNoPlace, UnpackingRefused}
+use Rattle.rel_handler.specs.declared.error.HandlerError.{HandlerError}
+use Rattle.rel_handler.specs.declared.error.HandlerError.TheVariants.{ExistingRelease}
+use Rattle.rel_handler.specs.declared.handler.Handler.{Handler}
+use Rattle.rel_handler.proofs.CommandLemmas.{refused_by_list, there_already}
+use Rattle.rel_handler.proofs.ReleaseLemmas.{listed_free, no_memory, unchanged_handler}
+
+-- It isn't taken in, and nothing has changed.
+pub no_place : {D : Type 0} (v : Ghosts D) (source : Source) (path : List ℕ) (h : Handler D) (b : Brought) (e : HandlerError) → is_dead h ≡ false → is_small b.found.release ≡ true → Brings source path (Ok b)
+    → Commits v (unpacked (bundle_brought b)) (unpacked_size b (list_in h)) h h → HasNoPlace b (list_in h) e → UnpackingRefused v source path h h e
+no_place v source path h b e alive small read still (inl none) =
+    subst (UnpackingRefused v source path h h) (sym none) (inr (inl (no_memory source path, alive, unchanged_handler h)))
+no_place v source path h b e alive small read still (inr (inl (is, listed))) =
+    subst (UnpackingRefused v source path h h) (sym is) (inr (inr (inr (record {
+      brought = b;
+      read = read;
+      free = listed_free b (list_in h) listed;
+      commits = still;
+      refused = refused_by_list v.failures h (bundle_brought b) (unpacked_size b (list_in h)) ExistingRelease alive (there_already (bundle_brought b) (list_in h) small listed);
+    }))))
+no_place v source path h b e alive small read still (inr (inr (fresh, barred))) =
+    inr (inr (inl (record { brought = b; read = read; alive = alive; fresh = fresh; barred = barred; same = unchanged_handler h })))

@@ -1,0 +1,8 @@
+use Rattle.rel_store.specs.State.{IsSoundStore}
+use Rattle.store_cases.proofs.steps.follow_steps.Given as goal
+
+abbrev pub invariant-loop-step : goal.invariant-loop-step
+invariant-loop-step g l =
+    (goal.iterator-loop-step g).can_next l.step-iterator ×
+    (goal.iterator-loop-step g).is_finite l.step-iterator ×
+    IsSoundStore g.D.Disk.seen g.D.Disk.may_leave l.store

@@ -1,0 +1,126 @@
+//! Disks in memory, among them disks that are full and disks that fail.
+ghost use Rattle.std.specs.Prelude.{◌≡◌, []};
+
+use crate::disk_callers::append;
+use crate::words::{Answer, first_word, number};
+use rel_disk::{Disk, FailDisk, MemDisk};
+use std::alloc::{AllocError, Global};
+
+/// The disk that these words name: its capacity, the bytes of its log, and those with which it
+/// begins, if there are any.
+pub(crate) fn disk_of(alloc: Global, words: &str) -> Result<Option<MemDisk>, AllocError> {
+    let (capacity, rest) = first_word(words);
+    let (log, bytes) = first_word(rest);
+    let (capacity, log) = (number(capacity), number(log));
+    if bytes.is_empty() {
+        return Ok(Some(MemDisk::new(alloc, capacity, log)?));
+    }
+    if bytes.len() > capacity {
+        return Ok(None);
+    }
+    let disk = MemDisk::with_bytes(alloc, bytes.as_bytes(), capacity, log)?;
+    Ok(Some(disk))
+}
+
+/// The disk whose call of this number fails, and with `part` has a part of its effect.
+pub(crate) fn failing<D: Disk>(disk: D, how: &str, call: u64) -> FailDisk<D>
+    ensures { result.disk ≡ disk }
+{
+    if how == "part" {
+        FailDisk::failing_in_part(disk, call)
+    } else {
+        FailDisk::new(disk, call)
+    }
+}
+
+/// All that a read gives, if it is given.
+pub(crate) fn bytes_of<D: Disk>(
+    alloc: Global,
+    disk: &mut D,
+) -> Result<Option<Vec<u8>>, AllocError> {
+    let Ok(len) = disk.len() else {
+        return Ok(None);
+    };
+    let mut bytes = vec![in alloc; 0; len as usize]?;
+    match disk.read(0, &mut bytes) {
+        Ok(()) => Ok(Some(bytes)),
+        Err(_) => Ok(None),
+    }
+}
+
+/// Appends all that a read gives, in quotes.
+pub(crate) fn push_read<D: Disk>(alloc: Global, disk: &mut D, answer: &mut Answer) {
+    answer.push("\"");
+    match bytes_of(alloc, disk) {
+        Ok(Some(bytes)) => answer.push_bytes(&bytes),
+        Ok(None) => answer.push("no bytes"),
+        Err(error) => answer.note(Err(error)),
+    }
+    answer.push("\"");
+}
+
+// Two in one another fail one call each, and both are counted beside the failures of the disk
+// within.
+pub(crate) fn calls_twice(alloc: Global, numbers: &str) -> Result<String, AllocError> {
+    let (outer, inner) = first_word(numbers);
+    let disk = FailDisk::new(MemDisk::new(alloc, 1, 1024)?, number(inner) as u64);
+    calls_around(alloc, disk, number(outer) as u64)
+}
+
+// The same of a disk around this one.
+fn calls_around<D: Disk + Drop>(alloc: Global, disk: D, call: u64) -> Result<String, AllocError> {
+    let mut disk = FailDisk::new(disk, call);
+    let mut answer = Answer::new(alloc);
+    five_calls(&mut disk, &mut answer);
+    answer.push_failures(disk.failures());
+    answer.push(" | ");
+    five_calls(&mut disk, &mut answer);
+    answer.push_failures(disk.failures());
+    answer.push(" | within");
+    answer.push_failures(disk.disk.failures());
+    answer.finish()
+}
+
+/// Appends what a call of each kind answers: a write, the length, a sync, a read and a cut in this
+/// order.
+pub(crate) fn five_calls<D: Disk>(disk: &mut D, answer: &mut Answer) {
+    three_calls(disk, answer);
+    answer.push_is_ok(disk.read(0, &mut []).is_ok());
+    answer.push(" ");
+    answer.push_is_ok(disk.cut(0).is_ok());
+}
+
+// A write, the length and a sync.
+fn three_calls<D: Disk>(disk: &mut D, answer: &mut Answer) {
+    answer.push_is_ok(disk.write_at(0, b"ab").is_ok());
+    answer.push(" ");
+    answer.push_is_ok(disk.len().is_ok());
+    answer.push(" ");
+    answer.push_is_ok(disk.sync().is_ok());
+    answer.push(" ");
+}
+
+/// Whether an append succeeds, and what is read then.
+pub(crate) fn append_to(alloc: Global, case: &str) -> Result<String, AllocError> {
+    let (how, call) = first_word(case);
+    let disk = failing(MemDisk::new(alloc, 64, 1024)?, how, number(call) as u64);
+    let mut answer = Answer::new(alloc);
+    let mut disk = appended(disk, &mut answer);
+    push_read(alloc, &mut disk, &mut answer);
+    answer.finish()
+}
+
+fn appended(disk: FailDisk<MemDisk>, answer: &mut Answer) -> MemDisk
+    requires { disk.disk.calls ≡ [] }
+{
+    match append(disk, b"abc") {
+        Ok(disk) => {
+            answer.push("ok ");
+            disk.disk
+        }
+        Err((_, disk)) => {
+            answer.push("fails ");
+            disk.disk
+        }
+    }
+}

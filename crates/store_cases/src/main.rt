@@ -1,0 +1,22 @@
+//! The program `store_cases`: what `rel_disk`, `rel_store` and `start_record` make of the cases on
+//! its input, a case a line. [`answer`] has the modes.
+//!
+//! [`disk_callers`] and [`store_callers`] show that a caller of a disk or of a store needs no line
+//! about bytes.
+#![tactic(auto)]
+
+mod answers;
+mod disk_callers;
+mod disks;
+mod sessions;
+mod steps;
+mod store_callers;
+mod words;
+
+use crate::answers::answer;
+use std::io;
+use text_cases::answer_cases;
+
+fn main(rt: HostRuntime) -> io::Result<()> {
+    answer_cases(&rt, answer)
+}

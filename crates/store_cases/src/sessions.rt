@@ -1,0 +1,211 @@
+//! Sessions on a disk in memory.
+use crate::disks::{bytes_of, failing, five_calls, push_read};
+use crate::steps::{body_of, follow_steps, push_done};
+use crate::store_callers::append_both;
+use crate::words::{Answer, first_word, number};
+use rel_disk::{DeviceFault, Disk};
+use rel_store::Store;
+use std::alloc::{AllocError, Global};
+
+/// What sessions answer, one after another on this disk, with ` | ` between them as between the
+/// sessions. A session is one of these:
+///
+/// - `write AT TEXT`, `cut LENGTH`, `sync`, `length`, `failures`: the calls of a disk. `read`: all
+///   that a read gives. `bytes FROM TO`: the bytes from one place to another.
+/// - `calls`: a call of each kind, as in [`crate::disks::five_calls`].
+/// - `patch AT BYTE..`: these bytes, in decimal, are written over what is there, and the disk is
+///   synced. `shorten LENGTH`: it is cut and synced.
+/// - `create BODY`: a store is made, with this first record and no start text.
+/// - `open`: the store is opened, and its records are counted. Steps on the open store may follow,
+///   each behind `; `. [`crate::steps::follow_steps`] has them.
+/// - `both A B`: the store is opened, and the records A and B are added by
+///   [`crate::store_callers::append_both`].
+/// - `fail N SESSION`, `part N SESSION`: the call N of the device fails in this session, in the
+///   second with a part of its effect. How many calls have failed is told behind it.
+pub(crate) fn follow<D: Disk + Drop>(
+    alloc: Global,
+    disk: D,
+    sessions: &str,
+) -> Result<String, AllocError> {
+    let mut disk = disk;
+    let mut answer = Answer::new(alloc);
+    let mut is_first = true;
+    for words in sessions.split(" | ") {
+        if !is_first {
+            answer.push(" | ");
+        }
+        is_first = false;
+        disk = session(alloc, disk, words, &mut answer);
+    }
+    answer.finish()
+}
+
+// Each session hands its disk back.
+fn session<D: Disk + Drop>(alloc: Global, disk: D, words: &str, answer: &mut Answer) -> D {
+    let (how, rest) = first_word(words);
+    if how != "fail" && how != "part" {
+        return session_on(alloc, disk, words, answer);
+    }
+    let (call, words) = first_word(rest);
+    let disk = failing(disk, how, number(call) as u64);
+    let disk = session_on(alloc, disk, words, answer);
+    answer.push_failures(disk.failures());
+    disk.disk
+}
+
+fn session_on<D: Disk + Drop>(alloc: Global, disk: D, words: &str, answer: &mut Answer) -> D {
+    let (word, rest) = first_word(words);
+    match word {
+        "create" => create(alloc, disk, rest, answer),
+        "both" => both(alloc, disk, rest, answer),
+        "open" | "open;" => open(alloc, disk, words, answer),
+        _ => {
+            let mut disk = disk;
+            change(alloc, &mut disk, words, answer);
+            disk
+        }
+    }
+}
+
+fn create<D: Disk + Drop>(alloc: Global, disk: D, body: &str, answer: &mut Answer) -> D {
+    let Ok(first) = body_of(alloc, body) else {
+        answer.note(Err(AllocError));
+        return disk;
+    };
+    match Store::create(alloc, disk, &first, b"") {
+        Ok(store) => {
+            answer.push("ok");
+            store.into_disk()
+        }
+        Err((error, disk)) => {
+            push_done(Err(error), answer);
+            disk
+        }
+    }
+}
+
+fn both<D: Disk + Drop>(alloc: Global, disk: D, bodies: &str, answer: &mut Answer) -> D {
+    match Store::open_disk(alloc, disk) {
+        Ok(store) => {
+            let mut store = store;
+            let (a, b) = first_word(bodies);
+            push_done(
+                append_both(&mut store, alloc, a.as_bytes(), b.as_bytes()),
+                answer,
+            );
+            store.into_disk()
+        }
+        Err((error, disk)) => {
+            push_done(Err(error), answer);
+            disk
+        }
+    }
+}
+
+fn open<D: Disk + Drop>(alloc: Global, disk: D, words: &str, answer: &mut Answer) -> D {
+    match Store::open_disk(alloc, disk) {
+        Ok(store) => {
+            let mut store = store;
+            follow_steps(alloc, &mut store, words, answer);
+            store.into_disk()
+        }
+        Err((error, disk)) => {
+            push_done(Err(error), answer);
+            disk
+        }
+    }
+}
+
+// A session without a store.
+fn change<D: Disk>(alloc: Global, disk: &mut D, words: &str, answer: &mut Answer) {
+    let (word, rest) = first_word(words);
+    match word {
+        "write" => push_write(disk, rest, answer),
+        "cut" => answer.push_is_ok(cut(disk, number(rest) as u64).is_ok()),
+        "sync" => answer.push_is_ok(disk.sync().is_ok()),
+        "patch" => push_patch(alloc, disk, rest, answer),
+        "shorten" => answer.push_is_ok(shorten(disk, number(rest) as u64).is_ok()),
+        _ => tell(alloc, disk, words, answer),
+    }
+}
+
+// A session that changes nothing, and the one that makes a call of each kind.
+fn tell<D: Disk>(alloc: Global, disk: &mut D, words: &str, answer: &mut Answer) {
+    let (word, rest) = first_word(words);
+    match word {
+        "read" => push_read(alloc, disk, answer),
+        "bytes" => push_part(alloc, disk, rest, answer),
+        "length" => push_length(disk, answer),
+        "failures" => answer.push_number(disk.failures()),
+        "calls" => five_calls(disk, answer),
+        _ => answer.push("no such session"),
+    }
+}
+
+fn push_write<D: Disk>(disk: &mut D, words: &str, answer: &mut Answer) {
+    let (at, bytes) = first_word(words);
+    answer.push_is_ok(write(disk, number(at) as u64, bytes.as_bytes()).is_ok());
+}
+
+fn push_patch<D: Disk>(alloc: Global, disk: &mut D, words: &str, answer: &mut Answer) {
+    let (at, bytes) = first_word(words);
+    match bytes_named(alloc, bytes) {
+        Ok(bytes) => answer.push_is_ok(patch(disk, number(at) as u64, &bytes).is_ok()),
+        Err(error) => answer.note(Err(error)),
+    }
+}
+
+// The bytes whose numbers these words are.
+fn bytes_named(alloc: Global, words: &str) -> Result<Vec<u8>, AllocError> {
+    let mut bytes = Vec::new(alloc);
+    for word in words.split(' ') {
+        bytes.push((number(word) % 256) as u8)?;
+    }
+    Ok(bytes)
+}
+
+// Writes from a place on that is not past the end.
+fn write<D: Disk>(disk: &mut D, at: u64, bytes: &[u8]) -> Result<(), DeviceFault> {
+    if disk.len()? < at {
+        return Err(DeviceFault);
+    }
+    disk.write_at(at, bytes)
+}
+
+fn patch<D: Disk>(disk: &mut D, at: u64, bytes: &[u8]) -> Result<(), DeviceFault> {
+    write(disk, at, bytes)?;
+    disk.sync()
+}
+
+// Cuts a disk that is that long.
+fn cut<D: Disk>(disk: &mut D, len: u64) -> Result<(), DeviceFault> {
+    if disk.len()? < len {
+        return Err(DeviceFault);
+    }
+    disk.cut(len)
+}
+
+fn shorten<D: Disk>(disk: &mut D, len: u64) -> Result<(), DeviceFault> {
+    cut(disk, len)?;
+    disk.sync()
+}
+
+fn push_length<D: Disk>(disk: &mut D, answer: &mut Answer) {
+    match disk.len() {
+        Ok(len) => answer.push_number(len),
+        Err(_) => answer.push("no length"),
+    }
+}
+
+// Appends the bytes from the first of these places to the second.
+fn push_part<D: Disk>(alloc: Global, disk: &mut D, places: &str, answer: &mut Answer) {
+    let (from, to) = first_word(places);
+    match bytes_of(alloc, disk) {
+        Ok(Some(bytes)) => {
+            let part = bytes.get(number(from)..number(to));
+            answer.push_bytes(part.unwrap_or(b"none"));
+        }
+        Ok(None) => answer.push("no bytes"),
+        Err(error) => answer.note(Err(error)),
+    }
+}
