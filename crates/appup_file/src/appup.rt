@@ -11,14 +11,22 @@ pub enum OtherVersion {
 }
 
 /// The instructions between a version of an application and another one.
-#[derive(Drop)]
 pub struct AppupEntry {
     pub vsn: OtherVersion,
     pub instrs: Vec<AppupInstr>,
 }
 
+// Let go by one call: a derived drop would stand field by field at each exit of a caller.
+impl Drop for AppupEntry {
+    fn drop(self) {
+        let AppupEntry {
+            vsn: _vsn,
+            instrs: _instrs,
+        } = self;
+    }
+}
+
 /// What an appup file says.
-#[derive(Drop)]
 pub struct Appup {
     /// The version of the application that the file belongs to.
     pub vsn: String,
@@ -26,4 +34,15 @@ pub struct Appup {
     pub ups: Vec<AppupEntry>,
     /// The downgrades from this version, each with the version that it leads to.
     pub downs: Vec<AppupEntry>,
+}
+
+// Let go by one call: a derived drop would stand field by field at each exit of a caller.
+impl Drop for Appup {
+    fn drop(self) {
+        let Appup {
+            vsn: _vsn,
+            ups: _ups,
+            downs: _downs,
+        } = self;
+    }
 }

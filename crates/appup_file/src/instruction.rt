@@ -23,7 +23,6 @@ pub enum StateChange {
 }
 
 /// `{update, Mod, ModType, Timeout, Change, PrePurge, PostPurge, DepMods}`.
-#[derive(Drop)]
 pub struct Update {
     pub name: String,
     pub mod_type: ModType,
@@ -35,6 +34,21 @@ pub struct Update {
     pub post: PurgeMode,
     /// The modules on which it depends, none by default.
     pub dep_mods: Vec<String>,
+}
+
+// Let go by one call: a derived drop would stand field by field at each exit of a caller.
+impl Drop for Update {
+    fn drop(self) {
+        let Update {
+            name: _name,
+            mod_type: _mod_type,
+            timeout: _timeout,
+            change: _change,
+            pre: _pre,
+            post: _post,
+            dep_mods: _dep_mods,
+        } = self;
+    }
 }
 
 /// `{load_module, Mod, PrePurge, PostPurge, DepMods}`.
@@ -65,7 +79,6 @@ pub struct AddedApp {
 }
 
 /// An instruction of an appup.
-#[derive(Drop)]
 pub enum AppupInstr {
     Update(Update),
     /// `{update, Mod, supervisor}`.
@@ -78,4 +91,20 @@ pub enum AppupInstr {
     RestartApplication(String),
     /// An instruction that a relup may have too.
     LowLevel(Instr),
+}
+
+// Let go by one call: a derived drop would stand field by field at each exit of a caller.
+impl Drop for AppupInstr {
+    fn drop(self) {
+        match self {
+            AppupInstr::Update(_update) => {}
+            AppupInstr::LoadModule(_load) => {}
+            AppupInstr::AddModule(_module) | AppupInstr::DeleteModule(_module) => {}
+            AppupInstr::AddApplication(_app) => {}
+            AppupInstr::UpdateSupervisor(_name)
+            | AppupInstr::RemoveApplication(_name)
+            | AppupInstr::RestartApplication(_name) => {}
+            AppupInstr::LowLevel(_instr) => {}
+        }
+    }
 }

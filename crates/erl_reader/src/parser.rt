@@ -29,12 +29,21 @@ pub enum Slot {
 }
 
 /// What stands in an open bracket so far.
-#[derive(Drop)]
 enum Members {
     Tuple(Vec<Term>),
     List(Vec<Term>),
     /// The bytes of its segments.
     Binary(Vec<u8>),
+}
+
+// Let go by one call, as a term is.
+impl Drop for Members {
+    fn drop(self) {
+        match self {
+            Members::Tuple(_members) | Members::List(_members) => {}
+            Members::Binary(_bytes) => {}
+        }
+    }
 }
 
 /// An open bracket, where it stands, and its members so far.

@@ -5,7 +5,7 @@ ghost use Rattle.erl_reader.specs.Value.{value_of};
 use std::alloc::AllocError;
 
 /// A term. A string is the list of its characters.
-#[derive(Debug, PartialEq, Drop)]
+#[derive(Debug)]
 pub enum Term {
     Int(i64),
     Atom(String),
@@ -14,8 +14,20 @@ pub enum Term {
     Bin(Vec<u8>),
 }
 
+// Let go by one call: a derived drop would stand field by field at each exit of a caller.
+impl Drop for Term {
+    fn drop(self) {
+        match self {
+            Term::Int(_number) => {}
+            Term::Atom(_name) => {}
+            Term::List(_members) | Term::Tuple(_members) => {}
+            Term::Bin(_bytes) => {}
+        }
+    }
+}
+
 /// A term of a text, with the places where it begins and ends.
-#[derive(Debug, PartialEq, Drop)]
+#[derive(Drop)]
 pub struct Spanned {
     pub term: Term,
     /// The place of its first byte.

@@ -8,13 +8,22 @@ use app_file::App;
 use mod_table::{ModFile, is_same};
 
 /// An application with its modules: what the files of its folder say.
-#[derive(Drop)]
 pub struct Library {
     /// What its `.app` file says.
     pub app: App,
     /// Of each module of the application, in the order of the `.app` file, what its `.mod` file says. None for a module
     /// without one.
     pub tables: Vec<Option<ModFile>>,
+}
+
+// Let go by one call: a derived drop would stand field by field at each exit of a caller.
+impl Drop for Library {
+    fn drop(self) {
+        let Library {
+            app: _app,
+            tables: _tables,
+        } = self;
+    }
 }
 
 impl Library {

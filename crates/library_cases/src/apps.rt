@@ -19,7 +19,7 @@ pub(crate) fn answer(alloc: Global, mode: &str, text: &[u8]) -> Result<String, A
 // Reads the file's term again.
 fn of_the_term(alloc: Global, file: &[u8]) -> Result<App, FileFault> {
     let read = read_app(alloc, file)?;
-    app_of_term(alloc, read.whole, 0)
+    app_of_term(alloc, read.whole.clone()?, 0)
 }
 
 // The name, the version, the modules, and the module that starts it, if the file names one.

@@ -30,11 +30,15 @@ fn with_apps(alloc: Global, apps: &[u8]) -> Result<Result<Rel, FileFault>, Alloc
 
 // The release, or the fault.
 fn shown(alloc: Global, read: Result<Rel, FileFault>) -> Result<String, AllocError> {
-    let rel = match read {
-        Ok(rel) => rel,
-        Err(FileFault::Duplicate(name)) => return format!(in alloc; "Duplicate {name}"),
-        Err(fault) => return fault.to_string(alloc),
-    };
+    match read {
+        Ok(rel) => release_text(alloc, &rel),
+        Err(FileFault::Duplicate(name)) => format!(in alloc; "Duplicate {name}"),
+        Err(fault) => fault.to_string(alloc),
+    }
+}
+
+/// The name and the versions of a release, and its applications.
+pub(crate) fn release_text(alloc: Global, rel: &Rel) -> Result<String, AllocError> {
     let mut text = format!(in alloc; "{} {} {}", rel.name, rel.vsn, rel.erts)?;
     for app in &rel.apps {
         push_app(&mut text, app)?;

@@ -1,6 +1,8 @@
 //! Lists of releases, as each reader of them shows them.
 use crate::bundles::release;
+use crate::files::release_text;
 use crate::lists::{event, push_answer, version};
+use rel_files::Rel;
 use rel_list::ReleaseList;
 use std::alloc::{AllocError, Global};
 
@@ -64,7 +66,16 @@ fn push_whether_permanent(
     text: &mut String,
     list: &ReleaseList,
 ) -> Result<(), AllocError> {
-    let first = release(alloc, "A")?;
-    let is_first = list.permanent() == Some(&first) && list.running() == Some(&first);
+    let first = release_text(alloc, &release(alloc, "A")?)?;
+    let is_first = is_shown_as(alloc, list.permanent(), first.as_str())?
+        && is_shown_as(alloc, list.running(), first.as_str())?;
     write!(text, "A is permanent and runs: {is_first}")
+}
+
+// Whether it is a release that is shown by this text.
+fn is_shown_as(alloc: Global, release: Option<&Rel>, text: &str) -> Result<bool, AllocError> {
+    match release {
+        Some(release) => Ok(release_text(alloc, release)?.as_str() == text),
+        None => Ok(false),
+    }
 }

@@ -28,11 +28,10 @@ pub(crate) fn record(alloc: Global, text: &[u8]) -> Result<String, AllocError> {
     }
 }
 
-/// The one term as it is printed, or the fault. A clone of it is the same term.
+/// What a clone of the one term is printed as, or the fault.
 pub(crate) fn printed(alloc: Global, text: &[u8]) -> Result<String, AllocError> {
     match read_record(alloc, text) {
-        Ok(term) if term.clone()? == term => print(alloc, &term),
-        Ok(_) => String::from_str(alloc, "another clone"),
+        Ok(term) => print(alloc, &term.clone()?),
         Err(fault) => fault.to_string(alloc),
     }
 }

@@ -30,7 +30,7 @@ pub enum ChildKind {
 
 /// A child of a supervisor: `{Id, {Module, F, A}, Restart, Shutdown, Kind, [Module]}`. Of the rest, which has no effect, the
 /// shape alone is looked at.
-#[derive(Debug, PartialEq, Drop)]
+#[derive(Drop)]
 pub struct Child {
     pub id: String,
     pub module: String,

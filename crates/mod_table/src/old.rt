@@ -6,7 +6,7 @@ ghost use Rattle.mod_table.specs.InMemory.{old_of};
 use std::alloc::{AllocError, Global};
 
 /// What a change of code goes from.
-#[derive(Debug, PartialEq, Drop)]
+#[derive(Drop)]
 pub enum Old {
     /// In an upgrade, the version of the old code.
     Up(String),

@@ -12,7 +12,6 @@ use erl_term::Term;
 use rel_files::text::is_version;
 use std::alloc::{AllocError, Global};
 
-#[derive(Drop)]
 pub(crate) enum Row {
     // In this state, at this input: the next state and the reply.
     On(u32, u32, u32, u32),
@@ -22,6 +21,16 @@ pub(crate) enum Row {
     Stop(u32, u32, u32),
     // From this version with this extra term: the new states of old ones.
     Change(Old, Term, Vec<(u32, u32)>),
+}
+
+// Let go by one call: a derived drop would stand field by field at each exit of a caller.
+impl Drop for Row {
+    fn drop(self) {
+        match self {
+            Row::Change(_old, _extra, _states) => {}
+            Row::On(_, _, _, _) | Row::Add(_, _) | Row::Stop(_, _, _) => {}
+        }
+    }
 }
 
 impl Row {

@@ -16,11 +16,21 @@ use std::alloc::{AllocError, Global};
 use std::marker::Model;
 
 /// The table of a supervisor. Contracts see it as its name, its version and its children.
-#[derive(Drop)]
 pub struct Super {
     name: String,
     vsn: String,
     children: Vec<Child>,
+}
+
+// Let go by one call: a derived drop would stand field by field at each exit of a caller.
+impl Drop for Super {
+    fn drop(self) {
+        let Super {
+            name: _name,
+            vsn: _vsn,
+            children: _children,
+        } = self;
+    }
 }
 
 impl Model for Super {

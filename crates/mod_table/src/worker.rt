@@ -18,12 +18,23 @@ use std::alloc::{AllocError, Global};
 use std::marker::Model;
 
 /// The table of a worker. Contracts see it as its name, its version, its first state and its rows.
-#[derive(Drop)]
 pub struct Worker {
     name: String,
     vsn: String,
     first: u32,
     rows: Vec<Row>,
+}
+
+// Let go by one call: a derived drop would stand field by field at each exit of a caller.
+impl Drop for Worker {
+    fn drop(self) {
+        let Worker {
+            name: _name,
+            vsn: _vsn,
+            first: _first,
+            rows: _rows,
+        } = self;
+    }
 }
 
 impl Model for Worker {

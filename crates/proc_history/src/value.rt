@@ -30,7 +30,6 @@ pub enum Outcome {
 }
 
 /// A process.
-#[derive(Drop)]
 pub struct Now {
     pub app: Name,
     pub id: Name,
@@ -38,6 +37,20 @@ pub struct Now {
     pub table: Worker,
     pub state: u32,
     pub standing: Standing,
+}
+
+// Let go by one call: a derived drop would stand field by field at each exit of a caller.
+impl Drop for Now {
+    fn drop(self) {
+        let Now {
+            app: _app,
+            id: _id,
+            restart: _restart,
+            table: _table,
+            state: _state,
+            standing: _standing,
+        } = self;
+    }
 }
 
 /// What stands in a slot: the round of the last process that began there, and that process, unless it was given up.

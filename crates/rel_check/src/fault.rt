@@ -6,7 +6,7 @@ use crate::Named;
 use std::alloc::AllocError;
 
 /// What is wrong with a release as a whole. Of several faults the one that stands first here is reported.
-#[derive(Clone, Copy, Debug)]
+#[derive(Clone, Copy)]
 pub enum ReleaseFault<'a> {
     /// This module of this application stands in one before it too: its `.app` file has a duplicate.
     ModuleTwice(Named<'a>),

@@ -20,12 +20,23 @@ const BLANK: u8 = b' ';
 const VISIBLE: u8 = b'!';
 
 // An application with its version, if what stands there is one.
-#[derive(Drop)]
 pub(crate) struct AppDraft {
     pub(crate) name: String,
     pub(crate) vsn: Option<String>,
     pub(crate) start: StartType,
     pub(crate) included: Option<Vec<String>>,
+}
+
+// Let go by one call: a derived drop would stand field by field at each exit of a caller.
+impl Drop for AppDraft {
+    fn drop(self) {
+        let AppDraft {
+            name: _name,
+            vsn: _vsn,
+            start: _start,
+            included: _included,
+        } = self;
+    }
 }
 
 impl AppDraft {
@@ -55,23 +66,39 @@ impl AppDraft {
     fn app(self) -> Option<RelApp>
         ensures { option_map application_of result ≡ app_in (app_sketch_of self) }
     {
-        let vsn = self.vsn?;
-        Some(RelApp {
-            name: self.name,
+        let AppDraft {
+            name,
             vsn,
-            start: self.start,
-            included: self.included,
+            start,
+            included,
+        } = self;
+        Some(RelApp {
+            name,
+            vsn: vsn?,
+            start,
+            included,
         })
     }
 }
 
 // A release with its versions, as far as what stands there are some.
-#[derive(Drop)]
 pub(crate) struct Draft {
     pub(crate) name: String,
     pub(crate) vsn: Option<String>,
     pub(crate) erts: Option<String>,
     pub(crate) apps: Vec<AppDraft>,
+}
+
+// Let go by one call: a derived drop would stand field by field at each exit of a caller.
+impl Drop for Draft {
+    fn drop(self) {
+        let Draft {
+            name: _name,
+            vsn: _vsn,
+            erts: _erts,
+            apps: _apps,
+        } = self;
+    }
 }
 
 impl Draft {

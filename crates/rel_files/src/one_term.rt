@@ -10,7 +10,7 @@ use erl_term::{Term, read_terms};
 use std::alloc::Global;
 
 /// The one term of a file, and the place where it begins.
-#[derive(Debug, PartialEq, Drop)]
+#[derive(Drop)]
 pub struct FileTerm {
     pub term: Term,
     pub at: usize,

@@ -13,7 +13,7 @@ use erl_term::Term;
 use std::alloc::Global;
 
 /// A `.rel` file: its term, and the release that this describes.
-#[derive(Debug, PartialEq, Drop)]
+#[derive(Drop)]
 pub struct RelFile {
     pub term: Term,
     pub release: Rel,

@@ -1,4 +1,5 @@
 //! A release, as its `.rel` file has it.
+ghost use Rattle.std.specs.Prelude.{◌≡◌};
 
 /// How an application of a release is started.
 #[derive(Clone, Copy, Debug, PartialEq, Eq)]
@@ -16,7 +17,6 @@ pub enum StartType {
 }
 
 /// An application of a release.
-#[derive(Debug, PartialEq, Drop)]
 pub struct RelApp {
     pub name: String,
     pub vsn: String,
@@ -25,8 +25,19 @@ pub struct RelApp {
     pub included: Option<Vec<String>>,
 }
 
+// Let go by one call: a derived drop would stand field by field at each exit of a caller.
+impl Drop for RelApp {
+    fn drop(self) {
+        let RelApp {
+            name: _name,
+            vsn: _vsn,
+            start: _start,
+            included: _included,
+        } = self;
+    }
+}
+
 /// A release: what a `.rel` file says.
-#[derive(Debug, PartialEq, Drop)]
 pub struct Rel {
     pub name: String,
     pub vsn: String,
@@ -34,4 +45,31 @@ pub struct Rel {
     pub erts: String,
     /// In the order of the file, which is the order in which they start.
     pub apps: Vec<RelApp>,
+}
+
+// Let go by one call: a derived drop would stand field by field at each exit of a caller.
+impl Drop for Rel {
+    fn drop(self) {
+        let Rel {
+            name: _name,
+            vsn: _vsn,
+            erts: _erts,
+            apps: _apps,
+        } = self;
+    }
+}
+
+impl Rel {
+    /// The version of the release, and that of its runtime system.
+    pub fn into_versions(self) -> (String, String)
+        ensures { result ≡ (self.vsn, self.erts) }
+    {
+        let Rel {
+            name: _name,
+            vsn,
+            erts,
+            apps: _apps,
+        } = self;
+        (vsn, erts)
+    }
 }

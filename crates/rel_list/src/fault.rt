@@ -4,35 +4,54 @@ ghost use Rattle.rel_list.specs.declared.fault.ListError.TheVariants.{NoMemory};
 
 use crate::Status;
 use std::alloc::{AllocError, AllocFailed};
+use std::fmt::{self, Display, Formatter};
 use thiserror::Error;
 
 /// The condition that an event fails.
 #[derive(Clone, Copy, Debug, PartialEq, Eq, Error)]
 pub enum ListError {
     /// The list has no release of this version.
-    #[error("NoSuchRelease")]
     NoSuchRelease,
     /// The list has a release of this version, or has one where it is to get its first.
-    #[error("ExistingRelease")]
     ExistingRelease,
     /// A library of the release is in the list, with another specification or other tables. `first_different` finds it.
-    #[error("LibDiffers")]
     LibDiffers,
     /// The release is to be installed, and runs.
-    #[error("AlreadyInstalled")]
     AlreadyInstalled,
     /// The release has this status, and would need another one.
-    #[error("BadStatus {}", .0.as_str())]
     BadStatus(Status),
     /// The release is to be removed, and is the one that is booted.
-    #[error("Permanent")]
     Permanent,
     /// The release is to be removed, and runs.
-    #[error("Running")]
     Running,
     /// No memory was left for a release that the list would take.
-    #[error("NoMemory")]
     NoMemory,
+}
+
+impl ListError {
+    // The word with which it is shown.
+    fn word(self) -> &'static str {
+        match self {
+            ListError::NoSuchRelease => "NoSuchRelease",
+            ListError::ExistingRelease => "ExistingRelease",
+            ListError::LibDiffers => "LibDiffers",
+            ListError::AlreadyInstalled => "AlreadyInstalled",
+            ListError::BadStatus(_) => "BadStatus",
+            ListError::Permanent => "Permanent",
+            ListError::Running => "Running",
+            ListError::NoMemory => "NoMemory",
+        }
+    }
+}
+
+impl Display for ListError {
+    fn fmt<W: fmt::Write>(&self, f: &mut Formatter<W>) -> fmt::Result {
+        f.write_str(self.word())?;
+        match self {
+            ListError::BadStatus(status) => write!(f, " {}", status.as_str()),
+            _ => Ok(()),
+        }
+    }
 }
 
 impl From<AllocError> for ListError {

@@ -18,11 +18,21 @@ use std::alloc::{AllocError, Global};
 pub const MOST_MODULES: usize = 1_024;
 
 /// A release with its appups, those that it comes from, and those that it goes back to.
-#[derive(Drop)]
 pub(crate) struct Releases {
     pub(crate) new: RelupRelease,
     pub(crate) ups: Vec<RelupRelease>,
     pub(crate) downs: Vec<RelupRelease>,
+}
+
+// Let go by one call: a derived drop would stand field by field at each exit of a caller.
+impl Drop for Releases {
+    fn drop(self) {
+        let Releases {
+            new: _new,
+            ups: _ups,
+            downs: _downs,
+        } = self;
+    }
 }
 
 /// The releases of these paths. The appups of the new one are read behind all other files.
@@ -85,11 +95,8 @@ fn relup_release(release: Rel, apps: Vec<RelupApp>) -> RelupRelease
     ensures { relup_release_of result
         ≡ relup_release (release_of release) (map relup_app_of apps.items) }
 {
-    RelupRelease {
-        vsn: release.vsn,
-        erts: release.erts,
-        apps,
-    }
+    let (vsn, erts) = release.into_versions();
+    RelupRelease { vsn, erts, apps }
 }
 
 fn read_apps<F: Files>(
@@ -124,11 +131,12 @@ fn relup_app(alloc: Global, start: StartType, found: App) -> Result<RelupApp, Al
     ensures { IfOk result (λ app.
         relup_app_of app ≡ relup_app start (specification_of found)) }
 {
+    let (name, vsn, modules) = found.into_names();
     Ok(RelupApp {
-        name: found.name,
-        vsn: found.vsn,
+        name,
+        vsn,
         start,
-        modules: ModuleNames::new(alloc, found.modules)?,
+        modules: ModuleNames::new(alloc, modules)?,
         appup: None,
     })
 }

@@ -33,4 +33,5 @@ pub use instruction::{
 pub use printer::{print_relup, relup_term};
 pub use reader::{RelupFile, read_relup, read_relup_file, relup_of_term};
 pub use relup::{Relup, RelupEntry};
+pub use spelling::instruction_term;
 pub use steps::instruction_in;

@@ -3,7 +3,6 @@ use crate::Instr;
 use erl_term::Term;
 
 /// The script between a release and another one.
-#[derive(Drop)]
 pub struct RelupEntry {
     /// The version of the other release.
     pub vsn: String,
@@ -13,8 +12,18 @@ pub struct RelupEntry {
     pub script: Vec<Instr>,
 }
 
+// Let go by one call: a derived drop would stand field by field at each exit of a caller.
+impl Drop for RelupEntry {
+    fn drop(self) {
+        let RelupEntry {
+            vsn: _vsn,
+            descr: _descr,
+            script: _script,
+        } = self;
+    }
+}
+
 /// What a relup file says.
-#[derive(Drop)]
 pub struct Relup {
     /// The version of the release that the file belongs to.
     pub vsn: String,
@@ -22,4 +31,15 @@ pub struct Relup {
     pub ups: Vec<RelupEntry>,
     /// The downgrades from this release, each with the version that it leads to.
     pub downs: Vec<RelupEntry>,
+}
+
+// Let go by one call: a derived drop would stand field by field at each exit of a caller.
+impl Drop for Relup {
+    fn drop(self) {
+        let Relup {
+            vsn: _vsn,
+            ups: _ups,
+            downs: _downs,
+        } = self;
+    }
 }

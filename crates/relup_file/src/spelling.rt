@@ -145,8 +145,8 @@ fn of_modules(alloc: Global, word: &str, names: &[String]) -> Result<Term, Alloc
     command(alloc, word, names)
 }
 
-// The term of an instruction.
-pub(crate) fn instruction_term(alloc: Global, instr: &Instr) -> Result<Term, AllocError>
+/// The term of an instruction.
+pub fn instruction_term(alloc: Global, instr: &Instr) -> Result<Term, AllocError>
     ensures { IfOk result (λ t. value_of t ≡ instruction_term (instruction_of instr.now)) }
 {
     match instr {

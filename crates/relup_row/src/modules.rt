@@ -8,10 +8,19 @@ use std::marker::Model;
 
 /// The names of an application's modules in the order of its `.app` file, where contracts see their texts. A name is looked
 /// up in log n comparisons of n names.
-#[derive(Drop)]
 pub struct ModuleNames {
     names: Vec<String>,
     sorted: BTreeSet<String>,
+}
+
+// Let go by one call: a derived drop would stand field by field at each exit of a caller.
+impl Drop for ModuleNames {
+    fn drop(self) {
+        let ModuleNames {
+            names: _names,
+            sorted: _sorted,
+        } = self;
+    }
 }
 
 impl Model for ModuleNames {

@@ -9,7 +9,6 @@ use rel_files::StartType;
 use relup_file::Direction;
 
 /// An application of a release.
-#[derive(Drop)]
 pub struct RelupApp {
     pub name: String,
     pub vsn: String,
@@ -20,14 +19,37 @@ pub struct RelupApp {
     pub appup: Option<Appup>,
 }
 
+// Let go by one call: a derived drop would stand field by field at each exit of a caller.
+impl Drop for RelupApp {
+    fn drop(self) {
+        let RelupApp {
+            name: _name,
+            vsn: _vsn,
+            start: _start,
+            modules: _modules,
+            appup: _appup,
+        } = self;
+    }
+}
+
 /// A release: its `.rel` file, with the `.app` and appup files of its applications.
-#[derive(Drop)]
 pub struct RelupRelease {
     pub vsn: String,
     /// The version of the runtime system that the release is for.
     pub erts: String,
     /// In the order of the `.rel` file.
     pub apps: Vec<RelupApp>,
+}
+
+// Let go by one call: a derived drop would stand field by field at each exit of a caller.
+impl Drop for RelupRelease {
+    fn drop(self) {
+        let RelupRelease {
+            vsn: _vsn,
+            erts: _erts,
+            apps: _apps,
+        } = self;
+    }
 }
 
 /// From the release that is left to the target.

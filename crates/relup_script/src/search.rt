@@ -26,7 +26,7 @@ impl Display for NoMatchingRelup {
 impl std::error::Error for NoMatchingRelup {}
 
 /// A script, with the version and the description that its entry has.
-#[derive(Clone, Copy, Debug)]
+#[derive(Clone, Copy)]
 pub struct Found<'a> {
     pub other: &'a str,
     pub descr: &'a Term,

@@ -5,26 +5,41 @@ ghost use Rattle.start_record.specs.declared.error.StartError.TheVariants.{NoMem
 
 use rel_store::StoreError;
 use std::alloc::AllocError;
+use std::fmt::{self, Display, Formatter};
 use thiserror::Error;
 
 /// A refusal.
 #[derive(Clone, Copy, Debug, PartialEq, Eq, Error)]
 pub enum StartError {
     /// The start slot spells no start.
-    #[error("the start slot spells no start")]
     BadStart,
     /// The device failed in this call.
-    #[error("the device failed")]
     Device,
     /// A version is longer than 62 bytes.
-    #[error("a version is too long")]
     TooLong,
     /// Memory was refused.
-    #[error("out of memory")]
     NoMemory,
     /// The device failed in an earlier call, and the store has to be opened again.
-    #[error("the store must be opened again")]
     MustReopen,
+}
+
+impl StartError {
+    // What is shown of it.
+    fn text(self) -> &'static str {
+        match self {
+            StartError::BadStart => "the start slot spells no start",
+            StartError::Device => "the device failed",
+            StartError::TooLong => "a version is too long",
+            StartError::NoMemory => "out of memory",
+            StartError::MustReopen => "the store must be opened again",
+        }
+    }
+}
+
+impl Display for StartError {
+    fn fmt<W: fmt::Write>(&self, f: &mut Formatter<W>) -> fmt::Result {
+        f.write_str(self.text())
+    }
 }
 
 impl From<AllocError> for StartError {

@@ -20,7 +20,7 @@ use std::alloc::Global;
 const MAX_VERSION: usize = 62;
 
 /// What a node starts.
-#[derive(Debug, PartialEq, Drop)]
+#[derive(Drop)]
 pub struct Start {
     /// The version of the runtime system.
     pub erts: String,

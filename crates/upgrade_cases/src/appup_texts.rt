@@ -5,7 +5,7 @@ use appup_file::{
 };
 use erl_term::print;
 use rel_files::StartType;
-use relup_file::{PurgeMode, Timeout};
+use relup_file::{PurgeMode, Timeout, instruction_term};
 use std::alloc::{AllocError, Global};
 
 // The version and the entries.
@@ -66,7 +66,10 @@ fn shown_instr(alloc: Global, instr: &AppupInstr) -> Result<String, AllocError> 
         }
         AppupInstr::RemoveApplication(name) => format!(in alloc; "remove application {name}"),
         AppupInstr::RestartApplication(name) => format!(in alloc; "restart application {name}"),
-        AppupInstr::LowLevel(instr) => format!(in alloc; "low-level {instr:?}"),
+        AppupInstr::LowLevel(instr) => {
+            let term = print(alloc, &instruction_term(alloc, instr)?)?;
+            format!(in alloc; "low-level {term}")
+        }
     }
 }
 
