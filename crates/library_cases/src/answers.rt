@@ -1,8 +1,9 @@
 //! The answer to a case.
-use crate::{files, lists, readers, records, terms};
+use crate::{apps, checks, libraries, lists, readers, records, release_files, terms};
 use std::alloc::{AllocError, Global};
+use text_cases::Answer;
 
-/// The answer in one of fourteen modes. A text that can't be read is answered by its fault.
+/// The answer in one of twenty-three modes. A text that can't be read is answered by its fault.
 ///
 /// `terms`: each term of the text, with the places where it begins and ends. `record`: the one term of a record's body.
 /// `print`: that term as it is printed. `prefixes`: how many terms each prefix of the text has.
@@ -15,16 +16,31 @@ use std::alloc::{AllocError, Global};
 ///
 /// `bodies`: the list that the bodies of records make, each on a line of its own, or which one is bad. `written`: the body
 /// that the event on the first line writes behind the list of the other lines.
+///
+/// The others are those of the files of a release: of [`libraries`] and of [`checks::push_answer`].
 pub(crate) fn answer(alloc: Global, mode: &str, text: &[u8]) -> Result<String, AllocError> {
+    let mut answer = Answer::new(alloc);
     match mode {
-        "terms" => terms::terms(alloc, text),
-        "record" => terms::record(alloc, text),
-        "print" => terms::printed(alloc, text),
-        "prefixes" => terms::prefixes(alloc, text),
-        "events" => lists::follow(alloc, text),
-        "readers" => readers::follow(alloc, text),
-        "bodies" => records::list(alloc, text),
-        "written" => records::written(alloc, text),
-        _ => files::answer(alloc, mode, text),
+        "terms" | "record" | "print" | "prefixes" => {
+            terms::push_answer(alloc, mode, text, &mut answer)
+        }
+        "rel" | "term" | "apps" => release_files::push_answer(alloc, mode, text, &mut answer),
+        "app" | "app_term" | "app_whole" => apps::push_answer(alloc, mode, text, &mut answer),
+        "bodies" => records::push_list_of(alloc, text, &mut answer),
+        "written" => records::push_written(alloc, text, &mut answer),
+        "release" | "unpack" => libraries::push_answer(alloc, mode, text, &mut answer),
+        _ => push_of_text(alloc, mode, str::from_utf8(text).unwrap_or(""), &mut answer),
+    }
+    answer.finish()
+}
+
+// The answer in the modes whose cases are UTF-8.
+fn push_of_text(alloc: Global, mode: &str, text: &str, answer: &mut Answer) {
+    match mode {
+        "events" => lists::push_followed(alloc, text, answer),
+        "readers" => readers::push_followed(alloc, text, answer),
+        "differs" => libraries::push_difference(alloc, text, answer),
+        "twice" => libraries::push_compared(alloc, text, text, answer),
+        _ => checks::push_answer(alloc, mode, text, answer),
     }
 }

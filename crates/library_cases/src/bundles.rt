@@ -5,21 +5,27 @@ use rel_files::Rel;
 use rel_list::{Bundle, ReleaseList};
 use std::alloc::{AllocError, Global};
 use std::rc::Rc;
+use text_cases::{Answer, first_word};
 
 /// The release of these words: its version, and an application with a version for each library, as `x-1`. With a stroke, as
 /// `x-1/b`, it is another library than without, or with another letter. Where none differs, those of the list are shared.
 pub(crate) fn bundle(alloc: Global, list: &ReleaseList, words: &str) -> Result<Bundle, AllocError> {
-    let (vsn, rest) = words.split_once(' ').unwrap_or((words, ""));
-    let mut libraries = Vec::new(alloc);
-    for word in rest.split(' ') {
-        if let Some(library) = library(alloc, word)? {
-            libraries.push(Rc::new(alloc, library)?)?;
-        }
-    }
+    let (vsn, rest) = first_word(words);
+    let libraries = kept(alloc, list, libraries(alloc, rest)?)?;
     Ok(Bundle {
         release: release(alloc, vsn)?,
-        libraries: kept(alloc, list, libraries)?,
+        libraries,
     })
+}
+
+fn libraries(alloc: Global, words: &str) -> Result<Vec<Rc<Library>>, AllocError> {
+    let mut libraries = Vec::new(alloc);
+    for word in words.split(' ') {
+        if let Some(library) = library(alloc, word)? {
+            libraries.push(library)?;
+        }
+    }
+    Ok(libraries)
 }
 
 // The libraries as the list is to keep them: its own where all agree with it, so that it is asked what differs.
@@ -35,7 +41,7 @@ fn kept(
 }
 
 // The library of such a word.
-fn library(alloc: Global, word: &str) -> Result<Option<Library>, AllocError> {
+fn library(alloc: Global, word: &str) -> Result<Option<Rc<Library>>, AllocError> {
     let (id, letter) = word.split_once('/').unwrap_or((word, "a"));
     let Some((name, vsn)) = id.split_once('-') else {
         return Ok(None);
@@ -43,22 +49,29 @@ fn library(alloc: Global, word: &str) -> Result<Option<Library>, AllocError> {
     let text = format!(in alloc;
         "{{lib,{{application,{name},[{{vsn,\"{vsn}\"}},{{description,{letter}}}]}},[]}}."
     )?;
-    match read_record(alloc, text.as_bytes()) {
-        Ok(term) => library_of_term(alloc, &term),
-        Err(_) => Ok(None),
+    library_in(alloc, text.as_bytes())
+}
+
+fn library_in(alloc: Global, text: &[u8]) -> Result<Option<Rc<Library>>, AllocError> {
+    let Ok(term) = read_record(alloc, text) else {
+        return Ok(None);
+    };
+    match library_of_term(alloc, &term)? {
+        Some(library) => Ok(Some(Rc::new(alloc, library)?)),
+        None => Ok(None),
     }
 }
 
-/// The libraries of a list, as such words have them without their letters.
-pub(crate) fn push_libraries(
-    alloc: Global,
-    text: &mut String,
-    list: &ReleaseList,
-) -> Result<(), AllocError> {
-    for library in list.libs(alloc)? {
-        write!(text, ", library {}-{}", library.app.name, library.app.vsn)?;
+/// Appends the libraries of a list, as such words have them without their letters.
+pub(crate) fn push_libraries(alloc: Global, list: &ReleaseList, answer: &mut Answer) {
+    let Ok(libraries) = list.libs(alloc) else {
+        return answer.note_no_memory();
+    };
+    for library in libraries {
+        let app = &library.app;
+        let done = write!(answer.text, ", library {}-{}", app.name, app.vsn);
+        answer.note(done);
     }
-    Ok(())
 }
 
 /// The release of this version, without applications.

@@ -1,53 +1,36 @@
 //! Lists of releases, as they follow events.
 use crate::bundles::{bundle, push_libraries};
 use rel_files::Rel;
-use rel_list::{Event, ReleaseList};
+use rel_list::{Event, ListError, ReleaseList};
 use std::alloc::{AllocError, Global};
+use text_cases::{Answer, first_word};
 
 /// What a list that is empty at first answers to these events, and the list behind them.
-pub(crate) fn follow(alloc: Global, events: &[u8]) -> Result<String, AllocError> {
-    let events = String::from_utf8_lossy(alloc, events)?;
+pub(crate) fn push_followed(alloc: Global, events: &str, answer: &mut Answer) {
     let mut list = ReleaseList::new(alloc);
-    let mut text = String::new(alloc);
-    push_followed(alloc, &mut text, &mut list, events.as_str())?;
-    Ok(text)
-}
-
-fn push_followed(
-    alloc: Global,
-    text: &mut String,
-    list: &mut ReleaseList,
-    events: &str,
-) -> Result<(), AllocError> {
     for words in events.split(", ") {
-        push_event(alloc, text, list, words)?;
+        push_event(alloc, &mut list, words, answer);
     }
-    push_list(text, list)?;
-    push_libraries(alloc, text, list)
+    push_list(&list, answer);
+    push_libraries(alloc, &list, answer);
 }
 
-fn push_event(
-    alloc: Global,
-    text: &mut String,
-    list: &mut ReleaseList,
-    words: &str,
-) -> Result<(), AllocError> {
-    match event(alloc, list, words)? {
-        Some(event) => push_answer(alloc, text, list, event),
-        None => text.push_str("no such event, "),
+/// Has the list take the event of these words, and appends what it answers.
+pub(crate) fn push_event(alloc: Global, list: &mut ReleaseList, words: &str, answer: &mut Answer) {
+    match event(alloc, list, words) {
+        Ok(Some(event)) => push_taken(list.accept(alloc, event), answer),
+        Ok(None) => answer.push("no such event, "),
+        Err(_) => answer.note_no_memory(),
     }
 }
 
-/// Has the list take an event, and appends what it answers.
-pub(crate) fn push_answer(
-    alloc: Global,
-    text: &mut String,
-    list: &mut ReleaseList,
-    event: Event,
-) -> Result<(), AllocError> {
-    match list.accept(alloc, event) {
-        Ok(()) => text.push_str("ok, "),
-        Err(error) => write!(text, "{error}, "),
+fn push_taken(taken: Result<(), ListError>, answer: &mut Answer) {
+    match taken {
+        Ok(()) => answer.push("ok, "),
+        Err(error) => {
+            let done = write!(answer.text, "{error}, ");
+            answer.note(done);
+        }
     }
 }
 
@@ -57,37 +40,42 @@ pub(crate) fn event(
     list: &ReleaseList,
     words: &str,
 ) -> Result<Option<Event>, AllocError> {
-    let (word, vsn) = words.split_once(' ').unwrap_or((words, ""));
+    let (word, rest) = first_word(words);
     match word {
-        "made" => Ok(Some(Event::Made(bundle(alloc, list, vsn)?))),
-        "unpacked" => Ok(Some(Event::Unpacked(bundle(alloc, list, vsn)?))),
-        "installed" => Ok(Some(Event::Installed(String::from_str(alloc, vsn)?))),
-        "permanent" => Ok(Some(Event::MadePermanent(String::from_str(alloc, vsn)?))),
-        "removed" => Ok(Some(Event::Removed(String::from_str(alloc, vsn)?))),
-        "reboot_old" => Ok(Some(Event::RebootOld(String::from_str(alloc, vsn)?))),
+        "made" => Ok(Some(Event::Made(bundle(alloc, list, rest)?))),
+        "unpacked" => Ok(Some(Event::Unpacked(bundle(alloc, list, rest)?))),
         "boot" => Ok(Some(Event::Boot)),
-        _ => Ok(None),
+        _ => Ok(of_version(word, String::from_str(alloc, rest)?)),
     }
 }
 
-// The list, each release with the status that is found for its version, and what else is asked of it.
-pub(crate) fn push_list(text: &mut String, list: &ReleaseList) -> Result<(), AllocError> {
+// The event of a release that is listed, by its version.
+fn of_version(word: &str, vsn: String) -> Option<Event> {
+    match word {
+        "installed" => Some(Event::Installed(vsn)),
+        "permanent" => Some(Event::MadePermanent(vsn)),
+        "removed" => Some(Event::Removed(vsn)),
+        "reboot_old" => Some(Event::RebootOld(vsn)),
+        _ => None,
+    }
+}
+
+/// The list, each release with the status that is found for its version, and what else is asked of it.
+pub(crate) fn push_list(list: &ReleaseList, answer: &mut Answer) {
     for listed in list.releases() {
-        let status = list.status(listed.release.vsn.as_str());
-        write!(text, "{} {status:?}, ", listed.release.vsn)?;
+        let vsn = listed.release.vsn.as_str();
+        let done = write!(answer.text, "{vsn} {:?}, ", list.status(vsn));
+        answer.note(done);
     }
-    push_rest(text, list)
-}
-
-fn push_rest(text: &mut String, list: &ReleaseList) -> Result<(), AllocError> {
-    write!(text, "len {}", list.len())?;
-    write!(text, ", permanent {}", version(list.permanent()))?;
-    write!(text, ", runs {}", version(list.running()))?;
-    write!(
-        text,
-        ", a boot changes {}",
+    let done = write!(
+        answer.text,
+        "len {}, permanent {}, runs {}, a boot changes {}",
+        list.len(),
+        version(list.permanent()),
+        version(list.running()),
         list.boot_events().unwrap_or("none")
-    )
+    );
+    answer.note(done);
 }
 
 /// The version of a release.

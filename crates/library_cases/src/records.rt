@@ -3,64 +3,78 @@ ghost use Rattle.rel_records.specs.Lists.{HaveVersions};
 
 use crate::bundles::push_libraries;
 use crate::lists::{event, push_list};
-use rel_list::{Event, ReleaseList};
+use rel_list::{Event, ListError, ReleaseList};
 use rel_records::laws::records_make_versions;
-use rel_records::{change_body, read_list};
+use rel_records::{RecordsError, change_body, read_list};
 use std::alloc::{AllocError, Global};
+use text_cases::Answer;
 
 /// The list that these bodies make, each on a line of its own, or which one is bad.
-pub(crate) fn list(alloc: Global, bodies: &[u8]) -> Result<String, AllocError> {
-    let bodies = lines(alloc, bodies)?;
-    match read_list(alloc, bodies.as_slice()) {
-        Ok(list) => shown(alloc, &list),
-        Err(error) => format!(in alloc; "{error}"),
+pub(crate) fn push_list_of(alloc: Global, bodies: &[u8], answer: &mut Answer) {
+    match lines(alloc, bodies) {
+        Ok(bodies) => push_read(alloc, &read_list(alloc, bodies.as_slice()), answer),
+        Err(_) => answer.note_no_memory(),
     }
 }
 
-fn shown(alloc: Global, list: &ReleaseList) -> Result<String, AllocError> {
-    let mut text = String::new(alloc);
-    push_list(&mut text, list)?;
-    push_libraries(alloc, &mut text, list)?;
-    Ok(text)
+fn push_read(alloc: Global, read: &Result<ReleaseList, RecordsError>, answer: &mut Answer) {
+    match read {
+        Ok(list) => {
+            push_list(list, answer);
+            push_libraries(alloc, list, answer);
+        }
+        Err(error) => {
+            let done = write!(answer.text, "{error}");
+            answer.note(done);
+        }
+    }
 }
 
 /// The body of the record that the event on the first line writes behind the list that the other lines make.
-pub(crate) fn written(alloc: Global, text: &[u8]) -> Result<String, AllocError> {
+pub(crate) fn push_written(alloc: Global, text: &[u8], answer: &mut Answer) {
     let Some(end) = text.iter().position(|byte| *byte == b'\n') else {
-        return String::from_str(alloc, "no list");
+        return answer.push("no list");
     };
-    let bodies = lines(alloc, &text[end + 1..])?;
-    written_behind(alloc, bodies.as_slice(), &text[..end])
+    let words = str::from_utf8(&text[..end]).unwrap_or("");
+    match lines(alloc, &text[end + 1..]) {
+        Ok(bodies) => push_written_behind(alloc, bodies.as_slice(), words, answer),
+        Err(_) => answer.note_no_memory(),
+    }
 }
 
-fn written_behind(alloc: Global, bodies: &[Vec<u8>], words: &[u8]) -> Result<String, AllocError> {
+fn push_written_behind(alloc: Global, bodies: &[Vec<u8>], words: &str, answer: &mut Answer) {
     records_make_versions();
     match read_list(alloc, bodies) {
-        Ok(list) => body_of_words(alloc, &list, words),
-        Err(_) => String::from_str(alloc, "no list"),
+        Ok(list) => push_body_of_words(alloc, &list, words, answer),
+        Err(_) => answer.push("no list"),
     }
 }
 
-fn body_of_words(alloc: Global, list: &ReleaseList, words: &[u8]) -> Result<String, AllocError>
+fn push_body_of_words(alloc: Global, list: &ReleaseList, words: &str, answer: &mut Answer)
     requires { HaveVersions list.now }
 {
-    let words = String::from_utf8_lossy(alloc, words)?;
-    match event(alloc, list, words.as_str())? {
-        Some(event) => body(alloc, list, &event),
-        None => String::from_str(alloc, "no such event"),
+    match event(alloc, list, words) {
+        Ok(Some(event)) => push_body(alloc, list, &event, answer),
+        Ok(None) => answer.push("no such event"),
+        Err(_) => answer.note_no_memory(),
     }
 }
 
-fn body(alloc: Global, list: &ReleaseList, event: &Event) -> Result<String, AllocError>
+fn push_body(alloc: Global, list: &ReleaseList, event: &Event, answer: &mut Answer)
     requires { HaveVersions list.now }
 {
     if let Some(error) = list.refusal(event) {
-        return format!(in alloc; "{error}");
+        return push_refusal(error, answer);
     }
     match event {
-        Event::Made(_) | Event::Unpacked(_) => String::from_str(alloc, "brings a release"),
-        event => change_body(alloc, list, event),
+        Event::Made(_) | Event::Unpacked(_) => answer.push("brings a release"),
+        event => answer.push_made(&change_body(alloc, list, event)),
     }
+}
+
+fn push_refusal(error: ListError, answer: &mut Answer) {
+    let done = write!(answer.text, "{error}");
+    answer.note(done);
 }
 
 fn lines(alloc: Global, text: &[u8]) -> Result<Vec<Vec<u8>>, AllocError> {

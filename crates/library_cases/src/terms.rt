@@ -1,58 +1,78 @@
 //! Terms, as `erl_term` reads and prints them.
-use erl_term::{TermFault, print, read_record, read_terms};
-use std::alloc::{AllocError, Global};
+use erl_term::{Spanned, Term, TermFault, print, read_record, read_terms};
+use std::alloc::Global;
+use text_cases::Answer;
 
-/// Each term with its places, or the fault.
-pub(crate) fn terms(alloc: Global, text: &[u8]) -> Result<String, AllocError> {
-    let terms = match read_terms(alloc, text) {
-        Ok(terms) => terms,
-        Err(fault) => return fault.to_string(alloc),
-    };
-    if terms.is_empty() {
-        return String::from_str(alloc, "no term");
+/// The answer in the modes of terms.
+pub(crate) fn push_answer(alloc: Global, mode: &str, text: &[u8], answer: &mut Answer) {
+    match mode {
+        "terms" => push_terms(&read_terms(alloc, text), answer),
+        "record" => push_record(&read_record(alloc, text), answer),
+        "print" => push_printed(alloc, &read_record(alloc, text), answer),
+        _ => push_prefixes(alloc, text, answer),
     }
-    let mut shown = String::new(alloc);
+}
+
+// Each term with its places, or the fault.
+fn push_terms(read: &Result<Vec<Spanned>, TermFault>, answer: &mut Answer) {
+    match read {
+        Ok(terms) if terms.is_empty() => answer.push("no term"),
+        Ok(terms) => push_spanned(terms, answer),
+        Err(fault) => push_fault(*fault, answer),
+    }
+}
+
+fn push_spanned(terms: &[Spanned], answer: &mut Answer) {
     for (i, spanned) in terms.iter().enumerate() {
         let gap = if i == 0 { "" } else { "; " };
         let (term, from, to) = (&spanned.term, spanned.from, spanned.to);
-        write!(shown, "{gap}{term:?} {from}..{to}")?;
-    }
-    Ok(shown)
-}
-
-/// The one term of a record's body, or the fault.
-pub(crate) fn record(alloc: Global, text: &[u8]) -> Result<String, AllocError> {
-    match read_record(alloc, text) {
-        Ok(term) => format!(in alloc; "{term:?}"),
-        Err(fault) => fault.to_string(alloc),
+        let done = write!(answer.text, "{gap}{term:?} {from}..{to}");
+        answer.note(done);
     }
 }
 
-/// What a clone of the one term is printed as, or the fault.
-pub(crate) fn printed(alloc: Global, text: &[u8]) -> Result<String, AllocError> {
-    match read_record(alloc, text) {
-        Ok(term) => print(alloc, &term.clone()?),
-        Err(fault) => fault.to_string(alloc),
+fn push_fault(fault: TermFault, answer: &mut Answer) {
+    let done = write!(answer.text, "{fault}");
+    answer.note(done);
+}
+
+// The one term of a record's body, or the fault.
+fn push_record(read: &Result<Term, TermFault>, answer: &mut Answer) {
+    match read {
+        Ok(term) => {
+            let done = write!(answer.text, "{term:?}");
+            answer.note(done);
+        }
+        Err(fault) => push_fault(*fault, answer),
     }
 }
 
-/// How many terms each prefix has, or its fault. Prefixes in a row with the same answer are one entry, with the least and
-/// the greatest of their lengths.
-pub(crate) fn prefixes(alloc: Global, text: &[u8]) -> Result<String, AllocError> {
-    let mut shown = String::new(alloc);
+// What a clone of the one term is printed as, or the fault.
+fn push_printed(alloc: Global, read: &Result<Term, TermFault>, answer: &mut Answer) {
+    match read {
+        Ok(term) => match term.clone() {
+            Ok(copy) => answer.push_made(&print(alloc, &copy)),
+            Err(_) => answer.note_no_memory(),
+        },
+        Err(fault) => push_fault(*fault, answer),
+    }
+}
+
+// How many terms each prefix has, or its fault. Prefixes in a row with the same answer are one entry, with the least and
+// the greatest of their lengths.
+fn push_prefixes(alloc: Global, text: &[u8], answer: &mut Answer) {
     let mut least = 0;
     let mut found = count(alloc, &[]);
     for length in 1..=text.len() {
         let next = count(alloc, &text[..length]);
         if next != found {
-            push_entry(&mut shown, least, length - 1, found)?;
-            shown.push_str("; ")?;
+            push_entry(least, length - 1, found, answer);
+            answer.push("; ");
             least = length;
             found = next;
         }
     }
-    push_entry(&mut shown, least, text.len(), found)?;
-    Ok(shown)
+    push_entry(least, text.len(), found, answer);
 }
 
 // How many terms a text has, or its fault.
@@ -61,14 +81,10 @@ fn count(alloc: Global, text: &[u8]) -> Result<usize, TermFault> {
 }
 
 // Appends the answer of the prefixes of these lengths.
-fn push_entry(
-    shown: &mut String,
-    least: usize,
-    greatest: usize,
-    found: Result<usize, TermFault>,
-) -> Result<(), AllocError> {
-    match found {
-        Ok(count) => write!(shown, "{least}..{greatest} ok {count}"),
-        Err(fault) => write!(shown, "{least}..{greatest} {fault}"),
-    }
+fn push_entry(least: usize, greatest: usize, found: Result<usize, TermFault>, answer: &mut Answer) {
+    let done = match found {
+        Ok(count) => write!(answer.text, "{least}..{greatest} ok {count}"),
+        Err(fault) => write!(answer.text, "{least}..{greatest} {fault}"),
+    };
+    answer.note(done);
 }

@@ -1,8 +1,11 @@
 -- A node that is booted, and one that is made.
-use Rattle.std.proofs.Common.{◌≡◌, inl, inr, ◌⊎◌, ℕ, ◌≤◌, false, List, [], ◌∷◌, Ok, refl, sym, ap, ◌∙◌, subst}
+use Rattle.std.proofs.Common.{◌≡◌, inl, inr, ◌⊎◌, ℕ, ◌≤◌, false, List, [], ◌∷◌, length, Ok, refl, sym, ap, ◌∙◌, subst, arith, length-append}
+use Rattle.std.proofs.lemmas.Bool.Decides.{nat_tests}
 use Rattle.rel_disk.specs.Moments.{LeavesOnly}
 use Rattle.rel_disk.proofs.Moments.{started, weakened}
 use Rattle.rel_files.specs.File.{HasVersions}
+use Rattle.rel_files.specs.Name.{IsVersion}
+use Rattle.rel_files.specs.Release.{Release}
 use Rattle.rel_list.specs.declared.status.Status.TheVariants.{Permanent}
 use Rattle.rel_list.specs.Releases.{Bundle, Releases}
 use Rattle.rel_list.specs.Event.{entry, booted}
@@ -15,16 +18,18 @@ use Rattle.rel_records.specs.declared.fault.RecordsError.TheVariants as fault
 use Rattle.rel_records.proofs.ListLemmas.{makes_not_bad}
 use Rattle.rel_records.proofs.RecordLaws.{as_booted}
 use Rattle.rel_store.specs.Contents.{HasOnlyRead, IsSyncedAt}
-use Rattle.rel_store.specs.Creation.{IsNoneOrNew, IsBegunAt, IsUnwritten, Creates}
+use Rattle.rel_store.specs.Creation.{IsNoneOrNew, IsBegunAt, IsUnwritten, Creates, CreationRefused}
 use Rattle.rel_store.specs.Moments.{IsTornFrom}
 use Rattle.rel_store.specs.Records.{records_of}
 use Rattle.rel_store.specs.State as store
+use Rattle.rel_store.specs.declared.error.StoreError.{StoreError}
+use Rattle.rel_store.specs.declared.error.StoreError.TheVariants as store_fault
 use Rattle.rel_store.specs.declared.store.Store.{Store}
 use Rattle.rel_handler.specs.Events.{Known, doubted, IsNoneOrOfPrefix}
 use Rattle.rel_handler.specs.Files.{start_text}
 use Rattle.rel_handler.specs.Image.{IsImageOf, IsStarted}
 use Rattle.rel_handler.specs.Moments.{Begins, BeginsAt, SettlesAt}
-use Rattle.rel_handler.specs.Refusals.{told_records}
+use Rattle.rel_handler.specs.Refusals.{told_records, told_create, IsCreateError, MakingRefused}
 use Rattle.rel_handler.specs.State.{IsSound}
 use Rattle.rel_handler.specs.declared.error.BootError.{BootError}
 use Rattle.rel_handler.specs.declared.error.BootError.TheVariants as boot
@@ -68,6 +73,37 @@ only_memory c bodies records es e same read image (inl memory) = inr (ap told_re
 only_memory c bodies records es e same read image (inr (i, is, bad)) =
     let here : image.bodies ≡ bodies = cc (read, image.store, same) in
     absurd (makes_not_bad bodies (booted es) i (subst (λ bs. Makes bs (booted es)) here image.list) bad)
+
+-- a version is short
+version_short : (s : List ℕ) → IsVersion s → length s ≤ 62
+version_short s is = grind (arith, nat_tests)
+
+-- so a slot has room for the text of a start
+pub fits_in_a_slot : (r : Release) → HasVersions r → length (start_text r) ≤ 127
+fits_in_a_slot r versions =
+    let erts = version_short r.erts versions.erts in
+    let own = version_short r.vsn versions.own in
+    simp length-append (omega arith)
+
+-- why a store isn't made
+module _ (bytes first : List ℕ) (before now : ℕ) (unwritten : Type 0) where
+  pub is_create_error : (e : StoreError) → CreationRefused bytes first before now unwritten e → IsCreateError e
+  is_create_error store_fault.Exists refused = tt
+  is_create_error store_fault.Full refused = tt
+  is_create_error store_fault.Device refused = tt
+  is_create_error store_fault.NoMemory refused = tt
+  is_create_error store_fault.NotAStore refused = absurd refused
+  is_create_error (store_fault.Damaged at) refused = absurd refused
+  is_create_error store_fault.MustReopen refused = absurd refused
+
+  pub making_refused : (e : StoreError) → CreationRefused bytes first before now unwritten e → MakingRefused bytes (length first) before now unwritten (told_create e)
+  making_refused store_fault.Exists refused = refused
+  making_refused store_fault.Full refused = refused
+  making_refused store_fault.Device refused = refused
+  making_refused store_fault.NoMemory refused = refused.2
+  making_refused store_fault.NotAStore refused = absurd refused
+  making_refused (store_fault.Damaged at) refused = absurd refused
+  making_refused store_fault.MustReopen refused = absurd refused
 
 -- a creation that has made no call of the disk
 module _ {D : Type 0} (seen : D → List ℕ) (may_leave : D → List ℕ → Type 0) (moment : D → ℕ) (left_since : D → ℕ → List ℕ → Type 0) (disk : D) (only_now : (c : List ℕ) → left_since disk (moment disk) c → may_leave disk c) where

@@ -1,7 +1,7 @@
 -- A handler at rest, and one that commits an event.
 use Rattle.std.proofs.Common.{◌≡◌, ◌⊎◌, inl, inr, ⊎_elim, ℕ, ◌+◌, ◌≤◌, true, false, List, [], ◌∷◌, ◌++◌, length, Some, Result, Ok, Err, true≢false, refl, sym, ap, ◌∙◌, subst, arith}
 use Rattle.std.proofs.lemmas.Bool.{cases_lt}
-use Rattle.std.specs.Prelude.{is_err, IfErr, IsErr, IsErrAnd, OnOk}
+use Rattle.std.specs.Prelude.{is_err, IfErr, IsErr, IsErrAnd, OnErr, OnOk}
 use Rattle.std.specs.List.{AllByRecursion}
 use Rattle.rel_disk.specs.declared.disk.Disk.{Ghosts}
 use Rattle.rel_disk.specs.Moments.{LeavesOnly, HasFailed}
@@ -45,6 +45,11 @@ use Rattle.rel_handler.proofs.Images.{ends_so, each_image, stored_before, stored
 pub opened : {T E : Type 0} (r : Result T E) (P : Type 0) → false ≡ is_err r → OnOk r P → P
 opened (Ok v) P ok p = p
 opened (Err e) P ok p = cc ok
+
+-- and what holds of one that did
+pub left_so : {T E : Type 0} (r : Result T E) (P : Type 0) → true ≡ is_err r → OnErr r P → P
+left_so (Ok v) P err p = cc err
+left_so (Err e) P err p = p
 
 -- a call that failed promises nothing of a success
 pub no_success : {T E : Type 0} (P : Type 0) (r : Result T E) → IsErr r → OnOk r P

@@ -1,7 +1,7 @@
 -- The start record of a node that is booted.
 use Rattle.std.proofs.Common.{◌≡◌, ◌⊎◌, inl, inr, ⊎_elim, ℕ, ◌≤◌, Bool, true, false, cond, find, List, [], ◌∷◌, length, Some, None, true≢false, refl, sym, ap, ◌∙◌, subst, arith}
 use Rattle.std.specs.Option.{option_map}
-use Rattle.std.specs.Prelude.{◌==◌}
+use Rattle.std.specs.Prelude.{◌==◌, ◌↔◌, IsTrue}
 use Rattle.rel_disk.specs.declared.disk.Disk.{Ghosts}
 use Rattle.rel_disk.specs.Moments.{LeavesOnly}
 use Rattle.rel_disk.proofs.Moments.{started, joined, weakened}
@@ -15,7 +15,14 @@ use Rattle.rel_records.specs.Limits.{has_one_permanent}
 use Rattle.rel_records.specs.Lists.{Makes, HaveVersions}
 use Rattle.rel_store.specs.Layout.{slot_with}
 use Rattle.start_record.specs.Text.{Versions, AreVersions, SpellsStart, start_text as text_of_start}
-use Rattle.rel_handler.specs.Booting.{IsOpened, Repairs}
+use Rattle.rel_store.specs.Contents.{HasOnlyRead}
+use Rattle.rel_store.proofs.OnlyReads.{read_on}
+use Rattle.rel_handler.specs.Booting.{IsOpened, Repairs, RepairRefused}
+use Rattle.rel_handler.specs.Refusals.{BootRefused}
+use Rattle.rel_handler.specs.declared.error.BootError.{BootError}
+use Rattle.rel_handler.specs.declared.error.BootError.TheVariants as boot
+use Rattle.rel_handler.proofs.Boots.{IsLack}
+use Rattle.rel_handler.proofs.Commits.{failed_behind}
 use Rattle.rel_handler.specs.Commits.{HasOldStartOr, HasRead, Keeps}
 use Rattle.rel_handler.specs.Files.{started as start_versions}
 use Rattle.rel_handler.specs.Events.{HasStart, Stored, MayHave, IsStoredAs}
@@ -62,6 +69,14 @@ repairs_nothing v h only_now = record {
   counted = omega arith;
 }
 
+-- a start record that doesn't spell these versions isn't that of the release that has them
+pub another_start : {D : Type 0} (v : Ghosts D) (h : Handler D) (versions : Versions) (r : Release) → versions ≡ start_versions r → permanent (list_in h) ≡ Some r
+    → (is : Bool) → IsTrue is ↔ SpellsStart (start_in v.seen h) versions → is ≡ false → IsStarted (list_in h) (v.seen (disk_in h)) → ⊥
+another_start v h versions r of listed is value another right =
+    let same : right.release ≡ r = cc (right.listed, listed) in
+    let spells = subst (λ w. SpellsStart (start_in v.seen h) w) (ap start_versions same ∙ sym of) right.spells in
+    true≢false (sym (value.1 spells) ∙ another)
+
 module _ {D : Type 0} (v : Ghosts D) (h mid : Handler D) (read : HasRead v h mid) where
   slot_same : start_in v.seen mid ≡ start_in v.seen h
   slot_same = ap (λ l. start_slot l) read.only_read.same
@@ -104,6 +119,30 @@ module _ {D : Type 0} (v : Ghosts D) (h mid : Handler D) (read : HasRead v h mid
 
       pub started_now : ((c : List ℕ) → v.may_leave (disk_in new) c → IsImageAt c (list_in new) (end_in new) × (start_slot c ≡ slot_with (text_of_start versions))) → HasStarted v.may_leave new
       started_now images c now = started_by_text (list_in new) r versions c are of (ap permanent (keeps.list ∙ read.list) ∙ listed) (images c now).1
+
+-- why no start record is repaired
+module _ {D : Type 0} (v : Ghosts D) (h new : Handler D) where
+  pub is_lack : (e : BootError) → RepairRefused v h new e → IsLack e
+  is_lack boot.Device refused = inl refl
+  is_lack boot.NoMemory refused = inr refl
+  is_lack boot.NotAStore refused = absurd refused
+  is_lack (boot.Damaged at) refused = absurd refused
+  is_lack (boot.BadRecord i) refused = absurd refused
+
+  -- a boot is refused for it, and wrote nothing unless the device failed
+  pub boot_refused : (disk : D) → v.failures disk ≤ v.failures (disk_in h) → v.failures (disk_in h) ≤ v.failures (disk_in new) → (e : BootError) → RepairRefused v h new e → BootRefused (v.seen disk) (v.failures disk) (v.failures (disk_in new)) e
+  boot_refused disk before counted boot.Device refused = failed_behind _ _ _ before counted refused
+  boot_refused disk before counted boot.NoMemory refused = tt
+  boot_refused disk before counted boot.NotAStore refused = absurd refused
+  boot_refused disk before counted (boot.Damaged at) refused = absurd refused
+  boot_refused disk before counted (boot.BadRecord i) refused = absurd refused
+
+  pub boot_quiet : (disk : D) → HasOnlyRead v.seen v.may_leave v.moment v.left_since disk (disk_in h) → (e : BootError) → RepairRefused v h new e → (e ≡ boot.Device) ⊎ HasOnlyRead v.seen v.may_leave v.moment v.left_since disk (disk_in new)
+  boot_quiet disk read boot.Device refused = inl refl
+  boot_quiet disk read boot.NoMemory refused = inr (read_on v.seen v.may_leave v.moment v.left_since disk (disk_in h) (disk_in new) read refused)
+  boot_quiet disk read boot.NotAStore refused = absurd refused
+  boot_quiet disk read (boot.Damaged at) refused = absurd refused
+  boot_quiet disk read (boot.BadRecord i) refused = absurd refused
 
 -- a boot is a reading of the node and a repair
 module _ {D : Type 0} (v : Ghosts D) (counts_now : (disk : D) (t : ℕ) (c : List ℕ) → t ≤ v.moment disk → v.may_leave disk c → v.left_since disk t c) (disk : D) (h : Handler D) (opened : IsOpened v disk h) (new : Handler D) (repairs : Repairs v h new) where

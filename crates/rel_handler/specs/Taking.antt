@@ -45,5 +45,5 @@ commanded (unpacked p) es =
 commanded e es = refused_or (refusal e es) (step e es)
 
 -- How many bytes the body of the record has of an event that brings no release; so any term stands for its release's.
-abbrev pub change_size : Event → Releases → ℕ
+unfoldable pub change_size : Event → Releases → ℕ
 change_size e es = length (body_of (tuple_of []) (record_of e es))

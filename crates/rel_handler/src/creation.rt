@@ -27,7 +27,7 @@ use rel_files::Rel;
 use rel_list::{Bundle, Event, ReleaseList};
 use rel_records::made_body;
 use rel_store::{Store, StoreError, holds_a_store};
-use rel_unpack::ReleaseFiles;
+use rel_unpack::{ApplicationFiles, ReleaseFiles};
 use std::alloc::{AllocError, Global};
 
 impl<D: Disk> Handler<D> {
@@ -152,12 +152,14 @@ impl NewNode {
         ensures list { IfOk result (λ new.
             new.list ≡ entry (bundle_brought (brought_of brought)) Permanent ∷ []) }
     {
-        let start = start_text(alloc, &brought.file.release)?;
         let ReleaseFiles { file, applications } = brought;
-        let body = made_body(alloc, file.term, applications.libraries.as_slice())?;
+        let ApplicationFiles { libraries, refusal } = applications;
+        drop(refusal);
+        let start = start_text(alloc, &file.release)?;
+        let body = made_body(alloc, file.term, libraries.as_slice())?;
         let bundle = Bundle {
             release: file.release,
-            libraries: applications.libraries,
+            libraries,
         };
         let list = list_of(alloc, bundle)?;
         Ok(NewNode { body, start, list })
@@ -169,10 +171,10 @@ fn list_of(alloc: Global, bundle: Bundle) -> Result<ReleaseList, AllocError>
     ensures { IfOk result (λ list. list ≡ entry (bundle_of bundle) Permanent ∷ []) }
 {
     let mut list = ReleaseList::new(alloc);
-    match list.accept(alloc, Event::Made(bundle)) {
-        Ok(_) => Ok(list),
-        Err(_) => Err(AllocError),
+    if list.accept(alloc, Event::Made(bundle)).is_err() {
+        return Err(AllocError);
     }
+    Ok(list)
 }
 
 // The text of the start slot for a release.

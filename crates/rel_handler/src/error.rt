@@ -11,11 +11,11 @@ use rel_list::{ListError, Status};
 use rel_records::RecordsError;
 use rel_unpack::{FileTrouble, UnpackError};
 use std::alloc::{AllocError, AllocFailed};
-use std::fmt::{self, Display, Formatter};
+use std::fmt::{self, Debug, Display, Formatter};
 use thiserror::Error;
 
 /// Why a command was refused. Nothing has changed then, but after `Device`.
-#[derive(Debug, Drop, Error)]
+#[derive(Drop, Error)]
 pub enum HandlerError {
     /// The list has no release of this version.
     NoSuchRelease,
@@ -75,6 +75,24 @@ impl HandlerError {
             HandlerError::Dead => "Dead",
             HandlerError::NoMemory => "NoMemory",
             HandlerError::Exists => "Exists",
+        }
+    }
+}
+
+// As it would be derived, with an arm for each kind of value in place of one for each variant: a proof is as long as the arms.
+impl Debug for HandlerError {
+    fn fmt<W: fmt::Write>(&self, f: &mut Formatter<W>) -> fmt::Result {
+        let word = self.word();
+        match self {
+            HandlerError::BadStatus(status) => f.debug_tuple(word).field(status).finish(),
+            HandlerError::BadFile(path, trouble) => {
+                f.debug_tuple(word).field(path).field(trouble).finish()
+            }
+            HandlerError::LibDiffers(name)
+            | HandlerError::MissingFile(name)
+            | HandlerError::VsnMismatch(name)
+            | HandlerError::NoTable(name) => f.debug_tuple(word).field(name).finish(),
+            _ => f.write_str(word),
         }
     }
 }

@@ -77,7 +77,9 @@ impl<D: Disk> Handler<D> {
             return Err(why);
         }
         let ReleaseFiles { file, applications } = brought;
-        let libraries = self.list.share(alloc, applications.libraries)?;
+        let ApplicationFiles { libraries, refusal } = applications;
+        drop(refusal);
+        let libraries = self.list.share(alloc, libraries)?;
         let body = unpacked_body(alloc, &self.list, file.term, libraries.as_slice())?;
         let bundle = Bundle {
             release: file.release,

@@ -3,6 +3,7 @@ use crate::disks::{CaseDisk, empty_disk, length, patch};
 use crate::nodes::is_explained;
 use crate::steps::follow_all;
 use std::alloc::{AllocError, Global};
+use text_cases::{Answer, first_word};
 
 /// The answer in one of two modes. The text is steps on one disk, parted by ` | `, and so are
 /// their answers. The disk is empty at first. Places on it are in bytes, from 0, and behind a `-`
@@ -43,13 +44,15 @@ pub(crate) fn answer(alloc: Global, mode: &str, text: &[u8]) -> Result<String, A
 }
 
 fn steps(alloc: Global, steps: &str) -> Result<String, AllocError> {
-    let mut text = String::new(alloc);
-    follow_all(alloc, empty_disk(alloc)?, steps, &mut text)?;
+    let disk = empty_disk(alloc)?;
+    let mut answer = Answer::new(alloc);
+    follow_all(alloc, disk, steps, &mut answer);
+    let text = answer.finish()?;
     String::from_str(alloc, text.strip_prefix(" | ").unwrap_or(text.as_str()))
 }
 
 fn damaged(alloc: Global, text: &str) -> Result<String, AllocError> {
-    let (byte, steps) = text.split_once(' ').unwrap_or((text, ""));
+    let (byte, steps) = first_word(text);
     let len = made_length(alloc, steps)?;
     let explained = explained_with(alloc, steps, byte.parse::<u8>().unwrap_or(0), len)?;
     format!(in alloc; "explained {explained} of {len}")
@@ -57,7 +60,13 @@ fn damaged(alloc: Global, text: &str) -> Result<String, AllocError> {
 
 // The disk that these steps make.
 fn made(alloc: Global, steps: &str) -> Result<CaseDisk, AllocError> {
-    follow_all(alloc, empty_disk(alloc)?, steps, &mut String::new(alloc))
+    let disk = empty_disk(alloc)?;
+    let mut answer = Answer::new(alloc);
+    let disk = follow_all(alloc, disk, steps, &mut answer);
+    match answer.finish() {
+        Ok(_) => Ok(disk),
+        Err(error) => Err(error),
+    }
 }
 
 // How many bytes that disk has.

@@ -1,6 +1,7 @@
 //! Disks in memory, and their bytes.
 use rel_disk::{DeviceFault, Disk, FailDisk, MemDisk};
 use std::alloc::{AllocError, Global};
+use text_cases::{Answer, number};
 
 /// The disk of a case.
 pub(crate) type CaseDisk = FailDisk<MemDisk>;
@@ -19,24 +20,11 @@ pub(crate) fn small_disk(alloc: Global, capacity: usize) -> Result<CaseDisk, All
     Ok(FailDisk::new(MemDisk::new(alloc, capacity, LOG)?, 0))
 }
 
-/// The number of a word, and 1 of a word that is none.
-pub(crate) fn number(word: &str) -> usize {
-    word.parse::<usize>().unwrap_or(1)
-}
-
 /// The place that a word tells on a disk of so many bytes.
 pub(crate) fn place(word: &str, len: usize) -> usize {
     match word.strip_prefix('-') {
         Some(back) => len.saturating_sub(number(back)),
         None => number(word),
-    }
-}
-
-/// Hands the disk back once an answer is written.
-pub(crate) fn given_back<D: Drop>(disk: D, told: Result<(), AllocError>) -> Result<D, AllocError> {
-    match told {
-        Ok(()) => Ok(disk),
-        Err(error) => Err(error),
     }
 }
 
@@ -69,24 +57,8 @@ pub(crate) fn patch(disk: &mut CaseDisk, at: usize, byte: u8) -> Result<(), Devi
     disk.sync()
 }
 
-/// Appends bytes, each as it is or, where it is no printable one of ASCII, as `~XX`.
-pub(crate) fn push_bytes(text: &mut String, bytes: &[u8]) -> Result<(), AllocError> {
-    for byte in bytes {
-        if *byte == b'~' || !(b' '..=b'~').contains(byte) {
-            push_digits(text, *byte)?;
-        } else {
-            text.push(*byte as char)?;
-        }
-    }
-    Ok(())
-}
-
-fn push_digits(text: &mut String, byte: u8) -> Result<(), AllocError> {
-    write!(text, "~{byte:02X}")
-}
-
 /// Appends a text, and a name behind it.
-pub(crate) fn push_named(text: &mut String, before: &str, name: &str) -> Result<(), AllocError> {
-    text.push_str(before)?;
-    text.push_str(name)
+pub(crate) fn push_named(before: &str, name: &str, answer: &mut Answer) {
+    answer.push(before);
+    answer.push(name);
 }

@@ -1,9 +1,10 @@
 //! Files of releases and of applications.
 ghost use Rattle.std.specs.Prelude.{◌≤◌, IfOk, length};
 
-use crate::disks::{number, push_named};
+use crate::disks::push_named;
 use file_source::{Files, FilesError};
-use std::alloc::{AllocError, Global};
+use std::alloc::Global;
+use text_cases::{Answer, number};
 
 /// Each path of a release names the release that its file has, and each path below `lib` is that of
 /// an application without modules. The path `missing` has no file, nor has the application `gone`.
@@ -28,7 +29,9 @@ impl Files for ReleaseFiles {
 fn bytes_at(alloc: Global, path: &str) -> Result<Vec<u8>, FilesError>
     ensures { IfOk result (λ bytes. length bytes.items ≤ 1048576) }
 {
-    let Ok(text) = text_at(alloc, path) else {
+    let mut answer = Answer::new(alloc);
+    push_file(path, &mut answer);
+    let Ok(text) = answer.finish() else {
         return Err(FilesError::NoMemory);
     };
     if text.len() > 1_048_576 {
@@ -42,44 +45,38 @@ const WORKER_APP: &str = r#"{application,worker,[{vsn,"1"},{modules,[top]},{mod,
 
 const WORKER: &str = r#"{worker,top,"1",0,[]}."#;
 
-// The text of a file that is there.
-fn text_at(alloc: Global, path: &str) -> Result<String, AllocError> {
-    let mut text = String::new(alloc);
-    push_file(&mut text, path)?;
-    Ok(text)
-}
-
-fn push_file(text: &mut String, path: &str) -> Result<(), AllocError> {
+// Appends the text of a file that is there.
+fn push_file(path: &str, answer: &mut Answer) {
     match path.strip_prefix("lib/") {
-        None => push_rel(text, path),
-        Some("worker-1/ebin/worker.app") => text.push_str(WORKER_APP),
-        Some("worker-1/ebin/top.mod") => text.push_str(WORKER),
-        Some(folder) => push_app(text, folder),
+        None => push_rel(path, answer),
+        Some("worker-1/ebin/worker.app") => answer.push(WORKER_APP),
+        Some("worker-1/ebin/top.mod") => answer.push(WORKER),
+        Some(folder) => push_app(folder, answer),
     }
 }
 
-// The text of the file of a release: of `A` with the application `app0`, of `A/65` with 65, of
+// Appends that of the file of a release: of `A` with the application `app0`, of `A/65` with 65, of
 // `A/:gone` with the application `gone`. It ends within its term where the release is `torn`.
-fn push_rel(text: &mut String, release: &str) -> Result<(), AllocError> {
+fn push_rel(release: &str, answer: &mut Answer) {
     let (vsn, apps) = release.split_once('/').unwrap_or((release, "1"));
-    push_named(text, r#"{release,{"ch_rel",""#, vsn)?;
-    push_apps(text, apps)?;
-    text.push_str(if release == "torn" { "]}" } else { "]}." })
+    push_named(r#"{release,{"ch_rel",""#, vsn, answer);
+    push_apps(apps, answer);
+    answer.push(if release == "torn" { "]}" } else { "]}." });
 }
 
-fn push_apps(text: &mut String, apps: &str) -> Result<(), AllocError> {
+fn push_apps(apps: &str, answer: &mut Answer) {
     let first = apps.strip_prefix(':').unwrap_or("app0");
-    push_named(text, r#""},{erts,"14.2"},[{"#, first)?;
-    text.push_str(r#","1"}"#)?;
+    push_named(r#""},{erts,"14.2"},[{"#, first, answer);
+    answer.push(r#","1"}"#);
     for app in 1..number(apps) {
-        write!(text, r#",{{app{app},"1"}}"#)?;
+        let done = write!(answer.text, r#",{{app{app},"1"}}"#);
+        answer.note(done);
     }
-    Ok(())
 }
 
-// The text of the file of an application without modules, of such a folder.
-fn push_app(text: &mut String, folder: &str) -> Result<(), AllocError> {
+// Appends that of the file of an application without modules, of such a folder.
+fn push_app(folder: &str, answer: &mut Answer) {
     let (name, _rest) = folder.split_once('-').unwrap_or((folder, ""));
-    push_named(text, "{application,", name)?;
-    text.push_str(r#",[{vsn,"1"}]}."#)
+    push_named("{application,", name, answer);
+    answer.push(r#",[{vsn,"1"}]}."#);
 }

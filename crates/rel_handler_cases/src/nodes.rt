@@ -1,89 +1,76 @@
 //! What a node answers. Each function appends the answers, with a blank before each.
 ghost use Rattle.rel_handler.specs.State.{IsSound};
 
-use crate::disks::{given_back, push_named};
+use crate::disks::push_named;
 use crate::files::ReleaseFiles;
 use crate::stores::push_start;
 use rel_disk::Disk;
 use rel_handler::{BootError, Handler, HandlerError, boot};
 use rel_list::ReleaseList;
-use std::alloc::{AllocError, Global};
+use std::alloc::Global;
+use text_cases::{Answer, first_word};
 
 // The versions with their statuses, in order.
-fn push_list(list: &ReleaseList, text: &mut String) -> Result<(), AllocError> {
-    text.push(' ')?;
+fn push_list(list: &ReleaseList, answer: &mut Answer) {
+    answer.push(" ");
     for listed in list.releases() {
-        text.push_str(listed.release.vsn.as_str())?;
-        push_named(text, " ", listed.status.as_str())?;
-        text.push(';')?;
+        answer.push(listed.release.vsn.as_str());
+        push_named(" ", listed.status.as_str(), answer);
+        answer.push(";");
     }
-    Ok(())
 }
 
-fn push_error(error: HandlerError, text: &mut String) -> Result<(), AllocError> {
-    write!(text, " {error}")
+fn push_error(error: &HandlerError, answer: &mut Answer) {
+    let done = write!(answer.text, " {error}");
+    answer.note(done);
 }
 
 // The releases of a node, or why it doesn't list them.
-fn releases<D: Disk>(node: &Handler<D>, text: &mut String) -> Result<(), AllocError> {
+fn releases<D: Disk>(node: &Handler<D>, answer: &mut Answer) {
     match node.which_releases() {
-        Ok(list) => push_list(list, text),
-        Err(error) => push_error(error, text),
+        Ok(list) => push_list(list, answer),
+        Err(error) => push_error(&error, answer),
     }
 }
 
 // Whether a command was done.
-fn push_done(done: Result<(), HandlerError>, text: &mut String) -> Result<(), AllocError> {
+fn push_done(done: &Result<(), HandlerError>, answer: &mut Answer) {
     match done {
-        Ok(()) => text.push_str(" ok"),
-        Err(error) => push_error(error, text),
+        Ok(()) => answer.push(" ok"),
+        Err(error) => push_error(error, answer),
     }
 }
 
 // What a node answers to a further release: the version that it took in.
-fn unpack<D: Disk>(
-    alloc: Global,
-    node: &mut Handler<D>,
-    release: &str,
-    text: &mut String,
-) -> Result<(), AllocError>
+fn unpack<D: Disk>(alloc: Global, node: &mut Handler<D>, release: &str, answer: &mut Answer)
     requires { IsSound D.seen D.may_leave node.old }
     ensures { IsSound D.seen D.may_leave node.new }
 {
     match node.set_unpacked(alloc, &ReleaseFiles, release) {
-        Ok(vsn) => push_named(text, " took ", vsn.as_str()),
-        Err(error) => push_error(error, text),
+        Ok(vsn) => push_named(" took ", vsn.as_str(), answer),
+        Err(error) => push_error(&error, answer),
     }
 }
 
 // What a node answers to the installation of the release of this version.
-fn install<D: Disk>(
-    alloc: Global,
-    node: &mut Handler<D>,
-    vsn: &str,
-    text: &mut String,
-) -> Result<(), AllocError>
+fn install<D: Disk>(alloc: Global, node: &mut Handler<D>, vsn: &str, answer: &mut Answer)
     requires { IsSound D.seen D.may_leave node.old }
     ensures { IsSound D.seen D.may_leave node.new }
 {
     match node.install_release(alloc, vsn) {
-        Ok(installed) => push_named(text, " other ", installed.other.as_str()),
-        Err(error) => push_error(error, text),
+        Ok(installed) => push_named(" other ", installed.other.as_str(), answer),
+        Err(error) => push_error(&error, answer),
     }
 }
 
 // What a node tells of its start record.
-fn tell_start<D: Disk>(
-    alloc: Global,
-    node: &mut Handler<D>,
-    text: &mut String,
-) -> Result<(), AllocError>
+fn tell_start<D: Disk>(alloc: Global, node: &mut Handler<D>, answer: &mut Answer)
     requires { IsSound D.seen D.may_leave node.old }
     ensures { IsSound D.seen D.may_leave node.new }
 {
     match node.start(alloc) {
-        Ok(start) => push_start(text, " starts ", &start),
-        Err(error) => push_error(error, text),
+        Ok(start) => push_start(" starts ", &start, answer),
+        Err(error) => push_error(&error, answer),
     }
 }
 
@@ -105,73 +92,58 @@ fn change<D: Disk>(
 }
 
 // What a node answers to a command, where one is given.
-fn command<D: Disk>(
-    alloc: Global,
-    node: &mut Handler<D>,
-    word: &str,
-    text: &mut String,
-) -> Result<(), AllocError>
+fn command<D: Disk>(alloc: Global, node: &mut Handler<D>, word: &str, answer: &mut Answer)
     requires { IsSound D.seen D.may_leave node.old }
     ensures { IsSound D.seen D.may_leave node.new }
 {
     let mut rest = word.chars();
     match rest.next() {
-        None => Ok(()),
-        Some('?') => tell_start(alloc, node, text),
-        Some('+') => install(alloc, node, rest.as_str(), text),
+        None => {}
+        Some('?') => tell_start(alloc, node, answer),
+        Some('+') => install(alloc, node, rest.as_str(), answer),
         Some(sign @ ('!' | '<' | '-')) => {
-            push_done(change(alloc, node, sign, rest.as_str()), text)
+            push_done(&change(alloc, node, sign, rest.as_str()), answer)
         }
-        Some(_) => unpack(alloc, node, word, text),
+        Some(_) => unpack(alloc, node, word, answer),
     }
 }
 
 // What it answers to each of at most three commands.
-fn command_all<D: Disk>(
-    alloc: Global,
-    node: &mut Handler<D>,
-    commands: &str,
-    text: &mut String,
-) -> Result<(), AllocError>
+fn command_all<D: Disk>(alloc: Global, node: &mut Handler<D>, commands: &str, answer: &mut Answer)
     requires { IsSound D.seen D.may_leave node.old }
 {
-    let (first, more) = commands.split_once(' ').unwrap_or((commands, ""));
-    let (second, third) = more.split_once(' ').unwrap_or((more, ""));
-    command(alloc, node, first, text)?;
-    command(alloc, node, second, text)?;
-    command(alloc, node, third, text)
+    let (first, more) = first_word(commands);
+    let (second, third) = first_word(more);
+    command(alloc, node, first, answer);
+    command(alloc, node, second, answer);
+    command(alloc, node, third, answer);
 }
 
 // Its releases, and where commands are given, what it answers to them, whether it is dead then, and
 // its releases.
-fn push_followed<D: Disk>(
-    alloc: Global,
-    node: &mut Handler<D>,
-    commands: &str,
-    text: &mut String,
-) -> Result<(), AllocError>
+fn push_followed<D: Disk>(alloc: Global, node: &mut Handler<D>, commands: &str, answer: &mut Answer)
     requires { IsSound D.seen D.may_leave node.old }
 {
-    releases(node, text)?;
+    releases(node, answer);
     if commands.is_empty() {
-        return Ok(());
+        return;
     }
-    command_all(alloc, node, commands, text)?;
-    text.push_str(if node.is_dead() { " dead" } else { " open" })?;
-    releases(node, text)
+    command_all(alloc, node, commands, answer);
+    answer.push(if node.is_dead() { " dead" } else { " open" });
+    releases(node, answer);
 }
 
 fn follow_node<D: Disk + Drop>(
     alloc: Global,
     node: Handler<D>,
     commands: &str,
-    text: &mut String,
-) -> Result<D, AllocError>
+    answer: &mut Answer,
+) -> D
     requires { IsSound D.seen D.may_leave node }
 {
     let mut node = node;
-    let told = push_followed(alloc, &mut node, commands, text);
-    given_back(node.into_disk(), told)
+    push_followed(alloc, &mut node, commands, answer);
+    node.into_disk()
 }
 
 /// What a node answers that is made of the first of these words, a release, on this disk and given
@@ -180,12 +152,15 @@ pub(crate) fn create<D: Disk + Drop>(
     alloc: Global,
     disk: D,
     words: &str,
-    text: &mut String,
-) -> Result<D, AllocError> {
-    let (first, more) = words.split_once(' ').unwrap_or((words, ""));
+    answer: &mut Answer,
+) -> D {
+    let (first, more) = first_word(words);
     match Handler::create(alloc, disk, &ReleaseFiles, first) {
-        Ok(node) => follow_node(alloc, node, more, text),
-        Err((error, disk)) => given_back(disk, push_error(error, text)),
+        Ok(node) => follow_node(alloc, node, more, answer),
+        Err((error, disk)) => {
+            push_error(&error, answer);
+            disk
+        }
     }
 }
 
@@ -194,16 +169,20 @@ pub(crate) fn boots<D: Disk + Drop>(
     alloc: Global,
     disk: D,
     commands: &str,
-    text: &mut String,
-) -> Result<D, AllocError> {
+    answer: &mut Answer,
+) -> D {
     match boot(alloc, disk) {
-        Ok(node) => follow_node(alloc, node, commands, text),
-        Err((error, disk)) => given_back(disk, push_refusal(error, text)),
+        Ok(node) => follow_node(alloc, node, commands, answer),
+        Err((error, disk)) => {
+            push_refusal(error, answer);
+            disk
+        }
     }
 }
 
-fn push_refusal(error: BootError, text: &mut String) -> Result<(), AllocError> {
-    write!(text, " {error:?}")
+fn push_refusal(error: BootError, answer: &mut Answer) {
+    let done = write!(answer.text, " {error:?}");
+    answer.note(done);
 }
 
 /// What the node on this disk answers to a further release, and no more.
@@ -211,14 +190,17 @@ pub(crate) fn unpack_once<D: Disk + Drop>(
     alloc: Global,
     disk: D,
     release: &str,
-    text: &mut String,
-) -> Result<D, AllocError> {
+    answer: &mut Answer,
+) -> D {
     match boot(alloc, disk) {
         Ok(mut node) => {
-            let told = unpack(alloc, &mut node, release, text);
-            given_back(node.into_disk(), told)
+            unpack(alloc, &mut node, release, answer);
+            node.into_disk()
         }
-        Err((error, disk)) => given_back(disk, push_refusal(error, text)),
+        Err((error, disk)) => {
+            push_refusal(error, answer);
+            disk
+        }
     }
 }
 

@@ -65,6 +65,16 @@ completed_more es apps i app old new l rest left whole within at found grown so_
     ∙ (ap (λ (n : Option (Library × List Library)). option_map (λ (more : List Library). old ++ more) (option_and_then (behind_library es later) n)) found
     ∙ (ap (λ (as' : List RelApp). option_map (λ (more : List Library). old ++ more) (completed es (map application_of as') rest)) (sym split) ∙ so_far)))
 
+-- an application without a library
+pub completed_none : (es : Releases) (apps : List RelApp) (i : ℕ) (app : RelApp) (old rest : List Library) (whole : Option (List Library))
+    → i < length apps → app ≡ get_or apps i app → None ≡ next_library es (application_of app) rest
+    → option_map (λ more. old ++ more) (completed es (map application_of (drop i apps)) rest) ≡ whole → None ≡ whole
+completed_none es apps i app old rest whole within at none so_far =
+    let later : List Application = map application_of (drop (i + 1) apps) in
+    let split : drop i apps ≡ app ∷ drop (i + 1) apps = drop_more apps i app within ∙ ap (λ (a : RelApp). a ∷ drop (i + 1) apps) (sym at) in
+    ap (λ (n : Option (Library × List Library)). option_map (λ (more : List Library). old ++ more) (option_and_then (behind_library es later) n)) none
+    ∙ (ap (λ (as' : List RelApp). option_map (λ (more : List Library). old ++ more) (completed es (map application_of as') rest)) (sym split) ∙ so_far)
+
 -- The libraries of a node's first release are all new.
 pub completed_first : (apps : List Application) (ls : List Library) → AreLibrariesOf apps ls → completed [] apps ls ≡ Some ls
 completed_first [] [] are = refl

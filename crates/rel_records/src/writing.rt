@@ -98,12 +98,9 @@ fn release_term(alloc: Global, word: &str, rel: Term, libs: Vec<Term>) -> Result
     ensures { IfOk result (λ term. value_of term
         ≡ release_term word.now (value_of rel) (members_of libs.items)) }
 {
-    let mut members = Vec::with_capacity(alloc, 4)?;
-    members.push(Term::Atom(String::from_str(alloc, word)?))?;
-    members.push(rel)?;
-    members.push(Term::List(libs))?;
-    members.push(Term::Atom(String::from_str(alloc, "none")?))?;
-    Ok(Term::Tuple(members))
+    let word = atom_term(alloc, word)?;
+    let none = atom_term(alloc, "none")?;
+    Ok(Term::Tuple(vec![in alloc; word, rel, Term::List(libs), none]?))
 }
 
 // The terms of libraries.
@@ -216,8 +213,5 @@ fn atom_term(alloc: Global, word: &str) -> Result<Term, AllocError>
 fn pair_term(alloc: Global, first: Term, second: Term) -> Result<Term, AllocError>
     ensures { IfOk result (λ term. value_of term ≡ pair_term (value_of first) (value_of second)) }
 {
-    let mut members = Vec::with_capacity(alloc, 2)?;
-    members.push(first)?;
-    members.push(second)?;
-    Ok(Term::Tuple(members))
+    Ok(Term::Tuple(vec![in alloc; first, second]?))
 }

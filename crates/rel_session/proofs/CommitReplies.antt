@@ -1,6 +1,7 @@
 -- What a command with an event replies on a node that runs: the event is committed, or refused.
 use Rattle.std.proofs.Common.{◌≡◌, inl, inr, ℕ, true, false, [], ◌∷◌, ◌++◌, Option, None, Some, Result, Ok, Err, refl, sym, ap, ◌∙◌, subst}
-use Rattle.std.specs.Prelude.{String, string_bytes}
+use Rattle.std.specs.Prelude.{IfOk, MatchResult, String, string_bytes}
+use Rattle.std.specs.declared.alloc.AllocError.{AllocError}
 use Rattle.std.specs.declared.alloc.Global.{Global}
 use Rattle.rel_list.specs.Releases.{Releases}
 use Rattle.rel_list.specs.Event.{Event, list_after}
@@ -28,7 +29,7 @@ use Rattle.rel_handler.proofs.CommandLemmas.{commanded_step}
 use Rattle.rel_session.proofs.DeviceLemmas.{IsDevice, weakened}
 use Rattle.rel_session.proofs.ListLemmas.{list_after-push}
 use Rattle.rel_session.proofs.Prefixes.{reached_with}
-use Rattle.rel_session.proofs.Replies.{stays, leaves_all, same_at, runs_at}
+use Rattle.rel_session.proofs.Replies.{stays, leaves_all, same_at, runs_at, tells, answers_line}
 
 never : {A : Type 0} → false ≡ true → A
 never e = absurd cc
@@ -78,9 +79,8 @@ module _ {D : Type 0} (v : Device D) (laws : IsDevice v) (P : Place → Reply �
         stays v laws (running events end) (refusal_line why) _ (memory.Made h) (memory.Made new) at same.disk (same_at v laws h new (running events end) same at)
         (right_for events end o _ at.2 is (barred events end at.3), refl)
 
-    by_list : (why : HandlerError) → (is_dead h ≡ false) × (commanded e (list_in h) ≡ Err why) → IsSame h new
-        → (p : Place) → IsAt v (memory.Made h) p → Replied v p (λ a. P p a × (a.answer ≡ refusal_line (refusal_of why))) (memory.Made h) (memory.Made new)
-    by_list why (living, barred) same = same_reply (refusal_of why) (Err why) barred same (λ events end at. refl)
+    by_list : (why : HandlerError) → (is_dead h ≡ false) × (commanded e (list_in h) ≡ Err why) → IsSame h new → Answers v P (Err why) (memory.Made h) (memory.Made new)
+    by_list why (living, barred) same p at = inl (same_reply (refusal_of why) (Err why) barred same (λ events end at. refl) p at)
 
     -- It was not committed.
     pub commits_none : (why : HandlerError) → CommandRefused v.failures e body_size h new why → Answers v P (Err why) (memory.Made h) (memory.Made new)
@@ -98,9 +98,9 @@ module _ {D : Type 0} (v : Device D) (laws : IsDevice v) (P : Place → Reply �
     commits_none (handler_error.MissingFile path) (barred, same) = by_list (handler_error.MissingFile path) barred same
     commits_none (handler_error.VsnMismatch path) (barred, same) = by_list (handler_error.VsnMismatch path) barred same
     commits_none handler_error.Full ((living, (list, allowed)), over, same) =
-        same_reply full (Ok list) allowed same (λ events end at. inr (subst (λ n. HasSpace n body_size → ⊥) at over, refl))
-    commits_none handler_error.NoMemory (living, same) = λ p at. inr (leaves_all v laws p (memory.Made h) (memory.Made new) same.disk (same_at v laws h new p same at))
-    commits_none handler_error.Device ((living, (list, allowed), fits), cause, gone) = device_failed list allowed fits cause gone
+        λ p at. inl (same_reply full (Ok list) allowed same (λ events end at. inr (subst (λ n. HasSpace n body_size → ⊥) at over, refl)) p at)
+    commits_none handler_error.NoMemory (living, same) = λ p at. inr (refl, inr (leaves_all v laws p (memory.Made h) (memory.Made new) same.disk (same_at v laws h new p same at)))
+    commits_none handler_error.Device ((living, (list, allowed), fits), cause, gone) = λ p at. inl (device_failed list allowed fits cause gone p at)
     commits_none handler_error.Exists gone = absurd gone
 
   -- A command changes the node.
@@ -150,17 +150,11 @@ module _ {D : Type 0} (v : Device D) (laws : IsDevice v) (P : Place → Reply �
           happens = record { moments = moments_at change.event change.size IsChanged right new commits events after; holds = place.0; cause = λ f. never f; counted = commits.counted };
         }
 
-    -- it is done, and so answered
-    pub changes : is_dead new ≡ false → IsDone v change.event (change.size (list_in h)) h new → (text : String Global) → string_bytes text ≡ Transition.done_line (change.details (list_in h)) → Answers v P (Ok text) (memory.Made h) (memory.Made new)
-    changes works is_done text is p at =
-        let r = replies_done works is_done p at in
-        record { given = r.given; right = (r.right.0, r.right.1 ∙ sym is); at = r.at; happens = r.happens }
-
-    -- it is done, and memory is refused for its answer
-    pub changes_untold : is_dead new ≡ false → IsDone v change.event (change.size (list_in h)) h new → Answers v P (Err handler_error.NoMemory) (memory.Made h) (memory.Made new)
-    changes_untold works is_done p at =
-        let r = replies_done works is_done p at in
-        inl (record { given = r.given; right = r.right.0; at = r.at; happens = r.happens })
+    -- it is done, and answered by this line
+    pub changes : is_dead new ≡ false → IsDone v change.event (change.size (list_in h)) h new → (line : Result (String Global) AllocError) (result : Result (String Global) HandlerError)
+        → MatchResult line (λ text. result ≡ Ok text) (λ _. result ≡ Err handler_error.NoMemory) → IfOk line (λ text. string_bytes text ≡ Transition.done_line (change.details (list_in h))) → Answers v P result (memory.Made h) (memory.Made new)
+    changes works is_done line result is told =
+        answers_line v laws P line result (memory.Made h) (memory.Made new) is (tells v laws P line _ (memory.Made h) (memory.Made new) told (replies_done works is_done))
 
     -- it isn't
     pub changes_none : (e : HandlerError) → CommandRefused v.failures change.event (change.size (list_in h)) h new e → Answers v P (Err e) (memory.Made h) (memory.Made new)

@@ -46,7 +46,7 @@ module _ {D : Type 0} (v : Device D) (laws : IsDevice v) (source : Source) (path
   pub creates_again : (h : Handler D) (why : HandlerError) → IsOfFiles source path why ⊎ ((why ≡ handler_error.Exists) × ((found : Brought) × Brings source path (Ok found)))
       → Answers v Creates (Err why) (memory.Made h) (memory.Made h)
   creates_again h why (inl of) = refuses_anywhere v laws Creates (memory.Made h) why (λ known p. creation_refused source path (refusal_of why) p (files_refuse source path why of known))
-  creates_again h why (inr (is, (found, read))) = subst (λ e. Answers v Creates (Err e) (memory.Made h) (memory.Made h)) (sym is) there
+  creates_again h why (inr (is, (found, read))) = subst (λ e. Answers v Creates (Err e) (memory.Made h) (memory.Made h)) (sym is) (λ p at. inl (there p at))
     where
       there : (p : Place) → IsAt v (memory.Made h) p → Replied v p (λ a. Creates p a × (a.answer ≡ refusal_line exists)) (memory.Made h) (memory.Made h)
       there (raw bytes) at = absurd at
@@ -183,10 +183,10 @@ module _ {D : Type 0} (v : Device D) (laws : IsDevice v) (source : Source) (path
 
         by_error : (e : HandlerError) → (e ≢ handler_error.Exists → e ≢ handler_error.Device → is_not.brought.refusal ≡ None) → MakingRefused (v.seen disk) (made_size found) (v.failures disk) (v.failures new) (WritesNothing v.seen v.may_leave v.moment v.left_since disk new) e
             → Answers v Creates (Err e) (memory.Idle disk) (memory.Idle new)
-        by_error handler_error.Device clear cause = device_fails cause
-        by_error handler_error.Exists clear (stored_there, u) = λ p at. refuses p exists at u (right_for p _ (exists_there stored_there p at))
-        by_error handler_error.Full clear (stored_there, over, u) = λ p at. refuses p full at u (right_for p _ (full_there (clear (λ e. cc e) (λ e. cc e)) stored_there over p at))
-        by_error handler_error.NoMemory clear u = λ p at. inr (nothing_done u p at)
+        by_error handler_error.Device clear cause = λ p at. inl (device_fails cause p at)
+        by_error handler_error.Exists clear (stored_there, u) = λ p at. inl (refuses p exists at u (right_for p _ (exists_there stored_there p at)))
+        by_error handler_error.Full clear (stored_there, over, u) = λ p at. inl (refuses p full at u (right_for p _ (full_there (clear (λ e. cc e) (λ e. cc e)) stored_there over p at)))
+        by_error handler_error.NoMemory clear u = λ p at. inr (refl, inr (nothing_done u p at))
         by_error handler_error.TooMany clear gone = absurd gone
         by_error handler_error.NoSuchRelease clear gone = absurd gone
         by_error handler_error.ExistingRelease clear gone = absurd gone

@@ -4,8 +4,9 @@ use Rattle.std.specs.Prelude.{IsErrOf, String, string_bytes}
 use Rattle.std.specs.Option.{option_map}
 use Rattle.std.specs.Io.KnownBytes.{Appends, prepend_known}
 use Rattle.std.specs.declared.alloc.Global.{Global}
+use Rattle.session_input.specs.declared.command.Command.{Command as CommandInMemory}
 use Rattle.session_input.specs.declared.error.SessionError.{SessionError}
-use Rattle.session_input.specs.declared.error.SessionError.TheVariants.{Limit}
+use Rattle.session_input.specs.declared.error.SessionError.TheVariants.{Read, Write, Limit, NoMemory}
 use Rattle.session_input.specs.declared.input.Input.{Input}
 use Rattle.rel_session.specs.declared.node.Node.{Node}
 use Rattle.rel_session.specs.declared.place.Place.TheVariants as memory
@@ -18,7 +19,8 @@ use Rattle.session_input.specs.Feed.Feed.{over, cut, next}
 use Rattle.rel_unpack.specs.Source.{Source}
 use Rattle.rel_session.specs.Files.{Files, no_files, files_of, files_behind, source_of}
 use Rattle.rel_session.specs.InMemory.{IsAt, Leads, NothingDone, FollowsCommand, disk_at, disk_of}
-use Rattle.session_input.specs.Input.{IsFresh, commands_left, most_bytes}
+use Rattle.session_input.specs.Input.{IsFresh, HasCause, commands_left, failed_reads, taken, most_bytes}
+use Rattle.counted_io.specs.Failures.{HasRisen}
 use Rattle.session_input.specs.Lines.{lines_of}
 use Rattle.rel_session.specs.Node.{Place, Reply}
 use Rattle.rel_session.specs.Node.Place.{raw, closed, running, dead}
@@ -236,3 +238,37 @@ module _ {D : Type 0} (v : Device D) (laws : IsDevice v) (base : Source) where
 pub cut_told : {V : Type 0} (Shows : V → Command → Type 0) (e : SessionError) (now new : Option (Feed Command))
     → IsErrOf {T = Unit {0}} (Err e) Limit → IsNext Shows (Err e) now new → EndsAs cut now new
 cut_told {V} Shows e now new is n = subst (λ x. IsNext {V = V} Shows (Err x) now new) (let same : e ≡ Limit = cc in same) n
+
+-- no error is told where there is none
+pub no_error : (e : SessionError) → IsErrOf (Ok (tt {0})) e → ⊥
+no_error e is = cc is
+
+-- one error is told as no other
+pub one_error : (told e other : SessionError) → told ≡ e → (e ≡ other → ⊥) → IsErrOf {T = Unit {0}} (Err told) other → ⊥
+one_error told e other is differ also = differ (sym is ∙ (let same : told ≡ other = cc in same))
+
+pub Write≢Read : Write ≡ Read → ⊥
+Write≢Read is = cc is
+
+pub Write≢Limit : Write ≡ Limit → ⊥
+Write≢Limit is = cc is
+
+pub NoMemory≢Read : NoMemory ≡ Read → ⊥
+NoMemory≢Read is = cc is
+
+pub NoMemory≢Write : NoMemory ≡ Write → ⊥
+NoMemory≢Write is = cc is
+
+pub NoMemory≢Limit : NoMemory ≡ Limit → ⊥
+NoMemory≢Limit is = cc is
+
+-- the error of the input has its cause
+pub read_told : {R : Type 0} (e : SessionError) (first : ℕ) (old new : Input R) → failed_reads old ≡ first → HasCause {V = Option CommandInMemory} (Err e) old new → IsErrOf {T = Unit {0}} (Err e) Read → HasRisen first (failed_reads new)
+read_told e first old new same cause is =
+    subst (λ n. HasRisen n (failed_reads new)) same (subst (λ x. HasCause {V = Option CommandInMemory} (Err x) old new) (let known : e ≡ Read = cc in known) cause)
+
+pub write_told : {R : Type 0} (e : SessionError) (old new : Input R) → HasCause {V = Option CommandInMemory} (Err e) old new → IsErrOf {T = Unit {0}} (Err e) Write → ⊥
+write_told e old new cause is = subst (λ x. HasCause {V = Option CommandInMemory} (Err x) old new) (let known : e ≡ Write = cc in known) cause
+
+pub limit_told : {R : Type 0} (e : SessionError) (old new : Input R) → HasCause {V = Option CommandInMemory} (Err e) old new → IsErrOf {T = Unit {0}} (Err e) Limit → taken new ≡ most_bytes
+limit_told e old new cause is = subst (λ x. HasCause {V = Option CommandInMemory} (Err x) old new) (let known : e ≡ Limit = cc in known) cause

@@ -1,5 +1,5 @@
 -- The reply to the request of a relup, which leaves the node as it is.
-use Rattle.std.proofs.Common.{◌≡◌, ◌≢◌, inr, ℕ, List, Result, Ok, Err, refl, sym, subst}
+use Rattle.std.proofs.Common.{◌≡◌, ◌≢◌, inl, inr, ℕ, List, Result, Ok, Err, refl, sym, subst}
 use Rattle.std.specs.Prelude.{String, string_bytes, MatchResult}
 use Rattle.std.specs.declared.alloc.Global.{Global}
 use Rattle.rel_handler.specs.declared.error.HandlerError.{HandlerError}
@@ -38,13 +38,13 @@ module _ {D : Type 0} (v : Device D) (laws : IsDevice v) (place : PlaceInMemory 
       ((relup_telling (Err (files_refusal why)), (Err (files_refusal why), there, refl), refl), refl)
 
   refused : (why : UnpackError) → (why ≢ NoMemory → AnswerAt source new ups downs (Err (files_refusal why))) → Answers v RepliesTo (Err (told_files why)) place place
-  refused NoMemory there = λ p at. inr (leaves_all v laws p place place refl at)
-  refused (MissingFile path) there = refused_for (MissingFile path) (there (λ e. cc e))
-  refused (BadFile path trouble) there = refused_for (BadFile path trouble) (there (λ e. cc e))
-  refused (VsnMismatch path) there = refused_for (VsnMismatch path) (there (λ e. cc e))
-  refused (LibDiffers app) there = refused_for (LibDiffers app) (there (λ e. cc e))
-  refused (NoTable app) there = refused_for (NoTable app) (there (λ e. cc e))
-  refused TooMany there = refused_for TooMany (there (λ e. cc e))
+  refused NoMemory there = λ p at. inr (refl, inr (leaves_all v laws p place place refl at))
+  refused (MissingFile path) there = λ p at. inl (refused_for (MissingFile path) (there (λ e. cc e)) p at)
+  refused (BadFile path trouble) there = λ p at. inl (refused_for (BadFile path trouble) (there (λ e. cc e)) p at)
+  refused (VsnMismatch path) there = λ p at. inl (refused_for (VsnMismatch path) (there (λ e. cc e)) p at)
+  refused (LibDiffers app) there = λ p at. inl (refused_for (LibDiffers app) (there (λ e. cc e)) p at)
+  refused (NoTable app) there = λ p at. inl (refused_for (NoTable app) (there (λ e. cc e)) p at)
+  refused TooMany there = λ p at. inl (refused_for TooMany (there (λ e. cc e)) p at)
 
   pub answers_relup : (made : Result (String Global) UnpackError) (r : Result (String Global) HandlerError) → MatchResult made (λ text. r ≡ Ok text) (λ why. r ≡ Err (told_files why))
       → files.Answers string_bytes (AnswerAt source new ups downs) made → Answers v RepliesTo r place place

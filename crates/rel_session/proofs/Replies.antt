@@ -1,5 +1,5 @@
 -- What each command replies, wherever the disk stands, as the handler's clauses give it.
-use Rattle.std.proofs.Common.{◌≡◌, ◌≢◌, ◌⊎◌, inl, inr, ℕ, ◌≤◌, Bool, true, false, List, [], ◌∷◌, ◌++◌, Some, None, Result, Ok, Err, refl, sym, ap, ◌∙◌, subst, arith}
+use Rattle.std.proofs.Common.{◌≡◌, ◌≢◌, ◌⊎◌, inl, inr, ⊎_elim, ℕ, ◌≤◌, Bool, true, false, List, [], ◌∷◌, ◌++◌, Some, None, Result, Ok, Err, refl, sym, ap, ◌∙◌, subst, arith}
 use Rattle.std.specs.Result.{IsErrAnd}
 use Rattle.std.specs.Prelude.{IfOk, IsErr, String, string_bytes, MatchResult}
 use Rattle.std.specs.declared.alloc.Global.{Global}
@@ -18,10 +18,11 @@ use Rattle.rel_handler.specs.Refusals.{BootRefused, IsBootRefusal}
 use Rattle.rel_handler.specs.State.{disk_in, list_in, is_dead, end_in, HasStarted, IsSame}
 use Rattle.rel_session.specs.declared.place.Place.{Place as PlaceInMemory}
 use Rattle.rel_session.specs.declared.place.Place.TheVariants as memory
-use Rattle.session_input.specs.Commands.Command.{set_unpacked}
+use Rattle.session_input.specs.Commands.{Command}
+use Rattle.session_input.specs.Commands.Command.{file, create, set_unpacked, install, permanent, remove, reboot_old, boot, start, releases, relup, quit, bad}
 use Rattle.rel_session.specs.Device.{Device, LeavesOnly, HasFailed}
 use Rattle.rel_unpack.specs.Source.{Source}
-use Rattle.rel_session.specs.InMemory.{disk_at, IsAt, Replied, NothingDone, Answers, TellsReply}
+use Rattle.rel_session.specs.InMemory.{disk_at, IsAt, Replied, NothingDone, Answers, TellsReply, NeedsNode}
 use Rattle.rel_session.specs.Node.{Place, Reply, reply, refused, failed, nothing, done, failed_with}
 use Rattle.rel_session.specs.Node.Place.{raw, closed, running, dead}
 use Rattle.rel_session.specs.Refusals.{refusal_of, refusal_line, boot_line}
@@ -38,6 +39,26 @@ use Rattle.rel_session.proofs.Prefixes.{reached, stored}
 pub told_so : (r : Result (String Global) HandlerError) (why : HandlerError) → IsErrAnd r (λ e. e ≡ why) → r ≡ Err why
 told_so (Ok vsn) why never = absurd never
 told_so (Err e) why is = ap Err is
+
+-- memory was refused, or it was something else
+memory_or_not : (why : HandlerError) → (why ≡ handler_error.NoMemory) ⊎ (why ≢ handler_error.NoMemory)
+memory_or_not handler_error.NoSuchRelease = inr (λ e. cc e)
+memory_or_not handler_error.ExistingRelease = inr (λ e. cc e)
+memory_or_not handler_error.AlreadyInstalled = inr (λ e. cc e)
+memory_or_not (handler_error.BadStatus s) = inr (λ e. cc e)
+memory_or_not handler_error.Permanent = inr (λ e. cc e)
+memory_or_not handler_error.Running = inr (λ e. cc e)
+memory_or_not (handler_error.BadFile q f) = inr (λ e. cc e)
+memory_or_not (handler_error.MissingFile q) = inr (λ e. cc e)
+memory_or_not (handler_error.VsnMismatch q) = inr (λ e. cc e)
+memory_or_not (handler_error.LibDiffers q) = inr (λ e. cc e)
+memory_or_not (handler_error.NoTable q) = inr (λ e. cc e)
+memory_or_not handler_error.TooMany = inr (λ e. cc e)
+memory_or_not handler_error.Device = inr (λ e. cc e)
+memory_or_not handler_error.Full = inr (λ e. cc e)
+memory_or_not handler_error.Dead = inr (λ e. cc e)
+memory_or_not handler_error.NoMemory = inl refl
+memory_or_not handler_error.Exists = inr (λ e. cc e)
 
 module _ {D : Type 0} (v : Device D) (laws : IsDevice v) where
   -- what is so of the disk of a place
@@ -269,7 +290,7 @@ module _ {D : Type 0} (v : Device D) (laws : IsDevice v) where
   pub answers_line : (P : Place → Reply → Type 0) (line : Result (String Global) AllocError) (result : Result (String Global) HandlerError) (old new : PlaceInMemory D)
       → MatchResult line (λ text. result ≡ Ok text) (λ _. result ≡ Err handler_error.NoMemory) → TellsReply v P line old new → Answers v P result old new
   answers_line P (Ok text) result old new is told = subst (λ r. Answers v P r old new) (sym is) told
-  answers_line P (Err e) result old new is told = subst (λ r. Answers v P r old new) (sym is) told
+  answers_line P (Err e) result old new is told = subst (λ r. Answers v P r old new) (sym is) (λ p at. inr (refl, told p at))
 
   -- from the place as the call took it
   pub from_there : (P : Place → Reply → Type 0) (r : Result (String Global) HandlerError) (old there new : PlaceInMemory D) → old ≡ there → Answers v P r there new → Answers v P r old new
@@ -279,23 +300,7 @@ module _ {D : Type 0} (v : Device D) (laws : IsDevice v) where
   pub tells_refusal : (P : Place → Reply → Type 0) (why : HandlerError) (old new : PlaceInMemory D)
       → (why ≢ handler_error.NoMemory → (p : Place) → IsAt v old p → Replied v p (λ a. P p a × (a.answer ≡ refusal_line (refusal_of why))) old new)
       → ((p : Place) → IsAt v old p → NothingDone v p old new) → Answers v P (Err why) old new
-  tells_refusal P handler_error.NoSuchRelease old new told lapsed = told (λ e. cc e)
-  tells_refusal P handler_error.ExistingRelease old new told lapsed = told (λ e. cc e)
-  tells_refusal P handler_error.AlreadyInstalled old new told lapsed = told (λ e. cc e)
-  tells_refusal P (handler_error.BadStatus s) old new told lapsed = told (λ e. cc e)
-  tells_refusal P handler_error.Permanent old new told lapsed = told (λ e. cc e)
-  tells_refusal P handler_error.Running old new told lapsed = told (λ e. cc e)
-  tells_refusal P (handler_error.BadFile q f) old new told lapsed = told (λ e. cc e)
-  tells_refusal P (handler_error.MissingFile q) old new told lapsed = told (λ e. cc e)
-  tells_refusal P (handler_error.VsnMismatch q) old new told lapsed = told (λ e. cc e)
-  tells_refusal P (handler_error.LibDiffers q) old new told lapsed = told (λ e. cc e)
-  tells_refusal P (handler_error.NoTable q) old new told lapsed = told (λ e. cc e)
-  tells_refusal P handler_error.TooMany old new told lapsed = told (λ e. cc e)
-  tells_refusal P handler_error.Device old new told lapsed = told (λ e. cc e)
-  tells_refusal P handler_error.Full old new told lapsed = told (λ e. cc e)
-  tells_refusal P handler_error.Dead old new told lapsed = told (λ e. cc e)
-  tells_refusal P handler_error.NoMemory old new told lapsed = λ p at. inr (lapsed p at)
-  tells_refusal P handler_error.Exists old new told lapsed = told (λ e. cc e)
+  tells_refusal P why old new told lapsed = λ p at. ⊎_elim (λ memory. inr (memory, inr (lapsed p at))) (λ known. inl (told known p at)) (memory_or_not why)
 
   -- A command on the node that runs: P has what it replies there.
   module _ (P : Place → Reply → Type 0) (h : Handler D) (alive : is_dead h ≡ false) where
@@ -317,17 +322,17 @@ module _ {D : Type 0} (v : Device D) (laws : IsDevice v) where
     changes_dead h gone (raw bytes) at = absurd at
     changes_dead h gone (closed s) at = absurd at
     changes_dead h gone (running events end) at = never (sym at.1 ∙ gone)
-    changes_dead h gone (dead s) at = stays (dead s) (refusal_line dead_node) _ (memory.Made h) (memory.Made h) at refl at (right (dead s) (λ es n e. cc e), refl)
+    changes_dead h gone (dead s) at = inl (stays (dead s) (refusal_line dead_node) _ (memory.Made h) (memory.Made h) at refl at (right (dead s) (λ es n e. cc e), refl))
 
     pub changes_nowhere : (disk : D) → Answers v P (Err handler_error.Dead) (memory.Idle disk) (memory.Idle disk)
-    changes_nowhere disk (raw bytes) at = stays (raw bytes) (refusal_line dead_node) _ (memory.Idle disk) (memory.Idle disk) at refl at (right (raw bytes) (λ es n e. cc e), refl)
-    changes_nowhere disk (closed s) at = stays (closed s) (refusal_line dead_node) _ (memory.Idle disk) (memory.Idle disk) at refl at (right (closed s) (λ es n e. cc e), refl)
+    changes_nowhere disk (raw bytes) at = inl (stays (raw bytes) (refusal_line dead_node) _ (memory.Idle disk) (memory.Idle disk) at refl at (right (raw bytes) (λ es n e. cc e), refl))
+    changes_nowhere disk (closed s) at = inl (stays (closed s) (refusal_line dead_node) _ (memory.Idle disk) (memory.Idle disk) at refl at (right (closed s) (λ es n e. cc e), refl))
     changes_nowhere disk (running events end) at = absurd at
     changes_nowhere disk (dead s) at = absurd at
 
   -- where memory is refused
   pub changes_no_memory : (P : Place → Reply → Type 0) (place : PlaceInMemory D) → Answers v P (Err handler_error.NoMemory) place place
-  changes_no_memory P place p at = inr (leaves_all p place place refl at)
+  changes_no_memory P place p at = inr (refl, inr (leaves_all p place place refl at))
 
   -- A command is refused wherever the disk stands, before the node was asked.
   pub refuses_anywhere : (P : Place → Reply → Type 0) (place : PlaceInMemory D) (why : HandlerError)
@@ -336,14 +341,14 @@ module _ {D : Type 0} (v : Device D) (laws : IsDevice v) where
       tells_refusal P why place place (λ known p at. stays p (refusal_line (refusal_of why)) _ place place at refl at (right known p, refl)) (λ p at. leaves_all p place place refl at)
 
   -- `set_unpacked` where no node runs
-  pub idle_sets : (source : Source) (path : List ℕ) (p : Place) → ((events : Events) (end : ℕ) → p ≡ running events end → ⊥) → Transition.Transition source p (set_unpacked path) (refused dead_node p)
+  idle_sets : (source : Source) (path : List ℕ) (p : Place) → ((events : Events) (end : ℕ) → p ≡ running events end → ⊥) → Transition.Transition source p (set_unpacked path) (refused dead_node p)
   idle_sets source path (raw bytes) idle = (Transition.refuses dead_node, refl, refl)
   idle_sets source path (closed s) idle = (Transition.refuses dead_node, refl, refl)
   idle_sets source path (running events end) idle = absurd (idle events end refl)
   idle_sets source path (dead s) idle = (Transition.refuses dead_node, refl, refl)
 
   -- and so are a change, a reboot and `start`
-  pub idle_changes : (c : Transition.Change) (p : Place) → ((events : Events) (end : ℕ) → p ≡ running events end → ⊥) → Transition.Acts p (changes_node c) (refused dead_node p)
+  idle_changes : (c : Transition.Change) (p : Place) → ((events : Events) (end : ℕ) → p ≡ running events end → ⊥) → Transition.Acts p (changes_node c) (refused dead_node p)
   idle_changes c (raw bytes) idle = refl
   idle_changes c (closed s) idle = refl
   idle_changes c (running events end) idle = absurd (idle events end refl)
@@ -355,8 +360,24 @@ module _ {D : Type 0} (v : Device D) (laws : IsDevice v) where
   idle_reboots vsn (running events end) idle = absurd (idle events end refl)
   idle_reboots vsn (dead s) idle = refl
 
-  pub idle_tells : (p : Place) → ((events : Events) (end : ℕ) → p ≡ running events end → ⊥) → Transition.Acts p tells_start (refused dead_node p)
+  idle_tells : (p : Place) → ((events : Events) (end : ℕ) → p ≡ running events end → ⊥) → Transition.Acts p tells_start (refused dead_node p)
   idle_tells (raw bytes) idle = refl
   idle_tells (closed s) idle = refl
   idle_tells (running events end) idle = absurd (idle events end refl)
   idle_tells (dead s) idle = refl
+
+  -- So is each command that needs a node.
+  pub idle_needs : (source : Source) (c : Command) → NeedsNode c → (p : Place) → ((events : Events) (end : ℕ) → p ≡ running events end → ⊥) → Transition.Transition source p c (refused dead_node p)
+  idle_needs source (set_unpacked path) needs p idle = idle_sets source path p idle
+  idle_needs source (install vsn) needs p idle = (changes_node (Transition.installation vsn), refl, idle_changes (Transition.installation vsn) p idle)
+  idle_needs source (permanent vsn) needs p idle = (changes_node (Transition.permanence vsn), refl, idle_changes (Transition.permanence vsn) p idle)
+  idle_needs source (remove vsn) needs p idle = (changes_node (Transition.removal vsn), refl, idle_changes (Transition.removal vsn) p idle)
+  idle_needs source start needs p idle = (tells_start, refl, idle_tells p idle)
+  idle_needs source (file path f) needs p idle = absurd needs
+  idle_needs source (create path) needs p idle = absurd needs
+  idle_needs source (reboot_old vsn) needs p idle = absurd needs
+  idle_needs source boot needs p idle = absurd needs
+  idle_needs source releases needs p idle = absurd needs
+  idle_needs source (relup new ups downs) needs p idle = absurd needs
+  idle_needs source quit needs p idle = absurd needs
+  idle_needs source bad needs p idle = absurd needs

@@ -1,164 +1,140 @@
--- A command that was followed: its reply, told by its text.
+-- What a command answers, and what its answer is in a session.
 use Rattle.std.proofs.Common.{◌≡◌, ◌⊎◌, inl, inr, ⊎_elim, ℕ, List, Option, Some, None, Result, Ok, Err, refl, sym, ap, ◌∙◌, subst, ◌++◌, append_assoc}
 use Rattle.std.specs.Prelude.{IfOk, OnOk, MatchResult, String, string_bytes, codes}
 use Rattle.std.specs.declared.alloc.Global.{Global}
 use Rattle.std.specs.declared.alloc.AllocError.{AllocError}
 use Rattle.session_input.specs.declared.error.SessionError.{SessionError}
-use Rattle.session_input.specs.declared.error.SessionError.TheVariants.{NoMemory}
 use Rattle.rel_session.specs.declared.given_files.GivenFiles.{GivenFiles}
 use Rattle.rel_session.specs.declared.node.Node.{Node}
+use Rattle.rel_session.specs.declared.place.Place.{Place as PlaceInMemory}
 use Rattle.rel_handler.specs.declared.error.HandlerError.{HandlerError}
 use Rattle.rel_handler.specs.declared.error.HandlerError.TheVariants as handler_error
-use Rattle.session_input.specs.Commands.{Command, File}
+use Rattle.session_input.specs.Commands.{Command, File, command_of}
 use Rattle.session_input.specs.Commands.Command.{file}
+use Rattle.session_input.specs.declared.command.Command.{Command as CommandInMemory}
+use Rattle.session_input.specs.declared.command.Command.TheVariants as asked
 use Rattle.erl_term.specs.Printing.{text_of}
 use Rattle.rel_session.specs.Device.{Device}
 use Rattle.rel_session.specs.Listing.{text_value}
 use Rattle.rel_unpack.specs.Source.{Source}
-use Rattle.rel_session.specs.Files.{files_of, files_behind, give, source_of}
-use Rattle.rel_session.specs.InMemory.{disk_at, IsAt, Replied, Leads, NothingDone, Answers, AnswersOrStops, TellsReply, Follows, FollowsCommand, IsLine, IsText}
+use Rattle.rel_session.specs.Files.{Files, files_of, files_behind, give, source_of}
+use Rattle.rel_session.specs.InMemory.{IsAt, Replied, Leads, NothingDone, Answers, AnswersOrStops, AnswersCommand, AsksNode, FollowsCommand, IsLine, IsText}
 use Rattle.rel_session.specs.Node.{Place, Reply, reply, nothing}
 use Rattle.rel_session.specs.Refusals.{refusal_of, refusal_line}
-use Rattle.rel_session.specs.Transition.{Action, ComesTo, Acts, IsStopped, ok_line, installed_line}
+use Rattle.rel_session.specs.Transition.{Action, ComesTo, Acts, IsStopped, Transition, ok_line, installed_line}
 use Rattle.rel_session.specs.Transition.Action.{answers}
 use Rattle.rel_session.proofs.DeviceLemmas.{IsDevice}
-use Rattle.rel_session.proofs.Replies.{stays, leaves_all}
+use Rattle.rel_session.proofs.Replies.{stays, leaves_all, changes_no_memory}
 
-module _ {D : Type 0} (v : Device D) (old new : Node D) (command : Command) (same : files_of new.files ≡ files_behind (files_of old.files) command) where
-  -- a reply of which this holds too
-  replied_so : (p : Place) (P Q : Reply → Type 0) → ((a : Reply) → P a → Q a) → Replied v p P old.place new.place → Replied v p Q old.place new.place
-  replied_so p P Q implies r = record { given = r.given; right = implies r.given r.right; at = r.at; happens = r.happens }
+module _ {D : Type 0} (v : Device D) where
+  module _ (old new : PlaceInMemory D) where
+    -- a reply of which this holds too
+    replied_so : (p : Place) (P Q : Reply → Type 0) → ((a : Reply) → P a → Q a) → Replied v p P old new → Replied v p Q old new
+    replied_so p P Q implies r = record { given = r.given; right = implies r.given r.right; at = r.at; happens = r.happens }
 
-  leads_so : (p : Place) (P Q : Reply → Type 0) → ((a : Reply) → P a → Q a) → Replied v p P old.place new.place → Leads v p Q old.place new.place
-  leads_so p P Q implies r = record { given = r.given; right = implies r.given r.right; happens = r.happens }
+    leads_so : (p : Place) (P Q : Reply → Type 0) → ((a : Reply) → P a → Q a) → Replied v p P old new → Leads v p Q old new
+    leads_so p P Q implies r = record { given = r.given; right = implies r.given r.right; happens = r.happens }
 
-  module _ (P Q : Place → Reply → Type 0) (right : (p : Place) (a : Reply) → P p a → Q p a) where
-    abbrev OrStops : Place → Reply → Type 0
-    OrStops p a = Q p a ⊎ IsStopped p command a
+    -- What was answered by these replies was answered by those.
+    answers_so : (P Q : Place → Reply → Type 0) → ((p : Place) (a : Reply) → P p a → Q p a) → (r : Result (String Global) HandlerError) → Answers v P r old new → Answers v Q r old new
+    answers_so P Q right (Ok text) given = λ p at. replied_so p _ _ (λ a is. (right p a is.0, is.1)) (given p at)
+    answers_so P Q right (Err why) given = λ p at. by_reply p (given p at)
+      where
+        by_reply : (p : Place) → Replied v p (λ a. P p a × (a.answer ≡ refusal_line (refusal_of why))) old new ⊎ ((why ≡ handler_error.NoMemory) × (Replied v p (P p) old new ⊎ NothingDone v p old new))
+            → Replied v p (λ a. Q p a × (a.answer ≡ refusal_line (refusal_of why))) old new ⊎ ((why ≡ handler_error.NoMemory) × (Replied v p (Q p) old new ⊎ NothingDone v p old new))
+        by_reply p (inl r) = inl (replied_so p _ _ (λ a is. (right p a is.0, is.1)) r)
+        by_reply p (inr (memory, inl r)) = inr (memory, inl (replied_so p _ _ (right p) r))
+        by_reply p (inr (memory, inr lapsed)) = inr (memory, inr lapsed)
 
-    abbrev RepliesWith : List ℕ → Type 0
-    RepliesWith answer = (p : Place) → IsAt v old.place p → Replied v p (λ a. P p a × (a.answer ≡ answer)) old.place new.place
+    -- So a command is answered that comes to this action.
+    module _ (source : Source) (command c : Command) (r : Result (String Global) HandlerError) (is : command ≡ c) where
+      pub answers_command : Answers v (λ p a. Transition source p c a) r old new → Answers v (λ p a. Transition source p command a) r old new
+      answers_command given = subst (λ d. Answers v (λ p a. Transition source p d a) r old new) (sym is) given
 
-    abbrev IsDone : Type 0
-    IsDone = (p : Place) → IsAt v old.place p → Leads v p (OrStops p) old.place new.place ⊎ NothingDone v p old.place new.place
+      module _ (does : Action) (comes : (p : Place) → ComesTo source p c does) where
+        pub answers_action : Answers v (λ p a. Acts p does a) r old new → Answers v (λ p a. Transition source p command a) r old new
+        answers_action given = answers_command (answers_so _ _ (λ p a acts. (does, comes p, acts)) r given)
 
-    by_reply : (p : Place) → Replied v p (P p) old.place new.place ⊎ NothingDone v p old.place new.place → Leads v p (OrStops p) old.place new.place ⊎ NothingDone v p old.place new.place
-    by_reply p (inl r) = inl (leads_so p (P p) (OrStops p) (λ a is. inl (right p a is)) r)
-    by_reply p (inr lapsed) = inr lapsed
+        -- it may be stopped within
+        pub stops_action : AnswersOrStops v (λ p a. Acts p does a) (λ p a. IsStopped p c a) r old new → AnswersCommand v source command r old new
+        stops_action (inl given) = inl (answers_action given)
+        stops_action (inr (memory, leads)) = subst (λ d. AnswersCommand v source d r old new) (sym is) (inr (
+          memory,
+          λ p at.
+              let l = leads p at in
+              record { given = l.given; right = ⊎_elim (λ acts. inl (does, comes p, acts)) (λ stopped. inr stopped) l.right; happens = l.happens },
+        ))
 
-    with_text : (answer : List ℕ) (text : String Global) → string_bytes text ≡ answer → RepliesWith answer → Follows v command Q (Ok (Some text)) old new
-    with_text answer text is told = (same, λ p at. replied_so p _ _ (λ a r. (right p a r.0, r.1 ∙ sym is)) (told p at))
+  module _ (laws : IsDevice v) where
+    -- A command left the place as it was, and gave a line.
+    pub answers_still : (place : PlaceInMemory D) (answer : Place → List ℕ) (Q : Place → Reply → Type 0) → ((p : Place) → Q p (reply (answer p) nothing p)) → (line : Result (String Global) AllocError) (r : Result (String Global) HandlerError)
+        → MatchResult line (λ text. r ≡ Ok text) (λ _. r ≡ Err handler_error.NoMemory) → IfOk line (λ s. (p : Place) → IsAt v place p → string_bytes s ≡ answer p) → Answers v Q r place place
+    answers_still place answer Q right (Ok s) r is says =
+        subst (λ q. Answers v Q q place place) (sym is) (λ p at. stays v laws p (answer p) (λ a. Q p a × (a.answer ≡ string_bytes s)) place place at refl at (right p, sym (says p at)))
+    answers_still place answer Q right (Err e) r is says = subst (λ q. Answers v Q q place place) (sym is) (changes_no_memory v laws Q place)
 
-    without : (answer : List ℕ) → RepliesWith answer → IsDone
-    without answer told p at = inl (leads_so p _ (OrStops p) (λ a r. inl (right p a r.0)) (told p at))
-
-    -- a command that was done, or refused
-    pub follows : (r : Result (String Global) HandlerError) (line : Result (Option (String Global)) SessionError) → IfOk line (λ text. IsLine r text) → Answers v P r old.place new.place → Follows v command Q line old new
-    follows r (Ok None) is given = absurd is
-    follows (Ok answer) (Ok (Some text)) is given = with_text (string_bytes answer) text is given
-    follows (Ok answer) (Err e) is given = without (string_bytes answer) given
-    follows (Err handler_error.NoMemory) (Ok (Some text)) is given = absurd is
-    follows (Err handler_error.NoMemory) (Err e) is given = λ p at. by_reply p (given p at)
-    follows (Err handler_error.NoSuchRelease) (Ok (Some text)) is given = with_text (refusal_line (refusal_of handler_error.NoSuchRelease)) text is given
-    follows (Err handler_error.NoSuchRelease) (Err e) is given = without (refusal_line (refusal_of handler_error.NoSuchRelease)) given
-    follows (Err handler_error.AlreadyInstalled) (Ok (Some text)) is given = with_text (refusal_line (refusal_of handler_error.AlreadyInstalled)) text is given
-    follows (Err handler_error.AlreadyInstalled) (Err e) is given = without (refusal_line (refusal_of handler_error.AlreadyInstalled)) given
-    follows (Err (handler_error.BadStatus s)) (Ok (Some text)) is given = with_text (refusal_line (refusal_of (handler_error.BadStatus s))) text is given
-    follows (Err (handler_error.BadStatus s)) (Err e) is given = without (refusal_line (refusal_of (handler_error.BadStatus s))) given
-    follows (Err handler_error.Permanent) (Ok (Some text)) is given = with_text (refusal_line (refusal_of handler_error.Permanent)) text is given
-    follows (Err handler_error.Permanent) (Err e) is given = without (refusal_line (refusal_of handler_error.Permanent)) given
-    follows (Err handler_error.Running) (Ok (Some text)) is given = with_text (refusal_line (refusal_of handler_error.Running)) text is given
-    follows (Err handler_error.Running) (Err e) is given = without (refusal_line (refusal_of handler_error.Running)) given
-    follows (Err handler_error.ExistingRelease) (Ok (Some text)) is given = with_text (refusal_line (refusal_of handler_error.ExistingRelease)) text is given
-    follows (Err (handler_error.BadFile q f)) (Ok (Some text)) is given = with_text (refusal_line (refusal_of (handler_error.BadFile q f))) text is given
-    follows (Err (handler_error.MissingFile q)) (Ok (Some text)) is given = with_text (refusal_line (refusal_of (handler_error.MissingFile q))) text is given
-    follows (Err (handler_error.LibDiffers q)) (Ok (Some text)) is given = with_text (refusal_line (refusal_of (handler_error.LibDiffers q))) text is given
-    follows (Err (handler_error.LibDiffers q)) (Err e) is given = without (refusal_line (refusal_of (handler_error.LibDiffers q))) given
-    follows (Err (handler_error.NoTable q)) (Ok (Some text)) is given = with_text (refusal_line (refusal_of (handler_error.NoTable q))) text is given
-    follows (Err (handler_error.NoTable q)) (Err e) is given = without (refusal_line (refusal_of (handler_error.NoTable q))) given
-    follows (Err (handler_error.VsnMismatch q)) (Ok (Some text)) is given = with_text (refusal_line (refusal_of (handler_error.VsnMismatch q))) text is given
-    follows (Err (handler_error.VsnMismatch q)) (Err e) is given = without (refusal_line (refusal_of (handler_error.VsnMismatch q))) given
-    follows (Err handler_error.TooMany) (Ok (Some text)) is given = with_text (refusal_line (refusal_of handler_error.TooMany)) text is given
-    follows (Err handler_error.Device) (Ok (Some text)) is given = with_text (refusal_line (refusal_of handler_error.Device)) text is given
-    follows (Err handler_error.Full) (Ok (Some text)) is given = with_text (refusal_line (refusal_of handler_error.Full)) text is given
-    follows (Err handler_error.Dead) (Ok (Some text)) is given = with_text (refusal_line (refusal_of handler_error.Dead)) text is given
-    follows (Err handler_error.Exists) (Ok (Some text)) is given = with_text (refusal_line (refusal_of handler_error.Exists)) text is given
-    follows (Err handler_error.ExistingRelease) (Err e) is given = without (refusal_line (refusal_of handler_error.ExistingRelease)) given
-    follows (Err (handler_error.BadFile q f)) (Err e) is given = without (refusal_line (refusal_of (handler_error.BadFile q f))) given
-    follows (Err (handler_error.MissingFile q)) (Err e) is given = without (refusal_line (refusal_of (handler_error.MissingFile q))) given
-    follows (Err handler_error.TooMany) (Err e) is given = without (refusal_line (refusal_of handler_error.TooMany)) given
-    follows (Err handler_error.Device) (Err e) is given = without (refusal_line (refusal_of handler_error.Device)) given
-    follows (Err handler_error.Full) (Err e) is given = without (refusal_line (refusal_of handler_error.Full)) given
-    follows (Err handler_error.Dead) (Err e) is given = without (refusal_line (refusal_of handler_error.Dead)) given
-    follows (Err handler_error.Exists) (Err e) is given = without (refusal_line (refusal_of handler_error.Exists)) given
-
-    -- one that gave a line
-    pub follows_line : (line : Result (String Global) AllocError) (text : Result (Option (String Global)) SessionError) → MatchResult line (λ s. text ≡ Ok (Some s)) (λ _. text ≡ Err NoMemory)
-        → TellsReply v P line old.place new.place → Follows v command Q text old new
-    follows_line (Ok s) text is tells = subst (λ t. Follows v command Q t old new) (sym is) ((same, λ p at. replied_so p _ _ (λ a r. (right p a r.0, r.1)) (tells p at)))
-    follows_line (Err e) text is tells = subst (λ t. Follows v command Q t old new) (sym is) (λ p at. by_reply p (tells p at))
-
-    -- one that may have been stopped within
-    pub follows_or_stops : (R : Place → Reply → Type 0) → ((p : Place) (a : Reply) → R p a → IsStopped p command a) → (r : Result (String Global) HandlerError) (line : Result (Option (String Global)) SessionError)
-        → IfOk line (λ text. IsLine r text) → AnswersOrStops v P R r old.place new.place → Follows v command Q line old new
-    follows_or_stops R stops r line is (inl given) = follows r line is given
-    follows_or_stops R stops r (Ok None) is (inr (none, leads)) = absurd is
-    follows_or_stops R stops r (Ok (Some text)) is (inr (none, leads)) = absurd (subst (λ q. IsLine q (Some text)) none is)
-    follows_or_stops R stops r (Err e) is (inr (none, leads)) = λ p at.
-        let l = leads p at in
-        inl (record { given = l.given; right = ⊎_elim (λ of. inl (right p l.given of)) (λ of. inr (stops p l.given of)) l.right; happens = l.happens })
-
-  -- one that left the place as it was
-  module _ (laws : IsDevice v) (stays_there : new.place ≡ old.place) (answer : Place → List ℕ) (Q : Place → Reply → Type 0) (right : (p : Place) → Q p (reply (answer p) nothing p)) where
-    -- the text is the answer
-    abbrev Says : Option (String Global) → Type 0
-    Says text = (s : String Global) × (text ≡ Some s) × ((p : Place) → IsAt v old.place p → string_bytes s ≡ answer p)
-
-    pub follows_still : (text : Result (Option (String Global)) SessionError) → IfOk text Says → Follows v command Q text old new
-    follows_still (Ok text) (s, is, says) = subst (λ t. Follows v command Q (Ok t) old new) (sym is) (
-      same,
+    -- A file was given.
+    pub gives : (base : Source) (old : Node D) (files : GivenFiles) (path : List ℕ) (f : File) (text : Result (Option (String Global)) SessionError)
+        → OnOk text (files_of files ≡ give (files_of old.files) path f) → IfOk text (λ t. IsText t (codes "ok\n")) → FollowsCommand v base (file path f) text old (record { place = old.place; files = files })
+    gives base old files path f (Ok None) kept told = absurd told
+    gives base old files path f (Ok (Some s)) kept told = (
+      kept,
       λ p at.
-          stays v laws p (answer p) (λ a. Q p a × (a.answer ≡ string_bytes s)) old.place new.place at
-          (ap disk_at stays_there) (subst (λ q. IsAt v q p) (sym stays_there) at) (right p, sym (says p at)),
+          stays v laws p (codes "ok\n") (λ a. Transition (source_of base (files_of old.files)) p (file path f) a × (a.answer ≡ string_bytes s)) old.place old.place at refl at
+          ((answers (codes "ok\n"), refl, refl), sym told),
     )
-    follows_still (Err e) says = λ p at. inr (leaves_all v laws p old.place new.place (ap disk_at stays_there) (subst (λ q. IsAt v q p) (sym stays_there) at))
+    gives base old files path f (Err e) kept told = λ p at. inr (leaves_all v laws p old.place old.place refl at)
 
-    pub says_line : (line : Result (String Global) AllocError) (text : Result (Option (String Global)) SessionError) → MatchResult line (λ s. text ≡ Ok (Some s)) (λ _. text ≡ Err NoMemory)
-        → IfOk line (λ s. (p : Place) → IsAt v old.place p → string_bytes s ≡ answer p) → IfOk text Says
-    says_line (Ok s) text is says = subst (λ t. IfOk t Says) (sym is) (s, refl, says)
-    says_line (Err e) text is says = subst (λ t. IfOk t Says) (sym is) tt
+  -- A command that is asked of the node changes no files.
+  files_stay : (files : Files) (m : CommandInMemory) → AsksNode m → files ≡ files_behind files (command_of m)
+  files_stay files (asked.File path f) other = absurd (other.0 path f refl)
+  files_stay files (asked.Create path) other = refl
+  files_stay files (asked.SetUnpacked path) other = refl
+  files_stay files (asked.Install vsn) other = refl
+  files_stay files (asked.Permanent vsn) other = refl
+  files_stay files (asked.Remove vsn) other = refl
+  files_stay files (asked.RebootOld vsn) other = refl
+  files_stay files asked.Boot other = refl
+  files_stay files asked.Start other = refl
+  files_stay files asked.Releases other = refl
+  files_stay files (asked.Relup new ups downs) other = refl
+  files_stay files asked.Quit other = absurd (other.1 refl)
+  files_stay files asked.Bad other = refl
 
-    pub says_text : (text : Result (Option (String Global)) SessionError) (bytes : List ℕ) → IfOk text (λ t. IsText t bytes) → ((p : Place) → bytes ≡ answer p) → IfOk text Says
-    says_text (Ok None) bytes is all = absurd is
-    says_text (Ok (Some s)) bytes is all = (s, refl, λ p at. is ∙ all p)
-    says_text (Err e) bytes is all = tt
+  -- It was followed, as it was answered.
+  module _ (base : Source) (old : Node D) (place : PlaceInMemory D) (m : CommandInMemory) (other : AsksNode m) where
+    abbrev command : Command
+    command = command_of m
 
--- a file was given
-pub gives : {D : Type 0} (v : Device D) (laws : IsDevice v) (old : Node D) (files : GivenFiles) (path : List ℕ) (f : File) (text : Result (Option (String Global)) SessionError)
-    → OnOk text (files_of files ≡ give (files_of old.files) path f) → IfOk text (λ t. IsText t (codes "ok\n")) → Follows v (file path f) (λ p a. Acts p (answers (codes "ok\n")) a) text old (record { place = old.place; files = files })
-gives {D} v laws old files path f (Ok text) kept told =
-    let new : Node D = record { place = old.place; files = files } in
-    let Q : Place → Reply → Type 0 = λ p a. Acts p (answers (codes "ok\n")) a in
-    follows_still v old new (file path f) kept laws refl (λ p. codes "ok\n") Q (λ p. refl) (Ok text) (says_text v old new (file path f) kept laws refl (λ p. codes "ok\n") Q (λ p. refl) (Ok text) (codes "ok\n") told (λ p. refl))
-gives v laws old files path f (Err e) kept told = λ p at. inr (leaves_all v laws p old.place old.place refl at)
+    abbrev Does : Place → Reply → Type 0
+    Does = λ p a. Transition (source_of base (files_of old.files)) p command a
 
--- What was followed by these replies was followed by those.
-pub follows_so : {D : Type 0} (v : Device D) (old new : Node D) (command : Command) (P Q : Place → Reply → Type 0) (r : Result (Option (String Global)) SessionError)
-    → Follows v command P r old new → ((p : Place) (a : Reply) → P p a → Q p a) → Follows v command Q r old new
-follows_so v old new command P Q (Ok None) given right = given
-follows_so v old new command P Q (Ok (Some text)) (same, told) right = (same, λ p at. replied_so v old new command same p _ _ (λ a r. (right p a r.0, r.1)) (told p at))
-follows_so v old new command P Q (Err e) given right = λ p at. by_leading p (given p at)
-  where
-    by_leading : (p : Place) → Leads v p (λ a. P p a ⊎ IsStopped p command a) old.place new.place ⊎ NothingDone v p old.place new.place
-        → Leads v p (λ a. Q p a ⊎ IsStopped p command a) old.place new.place ⊎ NothingDone v p old.place new.place
-    by_leading p (inl l) = inl (record { given = l.given; right = ⊎_elim (λ is. inl (right p l.given is)) (λ is. inr is) l.right; happens = l.happens })
-    by_leading p (inr lapsed) = inr lapsed
+    abbrev new : Node D
+    new = record { place = place; files = old.files }
 
--- So a command was followed that comes to this action.
-pub follows_action : {D : Type 0} (v : Device D) (base : Source) (old new : Node D) (command c : Command) (does : Action) (r : Result (Option (String Global)) SessionError)
-    → command ≡ c → ((p : Place) → ComesTo (source_of base (files_of old.files)) p c does) → Follows v c (λ p a. Acts p does a) r old new → FollowsCommand v base command r old new
-follows_action v base old new command c does r is comes given =
-    subst (λ d. FollowsCommand v base d r old new) (sym is) (follows_so v old new c _ _ r given (λ p a acts. (does, comes p, acts)))
+    ended : (r : Result (String Global) HandlerError) → AnswersCommand v (source_of base (files_of old.files)) command r old.place place → (p : Place) → IsAt v old.place p
+        → Leads v p (λ a. Does p a ⊎ IsStopped p command a) old.place place ⊎ NothingDone v p old.place place
+    ended (Ok answer) (inl given) p at = inl (leads_so old.place place p _ _ (λ a is. inl is.0) (given p at))
+    ended (Err why) (inl given) p at = by_reply (given p at)
+      where
+        by_reply : Replied v p (λ a. Does p a × (a.answer ≡ refusal_line (refusal_of why))) old.place place ⊎ ((why ≡ handler_error.NoMemory) × (Replied v p (Does p) old.place place ⊎ NothingDone v p old.place place))
+            → Leads v p (λ a. Does p a ⊎ IsStopped p command a) old.place place ⊎ NothingDone v p old.place place
+        by_reply (inl r) = inl (leads_so old.place place p _ _ (λ a is. inl is.0) r)
+        by_reply (inr (memory, inl r)) = inl (leads_so old.place place p _ _ (λ a is. inl is) r)
+        by_reply (inr (memory, inr lapsed)) = inr lapsed
+    ended r (inr (memory, leads)) p at = inl (leads p at)
+
+    pub follows : (r : Result (String Global) HandlerError) (line : Result (Option (String Global)) SessionError) → IfOk line (λ text. IsLine r text)
+        → AnswersCommand v (source_of base (files_of old.files)) command r old.place place → FollowsCommand v base command line old new
+    follows r (Ok None) is given = absurd is
+    follows (Ok answer) (Ok (Some text)) is (inl given) = (files_stay (files_of old.files) m other, λ p at. replied_so old.place place p _ _ (λ a told. (told.0, told.1 ∙ sym is)) (given p at))
+    follows (Ok answer) (Ok (Some text)) is (inr (memory, leads)) = absurd cc
+    follows (Err why) (Ok (Some text)) (known, is) (inl given) = (
+      files_stay (files_of old.files) m other,
+      λ p at. ⊎_elim (λ r. replied_so old.place place p _ _ (λ a told. (told.0, told.1 ∙ sym is)) r) (λ lapsed. absurd (known lapsed.0)) (given p at),
+    )
+    follows (Err why) (Ok (Some text)) (known, is) (inr (memory, leads)) = absurd (known cc)
+    follows r (Err e) is given = ended r given
 
 -- the line of an installation
 pub tells_installed : (line : Result (String Global) AllocError) (printed other : List ℕ) → IfOk line (λ s. string_bytes s ≡ codes "ok " ++ (printed ++ codes " [] []\n")) → printed ≡ text_of (text_value other)

@@ -1,6 +1,7 @@
 -- What `start` replies: the start record is read, and it is that of the permanent release.
-use Rattle.std.proofs.Common.{◌≡◌, inl, inr, ℕ, true, false, List, Some, None, Ok, Err, refl, sym, ap, ◌∙◌, codes, ◌++◌}
-use Rattle.std.specs.Prelude.{String, string_bytes}
+use Rattle.std.proofs.Common.{◌≡◌, inl, inr, ℕ, true, false, List, Some, None, Result, Ok, Err, refl, sym, ap, ◌∙◌, codes, ◌++◌}
+use Rattle.std.specs.Prelude.{IfOk, MatchResult, String, string_bytes}
+use Rattle.std.specs.declared.alloc.AllocError.{AllocError}
 use Rattle.std.specs.declared.alloc.Global.{Global}
 use Rattle.rel_files.specs.Release.{Release}
 use Rattle.rel_list.specs.Releases.{permanent}
@@ -22,7 +23,7 @@ use Rattle.rel_session.specs.Transition.{Acts, ok_line, start_versions}
 use Rattle.rel_session.specs.Transition.Action.{tells_start}
 use Rattle.rel_session.specs.declared.place.Place.TheVariants as memory
 use Rattle.rel_session.proofs.DeviceLemmas.{IsDevice}
-use Rattle.rel_session.proofs.Replies.{held, kept, quiet, moments_of_nothing, holds_still}
+use Rattle.rel_session.proofs.Replies.{held, kept, quiet, moments_of_nothing, holds_still, tells, answers_line}
 
 module _ {D : Type 0} (v : Device D) (laws : IsDevice v) (h new : Handler D) (alive : is_dead h ≡ false) (read : HasRead v h new) where
   abbrev Does : Place → Reply → Type 0
@@ -38,17 +39,17 @@ module _ {D : Type 0} (v : Device D) (laws : IsDevice v) (h new : Handler D) (al
   runs_on : is_dead new ≡ false → (events : Events) (end : ℕ) → IsAt v (memory.Made h) (running events end) → IsAt v (memory.Made new) (running events end)
   runs_on works events end at = (still_holds (running events end) at, works, at.2 ∙ ap (λ l. Some l) (sym read.list), read.end ∙ at.3)
 
-  told_there : is_dead new ≡ false → (r : Release) → permanent (list_in h) ≡ Some r → (answer : List ℕ) → answer ≡ ok_line (r.erts ++ (codes " " ++ r.vsn))
-      → (p : Place) → IsAt v (memory.Made h) p → Replied v p (λ a. Does p a × (a.answer ≡ answer)) (memory.Made h) (memory.Made new)
-  told_there works r listed answer is (raw bytes) at = absurd at
-  told_there works r listed answer is (closed s) at = absurd at
-  told_there works r listed answer is (dead s) at = never (sym alive ∙ at.1)
-  told_there works r listed answer is (running events end) at =
+  told_there : is_dead new ≡ false → (r : Release) → permanent (list_in h) ≡ Some r → (p : Place) → IsAt v (memory.Made h) p
+      → Replied v p (λ a. Does p a × (a.answer ≡ ok_line (r.erts ++ (codes " " ++ r.vsn)))) (memory.Made h) (memory.Made new)
+  told_there works r listed (raw bytes) at = absurd at
+  told_there works r listed (closed s) at = absurd at
+  told_there works r listed (dead s) at = never (sym alive ∙ at.1)
+  told_there works r listed (running events end) at =
       let there : permanent (releases_after events) ≡ Some r = ap (λ o. permanent (list_or_none o)) at.2 ∙ listed in
       let line = ok_line (start_versions (permanent (releases_after events))) in
       record {
         given = reply line nothing (running events end);
-        right = (inl (refl), ap (λ o. ok_line (start_versions o)) there ∙ sym is);
+        right = (inl (refl), ap (λ o. ok_line (start_versions o)) there);
         at = runs_on works events end at;
         happens = record {
           moments = moments_of_nothing v laws (running events end) (disk_in h) (disk_in new) at.0 read.only_read.any_moment;
@@ -58,16 +59,15 @@ module _ {D : Type 0} (v : Device D) (laws : IsDevice v) (h new : Handler D) (al
         };
       }
 
-  pub told : is_dead new ≡ false → (start : (r : Release) × (permanent (list_in h) ≡ Some r)) → (text : String Global) → string_bytes text ≡ ok_line (start.0.erts ++ (codes " " ++ start.0.vsn))
-      → Answers v Does (Ok text) (memory.Made h) (memory.Made new)
-  told works start text is p at = told_there works start.0 start.1 (string_bytes text) is p at
+  pub told : is_dead new ≡ false → (start : (r : Release) × (permanent (list_in h) ≡ Some r)) → (line : Result (String Global) AllocError) (result : Result (String Global) HandlerError)
+      → MatchResult line (λ text. result ≡ Ok text) (λ _. result ≡ Err handler_error.NoMemory) → IfOk line (λ text. string_bytes text ≡ ok_line (start.0.erts ++ (codes " " ++ start.0.vsn)))
+      → Answers v Does result (memory.Made h) (memory.Made new)
+  told works start line result is said =
+      answers_line v laws Does line result (memory.Made h) (memory.Made new) is (tells v laws Does line _ (memory.Made h) (memory.Made new) said (told_there works start.0 start.1))
 
   -- memory was refused, and the disk was read alone
   nothing_done : is_dead new ≡ false → (p : Place) → IsAt v (memory.Made h) p → NothingDone v p (memory.Made h) (memory.Made new)
   nothing_done works p at = record { nothing_new = read.only_read.any_moment; holds = still_holds p at; counted = read.counted }
-
-  pub untold : is_dead new ≡ false → Answers v Does (Err handler_error.NoMemory) (memory.Made h) (memory.Made new)
-  untold works p at = inr (nothing_done works p at)
 
   -- the device failed
   device_failed : HasFailed v (disk_in h) (disk_in new) → is_dead new ≡ true → (p : Place) → IsAt v (memory.Made h) p
@@ -93,8 +93,8 @@ module _ {D : Type 0} (v : Device D) (laws : IsDevice v) (h new : Handler D) (al
 
   pub told_none : (e : HandlerError) → StartRefused v.failures h new e → Answers v Does (Err e) (memory.Made h) (memory.Made new)
   told_none handler_error.Dead (gone, same) = never (sym alive ∙ gone)
-  told_none handler_error.NoMemory (living, works) = untold works
-  told_none handler_error.Device (living, cause, gone) = device_failed cause gone
+  told_none handler_error.NoMemory (living, works) = λ p at. inr (refl, inr (nothing_done works p at))
+  told_none handler_error.Device (living, cause, gone) = λ p at. inl (device_failed cause gone p at)
   told_none handler_error.NoSuchRelease lost = absurd lost
   told_none handler_error.ExistingRelease lost = absurd lost
   told_none handler_error.AlreadyInstalled lost = absurd lost

@@ -1,6 +1,7 @@
 -- What `set_unpacked` replies on a node that runs.
-use Rattle.std.proofs.Common.{◌≡◌, inl, inr, ℕ, true, false, List, Ok, Err, refl, sym, ap, ◌∙◌, subst}
-use Rattle.std.specs.Prelude.{String, string_bytes}
+use Rattle.std.proofs.Common.{◌≡◌, inl, inr, ℕ, true, false, List, Result, Ok, Err, refl, sym, ap, ◌∙◌, subst}
+use Rattle.std.specs.Prelude.{IfOk, MatchResult, String, string_bytes}
+use Rattle.std.specs.declared.alloc.AllocError.{AllocError}
 use Rattle.std.specs.declared.alloc.Global.{Global}
 use Rattle.rel_handler.specs.declared.error.HandlerError.{HandlerError}
 use Rattle.rel_handler.specs.declared.error.HandlerError.TheVariants as handler_error
@@ -22,7 +23,7 @@ use Rattle.rel_session.specs.Transition
 use Rattle.rel_session.specs.Transition.Action.{changes_node}
 use Rattle.rel_session.proofs.DeviceLemmas.{IsDevice}
 use Rattle.rel_session.proofs.ReleaseLemmas.{files_refuse, told_alike, unpacking_refused}
-use Rattle.rel_session.proofs.CommitReplies.{changes, changes_untold, changes_none, files_refused}
+use Rattle.rel_session.proofs.CommitReplies.{changes, changes_none, files_refused}
 use Rattle.rel_session.proofs.Replies.{leaves_all, refuses_running, same_at, tells_refusal}
 
 never : {A : Type 0} → false ≡ true → A
@@ -35,12 +36,10 @@ module _ {D : Type 0} (v : Device D) (laws : IsDevice v) (source : Source) (path
   changing : (b : Brought) → Brings source path (Ok b) → (events : Events) (end : ℕ) (a : Reply) → Transition.Acts (running events end) (changes_node (Transition.unpacked_change b)) a → Unpacks (running events end) a
   changing b read events end a is = (changes_node (Transition.unpacked_change b), (Ok b, read, refl), is)
 
-  pub unpacks : (vsn text : String Global) → IsUnpacked v source path h new (string_bytes vsn) → string_bytes text ≡ Transition.ok_line (string_bytes vsn) → Answers v Unpacks (Ok text) (memory.Made h) (memory.Made new)
-  unpacks vsn text u is = changes v laws Unpacks h alive (Transition.unpacked_change u.brought) (changing u.brought u.read) u.free new u.commits u.works u.done text (is ∙ ap Transition.ok_line u.version)
-
-  -- memory was refused for the answer
-  pub unpacks_untold : (vsn : List ℕ) → IsUnpacked v source path h new vsn → Answers v Unpacks (Err handler_error.NoMemory) (memory.Made h) (memory.Made new)
-  unpacks_untold vsn u = changes_untold v laws Unpacks h alive (Transition.unpacked_change u.brought) (changing u.brought u.read) u.free new u.commits u.works u.done
+  pub unpacks : (vsn : List ℕ) (line : Result (String Global) AllocError) (result : Result (String Global) HandlerError) → IsUnpacked v source path h new vsn
+      → MatchResult line (λ text. result ≡ Ok text) (λ _. result ≡ Err handler_error.NoMemory) → IfOk line (λ text. string_bytes text ≡ Transition.ok_line vsn) → Answers v Unpacks result (memory.Made h) (memory.Made new)
+  unpacks vsn line result u is told = changes v laws Unpacks h alive (Transition.unpacked_change u.brought) (changing u.brought u.read) u.free new u.commits u.works u.done line result is
+      (subst (λ name. IfOk line (λ text. string_bytes text ≡ Transition.ok_line name)) u.version told)
 
   -- its files are refused
   barred : (why : HandlerError) → IsBarred source path h new why → Answers v Unpacks (Err why) (memory.Made h) (memory.Made new)

@@ -1,5 +1,5 @@
 -- A session's node in memory, and what its functions do to it.
-use Rattle.std.specs.Prelude.{◌≡◌, ◌⊎◌, ℕ, ◌≤◌, true, false, List, Option, None, Some, Result, Ok, Err, String, string_bytes}
+use Rattle.std.specs.Prelude.{◌≡◌, ◌≢◌, ◌⊎◌, ℕ, ◌≤◌, true, false, List, Option, None, Some, Result, Ok, Err, String, string_bytes}
 use Rattle.std.specs.declared.alloc.Global.{Global}
 use Rattle.std.specs.declared.alloc.AllocError.{AllocError}
 use Rattle.rel_unpack.specs.Source.{Source}
@@ -12,7 +12,10 @@ use Rattle.rel_session.specs.declared.place.Place.TheVariants as memory
 use Rattle.rel_handler.specs.declared.error.HandlerError.{HandlerError}
 use Rattle.rel_handler.specs.declared.error.HandlerError.TheVariants as handler_error
 use Rattle.session_input.specs.Commands.{Command}
-use Rattle.session_input.specs.Commands.Command.{quit}
+use Rattle.session_input.specs.Commands.Command.{set_unpacked, install, permanent, remove, start, quit}
+use Rattle.session_input.specs.declared.command.Command.{Command as CommandInMemory}
+use Rattle.session_input.specs.declared.command.Command.TheVariants as asked
+use Rattle.session_input.specs.declared.given.GivenFile.{GivenFile}
 use Rattle.rel_session.specs.Device.{Device, LeavesOnly}
 use Rattle.rel_session.specs.Files.{files_of, files_behind, source_of}
 use Rattle.rel_session.specs.Node.{Place, Reply}
@@ -66,10 +69,10 @@ abbrev pub Answers : {D : Type 0} → Device D → (Place → Reply → Type 0) 
     → PlaceInMemory D → PlaceInMemory D → Type 0
 Answers v P (Ok text) old new =
     (p : Place) → IsAt v old p → Replied v p (λ a. P p a × (a.answer ≡ string_bytes text)) old new
-Answers v P (Err handler_error.NoMemory) old new =
-    (p : Place) → IsAt v old p → Replied v p (P p) old new ⊎ NothingDone v p old new
 Answers v P (Err why) old new =
-    (p : Place) → IsAt v old p → Replied v p (λ a. P p a × (a.answer ≡ refusal_line (refusal_of why))) old new
+    (p : Place) → IsAt v old p
+    → Replied v p (λ a. P p a × (a.answer ≡ refusal_line (refusal_of why))) old new
+    ⊎ ((why ≡ handler_error.NoMemory) × (Replied v p (P p) old new ⊎ NothingDone v p old new))
 
 -- A command gave this line; where memory is refused, it may have been done.
 abbrev pub TellsReply : {D : Type 0} → Device D → (Place → Reply → Type 0) → Result (String Global) AllocError
@@ -85,23 +88,40 @@ AnswersOrStops v P Q result old new =
     Answers v P result old new
     ⊎ ((result ≡ Err handler_error.NoMemory) × ((p : Place) → IsAt v old p → Leads v p (λ a. P p a ⊎ Q p a) old new))
 
--- A command was followed; P says which replies are right. Its text is its answer; there is none where the session ends.
-abbrev pub Follows : {D : Type 0} → Device D → Command → (Place → Reply → Type 0) → Result (Option (String Global)) SessionError
-    → Node D → Node D → Type 0
-Follows v command P (Ok (Some text)) old new =
-    (files_of new.files ≡ files_behind (files_of old.files) command)
-    × ((p : Place) → IsAt v old.place p
-    → Replied v p (λ a. P p a × (a.answer ≡ string_bytes text)) old.place new.place)
-Follows v command P (Ok None) old new = (command ≡ quit) × (new.place ≡ old.place)
-Follows v command P (Err e) old new =
-    (p : Place) → IsAt v old.place p
-    → Leads v p (λ a. P p a ⊎ IsStopped p command a) old.place new.place ⊎ NothingDone v p old.place new.place
+-- what is asked of the node: all but to keep a file and to end the session
+abbrev pub AsksNode : CommandInMemory → Type 0
+AsksNode command =
+    ((path : String Global) (given : GivenFile) → command ≢ asked.File path given) × (command ≢ asked.Quit)
 
--- So by its transition, over a source of files.
+-- what is done by a node that runs alone, but for a reboot
+abbrev pub NeedsNode : Command → Type 0
+NeedsNode (set_unpacked path) = Unit {0}
+NeedsNode (install vsn) = Unit {0}
+NeedsNode (permanent vsn) = Unit {0}
+NeedsNode (remove vsn) = Unit {0}
+NeedsNode start = Unit {0}
+NeedsNode command = ⊥
+
+-- It answered a command by its transition, over a source of files.
+abbrev pub AnswersCommand : {D : Type 0} → Device D → Source → Command → Result (String Global) HandlerError
+    → PlaceInMemory D → PlaceInMemory D → Type 0
+AnswersCommand v source command result old new =
+    AnswersOrStops v (λ p a. Transition source p command a) (λ p a. IsStopped p command a) result old new
+
+-- A command was followed, over a source of files. Its text is its answer; there is none where the session ends.
 abbrev pub FollowsCommand : {D : Type 0} → Device D → Source → Command → Result (Option (String Global)) SessionError
     → Node D → Node D → Type 0
-FollowsCommand v base command result old new =
-    Follows v command (λ p a. Transition (source_of base (files_of old.files)) p command a) result old new
+FollowsCommand v base command (Ok (Some text)) old new =
+    let source = source_of base (files_of old.files) in
+    (files_of new.files ≡ files_behind (files_of old.files) command)
+    × ((p : Place) → IsAt v old.place p
+    → Replied v p (λ a. Transition source p command a × (a.answer ≡ string_bytes text)) old.place new.place)
+FollowsCommand v base command (Ok None) old new = (command ≡ quit) × (new.place ≡ old.place)
+FollowsCommand v base command (Err e) old new =
+    let source = source_of base (files_of old.files) in
+    (p : Place) → IsAt v old.place p
+    → Leads v p (λ a. Transition source p command a ⊎ IsStopped p command a) old.place new.place
+    ⊎ NothingDone v p old.place new.place
 
 abbrev pub disk_of : {D : Type 0} → Node D → D
 disk_of n = disk_at n.place
@@ -110,8 +130,8 @@ disk_of n = disk_at n.place
 abbrev pub IsLine : Result (String Global) HandlerError → Option (String Global) → Type 0
 IsLine done None = ⊥
 IsLine (Ok answer) (Some text) = string_bytes text ≡ string_bytes answer
-IsLine (Err handler_error.NoMemory) (Some text) = ⊥
-IsLine (Err why) (Some text) = string_bytes text ≡ refusal_line (refusal_of why)
+IsLine (Err why) (Some text) =
+    (why ≢ handler_error.NoMemory) × (string_bytes text ≡ refusal_line (refusal_of why))
 
 -- it is a text with these bytes
 abbrev pub IsText : Option (String Global) → List ℕ → Type 0

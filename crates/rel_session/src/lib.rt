@@ -20,6 +20,7 @@
 //! Trusted: the toolchain, `indexmap` and `thiserror`.
 #![tactic(auto)]
 
+mod answer;
 mod change;
 mod command_loop;
 mod given_files;

@@ -10,21 +10,14 @@ pub(crate) fn refusal_line(alloc: Global, why: &HandlerError) -> Result<String, 
     ensures { IfOk result (λ s. string_bytes s ≡ refusal_line (refusal_of why.now)) }
 {
     match why {
-        HandlerError::BadStatus(status) => {
-            let word = status.as_str();
-            format!(in alloc; "error handler 4 BadStatus {word}\n")
-        }
-        HandlerError::LibDiffers(app) => format!(in alloc; "error handler 7 LibDiffers {app}\n"),
+        HandlerError::BadStatus(status) => with_detail(alloc, "4 BadStatus", status.as_str()),
+        HandlerError::LibDiffers(app) => with_detail(alloc, "7 LibDiffers", app.as_str()),
         HandlerError::BadFile(path, trouble) => format!(in alloc;
             "error handler 8 BadFile {path} {trouble}\n"
         ),
-        HandlerError::MissingFile(path) => format!(in alloc;
-            "error handler 9 MissingFile {path}\n"
-        ),
-        HandlerError::VsnMismatch(path) => format!(in alloc;
-            "error handler 10 VsnMismatch {path}\n"
-        ),
-        HandlerError::NoTable(name) => format!(in alloc; "error handler 11 NoTable {name}\n"),
+        HandlerError::MissingFile(path) => with_detail(alloc, "9 MissingFile", path.as_str()),
+        HandlerError::VsnMismatch(path) => with_detail(alloc, "10 VsnMismatch", path.as_str()),
+        HandlerError::NoTable(name) => with_detail(alloc, "11 NoTable", name.as_str()),
         HandlerError::NoSuchRelease => String::from_str(alloc, "error handler 1 NoSuchRelease\n"),
         HandlerError::ExistingRelease => String::from_str(
             alloc,
@@ -43,4 +36,12 @@ pub(crate) fn refusal_line(alloc: Global, why: &HandlerError) -> Result<String, 
         HandlerError::NoMemory => String::from_str(alloc, "error handler 19 NoMemory\n"),
         HandlerError::Exists => String::from_str(alloc, "error handler 20 Exists\n"),
     }
+}
+
+/// The line of a refusal with this number and name, and a detail.
+fn with_detail(alloc: Global, refusal: &str, detail: &str) -> Result<String, AllocError>
+    ensures { IfOk result (λ s. string_bytes s
+        ≡ codes "error handler " ++ (refusal.now ++ (codes " " ++ (detail.now ++ codes "\n")))) }
+{
+    format!(in alloc; "error handler {refusal} {detail}\n")
 }

@@ -2,9 +2,9 @@
 ghost use Rattle.std.specs.Prelude.{◌≡◌, []};
 
 use crate::disk_callers::append;
-use crate::words::{Answer, first_word, number};
 use rel_disk::{Disk, FailDisk, MemDisk};
 use std::alloc::{AllocError, Global};
+use text_cases::{Answer, first_word, number};
 
 /// The disk that these words name: its capacity, the bytes of its log, and those with which it
 /// begins, if there are any.
@@ -54,9 +54,15 @@ pub(crate) fn push_read<D: Disk>(alloc: Global, disk: &mut D, answer: &mut Answe
     match bytes_of(alloc, disk) {
         Ok(Some(bytes)) => answer.push_bytes(&bytes),
         Ok(None) => answer.push("no bytes"),
-        Err(error) => answer.note(Err(error)),
+        Err(_) => answer.note_no_memory(),
     }
     answer.push("\"");
+}
+
+/// Appends how many calls of a disk have failed.
+pub(crate) fn push_failures(failures: u64, answer: &mut Answer) {
+    answer.push(", failures ");
+    answer.push_number(failures);
 }
 
 // Two in one another fail one call each, and both are counted beside the failures of the disk
@@ -72,12 +78,12 @@ fn calls_around<D: Disk + Drop>(alloc: Global, disk: D, call: u64) -> Result<Str
     let mut disk = FailDisk::new(disk, call);
     let mut answer = Answer::new(alloc);
     five_calls(&mut disk, &mut answer);
-    answer.push_failures(disk.failures());
+    push_failures(disk.failures(), &mut answer);
     answer.push(" | ");
     five_calls(&mut disk, &mut answer);
-    answer.push_failures(disk.failures());
+    push_failures(disk.failures(), &mut answer);
     answer.push(" | within");
-    answer.push_failures(disk.disk.failures());
+    push_failures(disk.disk.failures(), &mut answer);
     answer.finish()
 }
 

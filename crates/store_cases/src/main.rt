@@ -11,7 +11,6 @@ mod disks;
 mod sessions;
 mod steps;
 mod store_callers;
-mod words;
 
 use crate::answers::answer;
 use std::io;

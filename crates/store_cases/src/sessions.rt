@@ -1,11 +1,11 @@
 //! Sessions on a disk in memory.
-use crate::disks::{bytes_of, failing, five_calls, push_read};
+use crate::disks::{bytes_of, failing, five_calls, push_failures, push_read};
 use crate::steps::{body_of, follow_steps, push_done};
 use crate::store_callers::append_both;
-use crate::words::{Answer, first_word, number};
 use rel_disk::{DeviceFault, Disk};
 use rel_store::Store;
 use std::alloc::{AllocError, Global};
+use text_cases::{Answer, first_word, number};
 
 /// What sessions answer, one after another on this disk, with ` | ` between them as between the
 /// sessions. A session is one of these:
@@ -29,12 +29,10 @@ pub(crate) fn follow<D: Disk + Drop>(
 ) -> Result<String, AllocError> {
     let mut disk = disk;
     let mut answer = Answer::new(alloc);
-    let mut is_first = true;
-    for words in sessions.split(" | ") {
-        if !is_first {
+    for (i, words) in sessions.split(" | ").enumerate() {
+        if i > 0 {
             answer.push(" | ");
         }
-        is_first = false;
         disk = session(alloc, disk, words, &mut answer);
     }
     answer.finish()
@@ -49,7 +47,7 @@ fn session<D: Disk + Drop>(alloc: Global, disk: D, words: &str, answer: &mut Ans
     let (call, words) = first_word(rest);
     let disk = failing(disk, how, number(call) as u64);
     let disk = session_on(alloc, disk, words, answer);
-    answer.push_failures(disk.failures());
+    push_failures(disk.failures(), answer);
     disk.disk
 }
 
@@ -69,7 +67,7 @@ fn session_on<D: Disk + Drop>(alloc: Global, disk: D, words: &str, answer: &mut 
 
 fn create<D: Disk + Drop>(alloc: Global, disk: D, body: &str, answer: &mut Answer) -> D {
     let Ok(first) = body_of(alloc, body) else {
-        answer.note(Err(AllocError));
+        answer.note_no_memory();
         return disk;
     };
     match Store::create(alloc, disk, &first, b"") {
@@ -151,7 +149,7 @@ fn push_patch<D: Disk>(alloc: Global, disk: &mut D, words: &str, answer: &mut An
     let (at, bytes) = first_word(words);
     match bytes_named(alloc, bytes) {
         Ok(bytes) => answer.push_is_ok(patch(disk, number(at) as u64, &bytes).is_ok()),
-        Err(error) => answer.note(Err(error)),
+        Err(_) => answer.note_no_memory(),
     }
 }
 
@@ -206,6 +204,6 @@ fn push_part<D: Disk>(alloc: Global, disk: &mut D, places: &str, answer: &mut An
             answer.push_bytes(part.unwrap_or(b"none"));
         }
         Ok(None) => answer.push("no bytes"),
-        Err(error) => answer.note(Err(error)),
+        Err(_) => answer.note_no_memory(),
     }
 }

@@ -1,11 +1,11 @@
 //! Steps on an open store.
 ghost use Rattle.rel_store.specs.State.{IsSoundStore};
 
-use crate::words::{Answer, first_word, number};
 use rel_disk::Disk;
 use rel_store::{Store, StoreError};
 use start_record::{Start, StartError, read_start, write_start};
 use std::alloc::{AllocError, Global};
+use text_cases::{Answer, first_word, number};
 
 /// Appends how many records an opened store has, and what steps answer, each behind `; ` as in the
 /// text, where the opening stands first. They are the calls of a store and of a start record:
@@ -87,7 +87,7 @@ fn append<D: Disk>(alloc: Global, store: &mut Store<D>, body: &str, answer: &mut
 {
     match body_of(alloc, body) {
         Ok(body) => push_done(store.append(alloc, &body), answer),
-        Err(error) => answer.note(Err(error)),
+        Err(_) => answer.note_no_memory(),
     }
 }
 
@@ -130,7 +130,7 @@ fn push_start_write<D: Disk>(
 {
     let start = match start_of(alloc, versions) {
         Ok(start) => start,
-        Err(error) => return answer.note(Err(error)),
+        Err(_) => return answer.note_no_memory(),
     };
     match write_start(store, &start) {
         Ok(()) => answer.push("ok"),

@@ -4,15 +4,20 @@
 //! its answer behind it. Headings, which begin with `#`, and empty lines are written as they are. So the output alone
 //! reads as a table.
 //!
-//! [`CaseFiles`] are files that a text gives, for libraries that read files.
+//! An [`Answer`] is what functions append to. [`first_word`] and [`number`] take texts apart, and [`enclosed`] puts them
+//! together. [`CaseFiles`] are files that a text gives, for libraries that read files.
 //!
 //! In a text `~XX` stands for the byte of these two hexadecimal digits, and `~(N TEXT)` for N copies of TEXT.
 #![tactic(auto)]
 
+mod answer;
 mod cases;
 mod files;
 mod text;
+mod words;
 
+pub use answer::Answer;
 pub use cases::answer_cases;
 pub use files::CaseFiles;
-pub use text::bytes_of;
+pub use text::{bytes_of, enclosed};
+pub use words::{first_word, number};

@@ -1,4 +1,4 @@
-//! The bytes that a case's text stands for.
+//! The bytes that a text stands for, and a text within another.
 ghost use Rattle.std.specs.Prelude.{◌<◌, IfSome};
 
 use std::alloc::{AllocError, Global};
@@ -70,4 +70,17 @@ fn digit(byte: u8) -> Option<u8>
         b'A'..=b'F' => Some(byte - b'A' + 10),
         _ => None,
     }
+}
+
+/// A text with what stands before it and what stands behind it.
+pub fn enclosed(
+    alloc: Global,
+    before: &[u8],
+    text: &[u8],
+    behind: &[u8],
+) -> Result<Vec<u8>, AllocError> {
+    let mut bytes = Vec::from_slice(alloc, before)?;
+    bytes.extend_from_slice(text)?;
+    bytes.extend_from_slice(behind)?;
+    Ok(bytes)
 }

@@ -1,8 +1,9 @@
 //! The answer to a case.
-use crate::{appups, relups, tables};
+use crate::{appups, made_relups, relups, relups_of_files, tables};
 use std::alloc::{AllocError, Global};
+use text_cases::Answer;
 
-/// The answer in one of twelve modes. A text that can't be read is answered by its fault.
+/// The answer in one of nineteen modes. A text that can't be read is answered by its fault.
 ///
 /// `mod`: the table of a file. `term`: the same, read again from the file's term. `step`: what comes of a call; the text is a
 /// state, an input and a file. `change`: the state after a change of code; the text is a direction, a version, an extra
@@ -15,16 +16,21 @@ use std::alloc::{AllocError, Global};
 /// `appup`: the version of a file's appup, and of each entry the version and the number of instructions. `instrs`: all that
 /// is read of the instructions of a file's only upgrade. `up`, `down`: the instructions that are found; the text is a
 /// version and a file with a blank between.
+///
+/// The others are those of relups that are made: of [`made_relups::push_answer`] and of
+/// [`relups_of_files::push_answer`].
 pub(crate) fn answer(alloc: Global, mode: &str, text: &[u8]) -> Result<String, AllocError> {
+    let mut answer = Answer::new(alloc);
     match mode {
-        "mod" => tables::table(alloc, text),
-        "term" => tables::table_again(alloc, text),
-        "step" => tables::step(alloc, text),
-        "change" => tables::change(alloc, text),
-        "relup" => relups::file(alloc, text),
-        "script" => relups::script(alloc, text),
-        "check" => relups::script_check(alloc, text),
-        "find" => relups::search(alloc, text),
-        _ => appups::answer(alloc, mode, text),
+        "mod" | "term" | "step" | "change" => tables::push_answer(alloc, mode, text, &mut answer),
+        "relup" | "script" | "check" | "find" => {
+            relups::push_answer(alloc, mode, text, &mut answer)
+        }
+        "appup" | "instrs" | "up" | "down" => appups::push_answer(alloc, mode, text, &mut answer),
+        "translate" | "translate_up" | "translate_down" => {
+            made_relups::push_answer(alloc, mode, text, &mut answer)
+        }
+        _ => relups_of_files::push_answer(alloc, mode, text, &mut answer),
     }
+    answer.finish()
 }

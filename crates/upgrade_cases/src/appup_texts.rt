@@ -1,148 +1,162 @@
-//! What is read, as text.
+//! What is read of appups, as text.
 use appup_file::{
     Appup, AppupEntry, AppupInstr, Dependent, ModType, ModuleLoad, OtherVersion, StateChange,
     Update,
 };
 use erl_term::print;
 use rel_files::StartType;
-use relup_file::{PurgeMode, Timeout, instruction_term};
-use std::alloc::{AllocError, Global};
+use relup_file::{Instr, PurgeMode, Timeout, instruction_term};
+use std::alloc::Global;
+use text_cases::Answer;
 
-// The version and the entries.
-pub(crate) fn shown_appup(alloc: Global, appup: &Appup) -> Result<String, AllocError> {
-    let ups = shown_entries(alloc, &appup.ups)?;
-    let downs = shown_entries(alloc, &appup.downs)?;
-    let vsn = appup.vsn.as_str();
-    format!(in alloc; "{vsn}, up from [{ups}], down to [{downs}]")
+/// Appends the version and the entries.
+pub(crate) fn push_appup(appup: &Appup, answer: &mut Answer) {
+    answer.push(appup.vsn.as_str());
+    answer.push(", up from [");
+    push_entries(&appup.ups, answer);
+    answer.push("], down to [");
+    push_entries(&appup.downs, answer);
+    answer.push("]");
 }
 
-fn shown_entries(alloc: Global, entries: &[AppupEntry]) -> Result<String, AllocError> {
-    let mut all = String::new(alloc);
+fn push_entries(entries: &[AppupEntry], answer: &mut Answer) {
     for (i, entry) in entries.iter().enumerate() {
         if i > 0 {
-            all.push_str(", ")?;
+            answer.push(", ");
         }
-        let shown = shown_entry(alloc, entry)?;
-        all.push_str(shown.as_str())?;
+        push_version(&entry.vsn, answer);
+        answer.push(": ");
+        answer.push_number(entry.instrs.len() as u64);
     }
-    Ok(all)
 }
 
-fn shown_entry(alloc: Global, entry: &AppupEntry) -> Result<String, AllocError> {
-    let count = entry.instrs.len();
-    match &entry.vsn {
-        OtherVersion::Text(vsn) => format!(in alloc; "{vsn}: {count}"),
+fn push_version(vsn: &OtherVersion, answer: &mut Answer) {
+    match vsn {
+        OtherVersion::Text(vsn) => answer.push(vsn.as_str()),
         OtherVersion::Pattern(bytes) => {
-            let pattern = String::from_utf8_lossy(alloc, bytes)?;
-            format!(in alloc; "pattern {pattern}: {count}")
+            answer.push("pattern ");
+            answer.push(str::from_utf8(bytes).unwrap_or("of other bytes"));
         }
     }
 }
 
-// The instructions one after another.
-pub(crate) fn shown_instrs(alloc: Global, instrs: &[AppupInstr]) -> Result<String, AllocError> {
-    let mut all = String::new(alloc);
+/// Appends the instructions one after another.
+pub(crate) fn push_instrs(alloc: Global, instrs: &[AppupInstr], answer: &mut Answer) {
     for (i, instr) in instrs.iter().enumerate() {
         if i > 0 {
-            all.push_str("; ")?;
+            answer.push("; ");
         }
-        let shown = shown_instr(alloc, instr)?;
-        all.push_str(shown.as_str())?;
+        push_instr(alloc, instr, answer);
     }
-    Ok(all)
 }
 
-fn shown_instr(alloc: Global, instr: &AppupInstr) -> Result<String, AllocError> {
+fn push_instr(alloc: Global, instr: &AppupInstr, answer: &mut Answer) {
     match instr {
-        AppupInstr::Update(update) => shown_update(alloc, update),
-        AppupInstr::UpdateSupervisor(name) => format!(in alloc; "supervisor {name}"),
-        AppupInstr::LoadModule(load) => shown_load(alloc, load),
-        AppupInstr::AddModule(dependent) => shown_dependent(alloc, "add", dependent),
-        AppupInstr::DeleteModule(dependent) => shown_dependent(alloc, "delete", dependent),
+        AppupInstr::Update(update) => push_update(alloc, update, answer),
+        AppupInstr::UpdateSupervisor(name) => push_named("supervisor ", name, answer),
+        AppupInstr::LoadModule(load) => push_load(load, answer),
+        AppupInstr::AddModule(dependent) => push_dependent("add ", dependent, answer),
+        AppupInstr::DeleteModule(dependent) => push_dependent("delete ", dependent, answer),
         AppupInstr::AddApplication(added) => {
-            let name = added.name.as_str();
-            let start = shown_start(added.start);
-            format!(in alloc; "add application {name} {start}")
+            push_named("add application ", &added.name, answer);
+            answer.push(start_word(added.start));
         }
-        AppupInstr::RemoveApplication(name) => format!(in alloc; "remove application {name}"),
-        AppupInstr::RestartApplication(name) => format!(in alloc; "restart application {name}"),
-        AppupInstr::LowLevel(instr) => {
-            let term = print(alloc, &instruction_term(alloc, instr)?)?;
-            format!(in alloc; "low-level {term}")
-        }
+        AppupInstr::RemoveApplication(name) => push_named("remove application ", name, answer),
+        AppupInstr::RestartApplication(name) => push_named("restart application ", name, answer),
+        AppupInstr::LowLevel(instr) => push_low_level(alloc, instr, answer),
     }
 }
 
-fn shown_update(alloc: Global, update: &Update) -> Result<String, AllocError> {
-    let name = update.name.as_str();
-    let mod_type = match update.mod_type {
-        ModType::Static => "static",
-        ModType::Dynamic => "dynamic",
-    };
-    let timeout = shown_timeout(alloc, update.timeout)?;
-    let change = shown_change(alloc, &update.change)?;
-    let pre = shown_purge(update.pre);
-    let post = shown_purge(update.post);
-    let deps = shown_names(alloc, &update.dep_mods)?;
-    format!(in alloc; "update {name} {mod_type} {timeout} {change} {pre} {post} [{deps}]")
+fn push_named(before: &str, name: &String, answer: &mut Answer) {
+    answer.push(before);
+    answer.push(name.as_str());
 }
 
-fn shown_timeout(alloc: Global, timeout: Timeout) -> Result<String, AllocError> {
+fn push_low_level(alloc: Global, instr: &Instr, answer: &mut Answer) {
+    match instruction_term(alloc, instr) {
+        Ok(term) => {
+            answer.push("low-level ");
+            answer.push_made(&print(alloc, &term));
+        }
+        Err(_) => answer.note_no_memory(),
+    }
+}
+
+fn push_update(alloc: Global, update: &Update, answer: &mut Answer) {
+    push_named("update ", &update.name, answer);
+    answer.push(match update.mod_type {
+        ModType::Static => " static ",
+        ModType::Dynamic => " dynamic ",
+    });
+    push_timeout(update.timeout, answer);
+    push_change(alloc, &update.change, answer);
+    push_purges(update.pre, update.post, answer);
+    push_names(&update.dep_mods, answer);
+}
+
+fn push_timeout(timeout: Timeout, answer: &mut Answer) {
     match timeout {
-        Timeout::Default => String::from_str(alloc, "default"),
-        Timeout::Infinity => String::from_str(alloc, "infinity"),
-        Timeout::Milliseconds(n) => n.to_string(alloc),
-    }
-}
-
-fn shown_change(alloc: Global, change: &StateChange) -> Result<String, AllocError> {
-    match change {
-        StateChange::Soft => String::from_str(alloc, "soft"),
-        StateChange::Advanced(extra) => {
-            let extra = print(alloc, extra)?;
-            format!(in alloc; "advanced {extra}")
+        Timeout::Default => answer.push("default"),
+        Timeout::Infinity => answer.push("infinity"),
+        Timeout::Milliseconds(n) => {
+            let done = write!(answer.text, "{n}");
+            answer.note(done);
         }
     }
 }
 
-fn shown_purge(mode: PurgeMode) -> &'static str {
+fn push_change(alloc: Global, change: &StateChange, answer: &mut Answer) {
+    match change {
+        StateChange::Soft => answer.push(" soft"),
+        StateChange::Advanced(extra) => {
+            answer.push(" advanced ");
+            answer.push_made(&print(alloc, extra));
+        }
+    }
+}
+
+// Appends what is purged before and behind.
+fn push_purges(pre: PurgeMode, post: PurgeMode, answer: &mut Answer) {
+    answer.push(purge_word(pre));
+    answer.push(purge_word(post));
+}
+
+fn purge_word(mode: PurgeMode) -> &'static str {
     match mode {
-        PurgeMode::Soft => "soft",
-        PurgeMode::Brutal => "brutal",
+        PurgeMode::Soft => " soft",
+        PurgeMode::Brutal => " brutal",
     }
 }
 
-fn shown_load(alloc: Global, load: &ModuleLoad) -> Result<String, AllocError> {
-    let name = load.name.as_str();
-    let pre = shown_purge(load.pre);
-    let post = shown_purge(load.post);
-    let deps = shown_names(alloc, &load.dep_mods)?;
-    format!(in alloc; "load {name} {pre} {post} [{deps}]")
+fn push_load(load: &ModuleLoad, answer: &mut Answer) {
+    push_named("load ", &load.name, answer);
+    push_purges(load.pre, load.post, answer);
+    push_names(&load.dep_mods, answer);
 }
 
-fn shown_dependent(alloc: Global, word: &str, dependent: &Dependent) -> Result<String, AllocError> {
-    let name = dependent.name.as_str();
-    let deps = shown_names(alloc, &dependent.dep_mods)?;
-    format!(in alloc; "{word} {name} [{deps}]")
+fn push_dependent(word: &str, dependent: &Dependent, answer: &mut Answer) {
+    push_named(word, &dependent.name, answer);
+    push_names(&dependent.dep_mods, answer);
 }
 
-fn shown_start(start: StartType) -> &'static str {
+fn start_word(start: StartType) -> &'static str {
     match start {
-        StartType::Permanent => "permanent",
-        StartType::Transient => "transient",
-        StartType::Temporary => "temporary",
-        StartType::Load => "load",
-        StartType::Unloaded => "none",
+        StartType::Permanent => " permanent",
+        StartType::Transient => " transient",
+        StartType::Temporary => " temporary",
+        StartType::Load => " load",
+        StartType::Unloaded => " none",
     }
 }
 
-fn shown_names(alloc: Global, names: &[String]) -> Result<String, AllocError> {
-    let mut all = String::new(alloc);
+// Appends names in brackets.
+fn push_names(names: &[String], answer: &mut Answer) {
+    answer.push(" [");
     for (i, name) in names.iter().enumerate() {
         if i > 0 {
-            all.push_str(",")?;
+            answer.push(",");
         }
-        all.push_str(name.as_str())?;
+        answer.push(name.as_str());
     }
-    Ok(all)
+    answer.push("]");
 }

@@ -1,64 +1,68 @@
 //! Appups.
-use crate::appup_texts::{shown_appup, shown_instrs};
+use crate::appup_texts::{push_appup, push_instrs};
 use appup_file::{Appup, AppupFault, read_appup};
 use relup_file::Direction;
-use std::alloc::{AllocError, Global};
+use std::alloc::Global;
+use text_cases::{Answer, enclosed, first_word};
 
 /// The answer in the modes of appups.
-pub(crate) fn answer(alloc: Global, mode: &str, text: &[u8]) -> Result<String, AllocError> {
+pub(crate) fn push_answer(alloc: Global, mode: &str, text: &[u8], answer: &mut Answer) {
     match mode {
-        "appup" => match read_appup(alloc, text) {
-            Ok(appup) => shown_appup(alloc, &appup),
-            Err(fault) => fault.to_string(alloc),
-        },
-        "instrs" => with_instrs(alloc, text),
-        "up" => searched(alloc, text, Direction::Up),
-        "down" => searched(alloc, text, Direction::Down),
-        _ => String::from_str(alloc, "no such mode"),
+        "appup" => push_read(&read_appup(alloc, text), answer),
+        "instrs" => push_with_instrs(alloc, text, answer),
+        _ => push_searched(alloc, mode, str::from_utf8(text).unwrap_or(""), answer),
     }
 }
 
-// Reads a file whose only upgrade has these instructions.
-fn with_instrs(alloc: Global, row: &[u8]) -> Result<String, AllocError> {
-    let mut file = Vec::from_slice(alloc, b"{\"2\",[{\"1\",[")?;
-    file.extend_from_slice(row)?;
-    file.extend_from_slice(b"]}],[]}.")?;
-    first_shown(alloc, read_appup(alloc, &file))
+fn push_read(read: &Result<Appup, AppupFault>, answer: &mut Answer) {
+    match read {
+        Ok(appup) => push_appup(appup, answer),
+        Err(fault) => push_fault(fault, answer),
+    }
 }
 
-fn first_shown(alloc: Global, read: Result<Appup, AppupFault>) -> Result<String, AllocError> {
-    let appup = match read {
-        Ok(appup) => appup,
-        Err(fault) => return fault.to_string(alloc),
-    };
-    match appup.ups.first() {
-        Some(entry) => shown_instrs(alloc, &entry.instrs),
-        None => String::from_str(alloc, "no upgrade"),
+fn push_fault(fault: &AppupFault, answer: &mut Answer) {
+    let done = write!(answer.text, "{fault}");
+    answer.note(done);
+}
+
+// What is read of a file whose only upgrade has these instructions.
+fn push_with_instrs(alloc: Global, row: &[u8], answer: &mut Answer) {
+    match enclosed(alloc, b"{\"2\",[{\"1\",[", row, b"]}],[]}.") {
+        Ok(file) => push_first(alloc, &read_appup(alloc, &file), answer),
+        Err(_) => answer.note_no_memory(),
+    }
+}
+
+fn push_first(alloc: Global, read: &Result<Appup, AppupFault>, answer: &mut Answer) {
+    match read {
+        Ok(appup) => match appup.ups.first() {
+            Some(entry) => push_instrs(alloc, &entry.instrs, answer),
+            None => answer.push("no upgrade"),
+        },
+        Err(fault) => push_fault(fault, answer),
     }
 }
 
 // What is found for a version, with the file behind it.
-fn searched(alloc: Global, text: &[u8], direction: Direction) -> Result<String, AllocError> {
-    let Ok(text) = str::from_utf8(text) else {
-        return String::from_str(alloc, "no text");
-    };
-    let Some((vsn, file)) = text.split_once(' ') else {
-        return String::from_str(alloc, "no version");
+fn push_searched(alloc: Global, mode: &str, text: &str, answer: &mut Answer) {
+    let (vsn, file) = first_word(text);
+    let direction = match mode {
+        "up" => Direction::Up,
+        _ => Direction::Down,
     };
     match read_appup(alloc, file.as_bytes()) {
-        Ok(appup) => found(alloc, &appup, vsn, direction),
-        Err(fault) => fault.to_string(alloc),
+        Ok(appup) => push_found(alloc, &appup, vsn, direction, answer),
+        Err(fault) => push_fault(&fault, answer),
     }
 }
 
-fn found(
-    alloc: Global,
-    appup: &Appup,
-    vsn: &str,
-    direction: Direction,
-) -> Result<String, AllocError> {
+fn push_found(alloc: Global, appup: &Appup, vsn: &str, direction: Direction, answer: &mut Answer) {
     match appup.entry_for(vsn, direction) {
-        Ok(instrs) => shown_instrs(alloc, instrs),
-        Err(fault) => fault.to_string(alloc),
+        Ok(instrs) => push_instrs(alloc, instrs, answer),
+        Err(fault) => {
+            let done = write!(answer.text, "{fault}");
+            answer.note(done);
+        }
     }
 }

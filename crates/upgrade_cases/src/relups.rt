@@ -3,100 +3,92 @@ use erl_term::print;
 use relup_file::{Direction, Relup, RelupFault, print_relup, read_relup};
 use relup_script::{Found, ScriptFault, check, find_script};
 use std::alloc::{AllocError, Global};
+use text_cases::{Answer, enclosed, first_word};
 
-/// The text that a file's relup is printed as.
-pub(crate) fn file(alloc: Global, text: &[u8]) -> Result<String, AllocError> {
-    printed(alloc, read_relup(alloc, text))
+/// The answer in the modes of relups that are read.
+pub(crate) fn push_answer(alloc: Global, mode: &str, text: &[u8], answer: &mut Answer) {
+    match mode {
+        "relup" => push_printed(alloc, &read_relup(alloc, text), answer),
+        "find" => push_search(alloc, str::from_utf8(text).unwrap_or(""), answer),
+        _ => push_of_script(alloc, mode, text, answer),
+    }
 }
 
-/// That of a file whose only upgrade has these instructions.
-pub(crate) fn script(alloc: Global, text: &[u8]) -> Result<String, AllocError> {
-    printed(alloc, with_script(alloc, text)?)
+// The answer in the modes whose text is the instructions of the only upgrade of a file.
+fn push_of_script(alloc: Global, mode: &str, script: &[u8], answer: &mut Answer) {
+    match with_script(alloc, script) {
+        Ok(read) if mode == "check" => push_checked(&read, answer),
+        Ok(read) => push_printed(alloc, &read, answer),
+        Err(_) => answer.note_no_memory(),
+    }
 }
 
-/// Whether these instructions can be run.
-pub(crate) fn script_check(alloc: Global, text: &[u8]) -> Result<String, AllocError> {
-    checked(alloc, with_script(alloc, text)?)
-}
-
-// Reads a file whose only upgrade has these instructions.
 fn with_script(alloc: Global, script: &[u8]) -> Result<Result<Relup, RelupFault>, AllocError> {
-    let mut file = Vec::from_slice(alloc, b"{\"B\",[{\"A\",[],[")?;
-    file.extend_from_slice(script)?;
-    file.extend_from_slice(b"]}],[]}.")?;
+    let file = enclosed(alloc, b"{\"B\",[{\"A\",[],[", script, b"]}],[]}.")?;
     Ok(read_relup(alloc, &file))
 }
 
 // The text of a relup, or the fault.
-fn printed(alloc: Global, read: Result<Relup, RelupFault>) -> Result<String, AllocError> {
+fn push_printed(alloc: Global, read: &Result<Relup, RelupFault>, answer: &mut Answer) {
     match read {
-        Ok(relup) => print_relup(alloc, &relup),
-        Err(fault) => fault.to_string(alloc),
+        Ok(relup) => answer.push_made(&print_relup(alloc, relup)),
+        Err(fault) => push_fault(fault, answer),
     }
+}
+
+fn push_fault(fault: &RelupFault, answer: &mut Answer) {
+    let done = write!(answer.text, "{fault}");
+    answer.note(done);
 }
 
 // Whether the script of the first upgrade can be run.
-fn checked(alloc: Global, read: Result<Relup, RelupFault>) -> Result<String, AllocError> {
-    let relup = match read {
-        Ok(relup) => relup,
-        Err(fault) => return fault.to_string(alloc),
-    };
-    match relup.ups.first() {
-        Some(entry) => shown_check(alloc, check(&entry.script)),
-        None => String::from_str(alloc, "no upgrade"),
-    }
-}
-
-fn shown_check(alloc: Global, answer: Result<(), ScriptFault>) -> Result<String, AllocError> {
-    match answer {
-        Ok(()) => String::from_str(alloc, "ok"),
-        Err(fault) => match fault {
-            ScriptFault::Misplaced(n) => format!(in alloc; "{fault} {n}"),
-            ScriptFault::Unsupported(n) => format!(in alloc; "{fault} {n}"),
-            _ => fault.to_string(alloc),
+fn push_checked(read: &Result<Relup, RelupFault>, answer: &mut Answer) {
+    match read {
+        Ok(relup) => match relup.ups.first() {
+            Some(entry) => push_check(check(&entry.script), answer),
+            None => answer.push("no upgrade"),
         },
+        Err(fault) => push_fault(fault, answer),
     }
 }
 
-/// What is found with these versions and relups.
-pub(crate) fn search(alloc: Global, text: &[u8]) -> Result<String, AllocError> {
-    let Ok(text) = str::from_utf8(text) else {
-        return String::from_str(alloc, "no text");
+fn push_check(checked: Result<(), ScriptFault>, answer: &mut Answer) {
+    let Err(fault) = checked else {
+        return answer.push("ok");
     };
-    let Some((target, rest)) = text.split_once(' ') else {
-        return String::from_str(alloc, "no target");
+    let done = match fault {
+        ScriptFault::Misplaced(n) | ScriptFault::Unsupported(n) => {
+            write!(answer.text, "{fault} {n}")
+        }
+        _ => write!(answer.text, "{fault}"),
     };
-    let Some((running, relups)) = rest.split_once(' ') else {
-        return String::from_str(alloc, "no running release");
-    };
-    let Some((above, below)) = relups.split_once('|') else {
-        return String::from_str(alloc, "no relups");
-    };
-    found_between(alloc, target, above, running, below)
+    answer.note(done);
 }
 
-fn found_between(
-    alloc: Global,
-    target: &str,
-    above: &str,
-    running: &str,
-    below: &str,
-) -> Result<String, AllocError> {
+// What is found with these versions and relups.
+fn push_search(alloc: Global, text: &str, answer: &mut Answer) {
+    let (target, rest) = first_word(text);
+    let (running, relups) = first_word(rest);
+    let (above, below) = relups.split_once('|').unwrap_or((relups, ""));
     let above = read_relup(alloc, above.as_bytes()).ok();
     let below = read_relup(alloc, below.as_bytes()).ok();
     match find_script(target, above.as_ref(), running, below.as_ref()) {
-        Ok(found) => shown_found(alloc, found),
-        Err(none) => none.to_string(alloc),
+        Ok(found) => push_found(alloc, found, answer),
+        Err(none) => {
+            let done = write!(answer.text, "{none}");
+            answer.note(done);
+        }
     }
 }
 
-fn shown_found(alloc: Global, found: Found<'_>) -> Result<String, AllocError> {
-    let descr = print(alloc, found.descr)?;
-    let direction = match found.direction {
-        Direction::Up => "up from",
-        Direction::Down => "down to",
-    };
-    let other = found.other;
-    let count = found.script.len();
-    format!(in alloc; "{direction} {other}, {descr}, {count} instructions")
+fn push_found(alloc: Global, found: Found<'_>, answer: &mut Answer) {
+    answer.push(match found.direction {
+        Direction::Up => "up from ",
+        Direction::Down => "down to ",
+    });
+    answer.push(found.other);
+    answer.push(", ");
+    answer.push_made(&print(alloc, found.descr));
+    let done = write!(answer.text, ", {} instructions", found.script.len());
+    answer.note(done);
 }

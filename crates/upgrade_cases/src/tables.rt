@@ -3,15 +3,17 @@ use erl_term::{Term, read_record};
 use mod_table::{Child, Old, Step, Super, Table, Worker, read_mod, read_mod_file, table_of_term};
 use rel_files::FileFault;
 use std::alloc::{AllocError, Global};
+use text_cases::{Answer, first_word};
 
-/// The table of a file.
-pub(crate) fn table(alloc: Global, file: &[u8]) -> Result<String, AllocError> {
-    shown(alloc, read_mod(alloc, file))
-}
-
-/// The table of a file, whose term is kept and read again.
-pub(crate) fn table_again(alloc: Global, file: &[u8]) -> Result<String, AllocError> {
-    shown(alloc, of_the_term(alloc, file))
+/// The answer in the modes of tables: the table of a file, or the same of the file's term, which is kept and read again, what
+/// comes of a call, or the state after a change of code.
+pub(crate) fn push_answer(alloc: Global, mode: &str, text: &[u8], answer: &mut Answer) {
+    match mode {
+        "mod" => push_read(&read_mod(alloc, text), answer),
+        "term" => push_read(&of_the_term(alloc, text), answer),
+        "step" => push_step(alloc, str::from_utf8(text).unwrap_or(""), answer),
+        _ => push_change(alloc, str::from_utf8(text).unwrap_or(""), answer),
+    }
 }
 
 // Reads the file's term again.
@@ -21,50 +23,49 @@ fn of_the_term(alloc: Global, file: &[u8]) -> Result<Table, FileFault> {
 }
 
 // The table, or the fault.
-fn shown(alloc: Global, read: Result<Table, FileFault>) -> Result<String, AllocError> {
+fn push_read(read: &Result<Table, FileFault>, answer: &mut Answer) {
     match read {
-        Ok(Table::Worker(worker)) => worker_text(alloc, &worker),
-        Ok(Table::Super(supervisor)) => super_text(alloc, &supervisor),
-        Err(FileFault::Duplicate(id)) => format!(in alloc; "Duplicate {id}"),
-        Err(fault) => fault.to_string(alloc),
+        Ok(Table::Worker(worker)) => push_worker(worker, answer),
+        Ok(Table::Super(supervisor)) => push_super(supervisor, answer),
+        Err(fault) => push_fault(fault, answer),
     }
 }
 
-fn worker_text(alloc: Global, worker: &Worker) -> Result<String, AllocError> {
-    format!(in alloc;
-        "worker {} {} {}",
-        worker.name(),
-        worker.vsn(),
-        worker.first()
-    )
+fn push_fault(fault: &FileFault, answer: &mut Answer) {
+    let done = match fault {
+        FileFault::Duplicate(id) => write!(answer.text, "Duplicate {id}"),
+        other => write!(answer.text, "{other}"),
+    };
+    answer.note(done);
 }
 
-fn super_text(alloc: Global, supervisor: &Super) -> Result<String, AllocError> {
-    let mut text = format!(in alloc; "supervisor {} {}", supervisor.name(), supervisor.vsn())?;
+fn push_worker(worker: &Worker, answer: &mut Answer) {
+    let (name, vsn, first) = (worker.name(), worker.vsn(), worker.first());
+    let done = write!(answer.text, "worker {name} {vsn} {first}");
+    answer.note(done);
+}
+
+fn push_super(supervisor: &Super, answer: &mut Answer) {
+    let (name, vsn) = (supervisor.name(), supervisor.vsn());
+    let done = write!(answer.text, "supervisor {name} {vsn}");
+    answer.note(done);
     for child in supervisor.children() {
-        push_child(&mut text, child)?;
+        push_child(child, answer);
     }
-    Ok(text)
 }
 
-fn push_child(text: &mut String, child: &Child) -> Result<(), AllocError> {
-    write!(
-        text,
+fn push_child(child: &Child, answer: &mut Answer) {
+    let done = write!(
+        answer.text,
         "; {} {} {:?} {:?}",
         child.id, child.module, child.restart, child.kind
-    )
+    );
+    answer.note(done);
 }
 
-// The word up to the first blank, and what follows it.
-fn word(text: &[u8]) -> Option<(&str, &[u8])> {
-    let blank = text.iter().position(|byte| *byte == b' ')?;
-    let first = str::from_utf8(text.get(..blank)?).ok()?;
-    Some((first, text.get(blank + 1..)?))
-}
-
-fn number(text: &[u8]) -> Option<(u32, &[u8])> {
-    let (digits, rest) = word(text)?;
-    Some((digits.parse::<u32>().ok()?, rest))
+// The number of a word, and 0 of a word that is none.
+fn state_of(word: &str) -> u32 {
+    word.parse::<u32>().unwrap_or(0)
 }
 
 // The worker of a file, and a copy of it.
@@ -78,31 +79,36 @@ fn workers(alloc: Global, file: &[u8]) -> Result<Option<(Worker, Worker)>, Alloc
     }
 }
 
-/// What comes of a call in this state, with this input.
-pub(crate) fn step(alloc: Global, text: &[u8]) -> Result<String, AllocError> {
-    let Some((state, text)) = number(text) else {
-        return String::from_str(alloc, "no state");
-    };
-    let Some((input, file)) = number(text) else {
-        return String::from_str(alloc, "no input");
-    };
-    let Some((worker, copied)) = workers(alloc, file)? else {
-        return String::from_str(alloc, "no worker");
-    };
-    let step = worker.step(state, input);
-    if copied.step(state, input) == step {
-        step_text(alloc, step)
-    } else {
-        String::from_str(alloc, "the copy differs")
+// What comes of a call in this state, with this input.
+fn push_step(alloc: Global, text: &str, answer: &mut Answer) {
+    let (state, rest) = first_word(text);
+    let (input, file) = first_word(rest);
+    let (state, input) = (state_of(state), state_of(input));
+    match workers(alloc, file.as_bytes()) {
+        Ok(Some((worker, copied))) => {
+            let step = worker.step(state, input);
+            push_agreed(copied.step(state, input) == step, answer);
+            push_step_text(step, answer);
+        }
+        Ok(None) => answer.push("no worker"),
+        Err(_) => answer.note_no_memory(),
     }
 }
 
-fn step_text(alloc: Global, step: Step) -> Result<String, AllocError> {
-    match step {
-        Step::Next(state, reply) => format!(in alloc; "Next {state} {reply}"),
-        Step::Ends(reply) => format!(in alloc; "Ends {reply}"),
-        Step::Crashes => String::from_str(alloc, "Crashes"),
+// Nothing where the copy of a worker answers as the worker.
+fn push_agreed(is_same: bool, answer: &mut Answer) {
+    if !is_same {
+        answer.push("the copy differs from ");
     }
+}
+
+fn push_step_text(step: Step, answer: &mut Answer) {
+    let done = match step {
+        Step::Next(state, reply) => write!(answer.text, "Next {state} {reply}"),
+        Step::Ends(reply) => write!(answer.text, "Ends {reply}"),
+        Step::Crashes => return answer.push("Crashes"),
+    };
+    answer.note(done);
 }
 
 // A version, from a direction and its text.
@@ -121,44 +127,43 @@ fn term_of(alloc: Global, text: &str) -> Result<Option<Term>, AllocError> {
     Ok(read_record(alloc, bytes.as_slice()).ok())
 }
 
-/// The state after a change of code.
-pub(crate) fn change(alloc: Global, text: &[u8]) -> Result<String, AllocError> {
-    let Some((direction, text)) = word(text) else {
-        return String::from_str(alloc, "no direction");
-    };
-    let Some((vsn, text)) = word(text) else {
-        return String::from_str(alloc, "no version");
-    };
-    let Some(old) = old_of(alloc, direction, vsn)? else {
-        return String::from_str(alloc, "no version");
-    };
-    changed_from(alloc, &old, text)
-}
-
-fn changed_from(alloc: Global, old: &Old, text: &[u8]) -> Result<String, AllocError> {
-    let Some((extra, text)) = word(text) else {
-        return String::from_str(alloc, "no extra term");
-    };
-    let Some(extra) = term_of(alloc, extra)? else {
-        return String::from_str(alloc, "no extra term");
-    };
-    let Some((state, file)) = number(text) else {
-        return String::from_str(alloc, "no state");
-    };
-    let Some((worker, copied)) = workers(alloc, file)? else {
-        return String::from_str(alloc, "no worker");
-    };
-    let next = worker.change(old, &extra, state);
-    if copied.change(old, &extra, state) == next {
-        change_text(alloc, next)
-    } else {
-        String::from_str(alloc, "the copy differs")
+// The state after a change of code.
+fn push_change(alloc: Global, text: &str, answer: &mut Answer) {
+    let (direction, rest) = first_word(text);
+    let (vsn, rest) = first_word(rest);
+    match old_of(alloc, direction, vsn) {
+        Ok(Some(old)) => push_changed_from(alloc, &old, rest, answer),
+        Ok(None) => answer.push("no version"),
+        Err(_) => answer.note_no_memory(),
     }
 }
 
-fn change_text(alloc: Global, next: Option<u32>) -> Result<String, AllocError> {
+fn push_changed_from(alloc: Global, old: &Old, text: &str, answer: &mut Answer) {
+    let (extra, rest) = first_word(text);
+    match term_of(alloc, extra) {
+        Ok(Some(extra)) => push_changed_with(alloc, old, &extra, rest, answer),
+        Ok(None) => answer.push("no extra term"),
+        Err(_) => answer.note_no_memory(),
+    }
+}
+
+fn push_changed_with(alloc: Global, old: &Old, extra: &Term, text: &str, answer: &mut Answer) {
+    let (state, file) = first_word(text);
+    let state = state_of(state);
+    match workers(alloc, file.as_bytes()) {
+        Ok(Some((worker, copied))) => {
+            let next = worker.change(old, extra, state);
+            push_agreed(copied.change(old, extra, state) == next, answer);
+            push_next(next, answer);
+        }
+        Ok(None) => answer.push("no worker"),
+        Err(_) => answer.note_no_memory(),
+    }
+}
+
+fn push_next(next: Option<u32>, answer: &mut Answer) {
     match next {
-        Some(state) => format!(in alloc; "{state}"),
-        None => String::from_str(alloc, "no change"),
+        Some(state) => answer.push_number(state as u64),
+        None => answer.push("no change"),
     }
 }

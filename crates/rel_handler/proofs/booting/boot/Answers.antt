@@ -1,13 +1,16 @@
-use Rattle.std.proofs.Common.{◌⊎◌, inr, sym, ◌∙◌, subst}
+use Rattle.std.proofs.Common.{◌≡◌, ◌⊎◌, inr, sym, ◌∙◌, subst}
 use Rattle.rel_disk.specs.Moments.{LeavesOnly}
 use Rattle.rel_disk.proofs.Moments.{weakened}
 use Rattle.rel_store.proofs.OnlyReads.{read_on}
+use Rattle.rel_store.specs.Contents.{HasOnlyRead}
 use Rattle.rel_handler.specs.Events.{IsStoredAs}
 use Rattle.rel_handler.specs.Image.{IsStarted, IsRepairOf}
 use Rattle.rel_handler.specs.Moments.{SettlesAt}
+use Rattle.rel_handler.specs.Refusals.{BootRefused}
 use Rattle.rel_handler.specs.State.{disk_in}
+use Rattle.rel_handler.specs.declared.error.BootError.TheVariants.{Device}
 use Rattle.rel_handler.proofs.Images.{boots_to}
-use Rattle.rel_handler.proofs.RepairLemmas.{boot_moments, boot_settles, boot_stored}
+use Rattle.rel_handler.proofs.RepairLemmas.{boot_moments, boot_quiet, boot_refused, boot_settles, boot_stored, is_lack}
 use Rattle.rel_handler.proofs.booting.boot.Goals as goal
 
 -- what a read gives is one of the images
@@ -51,6 +54,21 @@ returns-in-Err-repair-clause-synced g c =
       subst (λ d. SettlesAt g.D.Disk.seen g.D.Disk.may_leave g.D.Disk.moment g.D.Disk.left_since c.args.disk d at) (sym c.into_disk.ensures)
           (boot_settles g.D.Disk g.met.D.Disk.counts_now c.args.disk c.in-Ok.handler c.in-Ok.ensures.opened c.repair.new.handler c.repair.ensures.repairs at settles),
     )
+
+pub returns-in-Err-repair-clause-only : goal.returns-in-Err-repair-clause-only
+returns-in-Err-repair-clause-only g c = λ es image. is_lack g.D.Disk c.in-Ok.handler c.repair.new.handler c.in-Err-repair.error c.in-Err-repair.ensures.refused
+
+pub returns-in-Err-repair-clause-recovers : goal.returns-in-Err-repair-clause-recovers
+returns-in-Err-repair-clause-recovers g c = λ k all. is_lack g.D.Disk c.in-Ok.handler c.repair.new.handler c.in-Err-repair.error c.in-Err-repair.ensures.refused
+
+pub returns-in-Err-repair-clause-quiet : goal.returns-in-Err-repair-clause-quiet
+returns-in-Err-repair-clause-quiet g c =
+    subst (λ d. (c.in-Err-repair.error ≡ Device) ⊎ HasOnlyRead g.D.Disk.seen g.D.Disk.may_leave g.D.Disk.moment g.D.Disk.left_since c.args.disk d) (sym c.into_disk.ensures) (boot_quiet g.D.Disk c.in-Ok.handler c.repair.new.handler c.args.disk c.in-Ok.ensures.opened.only_read c.in-Err-repair.error c.in-Err-repair.ensures.refused)
+
+pub returns-in-Err-repair-clause-refused : goal.returns-in-Err-repair-clause-refused
+returns-in-Err-repair-clause-refused g c =
+    subst (λ d. BootRefused (g.D.Disk.seen c.args.disk) (g.D.Disk.failures c.args.disk) (g.D.Disk.failures d) c.in-Err-repair.error) (sym c.into_disk.ensures)
+    (boot_refused g.D.Disk c.in-Ok.handler c.repair.new.handler c.args.disk c.in-Ok.ensures.counted c.repair.ensures.repairs.counted c.in-Err-repair.error c.in-Err-repair.ensures.refused)
 
 -- the events of a store that is known
 pub returns-in-Err-clause-stored : goal.returns-in-Err-clause-stored

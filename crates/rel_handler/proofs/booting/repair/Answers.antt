@@ -7,8 +7,8 @@ use Rattle.start_record.specs.Text.{AreVersions, versions_of}
 use Rattle.rel_handler.specs.Booting.{RepairRefused}
 use Rattle.rel_handler.specs.State.{list_in}
 use Rattle.rel_handler.specs.declared.error.BootError.TheVariants.{Device, NoMemory}
-use Rattle.rel_handler.proofs.Commits.{have_versions, read_nothing, refuses_with, failed_behind}
-use Rattle.rel_handler.proofs.RepairLemmas.{one_is_permanent, repairs_nothing, permanent_versions, right_already, written_over, started_now}
+use Rattle.rel_handler.proofs.Commits.{have_versions, image_now, read_nothing, refuses_with, failed_behind}
+use Rattle.rel_handler.proofs.RepairLemmas.{one_is_permanent, repairs_nothing, permanent_versions, reads_alone, right_already, another_start, written_over, started_now}
 use Rattle.rel_handler.proofs.booting.repair.Goals as goal
 
 -- a list that records make has a permanent release
@@ -25,7 +25,21 @@ returns-in_err-start-clause-refused g c =
 pub returns-in_err-start-clause-repairs : goal.returns-in_err-start-clause-repairs
 returns-in_err-start-clause-repairs g c = repairs_nothing g.D.Disk c.args.handler.now (g.met.D.Disk.only_now _)
 
--- the start record is right
+-- it can't be read
+pub returns-in_err-starts-clause-repairs : goal.returns-in_err-starts-clause-repairs
+returns-in_err-starts-clause-repairs g c = reads_alone g.D.Disk c.args.handler.now c.starts.new.handler c.in_err-starts.ensures.read
+
+pub returns-in_err-starts-clause-refused : goal.returns-in_err-starts-clause-refused
+returns-in_err-starts-clause-refused g c =
+    refuses_with (RepairRefused g.D.Disk c.args.handler.now c.starts.new.handler) c.from_residual-in_err-starts.result _ c.from_residual-in_err-starts.ensures c.in_err-starts.ensures.refused
+
+-- it is right
+pub returns-then-branch-clause-repairs : goal.returns-then-branch-clause-repairs
+returns-then-branch-clause-repairs g c = reads_alone g.D.Disk c.args.handler.now c.starts.new.handler c.in_ok-starts.ensures.read
+
+pub returns-then-branch-clause-acknowledged : goal.returns-then-branch-clause-acknowledged
+returns-then-branch-clause-acknowledged g c = image_now g.D.Disk c.starts.new.handler c.in_ok-starts.ensures.ready
+
 pub returns-then-branch-clause-started : goal.returns-then-branch-clause-started
 returns-then-branch-clause-started g c =
     let h = c.args.handler.now in
@@ -35,7 +49,7 @@ returns-then-branch-clause-started g c =
     let are = subst AreVersions (sym c.in_ok-start.ensures) (has.erts, has.own) in
     right_already g.D.Disk h c.starts.new.handler c.in_ok-starts.ensures.read (versions_of c.in_ok-start.start) r are c.in_ok-start.ensures listed c.in_ok-starts.ensures.ready (c.in_ok-starts.ensures.value.0 c.if-branch.true)
 
--- it is written
+-- it is another one, and is written
 pub commit_start-requires-clause-versions : goal.commit_start-requires-clause-versions
 commit_start-requires-clause-versions g c =
     let h = c.args.handler.now in
@@ -80,3 +94,8 @@ returns-clause-started g c =
     let has = permanent_versions (list_in h) r (have_versions (records_in h.store) (list_in h) c.requires.list) listed in
     let are = subst AreVersions (sym c.in_ok-start.ensures) (has.erts, has.own) in
     started_now g.D.Disk h c.starts.new.handler c.in_ok-starts.ensures.read (versions_of c.in_ok-start.start) r are c.in_ok-start.ensures listed c.commit_start.new.self c.commit_start.ensures.keeps c.in_ok-commit_start.ensures.acknowledged
+
+pub returns-clause-right : goal.returns-clause-right
+returns-clause-right g c = λ right.
+    let r = release_of c.in-Some.release.now in
+    absurd (another_start g.D.Disk c.args.handler.now (versions_of c.in_ok-start.start) r c.in_ok-start.ensures (sym c.in-Some.ensures) _ c.in_ok-starts.ensures.value c.if-branch.false right)

@@ -1,19 +1,14 @@
-use Rattle.std.proofs.Common.{rules, refl, sym, ap, ◌∙◌, subst}
+use Rattle.std.proofs.Common.{◌≡◌, refl, sym, ◌∙◌, subst, string_bytes}
+use Rattle.std.specs.Prelude.{IfOk}
 use Rattle.rel_session.specs.InMemory.{Answers}
 use Rattle.rel_session.specs.Node.{Place, Reply}
 use Rattle.rel_session.specs.Transition.{Acts, installation, installed_line}
 use Rattle.rel_session.specs.Transition.Action.{changes_node}
 use Rattle.rel_session.specs.declared.place.Place.TheVariants as memory
-use Rattle.rel_handler.specs.declared.error.HandlerError.TheVariants as handler_error
 use Rattle.rel_session.proofs.DeviceLemmas.{IsDevice}
-use Rattle.rel_session.proofs.CommitReplies.{changes, changes_untold, changes_none}
-use Rattle.rel_session.proofs.Replies.{told_so, changes_dead, idle_changes}
+use Rattle.rel_session.proofs.CommitReplies.{changes, changes_none}
+use Rattle.rel_session.proofs.Replies.{told_so}
 use Rattle.rel_session.proofs.change.install.Goals as goal
-
-pub returns-then-is_dead-clause-installed : goal.returns-then-is_dead-clause-installed
-returns-then-is_dead-clause-installed g c =
-    let laws : IsDevice g.D.Disk = record { reads_an_image = g.met.D.Disk.reads_an_image; counts_now = g.met.D.Disk.counts_now; only_now = g.met.D.Disk.only_now } in
-    changes_dead g.D.Disk laws _ (idle_changes g.D.Disk laws (installation c.args.vsn.now)) c.args.handler.now (search rules)
 
 pub returns-in_err-installed-clause-installed : goal.returns-in_err-installed-clause-installed
 returns-in_err-installed-clause-installed g c =
@@ -23,21 +18,13 @@ returns-in_err-installed-clause-installed g c =
     let e = c.in_err-installed.field-0.0 in
     let Does : Place → Reply → Type 0 = λ p a. Acts p (changes_node (installation c.args.vsn.now)) a in
     subst (λ r. Answers g.D.Disk Does r (memory.Made h) (memory.Made new)) (sym (told_so c.from_residual.result e c.from_residual.ensures.1))
-    (changes_none g.D.Disk laws Does h (search rules) (installation c.args.vsn.now) (λ events end a is. is) refl new c.in_err-installed.ensures.commits e c.in_err-installed.ensures.refused)
+    (changes_none g.D.Disk laws Does h c.requires.works (installation c.args.vsn.now) (λ events end a is. is) refl new c.in_err-installed.ensures.commits e c.in_err-installed.ensures.refused)
 
 -- memory was refused for the answer
-pub returns-in_err-line-clause-installed : goal.returns-in_err-line-clause-installed
-returns-in_err-line-clause-installed g c =
-    let laws : IsDevice g.D.Disk = record { reads_an_image = g.met.D.Disk.reads_an_image; counts_now = g.met.D.Disk.counts_now; only_now = g.met.D.Disk.only_now } in
-    let h = c.args.handler.now in
-    let new = c.install_release.new.self in
-    let Does : Place → Reply → Type 0 = λ p a. Acts p (changes_node (installation c.args.vsn.now)) a in
-    subst (λ r. Answers g.D.Disk Does r (memory.Made h) (memory.Made new)) (sym (told_so c.from_residual-in_err-line.result handler_error.NoMemory c.from_residual-in_err-line.ensures.1))
-    (changes_untold g.D.Disk laws Does h (search rules) (installation c.args.vsn.now) (λ events end a is. is) refl new c.in_ok-installed.ensures.commits c.in_ok-installed.ensures.works c.in_ok-installed.ensures.done)
 
 pub returns-clause-installed : goal.returns-clause-installed
 returns-clause-installed g c =
     let laws : IsDevice g.D.Disk = record { reads_an_image = g.met.D.Disk.reads_an_image; counts_now = g.met.D.Disk.counts_now; only_now = g.met.D.Disk.only_now } in
-    changes g.D.Disk laws _ c.args.handler.now (search rules) (installation c.args.vsn.now) (λ events end a is. is) refl c.install_release.new.self
-    c.in_ok-installed.ensures.commits c.in_ok-installed.ensures.works c.in_ok-installed.ensures.done c.in_ok-line.line
-    (c.in_ok-line.ensures ∙ ap installed_line (c.as_str.ensures.value ∙ c.in_ok-installed.ensures.other))
+    changes g.D.Disk laws _ c.args.handler.now c.requires.works (installation c.args.vsn.now) (λ events end a is. is) refl c.install_release.new.self
+    c.in_ok-installed.ensures.commits c.in_ok-installed.ensures.works c.in_ok-installed.ensures.done c.installed_line.result c.answer_of.result c.answer_of.ensures.same
+    (subst (λ other. IfOk c.installed_line.result (λ text. string_bytes text ≡ installed_line other)) (c.as_str.ensures.value ∙ c.in_ok-installed.ensures.other) c.installed_line.ensures)

@@ -1,4 +1,4 @@
-use Rattle.std.proofs.Common.{rules, refl, sym, subst}
+use Rattle.std.proofs.Common.{rules, Ok, refl, sym, subst}
 use Rattle.rel_session.specs.InMemory.{Answers}
 use Rattle.rel_session.specs.Node.{Place, Reply}
 use Rattle.rel_session.specs.Transition.{Acts, permanence}
@@ -7,13 +7,8 @@ use Rattle.rel_session.specs.declared.place.Place.TheVariants as memory
 use Rattle.rel_handler.specs.declared.error.HandlerError.TheVariants as handler_error
 use Rattle.rel_session.proofs.DeviceLemmas.{IsDevice}
 use Rattle.rel_session.proofs.CommitReplies.{changes, changes_none}
-use Rattle.rel_session.proofs.Replies.{told_so, changes_no_memory, changes_dead, idle_changes}
+use Rattle.rel_session.proofs.Replies.{told_so, changes_no_memory}
 use Rattle.rel_session.proofs.change.make_permanent.Goals as goal
-
-pub returns-then-is_dead-clause-committed : goal.returns-then-is_dead-clause-committed
-returns-then-is_dead-clause-committed g c =
-    let laws : IsDevice g.D.Disk = record { reads_an_image = g.met.D.Disk.reads_an_image; counts_now = g.met.D.Disk.counts_now; only_now = g.met.D.Disk.only_now } in
-    changes_dead g.D.Disk laws _ (idle_changes g.D.Disk laws (permanence c.args.vsn.now)) c.args.handler.now (search rules)
 
 pub returns-in_err-make_permanent-clause-committed : goal.returns-in_err-make_permanent-clause-committed
 returns-in_err-make_permanent-clause-committed g c =
@@ -23,7 +18,7 @@ returns-in_err-make_permanent-clause-committed g c =
     let e = c.in_err-make_permanent.field-0.0 in
     let Does : Place → Reply → Type 0 = λ p a. Acts p (changes_node (permanence c.args.vsn.now)) a in
     subst (λ r. Answers g.D.Disk Does r (memory.Made h) (memory.Made new)) (sym (told_so c.from_residual-in_err-make_permanent.result e c.from_residual-in_err-make_permanent.ensures.1))
-    (changes_none g.D.Disk laws Does h (search rules) (permanence c.args.vsn.now) (λ events end a is. is) refl new c.in_err-make_permanent.ensures.commits e c.in_err-make_permanent.ensures.refused)
+    (changes_none g.D.Disk laws Does h c.requires.works (permanence c.args.vsn.now) (λ events end a is. is) refl new c.in_err-make_permanent.ensures.commits e c.in_err-make_permanent.ensures.refused)
 
 -- memory was refused for the answer
 pub returns-in_err-line-clause-committed : goal.returns-in_err-line-clause-committed
@@ -37,5 +32,5 @@ returns-in_err-line-clause-committed g c =
 pub returns-clause-committed : goal.returns-clause-committed
 returns-clause-committed g c =
     let laws : IsDevice g.D.Disk = record { reads_an_image = g.met.D.Disk.reads_an_image; counts_now = g.met.D.Disk.counts_now; only_now = g.met.D.Disk.only_now } in
-    changes g.D.Disk laws _ c.args.handler.now (search rules) (permanence c.args.vsn.now) (λ events end a is. is) refl c.make_permanent.new.self
-    c.in_ok-make_permanent.ensures.commits c.in_ok-make_permanent.ensures.works c.in_ok-make_permanent.ensures.done c.in_ok-line.line (search rules)
+    changes g.D.Disk laws _ c.args.handler.now c.requires.works (permanence c.args.vsn.now) (λ events end a is. is) refl c.make_permanent.new.self
+    c.in_ok-make_permanent.ensures.commits c.in_ok-make_permanent.ensures.works c.in_ok-make_permanent.ensures.done (Ok c.in_ok-line.line) (Ok c.in_ok-line.line) refl (search rules)

@@ -1,4 +1,4 @@
-use Rattle.std.proofs.Common.{rules, refl, sym, subst}
+use Rattle.std.proofs.Common.{rules, Ok, refl, sym, subst}
 use Rattle.rel_session.specs.InMemory.{Answers}
 use Rattle.rel_session.specs.Node.{Place, Reply}
 use Rattle.rel_session.specs.Transition.{Acts, removal}
@@ -7,13 +7,8 @@ use Rattle.rel_session.specs.declared.place.Place.TheVariants as memory
 use Rattle.rel_handler.specs.declared.error.HandlerError.TheVariants as handler_error
 use Rattle.rel_session.proofs.DeviceLemmas.{IsDevice}
 use Rattle.rel_session.proofs.CommitReplies.{changes, changes_none}
-use Rattle.rel_session.proofs.Replies.{told_so, changes_no_memory, changes_dead, idle_changes}
+use Rattle.rel_session.proofs.Replies.{told_so, changes_no_memory}
 use Rattle.rel_session.proofs.change.remove.Goals as goal
-
-pub returns-then-is_dead-clause-removed : goal.returns-then-is_dead-clause-removed
-returns-then-is_dead-clause-removed g c =
-    let laws : IsDevice g.D.Disk = record { reads_an_image = g.met.D.Disk.reads_an_image; counts_now = g.met.D.Disk.counts_now; only_now = g.met.D.Disk.only_now } in
-    changes_dead g.D.Disk laws _ (idle_changes g.D.Disk laws (removal c.args.vsn.now)) c.args.handler.now (search rules)
 
 pub returns-in_err-remove_release-clause-removed : goal.returns-in_err-remove_release-clause-removed
 returns-in_err-remove_release-clause-removed g c =
@@ -23,7 +18,7 @@ returns-in_err-remove_release-clause-removed g c =
     let e = c.in_err-remove_release.field-0.0 in
     let Does : Place → Reply → Type 0 = λ p a. Acts p (changes_node (removal c.args.vsn.now)) a in
     subst (λ r. Answers g.D.Disk Does r (memory.Made h) (memory.Made new)) (sym (told_so c.from_residual-in_err-remove_release.result e c.from_residual-in_err-remove_release.ensures.1))
-    (changes_none g.D.Disk laws Does h (search rules) (removal c.args.vsn.now) (λ events end a is. is) refl new c.in_err-remove_release.ensures.commits e c.in_err-remove_release.ensures.refused)
+    (changes_none g.D.Disk laws Does h c.requires.works (removal c.args.vsn.now) (λ events end a is. is) refl new c.in_err-remove_release.ensures.commits e c.in_err-remove_release.ensures.refused)
 
 -- memory was refused for the answer
 pub returns-in_err-line-clause-removed : goal.returns-in_err-line-clause-removed
@@ -37,5 +32,5 @@ returns-in_err-line-clause-removed g c =
 pub returns-clause-removed : goal.returns-clause-removed
 returns-clause-removed g c =
     let laws : IsDevice g.D.Disk = record { reads_an_image = g.met.D.Disk.reads_an_image; counts_now = g.met.D.Disk.counts_now; only_now = g.met.D.Disk.only_now } in
-    changes g.D.Disk laws _ c.args.handler.now (search rules) (removal c.args.vsn.now) (λ events end a is. is) refl c.remove_release.new.self
-    c.in_ok-remove_release.ensures.commits c.in_ok-remove_release.ensures.works c.in_ok-remove_release.ensures.done c.in_ok-line.line (search rules)
+    changes g.D.Disk laws _ c.args.handler.now c.requires.works (removal c.args.vsn.now) (λ events end a is. is) refl c.remove_release.new.self
+    c.in_ok-remove_release.ensures.commits c.in_ok-remove_release.ensures.works c.in_ok-remove_release.ensures.done (Ok c.in_ok-line.line) (Ok c.in_ok-line.line) refl (search rules)

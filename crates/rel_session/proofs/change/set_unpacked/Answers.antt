@@ -1,19 +1,14 @@
-use Rattle.std.proofs.Common.{rules, sym, ap, ◌∙◌, subst}
+use Rattle.std.proofs.Common.{◌≡◌, sym, subst, string_bytes}
+use Rattle.std.specs.Prelude.{IfOk}
 use Rattle.session_input.specs.Commands.Command.{set_unpacked}
-use Rattle.rel_handler.specs.declared.error.HandlerError.TheVariants as handler_error
 use Rattle.rel_session.specs.InMemory.{Answers}
 use Rattle.rel_session.specs.Node.{Place, Reply}
 use Rattle.rel_session.specs.Transition.{Transition, ok_line}
 use Rattle.rel_session.specs.declared.place.Place.TheVariants as memory
 use Rattle.rel_session.proofs.DeviceLemmas.{IsDevice}
-use Rattle.rel_session.proofs.Replies.{told_so, changes_dead, idle_sets}
-use Rattle.rel_session.proofs.UnpackingReplies.{unpacks, unpacks_untold, unpacks_none}
+use Rattle.rel_session.proofs.Replies.{told_so}
+use Rattle.rel_session.proofs.UnpackingReplies.{unpacks, unpacks_none}
 use Rattle.rel_session.proofs.change.set_unpacked.Goals as goal
-
-pub returns-then-is_dead-clause-unpacked : goal.returns-then-is_dead-clause-unpacked
-returns-then-is_dead-clause-unpacked g c =
-    let laws : IsDevice g.D.Disk = record { reads_an_image = g.met.D.Disk.reads_an_image; counts_now = g.met.D.Disk.counts_now; only_now = g.met.D.Disk.only_now } in
-    changes_dead g.D.Disk laws _ (idle_sets g.D.Disk laws (g.F.Files.gives c.args.files.now) c.args.path.now) c.args.handler.now (search rules)
 
 -- the release came in, or not
 pub returns-in_err-vsn-clause-unpacked : goal.returns-in_err-vsn-clause-unpacked
@@ -25,21 +20,12 @@ returns-in_err-vsn-clause-unpacked g c =
     let source = g.F.Files.gives c.args.files.now in
     let Does : Place → Reply → Type 0 = λ p a. Transition source p (set_unpacked c.args.path.now) a in
     subst (λ r. Answers g.D.Disk Does r (memory.Made h) (memory.Made new)) (sym (told_so c.from_residual.result why c.from_residual.ensures.1))
-    (unpacks_none g.D.Disk laws source c.args.path.now h (search rules) new why c.in_err-vsn.ensures.refused)
+    (unpacks_none g.D.Disk laws source c.args.path.now h c.requires.works new why c.in_err-vsn.ensures.refused)
 
 -- memory was refused for the answer
-pub returns-in_err-line-clause-unpacked : goal.returns-in_err-line-clause-unpacked
-returns-in_err-line-clause-unpacked g c =
-    let laws : IsDevice g.D.Disk = record { reads_an_image = g.met.D.Disk.reads_an_image; counts_now = g.met.D.Disk.counts_now; only_now = g.met.D.Disk.only_now } in
-    let h = c.args.handler.now in
-    let new = c.set_unpacked.new.self in
-    let source = g.F.Files.gives c.args.files.now in
-    let Does : Place → Reply → Type 0 = λ p a. Transition source p (set_unpacked c.args.path.now) a in
-    subst (λ r. Answers g.D.Disk Does r (memory.Made h) (memory.Made new)) (sym (told_so c.from_residual-in_err-line.result handler_error.NoMemory c.from_residual-in_err-line.ensures.1))
-    (unpacks_untold g.D.Disk laws source c.args.path.now h (search rules) new _ c.in_ok-vsn.ensures.unpacked)
 
 pub returns-clause-unpacked : goal.returns-clause-unpacked
 returns-clause-unpacked g c =
     let laws : IsDevice g.D.Disk = record { reads_an_image = g.met.D.Disk.reads_an_image; counts_now = g.met.D.Disk.counts_now; only_now = g.met.D.Disk.only_now } in
-    unpacks g.D.Disk laws (g.F.Files.gives c.args.files.now) c.args.path.now c.args.handler.now (search rules) c.set_unpacked.new.self c.in_ok-vsn.vsn c.in_ok-line.line c.in_ok-vsn.ensures.unpacked
-    (c.in_ok-line.ensures ∙ ap ok_line c.as_str.ensures.value)
+    unpacks g.D.Disk laws (g.F.Files.gives c.args.files.now) c.args.path.now c.args.handler.now c.requires.works c.set_unpacked.new.self (string_bytes c.in_ok-vsn.vsn) c.ok_line.result c.answer_of.result c.in_ok-vsn.ensures.unpacked
+    c.answer_of.ensures.same (subst (λ vsn. IfOk c.ok_line.result (λ text. string_bytes text ≡ ok_line vsn)) c.as_str.ensures.value c.ok_line.ensures)

@@ -5,7 +5,7 @@ use Rattle.rel_store.specs.Layout.{text_of}
 use Rattle.rel_store.specs.State as store
 use Rattle.rel_handler.specs.Commits.{Commits}
 use Rattle.rel_handler.proofs.CommandLemmas.{commanded_then}
-use Rattle.rel_handler.proofs.Commits.{opened, rested, unchanged, failed_so, reserved_works, commits, ready_next, is_done}
+use Rattle.rel_handler.proofs.Commits.{opened, left_so, rested, unchanged, failed_so, reserved_works, commits, ready_next, is_done}
 use Rattle.rel_handler.proofs.handler.Handler.append.Goals as goal
 
 -- the store is full
@@ -28,14 +28,14 @@ returns-then-is_err-2-clause-commits g c =
     let h = c.args.self.now in
     let e = event_of c.args.event in
     let size = length c.args.body.now in
-    let same : c.accept.new.self ≡ h.list = search rules in
+    let same : c.accept.new.self ≡ h.list = left_so c.accept.result _ c.if-is_err-2.ensures.value c.accept.ensures.unchanged in
     subst (λ l. Commits g.D.Disk e size h (record { store = c.reserve.new.self; list = l; dead = h.dead })) (sym same)
     (rested g.D.Disk h c.requires.sound (g.met.D.Disk.only_now _) e size c.reserve.new.self c.reserve.ensures.sound c.reserve.ensures.kept)
 
 pub returns-then-is_err-2-clause-refused : goal.returns-then-is_err-2-clause-refused
 returns-then-is_err-2-clause-refused g c =
     let kept = c.reserve.ensures.kept in
-    let same : c.accept.new.self ≡ c.args.self.now.list = search rules in
+    let same : c.accept.new.self ≡ c.args.self.now.list = left_so c.accept.result _ c.if-is_err-2.ensures.value c.accept.ensures.unchanged in
     (c.requires.allowed.0, record { disk = kept.disk; list = same; dead = refl; end = kept.end })
 
 -- the device failed

@@ -39,6 +39,7 @@ append-requires-clause-told g c =
     }
 
 pub returns-clause-commits : goal.returns-clause-commits
+unfolding change_size
 returns-clause-commits g c =
     let e = event_of c.args.event in
     let h = c.args.self.now in
@@ -46,6 +47,7 @@ returns-clause-commits g c =
     subst (λ n. Commits g.D.Disk e n h c.append.new.self) long c.append.ensures.commits
 
 pub returns-clause-refused : goal.returns-clause-refused
+unfolding change_size
 returns-clause-refused g c =
     let e = event_of c.args.event in
     let h = c.args.self.now in
@@ -53,6 +55,7 @@ returns-clause-refused g c =
     subst (λ n. IfErr c.append.result (CommandRefused g.D.Disk.failures e n h c.append.new.self)) long c.append.ensures.refused
 
 pub returns-clause-done : goal.returns-clause-done
+unfolding change_size
 returns-clause-done g c =
     let e = event_of c.args.event in
     let h = c.args.self.now in

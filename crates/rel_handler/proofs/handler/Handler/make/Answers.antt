@@ -1,10 +1,23 @@
-use Rattle.std.proofs.Common.{refl, sym, ap, ◌∙◌, subst}
+use Rattle.std.proofs.Common.{◌≡◌, refl, sym, ap, ◌∙◌, subst, length, ◌≤◌}
 use Rattle.rel_unpack.specs.Unpacking.{brought_of}
-use Rattle.rel_handler.specs.Files.{bundle_brought}
-use Rattle.rel_handler.proofs.Boots.{unwritten, nothing_begun, sound_so, begins_at, begins, made_new}
-use Rattle.rel_handler.specs.Image.{IsStarted, start_slot}
+use Rattle.rel_store.specs.Layout.{slot_with}
+use Rattle.rel_handler.specs.Files.{bundle_brought, made_size}
+use Rattle.rel_handler.specs.Moments.{WritesNothing}
+use Rattle.rel_handler.specs.Refusals.{MakingRefused, told_create}
+use Rattle.rel_handler.proofs.Boots.{unwritten, nothing_begun, sound_so, begins_at, begins, made_new, fits_in_a_slot, is_create_error, making_refused}
+use Rattle.rel_handler.specs.Image.{HasSpace, IsStarted, end_behind, first_end, start_slot}
 use Rattle.rel_handler.proofs.Images.{each_image, started_new}
 use Rattle.rel_handler.proofs.handler.Handler.make.Goals as goal
+
+pub create-requires : goal.create-requires
+create-requires g c =
+    subst (λ text. length text ≤ 127) (sym (c.as_bytes-2.ensures.value ∙ c.in-Ok.ensures.start)) (fits_in_a_slot (bundle_brought (brought_of c.args.brought)).release c.requires.file.says.versions)
+
+pub create_error-requires : goal.create_error-requires
+create_error-requires g c =
+    let disk = c.in-Err.disk in
+    let unwritten = WritesNothing g.D.Disk.seen g.D.Disk.may_leave g.D.Disk.moment g.D.Disk.left_since c.args.disk disk in
+    is_create_error (g.D.Disk.seen c.args.disk) c.as_bytes.result.now (g.D.Disk.failures c.args.disk) (g.D.Disk.failures disk) unwritten c.in-Err.error c.in-Err.ensures.refused
 
 pub returns-in-Ok-create-clause-sound : goal.returns-in-Ok-create-clause-sound
 returns-in-Ok-create-clause-sound g c =
@@ -29,6 +42,34 @@ returns-in-Ok-create-clause-begun g c =
     let spelled = rw (sym c.as_bytes.ensures.value) at c.in-Ok.ensures.spells in
     let (at, begun) = c.in-Ok-create.ensures.begun in
     (at, begins_at g.D.Disk.seen g.D.Disk.may_leave g.D.Disk.moment g.D.Disk.left_since (bundle_brought (brought_of c.args.brought)) c.as_bytes.result.now c.as_bytes-2.result.now (c.requires.small, c.requires.whole.complete) c.requires.file.says.versions (c.as_bytes-2.ensures.value ∙ c.in-Ok.ensures.start) spelled c.args.disk _ at begun)
+
+pub returns-in-Ok-create-clause-start : goal.returns-in-Ok-create-clause-start
+returns-in-Ok-create-clause-start g c = c.in-Ok-create.ensures.start ∙ ap slot_with (c.as_bytes-2.ensures.value ∙ c.in-Ok.ensures.start)
+
+pub returns-in-Ok-create-clause-fits : goal.returns-in-Ok-create-clause-fits
+returns-in-Ok-create-clause-fits g c =
+    let long : length c.as_bytes.result.now ≡ made_size (brought_of c.args.brought) = ap length c.as_bytes.ensures.value ∙ c.in-Ok.ensures.body in
+    subst (λ n. HasSpace first_end n) long c.in-Ok-create.ensures.fits
+
+pub returns-in-Ok-create-clause-end : goal.returns-in-Ok-create-clause-end
+returns-in-Ok-create-clause-end g c =
+    let long : length c.as_bytes.result.now ≡ made_size (brought_of c.args.brought) = ap length c.as_bytes.ensures.value ∙ c.in-Ok.ensures.body in
+    c.in-Ok-create.ensures.end ∙ ap (λ n. end_behind first_end n) long
+
+pub returns-in-Ok-create-clause-taken : goal.returns-in-Ok-create-clause-taken
+returns-in-Ok-create-clause-taken g c = c.in-Ok-create.ensures.taken
+
+pub returns-clause-refused : goal.returns-clause-refused
+returns-clause-refused g c =
+    let long : length c.as_bytes.result.now ≡ made_size (brought_of c.args.brought) = ap length c.as_bytes.ensures.value ∙ c.in-Ok.ensures.body in
+    let disk = c.in-Err.disk in
+    let unwritten = WritesNothing g.D.Disk.seen g.D.Disk.may_leave g.D.Disk.moment g.D.Disk.left_since c.args.disk disk in
+    let bytes = g.D.Disk.seen c.args.disk in
+    let before = g.D.Disk.failures c.args.disk in
+    let now = g.D.Disk.failures disk in
+    let refused = making_refused bytes c.as_bytes.result.now before now unwritten c.in-Err.error c.in-Err.ensures.refused in
+    subst (λ e. MakingRefused bytes (made_size (brought_of c.args.brought)) before now unwritten e) (sym c.create_error.ensures)
+    (subst (λ n. MakingRefused bytes n before now unwritten (told_create c.in-Err.error)) long refused)
 
 pub returns-clause-any_moment : goal.returns-clause-any_moment
 returns-clause-any_moment g c =

@@ -3,7 +3,9 @@ use Rattle.rel_list.specs.Event.Event.{made_permanent}
 use Rattle.rel_handler.specs.Commits.{Commits, IsDone}
 use Rattle.rel_handler.specs.State.{list_in}
 use Rattle.rel_handler.specs.Taking.{change_size}
-use Rattle.rel_handler.proofs.Commits.{unchanged, revived_is_sound}
+use Rattle.rel_handler.specs.Refusals.{CommandRefused}
+use Rattle.rel_handler.specs.declared.error.HandlerError.TheVariants.{NoMemory}
+use Rattle.rel_handler.proofs.Commits.{all_same, refuses_with, unchanged, revived_is_sound}
 use Rattle.rel_handler.proofs.handler.Handler.make_permanent.Goals as goal
 
 -- nothing was done yet
@@ -11,15 +13,29 @@ pub returns-then-self-clause-commits : goal.returns-then-self-clause-commits
 returns-then-self-clause-commits g c =
     unchanged g.D.Disk c.args.self.now c.requires (g.met.D.Disk.only_now _) (made_permanent c.args.vsn.now) (change_size (made_permanent c.args.vsn.now) (list_in c.args.self.now))
 
+pub returns-then-self-clause-refused : goal.returns-then-self-clause-refused
+returns-then-self-clause-refused g c = (c.if-self.true, all_same c.args.self.now)
+
 pub returns-in_err-from_str-clause-commits : goal.returns-in_err-from_str-clause-commits
 returns-in_err-from_str-clause-commits g c =
     unchanged g.D.Disk c.args.self.now c.requires (g.met.D.Disk.only_now _) (made_permanent c.args.vsn.now) (change_size (made_permanent c.args.vsn.now) (list_in c.args.self.now))
+
+pub returns-in_err-from_str-clause-refused : goal.returns-in_err-from_str-clause-refused
+returns-in_err-from_str-clause-refused g c =
+    let h = c.args.self.now in
+    refuses_with (CommandRefused g.D.Disk.failures (made_permanent c.args.vsn.now) (change_size (made_permanent c.args.vsn.now) (list_in h)) h h) c.from_residual.result NoMemory c.from_residual.ensures (c.if-self.false, all_same h)
 
 -- the move was refused
 pub returns-in_err-move_permanent-clause-commits : goal.returns-in_err-move_permanent-clause-commits
 returns-in_err-move_permanent-clause-commits g c =
     let h = c.args.self.now in
     subst (λ vsn. Commits g.D.Disk (made_permanent vsn) (change_size (made_permanent vsn) (list_in h)) h c.move_permanent.new.self) c.in_ok-from_str.ensures.ok c.in_err-move_permanent.ensures.commits
+
+pub returns-in_err-move_permanent-clause-refused : goal.returns-in_err-move_permanent-clause-refused
+returns-in_err-move_permanent-clause-refused g c =
+    let h = c.args.self.now in
+    let refused = subst (λ vsn. CommandRefused g.D.Disk.failures (made_permanent vsn) (change_size (made_permanent vsn) (list_in h)) h c.move_permanent.new.self c.in_err-move_permanent.field-0.0) c.in_ok-from_str.ensures.ok c.in_err-move_permanent.ensures.refused in
+    refuses_with (CommandRefused g.D.Disk.failures (made_permanent c.args.vsn.now) (change_size (made_permanent c.args.vsn.now) (list_in h)) h c.move_permanent.new.self) c.from_residual-in_err-move_permanent.result c.in_err-move_permanent.field-0.0 c.from_residual-in_err-move_permanent.ensures refused
 
 -- it was done, and the handler works again
 pub returns-clause-commits : goal.returns-clause-commits

@@ -1,0 +1,40 @@
+//! Readers that fail.
+use crate::sessions::push_input;
+use std::alloc::Global;
+use std::io;
+use std::io::Read;
+use text_cases::Answer;
+
+/// Gives a text in pieces of at most so many bytes, and fails behind it.
+#[derive(Drop)]
+pub(crate) struct Broken<'a> {
+    pub(crate) text: &'a [u8],
+    pub(crate) piece: usize,
+    pub(crate) kind: io::ErrorKind,
+}
+
+impl Read for Broken<'_> {
+    fn read(&mut self, buf: &mut [u8]) -> io::Result<usize> {
+        if self.text.is_empty() {
+            return Err(io::Error::from(self.kind));
+        }
+        let count = self.piece.min(self.text.len()).min(buf.len());
+        buf[..count].copy_from_slice(&self.text[..count]);
+        self.text = &self.text[count..];
+        Ok(count)
+    }
+}
+
+/// The answer where a read fails behind a text, which comes in such pieces.
+pub(crate) fn push_broken(alloc: Global, text: &[u8], piece: usize, answer: &mut Answer) {
+    let kind = io::ErrorKind::Other;
+    push_input(alloc, Broken { text, piece, kind }, answer);
+}
+
+/// The answer where it fails behind so many letters.
+pub(crate) fn push_letters(alloc: Global, count: usize, answer: &mut Answer) {
+    match vec![in alloc; b'a'; count] {
+        Ok(letters) => push_broken(alloc, letters.as_slice(), 8_192, answer),
+        Err(_) => answer.note_no_memory(),
+    }
+}

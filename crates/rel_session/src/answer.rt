@@ -1,0 +1,145 @@
+//! What a node answers.
+ghost use Rattle.std.specs.Prelude.{◌≡◌, map, string_bytes, Ok, Err, MatchResult};
+ghost use Rattle.rel_handler.specs.Unpacking.{told_files};
+ghost use Rattle.rel_handler.specs.State.{IsSound};
+ghost use Rattle.session_input.specs.Commands.{command_of};
+ghost use Rattle.session_input.specs.Commands.Command.{relup};
+ghost use Rattle.rel_session.specs.InMemory.{IsSoundPlace, AsksNode, NeedsNode, Answers, AnswersCommand};
+ghost use Rattle.rel_session.specs.Transition.{Transition};
+ghost use Rattle.rel_session.specs.declared.place.Place.TheVariants.{Made};
+
+use crate::change::{install, make_permanent, remove, set_unpacked};
+use crate::place::{Place, answer_of};
+use crate::start::start;
+use file_source::Files;
+use rel_disk::Disk;
+use rel_handler::{Handler, HandlerError};
+use rel_unpack::UnpackError;
+use relup_command::relup_answer;
+use session_input::Command;
+use std::alloc::Global;
+
+impl<D: Disk> Place<D> {
+    /// Does what the command says, with the files that it names.
+    pub fn answer<F: Files>(
+        self,
+        alloc: Global,
+        files: &F,
+        command: &Command,
+    ) -> (Place<D>, Result<String, HandlerError>)
+        requires sound { IsSoundPlace D.seen D.may_leave self }
+        requires asked { AsksNode command.now }
+        ensures sound { IsSoundPlace D.seen D.may_leave result.0 }
+        ensures answered { AnswersCommand D.Disk (F.gives files.now)
+            (command_of command.now) result.1 self result.0 }
+    {
+        match command {
+            Command::Create(path) => self.create(alloc, files, path.as_str()),
+            Command::RebootOld(vsn) => self.reboot_old(alloc, vsn.as_str()),
+            Command::Boot => {
+                let (place, line) = self.boot(alloc);
+                (place, answer_of(line))
+            }
+            Command::Releases => {
+                let lines = self.releases(alloc);
+                (self, answer_of(lines))
+            }
+            Command::Relup(new, ups, downs) => self.relup(alloc, files, new.as_str(), ups, downs),
+            Command::Bad => (
+                self,
+                answer_of(String::from_str(alloc, "error session 1 BadCommand\n")),
+            ),
+            Command::SetUnpacked(_)
+            | Command::Install(_)
+            | Command::Permanent(_)
+            | Command::Remove(_)
+            | Command::Start => self.on_node(alloc, files, command),
+            Command::File(_, _) | Command::Quit => unreachable!(),
+        }
+    }
+
+    /// Has the node do what the command says. Where there is none, nothing is done.
+    fn on_node<F: Files>(
+        self,
+        alloc: Global,
+        files: &F,
+        command: &Command,
+    ) -> (Place<D>, Result<String, HandlerError>)
+        requires sound { IsSoundPlace D.seen D.may_leave self }
+        requires asked { NeedsNode (command_of command.now) }
+        ensures sound { IsSoundPlace D.seen D.may_leave result.0 }
+        ensures answered { Answers D.Disk
+            (λ p a. Transition (F.gives files.now) p (command_of command.now) a)
+            result.1 self result.0 }
+    {
+        match self {
+            Place::Idle(disk) => (Place::Idle(disk), Err(HandlerError::Dead)),
+            Place::Made(mut handler) => {
+                let done = done_by(alloc, &mut handler, files, command);
+                (Place::Made(handler), done)
+            }
+        }
+    }
+
+    /// Makes the relup of the release in the file of the path `new`, up from those of `ups` and down to those of `downs`. It
+    /// asks nothing of the node.
+    fn relup<F: Files>(
+        self,
+        alloc: Global,
+        files: &F,
+        new: &str,
+        ups: &[String],
+        downs: &[String],
+    ) -> (Place<D>, Result<String, HandlerError>)
+        ensures place { result.0 ≡ self }
+        ensures made { Answers D.Disk
+            (λ p a. Transition (F.gives files.now) p (relup new.now
+            (map string_bytes ups.now) (map string_bytes downs.now)) a)
+            result.1 self result.0 }
+    {
+        let made = relup_answer(alloc, files, new, ups, downs);
+        (self, answer_of_files(made))
+    }
+}
+
+/// Has a node do what the command says, unless the device has failed it.
+fn done_by<D: Disk, F: Files>(
+    alloc: Global,
+    handler: &mut Handler<D>,
+    files: &F,
+    command: &Command,
+) -> Result<String, HandlerError>
+    requires sound { IsSound D.seen D.may_leave handler.old }
+    requires asked { NeedsNode (command_of command.now) }
+    ensures sound { IsSound D.seen D.may_leave handler.new }
+    ensures answered { Answers D.Disk
+        (λ p a. Transition (F.gives files.now) p (command_of command.now) a)
+        result (Made handler.old) (Made handler.new) }
+{
+    if handler.is_dead() {
+        return Err(HandlerError::Dead);
+    }
+    match command {
+        Command::SetUnpacked(path) => set_unpacked(alloc, handler, files, path.as_str()),
+        Command::Install(vsn) => install(alloc, handler, vsn.as_str()),
+        Command::Permanent(vsn) => make_permanent(alloc, handler, vsn.as_str()),
+        Command::Remove(vsn) => remove(alloc, handler, vsn.as_str()),
+        Command::Start => start(alloc, handler),
+        Command::File(_, _)
+        | Command::Create(_)
+        | Command::RebootOld(_)
+        | Command::Boot
+        | Command::Releases
+        | Command::Relup(_, _, _)
+        | Command::Quit
+        | Command::Bad => unreachable!(),
+    }
+}
+
+/// What files gave, as an answer of the node.
+fn answer_of_files(made: Result<String, UnpackError>) -> Result<String, HandlerError>
+    ensures same { MatchResult made (λ text. result ≡ Ok text)
+        (λ why. result ≡ Err (told_files why)) }
+{
+    Ok(made?)
+}
