@@ -1,7 +1,8 @@
--- Rows of as many terms as no instruction has.
-use Rattle.std.proofs.Common.{◌≡◌, ◌<◌, ◌≤◌, ℕ, false, List, [], ◌∷◌, length, None, refl, arith}
+-- Rows of as many terms as no instruction has, and of none.
+use Rattle.std.proofs.Common.{◌≡◌, ◌<◌, ◌≤◌, ℕ, false, List, [], ◌∷◌, length, None, Some, refl, arith}
 use Rattle.erl_term.specs.Term.{Term}
 use Rattle.erl_term.specs.Value.{members_of}
+use Rattle.rel_files.specs.declared.release.StartType.TheVariants.{Permanent}
 use Rattle.appup_file.specs.Instruction.{UpdateForm}
 use Rattle.appup_file.specs.Parts.{update_row, is_supervisor, dep_mods_in, load_in, start_in}
 
@@ -19,6 +20,10 @@ pub no_start : (row : List Term) → 2 ≤ length row → None ≡ start_in (mem
 no_start [] h = absurd (omega arith)
 no_start (t ∷ []) h = absurd (omega arith)
 no_start (t ∷ u ∷ row) h = refl
+
+pub start_of_none : (row : List Term) → length row < 1 → Some Permanent ≡ start_in (members_of row)
+start_of_none [] h = refl
+start_of_none (t ∷ row) h = absurd (omega arith)
 
 pub no_update : (row : List Term) (u : UpdateForm) → 7 ≤ length row → None ≡ update_row (members_of row) u
 no_update (a ∷ b ∷ c ∷ d ∷ e ∷ f ∷ g ∷ row) u h = refl

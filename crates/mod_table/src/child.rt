@@ -72,14 +72,11 @@ fn start_in(term: &Term) -> Option<&str>
 fn restart_of(word: &str) -> Option<Restart>
     ensures { result ≡ restart_of word.now }
 {
-    if word == "permanent" {
-        Some(Restart::Permanent)
-    } else if word == "transient" {
-        Some(Restart::Transient)
-    } else if word == "temporary" {
-        Some(Restart::Temporary)
-    } else {
-        None
+    match word {
+        "permanent" => Some(Restart::Permanent),
+        "transient" => Some(Restart::Transient),
+        "temporary" => Some(Restart::Temporary),
+        _ => None,
     }
 }
 
@@ -89,7 +86,7 @@ fn is_shutdown(term: &Term) -> bool
 {
     match term {
         Term::Int(time) => *time >= 0,
-        Term::Atom(word) => word.as_str() == "brutal_kill" || word.as_str() == "infinity",
+        Term::Atom(word) => matches!(word.as_str(), "brutal_kill" | "infinity"),
         _ => false,
     }
 }
@@ -97,12 +94,10 @@ fn is_shutdown(term: &Term) -> bool
 fn kind_of(word: &str) -> Option<ChildKind>
     ensures { result ≡ kind_of word.now }
 {
-    if word == "worker" {
-        Some(ChildKind::Worker)
-    } else if word == "supervisor" {
-        Some(ChildKind::Supervisor)
-    } else {
-        None
+    match word {
+        "worker" => Some(ChildKind::Worker),
+        "supervisor" => Some(ChildKind::Supervisor),
+        _ => None,
     }
 }
 

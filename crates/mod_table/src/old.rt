@@ -29,8 +29,8 @@ impl Old {
         ensures { IfOk result (λ old. old_of old ≡ old_of self.now) }
     {
         match self {
-            Old::Up(vsn) => Ok(Old::Up(String::from_str(alloc, vsn.as_str())?)),
-            Old::Down(vsn) => Ok(Old::Down(String::from_str(alloc, vsn.as_str())?)),
+            Old::Up(vsn) => String::from_str(alloc, vsn.as_str()).map(Old::Up),
+            Old::Down(vsn) => String::from_str(alloc, vsn.as_str()).map(Old::Down),
         }
     }
 }

@@ -128,16 +128,12 @@ fn row_in(alloc: Global, term: &Term) -> Result<Option<Row>, AllocError>
     let Some((word, members)) = tagged_in(term) else {
         return Ok(None);
     };
-    if word == "on" {
-        Ok(on_in(members))
-    } else if word == "add" {
-        Ok(add_in(members))
-    } else if word == "stop" {
-        Ok(stop_in(members))
-    } else if word == "change" {
-        change_in(alloc, members)
-    } else {
-        Ok(None)
+    match word {
+        "on" => Ok(on_in(members)),
+        "add" => Ok(add_in(members)),
+        "stop" => Ok(stop_in(members)),
+        "change" => change_in(alloc, members),
+        _ => Ok(None),
     }
 }
 

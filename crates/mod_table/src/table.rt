@@ -45,18 +45,16 @@ impl Table {
         let Some((word, members)) = tagged_in(term) else {
             return Ok(None);
         };
-        if word == "worker" {
-            match Worker::read(alloc, members)? {
+        match word {
+            "worker" => match Worker::read(alloc, members)? {
                 Some(worker) => Ok(Some(Table::Worker(worker))),
                 None => Ok(None),
-            }
-        } else if word == "supervisor" {
-            match Super::read(alloc, members)? {
+            },
+            "supervisor" => match Super::read(alloc, members)? {
                 Some(supervisor) => Ok(Some(Table::Super(supervisor))),
                 None => Ok(None),
-            }
-        } else {
-            Ok(None)
+            },
+            _ => Ok(None),
         }
     }
 

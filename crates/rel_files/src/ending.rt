@@ -69,17 +69,12 @@ impl Ending {
 pub fn start_of(word: &str) -> Option<StartType>
     ensures { result ≡ start_of word.now }
 {
-    if word == "permanent" {
-        Some(StartType::Permanent)
-    } else if word == "transient" {
-        Some(StartType::Transient)
-    } else if word == "temporary" {
-        Some(StartType::Temporary)
-    } else if word == "load" {
-        Some(StartType::Load)
-    } else if word == "none" {
-        Some(StartType::Unloaded)
-    } else {
-        None
+    match word {
+        "permanent" => Some(StartType::Permanent),
+        "transient" => Some(StartType::Transient),
+        "temporary" => Some(StartType::Temporary),
+        "load" => Some(StartType::Load),
+        "none" => Some(StartType::Unloaded),
+        _ => None,
     }
 }

@@ -79,12 +79,10 @@ pub fn modules_in(alloc: Global, term: &Term) -> Result<Option<Vec<String>>, All
 fn purge_mode_of(word: &str) -> Option<PurgeMode>
     ensures { result ≡ purge_mode_of word.now }
 {
-    if word == "soft_purge" {
-        Some(PurgeMode::Soft)
-    } else if word == "brutal_purge" {
-        Some(PurgeMode::Brutal)
-    } else {
-        None
+    match word {
+        "soft_purge" => Some(PurgeMode::Soft),
+        "brutal_purge" => Some(PurgeMode::Brutal),
+        _ => None,
     }
 }
 
@@ -98,12 +96,10 @@ pub fn purge_mode_in(term: &Term) -> Option<PurgeMode>
 fn direction_of(word: &str) -> Option<Direction>
     ensures { result ≡ direction_of word.now }
 {
-    if word == "up" {
-        Some(Direction::Up)
-    } else if word == "down" {
-        Some(Direction::Down)
-    } else {
-        None
+    match word {
+        "up" => Some(Direction::Up),
+        "down" => Some(Direction::Down),
+        _ => None,
     }
 }
 
@@ -117,12 +113,10 @@ pub(crate) fn mode_in(term: &Term) -> Option<Direction>
 fn timeout_of(word: &str) -> Option<Timeout>
     ensures { result ≡ timeout_of word.now }
 {
-    if word == "default" {
-        Some(Timeout::Default)
-    } else if word == "infinity" {
-        Some(Timeout::Infinity)
-    } else {
-        None
+    match word {
+        "default" => Some(Timeout::Default),
+        "infinity" => Some(Timeout::Infinity),
+        _ => None,
     }
 }
 

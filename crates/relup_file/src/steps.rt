@@ -15,14 +15,11 @@ use std::alloc::{AllocError, Global};
 fn bare_in(word: &str) -> Option<Instr>
     ensures { option_map instruction_of result ≡ bare_in word.now }
 {
-    if word == "point_of_no_return" {
-        Some(Instr::PointOfNoReturn)
-    } else if word == "restart_new_emulator" {
-        Some(Instr::RestartNewEmulator)
-    } else if word == "restart_emulator" {
-        Some(Instr::RestartEmulator)
-    } else {
-        None
+    match word {
+        "point_of_no_return" => Some(Instr::PointOfNoReturn),
+        "restart_new_emulator" => Some(Instr::RestartNewEmulator),
+        "restart_emulator" => Some(Instr::RestartEmulator),
+        _ => None,
     }
 }
 
@@ -30,16 +27,12 @@ fn over_modules(word: &str, names: Vec<String>) -> Option<Instr>
     ensures { option_map instruction_of result
         ≡ over_modules word.now (map string_bytes names.items) }
 {
-    if word == "resume" {
-        Some(Instr::Resume(names))
-    } else if word == "purge" {
-        Some(Instr::Purge(names))
-    } else if word == "stop" {
-        Some(Instr::Stop(names))
-    } else if word == "start" {
-        Some(Instr::Start(names))
-    } else {
-        None
+    match word {
+        "resume" => Some(Instr::Resume(names)),
+        "purge" => Some(Instr::Purge(names)),
+        "stop" => Some(Instr::Stop(names)),
+        "start" => Some(Instr::Start(names)),
+        _ => None,
     }
 }
 
@@ -58,12 +51,10 @@ fn single_in(alloc: Global, word: &str, term: &Term) -> Result<Option<Instr>, Al
     ensures { IfOk result (λ o.
         option_map instruction_of o ≡ single_in word.now (value_of term.now)) }
 {
-    if word == "load_object_code" {
-        Ok(fetch_in(alloc, term)?.map(Instr::LoadObjectCode))
-    } else if word == "suspend" {
-        Ok(suspensions_in(alloc, term)?.map(Instr::Suspend))
-    } else {
-        other_single_in(alloc, word, term)
+    match word {
+        "load_object_code" => Ok(fetch_in(alloc, term)?.map(Instr::LoadObjectCode)),
+        "suspend" => Ok(suspensions_in(alloc, term)?.map(Instr::Suspend)),
+        _ => other_single_in(alloc, word, term),
     }
 }
 
@@ -72,14 +63,11 @@ fn other_single_in(alloc: Global, word: &str, term: &Term) -> Result<Option<Inst
     ensures { IfOk result (λ o.
         option_map instruction_of o ≡ other_single_in word.now (value_of term.now)) }
 {
-    if word == "load" {
-        Ok(purging_in(alloc, term)?.map(Instr::Load))
-    } else if word == "remove" {
-        Ok(purging_in(alloc, term)?.map(Instr::Remove))
-    } else if word == "apply" {
-        Ok(call_in(alloc, term)?.map(Instr::Apply))
-    } else {
-        of_modules(alloc, word, term)
+    match word {
+        "load" => Ok(purging_in(alloc, term)?.map(Instr::Load)),
+        "remove" => Ok(purging_in(alloc, term)?.map(Instr::Remove)),
+        "apply" => Ok(call_in(alloc, term)?.map(Instr::Apply)),
+        _ => of_modules(alloc, word, term),
     }
 }
 
@@ -88,15 +76,13 @@ fn tagged_in(alloc: Global, word: &str, members: &[Term]) -> Result<Option<Instr
     ensures { IfOk result (λ o.
         option_map instruction_of o ≡ tagged_in word.now (members_of members.now)) }
 {
-    if word == "sync_nodes" {
-        return Ok(Some(Instr::SyncNodes(copy_terms(alloc, members)?)));
-    }
-    if word == "code_change" {
-        return Ok(conversion_in(alloc, members)?.map(Instr::CodeChange));
-    }
-    match one_in(members) {
-        Some(only) => single_in(alloc, word, only),
-        None => Ok(None),
+    match word {
+        "sync_nodes" => Ok(Some(Instr::SyncNodes(copy_terms(alloc, members)?))),
+        "code_change" => Ok(conversion_in(alloc, members)?.map(Instr::CodeChange)),
+        _ => match one_in(members) {
+            Some(only) => single_in(alloc, word, only),
+            None => Ok(None),
+        },
     }
 }
 

@@ -19,7 +19,7 @@ fn is_app(args: &[Term]) -> bool
 fn is_start_word(word: &str) -> bool
     ensures { result ≡ is_start_word word.now }
 {
-    word == "permanent" || word == "transient" || word == "temporary"
+    matches!(word, "permanent" | "transient" | "temporary")
 }
 
 fn is_typed_app(args: &[Term]) -> bool
@@ -55,7 +55,7 @@ pub(crate) fn is_error(call: &Call) -> bool
 fn is_one_app_word(word: &str) -> bool
     ensures { result ≡ is_one_app_word word.now }
 {
-    word == "start" || word == "stop" || word == "load" || word == "unload"
+    matches!(word, "start" | "stop" | "load" | "unload")
 }
 
 // `application:start/1`, `start/2`, `stop/1`, `load/1` and `unload/1`.

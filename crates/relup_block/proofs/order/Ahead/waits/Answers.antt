@@ -13,6 +13,12 @@ pub returns-in-DependentsFirst-clause-count : goal.returns-in-DependentsFirst-cl
 returns-in-DependentsFirst-clause-count c =
     naming_count c.args.rule (block_item_of c.args.item) c.args.self.items.now c.args.self.naming.now c.waits_among.result c.in-DependentsFirst.is c.requires c.waits_among.ensures.count
 
+pub returns-in-DependenciesFirst-clause-few : goal.returns-in-DependenciesFirst-clause-few
+returns-in-DependenciesFirst-clause-few c = c.waits_among-in-DependenciesFirst.ensures.few
+
+pub returns-in-DependenciesFirst-clause-count : goal.returns-in-DependenciesFirst-clause-count
+returns-in-DependenciesFirst-clause-count c = c.waits_among-in-DependenciesFirst.ensures.count
+
 pub returns-in-DependenciesFirst-2-clause-count : goal.returns-in-DependenciesFirst-2-clause-count
 returns-in-DependenciesFirst-2-clause-count c =
     let none : has_deps (block_item_of c.args.item) ≡ false = (search rules) in
