@@ -1,5 +1,4 @@
 //! What is wrong with a release.
-use crate::libraries::push_error;
 use crate::made_files::{push_modules, push_tree, push_worker};
 use rel_check::{Named, ReleaseFault, check_release};
 use rel_files::RelApp;
@@ -45,7 +44,7 @@ fn push_checked(alloc: Global, lines: &[u8], answer: &mut Answer) {
     let files = CaseFiles { lines };
     match read_release(alloc, &files, "r.rel") {
         Ok(file) => push_checked_files(alloc, &files, file.release.apps.as_slice(), answer),
-        Err(error) => push_error(&error, answer),
+        Err(error) => answer.push_shown(&error),
     }
 }
 
@@ -63,7 +62,7 @@ fn push_checked_libraries(
     answer: &mut Answer,
 ) {
     if let Some(why) = &read.refusal {
-        return push_error(why, answer);
+        return answer.push_shown(why);
     }
     match check_release(alloc, apps, read.libraries.as_slice()) {
         Ok(()) => answer.push("ok"),

@@ -18,12 +18,6 @@ pub(crate) fn push_answer(alloc: Global, mode: &str, text: &[u8], answer: &mut A
     }
 }
 
-/// Appends why files aren't taken.
-pub(crate) fn push_error(error: &UnpackError, answer: &mut Answer) {
-    let done = write!(answer.text, "{error}");
-    answer.note(done);
-}
-
 fn push_release(read: &Result<RelFile, UnpackError>, answer: &mut Answer) {
     match read {
         Ok(file) => {
@@ -32,7 +26,7 @@ fn push_release(read: &Result<RelFile, UnpackError>, answer: &mut Answer) {
             let done = write!(answer.text, "{name} {vsn} with {count}");
             answer.note(done);
         }
-        Err(error) => push_error(error, answer),
+        Err(error) => answer.push_shown(error),
     }
 }
 
@@ -46,12 +40,12 @@ fn push_unpacked(alloc: Global, read: &Result<ApplicationFiles, UnpackError>, an
     match read {
         Ok(read) => {
             match &read.refusal {
-                Some(why) => push_error(why, answer),
+                Some(why) => answer.push_shown(why),
                 None => answer.push("ok"),
             }
             push_libraries(alloc, read.libraries.as_slice(), answer);
         }
-        Err(error) => push_error(error, answer),
+        Err(error) => answer.push_shown(error),
     }
 }
 
@@ -86,7 +80,7 @@ pub(crate) fn push_compared(alloc: Global, old: &str, new: &str, answer: &mut An
     match last_library(alloc, old) {
         Ok(Some(before)) => push_compared_with(alloc, before.as_ref(), new, answer),
         Ok(None) => answer.push("no library"),
-        Err(error) => push_error(&error, answer),
+        Err(error) => answer.push_shown(&error),
     }
 }
 
@@ -94,7 +88,7 @@ fn push_compared_with(alloc: Global, before: &Library, new: &str, answer: &mut A
     match last_library(alloc, new) {
         Ok(Some(after)) => push_sameness(before, after.as_ref(), answer),
         Ok(None) => answer.push("no library"),
-        Err(error) => push_error(&error, answer),
+        Err(error) => answer.push_shown(&error),
     }
 }
 

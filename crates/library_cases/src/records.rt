@@ -3,7 +3,7 @@ ghost use Rattle.rel_records.specs.Lists.{HaveVersions};
 
 use crate::bundles::push_libraries;
 use crate::lists::{event, push_list};
-use rel_list::{Event, ListError, ReleaseList};
+use rel_list::{Event, ReleaseList};
 use rel_records::laws::records_make_versions;
 use rel_records::{RecordsError, change_body, read_list};
 use std::alloc::{AllocError, Global};
@@ -23,10 +23,7 @@ fn push_read(alloc: Global, read: &Result<ReleaseList, RecordsError>, answer: &m
             push_list(list, answer);
             push_libraries(alloc, list, answer);
         }
-        Err(error) => {
-            let done = write!(answer.text, "{error}");
-            answer.note(done);
-        }
+        Err(error) => answer.push_shown(error),
     }
 }
 
@@ -64,17 +61,12 @@ fn push_body(alloc: Global, list: &ReleaseList, event: &Event, answer: &mut Answ
     requires { HaveVersions list.now }
 {
     if let Some(error) = list.refusal(event) {
-        return push_refusal(error, answer);
+        return answer.push_shown(&error);
     }
     match event {
         Event::Made(_) | Event::Unpacked(_) => answer.push("brings a release"),
         event => answer.push_made(&change_body(alloc, list, event)),
     }
-}
-
-fn push_refusal(error: ListError, answer: &mut Answer) {
-    let done = write!(answer.text, "{error}");
-    answer.note(done);
 }
 
 fn lines(alloc: Global, text: &[u8]) -> Result<Vec<Vec<u8>>, AllocError> {

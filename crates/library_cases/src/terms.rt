@@ -18,7 +18,7 @@ fn push_terms(read: &Result<Vec<Spanned>, TermFault>, answer: &mut Answer) {
     match read {
         Ok(terms) if terms.is_empty() => answer.push("no term"),
         Ok(terms) => push_spanned(terms, answer),
-        Err(fault) => push_fault(*fault, answer),
+        Err(fault) => answer.push_shown(fault),
     }
 }
 
@@ -31,19 +31,11 @@ fn push_spanned(terms: &[Spanned], answer: &mut Answer) {
     }
 }
 
-fn push_fault(fault: TermFault, answer: &mut Answer) {
-    let done = write!(answer.text, "{fault}");
-    answer.note(done);
-}
-
 // The one term of a record's body, or the fault.
 fn push_record(read: &Result<Term, TermFault>, answer: &mut Answer) {
     match read {
-        Ok(term) => {
-            let done = write!(answer.text, "{term:?}");
-            answer.note(done);
-        }
-        Err(fault) => push_fault(*fault, answer),
+        Ok(term) => answer.push_debug(term),
+        Err(fault) => answer.push_shown(fault),
     }
 }
 
@@ -54,7 +46,7 @@ fn push_printed(alloc: Global, read: &Result<Term, TermFault>, answer: &mut Answ
             Ok(copy) => answer.push_made(&print(alloc, &copy)),
             Err(_) => answer.note_no_memory(),
         },
-        Err(fault) => push_fault(*fault, answer),
+        Err(fault) => answer.push_shown(fault),
     }
 }
 

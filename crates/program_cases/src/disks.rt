@@ -9,10 +9,7 @@ use text_cases::Answer;
 pub(crate) fn push_opening(host: &HostRuntime, name: &str, answer: &mut Answer) {
     match FileDisk::open(host, host.alloc(), name).err() {
         None => answer.push("opened"),
-        Some(error) => {
-            let done = write!(answer.text, "{error:?}");
-            answer.note(done);
-        }
+        Some(error) => answer.push_debug(&error),
     }
 }
 

@@ -1,5 +1,6 @@
 //! The answer to a case.
 use std::alloc::{AllocError, Global};
+use std::fmt;
 
 /// An answer that grows. What finds no memory is told at the end, so that what appends to it has no failure of its own to
 /// hand on.
@@ -46,9 +47,27 @@ impl Answer {
         self.note(done);
     }
 
+    /// Appends a text behind another.
+    pub fn push_after(&mut self, before: &str, text: &str) {
+        self.push(before);
+        self.push(text);
+    }
+
     /// Appends a number in decimal.
     pub fn push_number(&mut self, number: u64) {
         let done = write!(self.text, "{number}");
+        self.note(done);
+    }
+
+    /// Appends what a value shows to a user.
+    pub fn push_shown<T: fmt::Display>(&mut self, value: &T) {
+        let done = write!(self.text, "{value}");
+        self.note(done);
+    }
+
+    /// Appends what a value shows to a programmer.
+    pub fn push_debug<T: fmt::Debug>(&mut self, value: &T) {
+        let done = write!(self.text, "{value:?}");
         self.note(done);
     }
 

@@ -98,10 +98,7 @@ fn push_timeout(timeout: Timeout, answer: &mut Answer) {
     match timeout {
         Timeout::Default => answer.push("default"),
         Timeout::Infinity => answer.push("infinity"),
-        Timeout::Milliseconds(n) => {
-            let done = write!(answer.text, "{n}");
-            answer.note(done);
-        }
+        Timeout::Milliseconds(n) => answer.push_shown(&n),
     }
 }
 

@@ -17,13 +17,8 @@ pub(crate) fn push_answer(alloc: Global, mode: &str, text: &[u8], answer: &mut A
 fn push_read(read: &Result<Appup, AppupFault>, answer: &mut Answer) {
     match read {
         Ok(appup) => push_appup(appup, answer),
-        Err(fault) => push_fault(fault, answer),
+        Err(fault) => answer.push_shown(fault),
     }
-}
-
-fn push_fault(fault: &AppupFault, answer: &mut Answer) {
-    let done = write!(answer.text, "{fault}");
-    answer.note(done);
 }
 
 // What is read of a file whose only upgrade has these instructions.
@@ -40,7 +35,7 @@ fn push_first(alloc: Global, read: &Result<Appup, AppupFault>, answer: &mut Answ
             Some(entry) => push_instrs(alloc, &entry.instrs, answer),
             None => answer.push("no upgrade"),
         },
-        Err(fault) => push_fault(fault, answer),
+        Err(fault) => answer.push_shown(fault),
     }
 }
 
@@ -53,16 +48,13 @@ fn push_searched(alloc: Global, mode: &str, text: &str, answer: &mut Answer) {
     };
     match read_appup(alloc, file.as_bytes()) {
         Ok(appup) => push_found(alloc, &appup, vsn, direction, answer),
-        Err(fault) => push_fault(&fault, answer),
+        Err(fault) => answer.push_shown(&fault),
     }
 }
 
 fn push_found(alloc: Global, appup: &Appup, vsn: &str, direction: Direction, answer: &mut Answer) {
     match appup.entry_for(vsn, direction) {
         Ok(instrs) => push_instrs(alloc, instrs, answer),
-        Err(fault) => {
-            let done = write!(answer.text, "{fault}");
-            answer.note(done);
-        }
+        Err(fault) => answer.push_shown(&fault),
     }
 }

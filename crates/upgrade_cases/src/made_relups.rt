@@ -43,10 +43,7 @@ fn push_made_within(alloc: Global, before: &[u8], text: &[u8], behind: &[u8], an
 fn push_made(alloc: Global, text: &[u8], answer: &mut Answer) {
     match read_one_term(alloc, text) {
         Ok(file) => push_made_of(alloc, &file.term, answer),
-        Err(fault) => {
-            let done = write!(answer.text, "{fault}");
-            answer.note(done);
-        }
+        Err(fault) => answer.push_shown(&fault),
     }
 }
 
@@ -71,9 +68,6 @@ fn push_made_to(alloc: Global, new: &RelupRelease, ups: &Term, downs: &Term, ans
 fn push_relup(alloc: Global, made: &Result<Relup, TranslateError>, answer: &mut Answer) {
     match made {
         Ok(relup) => answer.push_made(&print_relup(alloc, relup)),
-        Err(error) => {
-            let done = write!(answer.text, "{error}");
-            answer.note(done);
-        }
+        Err(error) => answer.push_shown(error),
     }
 }

@@ -32,13 +32,8 @@ fn with_script(alloc: Global, script: &[u8]) -> Result<Result<Relup, RelupFault>
 fn push_printed(alloc: Global, read: &Result<Relup, RelupFault>, answer: &mut Answer) {
     match read {
         Ok(relup) => answer.push_made(&print_relup(alloc, relup)),
-        Err(fault) => push_fault(fault, answer),
+        Err(fault) => answer.push_shown(fault),
     }
-}
-
-fn push_fault(fault: &RelupFault, answer: &mut Answer) {
-    let done = write!(answer.text, "{fault}");
-    answer.note(done);
 }
 
 // Whether the script of the first upgrade can be run.
@@ -48,7 +43,7 @@ fn push_checked(read: &Result<Relup, RelupFault>, answer: &mut Answer) {
             Some(entry) => push_check(check(&entry.script), answer),
             None => answer.push("no upgrade"),
         },
-        Err(fault) => push_fault(fault, answer),
+        Err(fault) => answer.push_shown(fault),
     }
 }
 
@@ -74,10 +69,7 @@ fn push_search(alloc: Global, text: &str, answer: &mut Answer) {
     let below = read_relup(alloc, below.as_bytes()).ok();
     match find_script(target, above.as_ref(), running, below.as_ref()) {
         Ok(found) => push_found(alloc, found, answer),
-        Err(none) => {
-            let done = write!(answer.text, "{none}");
-            answer.note(done);
-        }
+        Err(none) => answer.push_shown(&none),
     }
 }
 

@@ -44,9 +44,6 @@ fn paths(alloc: Global, text: &str) -> Result<Vec<String>, AllocError> {
 fn push_made(alloc: Global, made: &Result<Relup, RelupError>, answer: &mut Answer) {
     match made {
         Ok(relup) => answer.push_made(&print_relup(alloc, relup)),
-        Err(error) => {
-            let done = write!(answer.text, "{error}");
-            answer.note(done);
-        }
+        Err(error) => answer.push_shown(error),
     }
 }

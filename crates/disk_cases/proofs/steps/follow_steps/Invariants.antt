@@ -1,5 +1,5 @@
 use Rattle.rel_store.specs.State.{IsSoundStore}
-use Rattle.store_cases.proofs.steps.follow_steps.Given as goal
+use Rattle.disk_cases.proofs.steps.follow_steps.Given as goal
 
 abbrev pub invariant-loop-step : goal.invariant-loop-step
 invariant-loop-step g l =

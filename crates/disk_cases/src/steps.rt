@@ -3,7 +3,7 @@ ghost use Rattle.rel_store.specs.State.{IsSoundStore};
 
 use rel_disk::Disk;
 use rel_store::{Store, StoreError};
-use start_record::{Start, StartError, read_start, write_start};
+use start_record::{Start, read_start, write_start};
 use std::alloc::{AllocError, Global};
 use text_cases::{Answer, first_word, number};
 
@@ -41,7 +41,7 @@ fn take_step<D: Disk>(alloc: Global, store: &mut Store<D>, step: &str, answer: &
         "write_slot" => write_slot(store, rest, answer),
         "read_slot" => read_slot(store, answer),
         "write_start" => push_start_write(alloc, store, rest, answer),
-        "read_start" => push_start(alloc, store, answer),
+        "read_start" => push_start_read(alloc, store, answer),
         _ => tell(store, step, answer),
     }
 }
@@ -61,16 +61,8 @@ fn tell<D: Disk>(store: &Store<D>, step: &str, answer: &mut Answer) {
 pub(crate) fn push_done(done: Result<(), StoreError>, answer: &mut Answer) {
     match done {
         Ok(()) => answer.push("ok"),
-        Err(error) => {
-            let done = write!(answer.text, "{error:?}");
-            answer.note(done);
-        }
+        Err(error) => answer.push_debug(&error),
     }
-}
-
-fn push_start_error(error: StartError, answer: &mut Answer) {
-    let done = write!(answer.text, "{error:?}");
-    answer.note(done);
 }
 
 /// The body of a record: `dots N` stands for N dots.
@@ -134,7 +126,7 @@ fn push_start_write<D: Disk>(
     };
     match write_start(store, &start) {
         Ok(()) => answer.push("ok"),
-        Err(error) => push_start_error(error, answer),
+        Err(error) => answer.push_debug(&error),
     }
 }
 
@@ -147,18 +139,20 @@ fn start_of(alloc: Global, versions: &str) -> Result<Start, AllocError> {
     })
 }
 
-fn push_start<D: Disk>(alloc: Global, store: &mut Store<D>, answer: &mut Answer)
+fn push_start_read<D: Disk>(alloc: Global, store: &mut Store<D>, answer: &mut Answer)
     requires { IsSoundStore D.seen D.may_leave store.old }
     ensures { IsSoundStore D.seen D.may_leave store.new }
 {
     match read_start(alloc, store) {
-        Ok(start) => {
-            answer.push(start.erts.as_str());
-            answer.push(" ");
-            answer.push(start.vsn.as_str());
-        }
-        Err(error) => push_start_error(error, answer),
+        Ok(start) => push_start(&start, answer),
+        Err(error) => answer.push_debug(&error),
     }
+}
+
+/// Appends the two versions of a start.
+pub(crate) fn push_start(start: &Start, answer: &mut Answer) {
+    answer.push(start.erts.as_str());
+    answer.push_after(" ", start.vsn.as_str());
 }
 
 fn push_fits(fits: bool, answer: &mut Answer) {

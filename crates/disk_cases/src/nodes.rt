@@ -1,9 +1,8 @@
-//! What a node answers. Each function appends the answers, with a blank before each.
+//! What a node on a disk answers.
 ghost use Rattle.rel_handler.specs.State.{IsSound};
 
-use crate::disks::push_named;
 use crate::files::ReleaseFiles;
-use crate::stores::push_start;
+use crate::steps::push_start;
 use rel_disk::Disk;
 use rel_handler::{BootError, Handler, HandlerError, boot};
 use rel_list::ReleaseList;
@@ -12,32 +11,26 @@ use text_cases::{Answer, first_word};
 
 // The versions with their statuses, in order.
 fn push_list(list: &ReleaseList, answer: &mut Answer) {
-    answer.push(" ");
     for listed in list.releases() {
         answer.push(listed.release.vsn.as_str());
-        push_named(" ", listed.status.as_str(), answer);
+        answer.push_after(" ", listed.status.as_str());
         answer.push(";");
     }
-}
-
-fn push_error(error: &HandlerError, answer: &mut Answer) {
-    let done = write!(answer.text, " {error}");
-    answer.note(done);
 }
 
 // The releases of a node, or why it doesn't list them.
 fn releases<D: Disk>(node: &Handler<D>, answer: &mut Answer) {
     match node.which_releases() {
         Ok(list) => push_list(list, answer),
-        Err(error) => push_error(&error, answer),
+        Err(error) => answer.push_shown(&error),
     }
 }
 
 // Whether a command was done.
 fn push_done(done: &Result<(), HandlerError>, answer: &mut Answer) {
     match done {
-        Ok(()) => answer.push(" ok"),
-        Err(error) => push_error(error, answer),
+        Ok(()) => answer.push("ok"),
+        Err(error) => answer.push_shown(error),
     }
 }
 
@@ -47,8 +40,8 @@ fn unpack<D: Disk>(alloc: Global, node: &mut Handler<D>, release: &str, answer: 
     ensures { IsSound D.seen D.may_leave node.new }
 {
     match node.set_unpacked(alloc, &ReleaseFiles, release) {
-        Ok(vsn) => push_named(" took ", vsn.as_str(), answer),
-        Err(error) => push_error(&error, answer),
+        Ok(vsn) => answer.push_after("took ", vsn.as_str()),
+        Err(error) => answer.push_shown(&error),
     }
 }
 
@@ -58,8 +51,8 @@ fn install<D: Disk>(alloc: Global, node: &mut Handler<D>, vsn: &str, answer: &mu
     ensures { IsSound D.seen D.may_leave node.new }
 {
     match node.install_release(alloc, vsn) {
-        Ok(installed) => push_named(" other ", installed.other.as_str(), answer),
-        Err(error) => push_error(&error, answer),
+        Ok(installed) => answer.push_after("other ", installed.other.as_str()),
+        Err(error) => answer.push_shown(&error),
     }
 }
 
@@ -69,8 +62,11 @@ fn tell_start<D: Disk>(alloc: Global, node: &mut Handler<D>, answer: &mut Answer
     ensures { IsSound D.seen D.may_leave node.new }
 {
     match node.start(alloc) {
-        Ok(start) => push_start(" starts ", &start, answer),
-        Err(error) => push_error(&error, answer),
+        Ok(start) => {
+            answer.push("starts ");
+            push_start(&start, answer);
+        }
+        Err(error) => answer.push_shown(&error),
     }
 }
 
@@ -91,20 +87,23 @@ fn change<D: Disk>(
     }
 }
 
-// What a node answers to a command, where one is given.
+// What a node answers to a command, where one is given, with a blank before it.
 fn command<D: Disk>(alloc: Global, node: &mut Handler<D>, word: &str, answer: &mut Answer)
     requires { IsSound D.seen D.may_leave node.old }
     ensures { IsSound D.seen D.may_leave node.new }
 {
+    if word.is_empty() {
+        return;
+    }
+    answer.push(" ");
     let mut rest = word.chars();
     match rest.next() {
-        None => {}
         Some('?') => tell_start(alloc, node, answer),
         Some('+') => install(alloc, node, rest.as_str(), answer),
         Some(sign @ ('!' | '<' | '-')) => {
             push_done(&change(alloc, node, sign, rest.as_str()), answer)
         }
-        Some(_) => unpack(alloc, node, word, answer),
+        _ => unpack(alloc, node, word, answer),
     }
 }
 
@@ -129,7 +128,7 @@ fn push_followed<D: Disk>(alloc: Global, node: &mut Handler<D>, commands: &str, 
         return;
     }
     command_all(alloc, node, commands, answer);
-    answer.push(if node.is_dead() { " dead" } else { " open" });
+    answer.push(if node.is_dead() { " dead " } else { " open " });
     releases(node, answer);
 }
 
@@ -148,7 +147,7 @@ fn follow_node<D: Disk + Drop>(
 
 /// What a node answers that is made of the first of these words, a release, on this disk and given
 /// the others as commands, or why none is made. Hands the disk back, as the others do.
-pub(crate) fn create<D: Disk + Drop>(
+pub(crate) fn create_node<D: Disk + Drop>(
     alloc: Global,
     disk: D,
     words: &str,
@@ -158,7 +157,7 @@ pub(crate) fn create<D: Disk + Drop>(
     match Handler::create(alloc, disk, &ReleaseFiles, first) {
         Ok(node) => follow_node(alloc, node, more, answer),
         Err((error, disk)) => {
-            push_error(&error, answer);
+            answer.push_shown(&error);
             disk
         }
     }
@@ -174,15 +173,10 @@ pub(crate) fn boots<D: Disk + Drop>(
     match boot(alloc, disk) {
         Ok(node) => follow_node(alloc, node, commands, answer),
         Err((error, disk)) => {
-            push_refusal(error, answer);
+            answer.push_debug(&error);
             disk
         }
     }
-}
-
-fn push_refusal(error: BootError, answer: &mut Answer) {
-    let done = write!(answer.text, " {error:?}");
-    answer.note(done);
 }
 
 /// What the node on this disk answers to a further release, and no more.
@@ -198,7 +192,7 @@ pub(crate) fn unpack_once<D: Disk + Drop>(
             node.into_disk()
         }
         Err((error, disk)) => {
-            push_refusal(error, answer);
+            answer.push_debug(&error);
             disk
         }
     }

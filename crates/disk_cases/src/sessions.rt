@@ -1,5 +1,6 @@
 //! Sessions on a disk in memory.
 use crate::disks::{bytes_of, failing, five_calls, push_failures, push_read};
+use crate::nodes::{boots, create_node, unpack_once};
 use crate::steps::{body_of, follow_steps, push_done};
 use crate::store_callers::append_both;
 use rel_disk::{DeviceFault, Disk};
@@ -7,11 +8,11 @@ use rel_store::Store;
 use std::alloc::{AllocError, Global};
 use text_cases::{Answer, first_word, number};
 
-/// What sessions answer, one after another on this disk, with ` | ` between them as between the
-/// sessions. A session is one of these:
+/// Appends what sessions answer, one after another on this disk, with ` | ` between them as between
+/// the sessions. Hands the disk back. A session is one of these:
 ///
 /// - `write AT TEXT`, `cut LENGTH`, `sync`, `length`, `failures`: the calls of a disk. `read`: all
-///   that a read gives. `bytes FROM TO`: the bytes from one place to another.
+///   that a read gives. `bytes FROM TO`: the bytes from one place to another, or to the end.
 /// - `calls`: a call of each kind, as in [`crate::disks::five_calls`].
 /// - `patch AT BYTE..`: these bytes, in decimal, are written over what is there, and the disk is
 ///   synced. `shorten LENGTH`: it is cut and synced.
@@ -20,22 +21,29 @@ use text_cases::{Answer, first_word, number};
 ///   each behind `; `. [`crate::steps::follow_steps`] has them.
 /// - `both A B`: the store is opened, and the records A and B are added by
 ///   [`crate::store_callers::append_both`].
+/// - `node A B ..`: a node of the release A is made, and follows the other words as commands, at
+///   most three. `boot B ..`: the node is booted, and follows all of the words. The answer is the
+///   list of its releases, and where commands are given, what it answers to each, whether it is
+///   `dead` or `open` then, and the list again. The command `B` takes the release B in, `+B`
+///   installs it, `!B` makes it permanent, `<B` reboots it, `-B` removes it, and `?` tells the
+///   start. [`crate::files::ReleaseFiles`] has the releases.
+/// - `unpack B`: the node is booted and takes B in, and no list is told.
 /// - `fail N SESSION`, `part N SESSION`: the call N of the device fails in this session, in the
 ///   second with a part of its effect. How many calls have failed is told behind it.
 pub(crate) fn follow<D: Disk + Drop>(
     alloc: Global,
     disk: D,
     sessions: &str,
-) -> Result<String, AllocError> {
+    answer: &mut Answer,
+) -> D {
     let mut disk = disk;
-    let mut answer = Answer::new(alloc);
     for (i, words) in sessions.split(" | ").enumerate() {
         if i > 0 {
             answer.push(" | ");
         }
-        disk = session(alloc, disk, words, &mut answer);
+        disk = session(alloc, disk, words, answer);
     }
-    answer.finish()
+    disk
 }
 
 // Each session hands its disk back.
@@ -57,6 +65,9 @@ fn session_on<D: Disk + Drop>(alloc: Global, disk: D, words: &str, answer: &mut 
         "create" => create(alloc, disk, rest, answer),
         "both" => both(alloc, disk, rest, answer),
         "open" | "open;" => open(alloc, disk, words, answer),
+        "node" => create_node(alloc, disk, rest, answer),
+        "boot" => boots(alloc, disk, rest, answer),
+        "unpack" => unpack_once(alloc, disk, rest, answer),
         _ => {
             let mut disk = disk;
             change(alloc, &mut disk, words, answer);
@@ -170,7 +181,8 @@ fn write<D: Disk>(disk: &mut D, at: u64, bytes: &[u8]) -> Result<(), DeviceFault
     disk.write_at(at, bytes)
 }
 
-fn patch<D: Disk>(disk: &mut D, at: u64, bytes: &[u8]) -> Result<(), DeviceFault> {
+/// Writes these bytes over those from a place on, and syncs the disk.
+pub(crate) fn patch<D: Disk>(disk: &mut D, at: u64, bytes: &[u8]) -> Result<(), DeviceFault> {
     write(disk, at, bytes)?;
     disk.sync()
 }
@@ -195,13 +207,13 @@ fn push_length<D: Disk>(disk: &mut D, answer: &mut Answer) {
     }
 }
 
-// Appends the bytes from the first of these places to the second.
+// Appends the bytes from the first of these places to the second, or to the end.
 fn push_part<D: Disk>(alloc: Global, disk: &mut D, places: &str, answer: &mut Answer) {
     let (from, to) = first_word(places);
     match bytes_of(alloc, disk) {
         Ok(Some(bytes)) => {
-            let part = bytes.get(number(from)..number(to));
-            answer.push_bytes(part.unwrap_or(b"none"));
+            let to = number(to).min(bytes.len());
+            answer.push_bytes(bytes.get(number(from)..to).unwrap_or(b"none"));
         }
         Ok(None) => answer.push("no bytes"),
         Err(_) => answer.note_no_memory(),

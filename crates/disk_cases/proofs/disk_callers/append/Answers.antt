@@ -2,8 +2,8 @@ use Rattle.std.proofs.Common.{◌≡◌, ℕ, ◌+◌, List, [], ◌∷◌, ◌+
 use Rattle.rel_disk.specs.Damage.{Only, Torn, Follows, Within}
 use Rattle.rel_disk.specs.Moments.{Elapses, LeavesOnly}
 use Rattle.rel_disk.proofs.Moments.{started, goes_on}
-use Rattle.store_cases.proofs.disk_callers.append.Goals.{then-is_err-via-then-is_err, then-is_err-via-else-is_err+then-is_err-2}
-use Rattle.store_cases.proofs.disk_callers.append.Goals as goal
+use Rattle.disk_cases.proofs.disk_callers.append.Goals.{then-is_err-via-then-is_err, then-is_err-via-else-is_err+then-is_err-2}
+use Rattle.disk_cases.proofs.disk_callers.append.Goals as goal
 
 -- a list is the front of itself, with or without more behind it
 front_of : (old more : List ℕ) → take (length old) (old ++ more) ≡ old

@@ -6,6 +6,16 @@ use rel_disk::{Disk, FailDisk, MemDisk};
 use std::alloc::{AllocError, Global};
 use text_cases::{Answer, first_word, number};
 
+// The bytes that the disks of nodes hold, and those of their logs.
+const CAPACITY: usize = 4096;
+
+const LOG: usize = 1 << 16;
+
+/// The empty disk of a case that names none.
+pub(crate) fn case_disk(alloc: Global) -> Result<MemDisk, AllocError> {
+    MemDisk::new(alloc, CAPACITY, LOG)
+}
+
 /// The disk that these words name: its capacity, the bytes of its log, and those with which it
 /// begins, if there are any.
 pub(crate) fn disk_of(alloc: Global, words: &str) -> Result<Option<MemDisk>, AllocError> {
@@ -65,26 +75,32 @@ pub(crate) fn push_failures(failures: u64, answer: &mut Answer) {
     answer.push_number(failures);
 }
 
-// Two in one another fail one call each, and both are counted beside the failures of the disk
-// within.
-pub(crate) fn calls_twice(alloc: Global, numbers: &str) -> Result<String, AllocError> {
+/// Appends what two disks in one another answer that fail one call each. Both failures are counted
+/// beside those of the disk within.
+pub(crate) fn calls_twice(
+    alloc: Global,
+    numbers: &str,
+    answer: &mut Answer,
+) -> Result<(), AllocError> {
     let (outer, inner) = first_word(numbers);
     let disk = FailDisk::new(MemDisk::new(alloc, 1, 1024)?, number(inner) as u64);
-    calls_around(alloc, disk, number(outer) as u64)
+    push_around(disk, number(outer) as u64, answer);
+    Ok(())
 }
 
-// The same of a disk around this one.
-fn calls_around<D: Disk + Drop>(alloc: Global, disk: D, call: u64) -> Result<String, AllocError> {
+// That of a disk around this one.
+fn push_around<D: Disk + Drop>(disk: D, call: u64, answer: &mut Answer) {
     let mut disk = FailDisk::new(disk, call);
-    let mut answer = Answer::new(alloc);
-    five_calls(&mut disk, &mut answer);
-    push_failures(disk.failures(), &mut answer);
+    push_five_calls(&mut disk, answer);
     answer.push(" | ");
-    five_calls(&mut disk, &mut answer);
-    push_failures(disk.failures(), &mut answer);
+    push_five_calls(&mut disk, answer);
     answer.push(" | within");
-    push_failures(disk.disk.failures(), &mut answer);
-    answer.finish()
+    push_failures(disk.disk.failures(), answer);
+}
+
+fn push_five_calls<D: Disk>(disk: &mut D, answer: &mut Answer) {
+    five_calls(disk, answer);
+    push_failures(disk.failures(), answer);
 }
 
 /// Appends what a call of each kind answers: a write, the length, a sync, a read and a cut in this
@@ -106,14 +122,13 @@ fn three_calls<D: Disk>(disk: &mut D, answer: &mut Answer) {
     answer.push(" ");
 }
 
-/// Whether an append succeeds, and what is read then.
-pub(crate) fn append_to(alloc: Global, case: &str) -> Result<String, AllocError> {
+/// Appends whether an append succeeds, and what is read then.
+pub(crate) fn append_to(alloc: Global, case: &str, answer: &mut Answer) -> Result<(), AllocError> {
     let (how, call) = first_word(case);
     let disk = failing(MemDisk::new(alloc, 64, 1024)?, how, number(call) as u64);
-    let mut answer = Answer::new(alloc);
-    let mut disk = appended(disk, &mut answer);
-    push_read(alloc, &mut disk, &mut answer);
-    answer.finish()
+    let mut disk = appended(disk, answer);
+    push_read(alloc, &mut disk, answer);
+    Ok(())
 }
 
 fn appended(disk: FailDisk<MemDisk>, answer: &mut Answer) -> MemDisk

@@ -6,7 +6,7 @@ use Rattle.rel_store.specs.State.{records_in}
 use Rattle.rel_store.specs.declared.error.StoreError.{StoreError}
 use Rattle.rel_store.specs.declared.error.StoreError.TheVariants.{NotAStore, Damaged, Exists, Full, Device, NoMemory, MustReopen}
 use Rattle.rel_store.specs.declared.store.Store.{Store}
-use Rattle.store_cases.proofs.store_callers.reopen.Goals as goal
+use Rattle.disk_cases.proofs.store_callers.reopen.Goals as goal
 
 -- the records that a read finds are those of the store
 found : {D : Type 0} (bytes : List ℕ) (a b : List (List ℕ)) (text : List ℕ) (result : Result (Store D) (StoreError × D)) → Stands a text bytes ⊎ Stands b text bytes → IfOk result (λ store. records_of bytes ≡ Ok (records_in store))

@@ -1,7 +1,6 @@
 //! Files of releases and of applications.
 ghost use Rattle.std.specs.Prelude.{◌≤◌, IfOk, length};
 
-use crate::disks::push_named;
 use file_source::{Files, FilesError};
 use std::alloc::Global;
 use text_cases::{Answer, number};
@@ -59,14 +58,14 @@ fn push_file(path: &str, answer: &mut Answer) {
 // `A/:gone` with the application `gone`. It ends within its term where the release is `torn`.
 fn push_rel(release: &str, answer: &mut Answer) {
     let (vsn, apps) = release.split_once('/').unwrap_or((release, "1"));
-    push_named(r#"{release,{"ch_rel",""#, vsn, answer);
+    answer.push_after(r#"{release,{"ch_rel",""#, vsn);
     push_apps(apps, answer);
     answer.push(if release == "torn" { "]}" } else { "]}." });
 }
 
 fn push_apps(apps: &str, answer: &mut Answer) {
     let first = apps.strip_prefix(':').unwrap_or("app0");
-    push_named(r#""},{erts,"14.2"},[{"#, first, answer);
+    answer.push_after(r#""},{erts,"14.2"},[{"#, first);
     answer.push(r#","1"}"#);
     for app in 1..number(apps) {
         let done = write!(answer.text, r#",{{app{app},"1"}}"#);
@@ -77,6 +76,6 @@ fn push_apps(apps: &str, answer: &mut Answer) {
 // Appends that of the file of an application without modules, of such a folder.
 fn push_app(folder: &str, answer: &mut Answer) {
     let (name, _rest) = folder.split_once('-').unwrap_or((folder, ""));
-    push_named("{application,", name, answer);
+    answer.push_after("{application,", name);
     answer.push(r#",[{vsn,"1"}]}."#);
 }

@@ -1,0 +1,105 @@
+//! The answer to a case.
+use crate::damage::push_damaged;
+use crate::disks::{append_to, calls_twice, case_disk, disk_of};
+use crate::sessions::follow;
+use rel_disk::{DeviceFault, MemDisk};
+use rel_store::Store;
+use std::alloc::{AllocError, Global};
+use text_cases::Answer;
+
+/// The answer in one of seven modes. Sizes and places are in bytes.
+///
+/// `disk`: what the sessions of the text answer, one after another on a disk. The disk is as in
+/// [`disk_of`]; behind ` | ` stand the sessions, as in [`follow`]. `node`: the same on an empty disk
+/// of 4,096 bytes. `store`: the same on such a disk with a new store, whose only record is `[].` and
+/// whose start slot has the text `14.2 A` and a new line. In both the text has the sessions alone.
+/// `start`: the text is that of the start slot of a new store, and the session opens the store and
+/// reads its start.
+///
+/// `damaged`: behind a byte, as a number, stand sessions, as in [`push_damaged`].
+///
+/// `append`: what [`crate::disk_callers::append`] of `abc` to a disk answers, and what a read gives
+/// then. In the text `fail N` the call N fails, and in `part N` with a part of its effect.
+///
+/// `twice`: what five calls answer, two times over, of a failing disk within another, as in
+/// [`crate::disks::five_calls`]. The text is the number of the call that fails on the one without, and of
+/// that on the one within, which has room for one byte. How many calls have failed is told behind
+/// each five, and at the end how many on the one within.
+///
+/// `fault`: the text of a fault of a device.
+pub(crate) fn answer(alloc: Global, mode: &str, text: &[u8]) -> Result<String, AllocError> {
+    let mut answer = Answer::new(alloc);
+    if mode == "start" {
+        on_store(alloc, text, "open; read_start", &mut answer)?;
+    } else {
+        push_of_text(alloc, mode, str::from_utf8(text).unwrap_or(""), &mut answer)?;
+    }
+    answer.finish()
+}
+
+// The answer in the modes whose cases are UTF-8.
+fn push_of_text(
+    alloc: Global,
+    mode: &str,
+    text: &str,
+    answer: &mut Answer,
+) -> Result<(), AllocError> {
+    match mode {
+        "disk" => on_disk(alloc, text, answer),
+        "node" => {
+            follow(alloc, case_disk(alloc)?, text, answer);
+            Ok(())
+        }
+        "store" => on_store(alloc, b"14.2 A\n", text, answer),
+        "damaged" => push_damaged(alloc, text, answer),
+        _ => push_of_calls(alloc, mode, text, answer),
+    }
+}
+
+// That in the modes that follow no sessions.
+fn push_of_calls(
+    alloc: Global,
+    mode: &str,
+    text: &str,
+    answer: &mut Answer,
+) -> Result<(), AllocError> {
+    match mode {
+        "append" => append_to(alloc, text, answer),
+        "twice" => calls_twice(alloc, text, answer),
+        "fault" => write!(answer.text, "{}", DeviceFault),
+        _ => answer.text.push_str("no such mode"),
+    }
+}
+
+fn on_store(
+    alloc: Global,
+    start: &[u8],
+    sessions: &str,
+    answer: &mut Answer,
+) -> Result<(), AllocError> {
+    match new_store(alloc, start)? {
+        Some(disk) => drop(follow(alloc, disk, sessions, answer)),
+        None => answer.push("no store"),
+    }
+    Ok(())
+}
+
+// A disk with a new store, in whose start slot this text stands, if it has room there.
+fn new_store(alloc: Global, start: &[u8]) -> Result<Option<MemDisk>, AllocError> {
+    if start.len() > 127 {
+        return Ok(None);
+    }
+    match Store::create(alloc, case_disk(alloc)?, b"[].", start) {
+        Ok(store) => Ok(Some(store.into_disk())),
+        Err(_) => Ok(None),
+    }
+}
+
+fn on_disk(alloc: Global, text: &str, answer: &mut Answer) -> Result<(), AllocError> {
+    let (words, sessions) = text.split_once(" | ").unwrap_or((text, ""));
+    match disk_of(alloc, words)? {
+        Some(disk) => drop(follow(alloc, disk, sessions, answer)),
+        None => answer.push("no disk"),
+    }
+    Ok(())
+}

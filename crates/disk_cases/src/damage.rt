@@ -1,0 +1,42 @@
+//! Disks with one byte that isn't what was written.
+use crate::disks::case_disk;
+use crate::nodes::is_explained;
+use crate::sessions::{follow, patch};
+use rel_disk::{Disk, MemDisk};
+use std::alloc::{AllocError, Global};
+use text_cases::{Answer, first_word, number};
+
+/// Appends for how many places it is so, up to the first for which it isn't, that the disk which
+/// these sessions make, with this byte there, is booted to one release or two or is refused for what
+/// it holds; and how many places there are.
+pub(crate) fn push_damaged(
+    alloc: Global,
+    text: &str,
+    answer: &mut Answer,
+) -> Result<(), AllocError> {
+    let (byte, sessions) = first_word(text);
+    let len = made(alloc, sessions)?.len().unwrap_or(0);
+    let explained = explained_with(alloc, sessions, (number(byte) % 256) as u8, len)?;
+    write!(answer.text, "explained {explained} of {len}")
+}
+
+// The disk that these sessions make.
+fn made(alloc: Global, sessions: &str) -> Result<MemDisk, AllocError> {
+    let mut answer = Answer::new(alloc);
+    let disk = follow(alloc, case_disk(alloc)?, sessions, &mut answer);
+    match answer.finish() {
+        Ok(_) => Ok(disk),
+        Err(error) => Err(error),
+    }
+}
+
+// How many of its places are explained with this byte, up to the first that isn't.
+fn explained_with(alloc: Global, sessions: &str, byte: u8, len: u64) -> Result<u64, AllocError> {
+    for at in 0..len {
+        let mut disk = made(alloc, sessions)?;
+        if patch(&mut disk, at, &[byte]).is_err() || !is_explained(alloc, disk) {
+            return Ok(at);
+        }
+    }
+    Ok(len)
+}
