@@ -19,10 +19,10 @@ fn copy(term: &Term) -> Result<Term, AllocError>
 {
     match term {
         Term::Int(n) => Ok(Term::Int(*n)),
-        Term::Atom(name) => name.clone().map(Term::Atom),
-        Term::List(items) => copy_members(items).map(Term::List),
-        Term::Tuple(items) => copy_members(items).map(Term::Tuple),
-        Term::Bin(bytes) => Vec::from_slice(*bytes.allocator(), bytes).map(Term::Bin),
+        Term::Atom(name) => Ok(Term::Atom(name.clone()?)),
+        Term::List(items) => Ok(Term::List(copy_members(items)?)),
+        Term::Tuple(items) => Ok(Term::Tuple(copy_members(items)?)),
+        Term::Bin(bytes) => Ok(Term::Bin(Vec::from_slice(*bytes.allocator(), bytes)?)),
     }
 }
 

@@ -269,6 +269,15 @@ braced_closed bytes at to code size h e some is long =
 pub escape_end : (bytes : List ℕ) (at : ℕ) → byte_in (slice_get bytes at) ≡ None → unfinished ≡ escape (drop at bytes)
 escape_end bytes at e = sym (next_none bytes at _ e)
 
+pub escape_octal : (bytes : List ℕ) (at d : ℕ) → digit_in 8 (slice_get bytes at) ≡ Some d → octal (drop at bytes) ≡ escape (drop at bytes)
+escape_octal bytes at d e =
+    let i = digit_at 8 bytes at d e in
+    let row = drop_some bytes at i.byte i.stands in
+    ap octal row ∙ sym (ap escape row ∙ rw (small i.byte i.digit, i.digit) refl)
+  where
+    small : (x : ℕ) → is_digit x 8 ≡ true → nat_lt 255 x ≡ false
+    small x e = grind (arith, nat_tests)
+
 pub escape_hexadecimal : (bytes : List ℕ) (at x : ℕ) → byte_in (slice_get bytes at) ≡ Some x → x ≡ 120 → hexadecimal (drop (at + 1) bytes) ≡ escape (drop at bytes)
 escape_hexadecimal bytes at x e is = sym (next_some bytes at x _ e ∙ rw is refl)
 

@@ -24,6 +24,11 @@ bytes_more ps i d l =
     ap (flat_map piece_bytes) (take_more ps i d l)
     ∙ (flat_map-append piece_bytes (take i ps) (last ∷ []) ∙ ap (λ bs. flat_map piece_bytes (take i ps) ++ bs) (append-nil (piece_bytes last)))
 
+-- text that grew by one piece
+pub bytes_after : (ps : List Piece) (i : ℕ) (d : Piece) (old more new : List ℕ) → i < length ps → old ≡ flat_map piece_bytes (take i ps)
+    → new ≡ old ++ more → more ≡ piece_bytes (get_or ps i d) → new ≡ flat_map piece_bytes (take (i + 1) ps)
+bytes_after ps i d old more new l e grown same = grown ∙ ((λ j. e j ++ same j) ∙ sym (bytes_more ps i d l))
+
 pub utf8_more : (ps : List Piece) (i : ℕ) (d : Piece) → i < length ps → IsUtf8 (flat_map piece_bytes (take i ps)) → IsUtf8 (piece_bytes (get_or ps i d)) →
     IsUtf8 (flat_map piece_bytes (take (i + 1) ps))
 utf8_more ps i d l u v = subst IsUtf8 (sym (bytes_more ps i d l)) (IsUtf8-append (flat_map piece_bytes (take i ps)) (piece_bytes (get_or ps i d)) u v)

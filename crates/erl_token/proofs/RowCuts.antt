@@ -11,7 +11,7 @@ use Rattle.std.proofs.Math.Seq.{take-append_seam, drop-append_seam}
 use Rattle.std.proofs.lemmas.Str.{IsUtf8-from_is_utf8, IsUtf8-nil, IsUtf8-take, IsUtf8-drop, IsUtf8-append, IsUtf8-from_ascii, IsCharBoundary-before_ascii}
 use Rattle.std.proofs.lemmas.Str.Ascii.{IsAscii-nil, IsAscii-cons}
 use Rattle.erl_token.specs.declared.class.Class.{Class}
-use Rattle.erl_token.specs.declared.class.Class.TheVariants.{Blank, Percent, Other, Comma, Dot, OpenTuple, CloseTuple, OpenList, CloseList, Less, Greater, Quote, Apostrophe, Dollar, Sign, Letter, Digit}
+use Rattle.erl_token.specs.declared.class.Class.TheVariants.{Blank, Percent, Other}
 use Rattle.erl_token.specs.Lexing.{Token, Item, Spelling, class_of, spelling, comment_size, start_of, goes_on, lex, joined, in_front, put_item, join, items_of, sealed}
 use Rattle.erl_token.specs.Lexing.Token.{dot, stray, broken, text}
 use Rattle.erl_token.specs.Views.{seal}
@@ -429,6 +429,39 @@ row_bytes bytes from own rest cut first behind =
     let dotted = IsUtf8-append own stop utf8 (IsUtf8-from_ascii stop (IsAscii-cons 46 [] (omega arith) IsAscii-nil)) in
     (slice, sealed-IsUtf8 (own ++ stop) dotted)
 
+-- where a cut reads as a row and a dot
+reads_cut : (bytes own : List ℕ) (from to : ℕ) (row : List Item) → from + length own ≡ to
+    → (slice_range bytes from (from + length own) ≡ own) × (sealed (own ++ stop) ≡ own ++ stop)
+    → lex 0 0 (own ++ stop) ≡ moved from row ++ the_dot (0 + length own) ∷ []
+    → items_of (slice_range bytes from to ++ stop) ≡ join (moved from row) ++ the_dot (to - from) ∷ []
+reads_cut bytes own from to row ends (slice, dotted) cut =
+    let size : 0 + length own ≡ to - from = omega (arith, ends) in
+    ap (λ n. items_of (slice_range bytes from n ++ stop)) (sym ends)
+    ∙ (ap (λ r. join (lex 0 0 (sealed (r ++ stop)))) slice ∙ (ap (λ r. join (lex 0 0 r)) dotted
+    ∙ (ap join cut ∙ (join_dot (moved from row) (0 + length own) ∙ ap (λ n. join (moved from row) ++ the_dot n ∷ []) size))))
+
+-- A row that was found, with the dot behind it.
+cut_found : (bytes : List ℕ) (i : Item) (row : List Item) (j : Item) (more : List Item) (f : Found 0 0 (sealed bytes) i (row ++ (j ∷ more)))
+    → Found 0 0 (sealed bytes) j more → Behind i.from (drop f.place (sealed bytes)) (i ∷ row) (j ∷ more) → Goods (i ∷ row) → j.token ≡ dot
+    → items_of (slice_range bytes i.from (last_to (i ∷ row)) ++ stop) ≡ join (moved i.from (i ∷ row)) ++ the_dot (last_to (i ∷ row) - i.from) ∷ []
+cut_found bytes i row j more f g b goods d =
+    let w = sealed bytes in
+    let q = drop f.place w in
+    let none : i.from + 0 ≡ i.from = omega arith in
+    let to = last_to (i ∷ row) in
+    let last : ends_at i.from (i ∷ row) ≡ to = ends_last i.from i row in
+    let ends : i.from + length b.own ≡ to = b.size ∙ last in
+    let place : f.place ≡ i.from = omega (arith, f.from) in
+    let from : f.place + length b.own ≡ to = omega (arith, place, ends) in
+    let rest_at : drop to w ≡ b.rest = ap (λ n. drop n w) (sym from) ∙ (sym (drop-drop (length b.own) f.place w) ∙ (ap (drop (length b.own)) b.is ∙ drop-append_seam b.own b.rest)) in
+    let lies = b.tiles.0 in
+    let behind = small_behind w b.rest to j more rest_at g d lies.gap lies.own lies.behind lies.is lies.gaps lies.some (lies.from ∙ ap (λ p. p + length lies.gap) last) in
+    let cut = lex_cut i.from 0 0 b.own b.rest (i ∷ row) (j ∷ more) (omega arith)
+    (ap (λ p. lex p 0 (b.own ++ b.rest)) none ∙ (ap (lex i.from 0) (sym b.is) ∙ f.reads)) goods (sym b.size ∙ omega arith) in
+    let first = small_here i.from q i (row ++ (j ∷ more)) f.reads (no_stray i row goods) in
+    let bytes_are = row_bytes bytes i.from b.own b.rest (ap (λ n. drop n w) (sym place) ∙ b.is) (subst Small b.is first) behind in
+    reads_cut bytes b.own i.from to (i ∷ row) ends bytes_are cut
+
 -- A row of single items.
 cut_row : (bytes : List ℕ) (before : List Item) (i : Item) (row : List Item) (j : Item) (more : List Item)
     → lex 0 0 (sealed bytes) ≡ before ++ ((i ∷ row) ++ (j ∷ more)) → Goods (i ∷ row) → j.token ≡ dot
@@ -441,23 +474,7 @@ cut_row bytes before i row j more e goods d =
     let none : i.from + 0 ≡ i.from = omega arith in
     let tiles : Tile false i.from q (i ∷ (row ++ (j ∷ more))) =
     subst (λ p. Tile false p q (i ∷ (row ++ (j ∷ more)))) none (subst (Tile false (i.from + 0) q) f.reads (lex_tiles q i.from 0 (omega arith))) in
-    let b = behind_row false i.from q i row (j ∷ more) tiles in
-    let to = last_to (i ∷ row) in
-    let ends : i.from + length b.own ≡ to = b.size ∙ ends_last i.from i row in
-    let place : f.place ≡ i.from = omega (arith, f.from) in
-    let from : f.place + length b.own ≡ to = omega (arith, place, ends) in
-    let rest_at : drop to w ≡ b.rest = ap (λ n. drop n w) (sym from) ∙ (sym (drop-drop (length b.own) f.place w) ∙ (ap (drop (length b.own)) b.is ∙ drop-append_seam b.own b.rest)) in
-    let lies = b.tiles.0 in
-    let last : ends_at i.from (i ∷ row) ≡ to = ends_last i.from i row in
-    let behind = small_behind w b.rest to j more rest_at g d lies.gap lies.own lies.behind lies.is lies.gaps lies.some (lies.from ∙ ap (λ p. p + length lies.gap) last) in
-    let cut = lex_cut i.from 0 0 b.own b.rest (i ∷ row) (j ∷ more) (omega arith)
-    (ap (λ p. lex p 0 (b.own ++ b.rest)) none ∙ (ap (lex i.from 0) (sym b.is) ∙ f.reads)) goods (sym b.size ∙ omega arith) in
-    let first = small_here i.from q i (row ++ (j ∷ more)) f.reads (no_stray i row goods) in
-    let bytes_are = row_bytes bytes i.from b.own b.rest (ap (λ n. drop n w) (sym place) ∙ b.is) (subst Small b.is first) behind in
-    let size : length b.own ≡ to - i.from = omega (arith, ends) in
-    ap (λ n. items_of (slice_range bytes i.from n ++ stop)) (sym ends)
-    ∙ (ap (λ r. join (lex 0 0 (sealed (r ++ stop)))) bytes_are.0 ∙ (ap (λ r. join (lex 0 0 r)) bytes_are.1 ∙ (ap join cut
-    ∙ (join_dot (moved i.from (i ∷ row)) (0 + length b.own) ∙ ap (λ n. join (moved i.from (i ∷ row)) ++ the_dot n ∷ []) (omega (arith, size))))))
+    cut_found bytes i row j more f g (behind_row false i.from q i row (j ∷ more) tiles) goods d
 
 last_of : (p : ℕ) (is : List Item) → 0 < length is → ends_at p is ≡ last_to is
 last_of p [] h = absurd (omega arith)

@@ -1,15 +1,16 @@
 -- Bytes in a row that a token goes on with.
-use Rattle.std.proofs.Common.{◌≡◌, ℕ, zero, suc, ◌+◌, ◌<◌, ◌≤◌, Bool, true, false, ◌||◌, not, if◌then◌else◌, nat_lt, nat_le, eqb, List, [], ◌∷◌, length, take, drop, get_or, slice_get, Some, None, refl, ◌∙◌, ap, arith, append-nil, ◌==◌}
+use Rattle.std.proofs.Common.{◌≡◌, ℕ, zero, suc, ◌+◌, ◌<◌, ◌≤◌, Bool, true, false, ◌||◌, not, if◌then◌else◌, nat_lt, nat_le, eqb, List, [], ◌∷◌, ◌++◌, length, take, drop, get_or, slice_get, Some, None, refl, sym, ◌∙◌, ap, arith, append-nil, ◌==◌}
 use Rattle.std.proofs.lemmas.List.{drop_more}
 use Rattle.std.proofs.lemmas.Option.{slice_get_within, get_or_from_slice_get}
 use Rattle.std.specs.Str.{IsUtf8}
 use Rattle.std.specs.Str.Lossy.{utf8_valid_len}
-use Rattle.std.proofs.Math.Seq.{take-length}
+use Rattle.std.proofs.Math.Seq.{take-length, take-append_seam}
 use Rattle.std.proofs.lemmas.Bool.Decides.{nat_tests}
 use Rattle.std.proofs.lemmas.Str.{utf8_valid_len_le, utf8_valid_len-IsUtf8}
 use Rattle.erl_token.specs.declared.run.Run.TheVariants.{InComment}
 use Rattle.erl_token.specs.Lexing.{sealed, comment_size, lex, ends_a_term}
 use Rattle.erl_token.specs.Escapes.{front}
+use Rattle.erl_token.specs.Views.{seal}
 use Rattle.erl_token.specs.Scanned.{goes_on_with}
 
 pub sealed-nil : (bytes : List ℕ) → length bytes ≡ 0 → [] ≡ sealed bytes
@@ -20,6 +21,21 @@ pub sealed-IsUtf8 : (bs : List ℕ) → IsUtf8 bs → sealed bs ≡ bs
 sealed-IsUtf8 bs u =
     let whole : (length bs == length bs) ≡ true = grind (arith, nat_tests) in
     rw (utf8_valid_len-IsUtf8 bs u, whole) (append-nil (take (length bs) bs) ∙ take-length bs)
+
+-- what is read of bytes that go on behind their first part that is UTF-8
+pub sealed_first : (bytes rest valid text more : List ℕ) → rest ≡ bytes → text ≡ valid → rest ≡ valid ++ more → length valid ≡ utf8_valid_len rest
+    → text ++ seal (nat_lt (length text) (length bytes)) ≡ sealed bytes
+sealed_first bytes rest valid text more same is cut first =
+    let all : bytes ≡ text ++ more = sym same ∙ (cut ∙ ap (λ v. v ++ more) (sym is)) in
+    let size : length text ≡ utf8_valid_len bytes = ap length is ∙ (first ∙ ap utf8_valid_len same) in
+    let part : text ≡ take (utf8_valid_len bytes) bytes =
+    sym (take-append_seam text more) ∙ (ap (take (length text)) (sym all) ∙ ap (λ n. take n bytes) size) in
+    (λ j. part j ++ ends (utf8_valid_len bytes == length bytes) refl size j)
+  where
+    ends : (b : Bool) → (utf8_valid_len bytes == length bytes) ≡ b → length text ≡ utf8_valid_len bytes
+        → seal (nat_lt (length text) (length bytes)) ≡ (if b then [] else 256 ∷ [])
+    ends true e size = let no : nat_lt (length text) (length bytes) ≡ false = grind (arith, nat_tests) in rw no refl
+    ends false e size = let yes : nat_lt (length text) (length bytes) ≡ true = grind (arith, nat_tests, utf8_valid_len_le bytes) in rw yes refl
 
 -- what stands from a place on
 pub drop_some : (xs : List ℕ) (i b : ℕ) → slice_get xs i ≡ Some b → drop i xs ≡ b ∷ drop (i + 1) xs

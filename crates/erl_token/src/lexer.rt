@@ -1,5 +1,5 @@
 //! Bytes into tokens.
-ghost use Rattle.std.specs.Prelude.{◌≡◌, ◌≢◌, ℕ, pos, ◌+◌, ◌-◌, ◌<◌, ◌≤◌, ◌^◌, length, drop, slice_index, slice_get, nat_lt, Some, IfSome, IfOk};
+ghost use Rattle.std.specs.Prelude.{◌≡◌, ◌≢◌, ◌⊎◌, ℕ, pos, ◌+◌, ◌-◌, ◌<◌, ◌≤◌, ◌^◌, length, drop, slice_index, slice_get, nat_lt, Some, IfSome, IfOk};
 ghost use Rattle.std.specs.Str.{IsUtf8, chars};
 ghost use Rattle.erl_token.specs.Lexing.{class_of, spelling, is_bare_name_byte, alone as alone_spelling, doubled as doubled_spelling, bare, name_spelling, name_in_quotes, text_in_quotes, numbered as numbered_spelling, signed as signed_spelling, put_item, ends_a_term};
 ghost use Rattle.erl_token.specs.Lexing.Token.{text as text_token};
@@ -11,6 +11,7 @@ ghost use Rattle.erl_token.specs.Views.{text_bytes, token_value, like_value, ite
 ghost use Rattle.erl_token.specs.Scanned.{IsSpelled};
 ghost use Rattle.erl_token.specs.Contents.{content_bytes};
 ghost use Rattle.erl_token.specs.declared.class.Class.TheVariants.{Blank, Percent, Dot as DotClass, Letter};
+ghost use Rattle.erl_token.specs.declared.token.Like.TheVariants.{OpenBinary, CloseBinary};
 
 use crate::class::Class;
 use crate::content::Content;
@@ -114,6 +115,7 @@ fn item_at<'a>(
     class: Class,
 ) -> Result<Item<'a>, AllocError>
     requires within { at < length (text_bytes text) }
+    requires room { at < 2 ^ 63 }
     requires byte { byte ≡ slice_index (text_bytes text) at }
     requires class { class ≡ class_of byte }
     requires utf8 { IsUtf8 text.valid.now }
@@ -126,20 +128,8 @@ fn item_at<'a>(
         Class::CloseTuple => Ok(alone(Token::Close(Bracket::Tuple), at)),
         Class::OpenList => Ok(alone(Token::Open(Bracket::List), at)),
         Class::CloseList => Ok(alone(Token::Close(Bracket::List), at)),
-        Class::Less => Ok(doubled(
-            text,
-            at,
-            byte,
-            Token::Open(Bracket::Binary),
-            Like::OpenBinary,
-        )),
-        Class::Greater => Ok(doubled(
-            text,
-            at,
-            byte,
-            Token::Close(Bracket::Binary),
-            Like::CloseBinary,
-        )),
+        Class::Less => Ok(doubled(text, at, byte, Like::OpenBinary)),
+        Class::Greater => Ok(doubled(text, at, byte, Like::CloseBinary)),
         Class::Dot => Ok(full_stop(text, at, byte)),
         Class::Letter => Ok(bare_name(text, at)),
         Class::Digit | Class::Dollar => Ok(number(text, at)),
@@ -162,11 +152,11 @@ fn alone(token: Token<'_>, at: usize) -> Item<'_>
     }
 }
 
-/// Two such bytes in a row are a token, which is cut off where the text ends between them.
-fn doubled<'a>(text: Text<'a>, at: usize, byte: u8, token: Token<'a>, like: Like) -> Item<'a>
+/// Two such bytes in a row are the bracket that begins so, which is cut off where the text ends between them.
+fn doubled<'a>(text: Text<'_>, at: usize, byte: u8, like: Like) -> Item<'a>
     requires room { at < 2 ^ 63 }
-    requires like { token_value token ≡ like_value like }
-    ensures { IsSpelled (doubled_spelling (token_value token.entry) byte
+    requires like { (like ≡ OpenBinary) ⊎ (like ≡ CloseBinary) }
+    ensures { IsSpelled (doubled_spelling (like_value like) byte
         (drop (at + 1) (text_bytes text.entry))) at result }
 {
     match text.at(at + 1) {
@@ -175,7 +165,7 @@ fn doubled<'a>(text: Text<'a>, at: usize, byte: u8, token: Token<'a>, like: Like
         At::Byte(next) => {
             if next == byte {
                 Item {
-                    token,
+                    token: binary_bracket(like),
                     from: at,
                     to: at + 2,
                 }
@@ -183,6 +173,17 @@ fn doubled<'a>(text: Text<'a>, at: usize, byte: u8, token: Token<'a>, like: Like
                 alone(Token::Stray(byte), at)
             }
         }
+    }
+}
+
+/// The bracket of a binary that begins so.
+fn binary_bracket<'a>(like: Like) -> Token<'a>
+    requires { (like ≡ OpenBinary) ⊎ (like ≡ CloseBinary) }
+    ensures { token_value result ≡ like_value like }
+{
+    match like {
+        Like::OpenBinary => Token::Open(Bracket::Binary),
+        _ => Token::Close(Bracket::Binary),
     }
 }
 

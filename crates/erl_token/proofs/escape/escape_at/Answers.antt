@@ -1,7 +1,10 @@
 use Rattle.std.proofs.Common.{◌∙◌, sym}
 use Rattle.erl_token.specs.Views.{text_bytes}
-use Rattle.erl_token.proofs.EscapeLemmas.{escape_end, escape_hexadecimal, escape_caret, escape_name}
+use Rattle.erl_token.proofs.EscapeLemmas.{escape_end, escape_octal, escape_hexadecimal, escape_caret, escape_name}
 use Rattle.erl_token.proofs.escape.escape_at.Goals as goal
+
+pub returns-in-Some-clause-is : goal.returns-in-Some-clause-is
+returns-in-Some-clause-is c = c.octal.ensures.is ∙ escape_octal (text_bytes c.args.text) c.args.at c.in-Some.first (sym c.in-Some.ensures.is)
 
 pub returns-in-Some-eq120-clause-is : goal.returns-in-Some-eq120-clause-is
 returns-in-Some-eq120-clause-is c = c.hexadecimal.ensures.is ∙ escape_hexadecimal (text_bytes c.args.text) c.args.at c.in-Some-eq120.field-0 (sym c.in-Some-eq120.ensures.is) c.in-Some-eq120.field-0-test

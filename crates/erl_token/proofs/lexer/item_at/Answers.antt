@@ -1,4 +1,4 @@
-use Rattle.std.proofs.Common.{◌+◌, drop, refl, sym, ◌∙◌, ap, subst}
+use Rattle.std.proofs.Common.{◌+◌, inl, inr, drop, refl, sym, ◌∙◌, ap, subst}
 use Rattle.erl_token.specs.Views.{text_bytes}
 use Rattle.erl_token.specs.Lexing.{class_of}
 use Rattle.erl_token.specs.Scanned.{IsSpelled}
@@ -61,10 +61,10 @@ returns-in-Blank c =
     (stray_spelled c.args.at c.args.byte c.args.class (drop (c.args.at + 1) (text_bytes c.args.text)) c.in-Blank.is) c.alone-in-Blank.ensures
 
 pub doubled-requires-clause-like : goal.doubled-requires-clause-like
-doubled-requires-clause-like c = refl
+doubled-requires-clause-like c = inl refl
 
 pub doubled-requires-in-Greater-clause-like : goal.doubled-requires-in-Greater-clause-like
-doubled-requires-in-Greater-clause-like c = refl
+doubled-requires-in-Greater-clause-like c = inr refl
 
 pub bare_name-requires-clause-class : goal.bare_name-requires-clause-class
 bare_name-requires-clause-class c = ap class_of (sym c.requires.byte) ∙ (sym c.requires.class ∙ c.in-Letter.is)
