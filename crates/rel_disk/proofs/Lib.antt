@@ -1,4 +1,5 @@
 mod DamageLemmas
+mod FailTurns
 mod ImageLemmas
 mod ImagePlaces
 mod LogEntries

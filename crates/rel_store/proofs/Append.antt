@@ -126,9 +126,6 @@ staged bodies text body old mid bytes gate here at spelled written =
           ∙ ap (λ (l : List ℕ). s.head ++ s.gate ∷ l) (append_assoc (record_bytes body) (0 ∷ []) (drop (length bytes) s.rest));
     }
 
-pub staged_within : (bodies : List (List ℕ)) (text body old mid : List ℕ) (gate : ℕ) → Staged bodies text body gate old mid → gate ≤ length mid
-staged_within bodies text body old mid gate s = omega (arith, s.long, ap length s.is, length-append s.head (s.shut ∷ (record_bytes body ++ 0 ∷ s.rest)))
-
 -- at each moment of the second they are those, or the new one too
 pub second_leaves : (bodies : List (List ℕ)) (text body old mid : List ℕ) (gate : ℕ) (images : List ℕ → Type 0) → length body ≤ 16777216 → Staged bodies text body gate old mid → Only mid images
     → (c : List ℕ) → IsTornFrom images gate 1 c → StandsEither bodies body text c

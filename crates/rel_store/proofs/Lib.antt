@@ -6,6 +6,7 @@ pub mod NewStore
 pub mod OnlyReads
 pub mod Ownership
 pub mod ReadLemmas
+pub mod Refusals
 pub mod Scan
 pub mod Slots
 pub mod Spelled

@@ -2,14 +2,14 @@
 use Rattle.std.proofs.Common.{◌≡◌, ◌⊎◌, inl, inr, ℕ, ◌+◌, ◌<◌, ◌≤◌, take, drop, get_or, Bool, true, false, not, ◌-◌, List, [], ◌∷◌, ◌++◌, length, length-append, replicate, refl, sym, ◌∙◌, ap, subst, arith}
 use Rattle.std.specs.Int.{w64, from_be_bytes}
 use Rattle.std.proofs.lemmas.List.{length-replicate, length-take-le, length-drop, get_or-take, get_or-drop}
-use Rattle.rel_disk.specs.Damage.{overwritten, Only, Within}
+use Rattle.rel_disk.specs.Damage.{overwritten, Within}
 use Rattle.rel_disk.specs.Moments.{Elapses, LeavesOnly}
 use Rattle.rel_disk.proofs.Moments.{started, goes_on, joined, weakened}
 use Rattle.std.proofs.lemmas.Grind.{same_number_lists}
 use Rattle.rel_store.specs.Changed.{LeavesOthers, IsInRecord, IsInOtherSlot}
 use Rattle.rel_store.specs.Layout.{part, selected, slot_with, base_slot, base_of}
 use Rattle.rel_store.proofs.Whole.{base-same, selected-le, selected-ge}
-use Rattle.rel_store.specs.Moments.{IsTornFrom}
+use Rattle.rel_store.specs.Moments.{IsTornFrom, IsTornInSteps}
 use Rattle.rel_store.specs.Records.{record_bytes, Stands, StandsEither, StandsWithEither}
 use Rattle.rel_store.specs.State.{records_in, text_in, IsSettled}
 use Rattle.rel_store.specs.declared.store.Store.{Store}
@@ -95,26 +95,27 @@ module _ {D : Type 0} (moment : D → ℕ) (left_since : D → ℕ → List ℕ 
       → LeavesOnly moment left_since store.disk store.disk P
   resting P implies only_now = started moment left_since store.disk P (λ c left. implies c (each_now c (only_now c left)))
 
-  module _ (body bytes : List ℕ) (short : length body ≤ 16777216) (spelled : bytes ≡ record_bytes body ++ 0 ∷ []) (mid : D) where
+  module _ (body bytes : List ℕ) (short : length body ≤ 16777216) (spelled : bytes ≡ record_bytes body ++ 0 ∷ []) where
     abbrev Either : List ℕ → Type 0
     Either = StandsEither (records_in store) body (text_in seen store)
 
     -- the record's bytes are written behind the closed gate
-    pub after_first : LeavesOnly moment left_since store.disk mid (IsTornFrom (may_leave store.disk) (store.gate + 1) (length bytes)) → LeavesOnly moment left_since store.disk mid Either
-    after_first leaves = weakened moment left_since store.disk mid _ Either (first_leaves (records_in store) (text_in seen store) body (seen store.disk) store.gate (length bytes) (may_leave store.disk) stands_now s.end s.durable) leaves
+    abbrev with_body : List ℕ
+    with_body = overwritten (store.gate + 1) bytes (seen store.disk)
 
-    pub staged_now : seen mid ≡ overwritten (store.gate + 1) bytes (seen store.disk) → Staged (records_in store) (text_in seen store) body store.gate (seen store.disk) (seen mid)
-    staged_now written = staged (records_in store) (text_in seen store) body (seen store.disk) (seen mid) bytes store.gate stands_now s.end spelled written
+    staged_now : Staged (records_in store) (text_in seen store) body store.gate (seen store.disk) with_body
+    staged_now = staged (records_in store) (text_in seen store) body (seen store.disk) with_body bytes store.gate stands_now s.end spelled refl
 
-    -- the gate is opened
-    pub after_second : (new : D) → LeavesOnly moment left_since store.disk mid (IsTornFrom (may_leave store.disk) (store.gate + 1) (length bytes)) → seen mid ≡ overwritten (store.gate + 1) bytes (seen store.disk) → Only (seen mid) (may_leave mid)
-        → LeavesOnly moment left_since mid new (IsTornFrom (may_leave mid) store.gate 1) → LeavesOnly moment left_since store.disk new Either
-    after_second new first written durable second =
-        joined moment left_since store.disk mid new Either (after_first first)
-        (weakened moment left_since mid new _ Either (second_leaves (records_in store) (text_in seen store) body (seen store.disk) (seen mid) store.gate (may_leave mid) short (staged_now written) durable) second)
+    -- then the gate is opened
+    pub after_append : (new : D) → LeavesOnly moment left_since store.disk new (IsTornInSteps (may_leave store.disk) (store.gate + 1) bytes store.gate (seen store.disk)) → LeavesOnly moment left_since store.disk new Either
+    after_append new leaves = weakened moment left_since store.disk new _ Either each leaves
+      where
+        each : (c : List ℕ) → IsTornInSteps (may_leave store.disk) (store.gate + 1) bytes store.gate (seen store.disk) c → Either c
+        each c (inl first) = first_leaves (records_in store) (text_in seen store) body (seen store.disk) store.gate (length bytes) (may_leave store.disk) stands_now s.end s.durable c first
+        each c (inr second) = second_leaves (records_in store) (text_in seen store) body (seen store.disk) with_body store.gate (λ d. d ≡ with_body) short staged_now (λ d is. is) c second
 
-    pub appended_now : (new : D) → seen mid ≡ overwritten (store.gate + 1) bytes (seen store.disk) → seen new ≡ overwritten store.gate (1 ∷ []) (seen mid) → Appended (records_in store) (text_in seen store) body store.gate (seen store.disk) (seen new)
-    appended_now new written opened = appended (records_in store) (text_in seen store) body (seen store.disk) (seen mid) (seen new) store.gate short (staged_now written) opened
+    pub appended_now : (new : D) → seen new ≡ overwritten store.gate (1 ∷ []) with_body → Appended (records_in store) (text_in seen store) body store.gate (seen store.disk) (seen new)
+    appended_now new opened = appended (records_in store) (text_in seen store) body (seen store.disk) with_body (seen new) store.gate short staged_now opened
 
   -- a call that writes nothing
   pub after_reading : (new : D) → ((c : List ℕ) → left_since store.disk (moment store.disk) c → may_leave store.disk c) → Elapses (moment store.disk) (moment new) (left_since store.disk) (left_since new) (may_leave new) → Within (may_leave store.disk) (may_leave new)
@@ -126,7 +127,7 @@ module _ {D : Type 0} (moment : D → ℕ) (left_since : D → ℕ → List ℕ 
   abbrev second : Bool
   second = not store.second_start
 
-  module _ (slot text : List ℕ) (few : length text ≤ 127) (spelled : slot ≡ slot_with text) (place : ℕ) (at : place ≡ slot_place second) (mid : D) where
+  module _ (slot text : List ℕ) (few : length text ≤ 127) (spelled : slot ≡ slot_with text) (place : ℕ) (at : place ≡ slot_place second) where
     abbrev WithEither : List ℕ → Type 0
     WithEither = StandsWithEither (records_in store) (text_in seen store) (slot_with text)
 
@@ -141,26 +142,27 @@ module _ {D : Type 0} (moment : D → ℕ) (left_since : D → ℕ → List ℕ 
         twice false = refl
 
     -- the slot that doesn't count is written
-    pub after_slot : LeavesOnly moment left_since store.disk mid (IsTornFrom (may_leave store.disk) place (length slot)) → LeavesOnly moment left_since store.disk mid WithEither
-    after_slot leaves =
-        let size : length slot ≡ 128 = ap length spelled ∙ long in
-        weakened moment left_since store.disk mid _ WithEither (λ c torn. slot_leaves second (records_in store) (text_in seen store) (slot_with text) (seen store.disk) (may_leave store.disk) stands_now counted_slot s.durable c
-        (subst (λ n. IsTornFrom (may_leave store.disk) (slot_place second) n c) size (subst (λ q. IsTornFrom (may_leave store.disk) q (length slot) c) at torn))) leaves
+    abbrev with_slot : List ℕ
+    with_slot = overwritten place slot (seen store.disk)
 
-    pub slotted_now : seen mid ≡ overwritten place slot (seen store.disk) → Slotted second (records_in store) (text_in seen store) (slot_with text) (seen store.disk) (seen mid)
-    slotted_now written =
-        slotted second (slot_with text) (seen store.disk) (seen mid) (records_in store) (text_in seen store) long stands_now counted_slot (written ∙ (λ i. overwritten (at i) (spelled i) (seen store.disk)))
+    slotted_now : Slotted second (records_in store) (text_in seen store) (slot_with text) (seen store.disk) with_slot
+    slotted_now = slotted second (slot_with text) (seen store.disk) with_slot (records_in store) (text_in seen store) long stands_now counted_slot (λ i. overwritten (at i) (spelled i) (seen store.disk))
 
-    -- the selector is written
-    pub after_selector : (new : D) → LeavesOnly moment left_since store.disk mid (IsTornFrom (may_leave store.disk) place (length slot)) → seen mid ≡ overwritten place slot (seen store.disk) → Only (seen mid) (may_leave mid)
-        → LeavesOnly moment left_since mid new (IsTornFrom (may_leave mid) 9 1) → LeavesOnly moment left_since store.disk new WithEither
-    after_selector new first written durable next =
-        joined moment left_since store.disk mid new WithEither (after_slot first)
-        (weakened moment left_since mid new _ WithEither (selector_leaves second (records_in store) (text_in seen store) (slot_with text) (seen store.disk) (seen mid) (may_leave mid) (slotted_now written) durable) next)
+    -- then the selector
+    pub after_start : (new : D) → LeavesOnly moment left_since store.disk new (IsTornInSteps (may_leave store.disk) place slot 9 (seen store.disk)) → LeavesOnly moment left_since store.disk new WithEither
+    after_start new leaves = weakened moment left_since store.disk new _ WithEither each leaves
+      where
+        size : length slot ≡ 128
+        size = ap length spelled ∙ long
 
-    pub selected_slot : (new : D) (byte : ℕ) → byte ≡ (if second then 1 else 0) → seen mid ≡ overwritten place slot (seen store.disk) → seen new ≡ overwritten 9 (byte ∷ []) (seen mid) → Selected second (records_in store) (slot_with text) (seen store.disk) (seen new)
-    selected_slot new byte is written next =
-        selected_now second (records_in store) (text_in seen store) (slot_with text) (seen store.disk) (seen mid) (seen new) byte (ap (λ b. b == 1) is ∙ chooses second) (slotted_now written) next
+        each : (c : List ℕ) → IsTornInSteps (may_leave store.disk) place slot 9 (seen store.disk) c → WithEither c
+        each c (inl first) =
+            slot_leaves second (records_in store) (text_in seen store) (slot_with text) (seen store.disk) (may_leave store.disk) stands_now counted_slot s.durable c
+            (subst (λ n. IsTornFrom (may_leave store.disk) (slot_place second) n c) size (subst (λ q. IsTornFrom (may_leave store.disk) q (length slot) c) at first))
+        each c (inr next) = selector_leaves second (records_in store) (text_in seen store) (slot_with text) (seen store.disk) with_slot (λ d. d ≡ with_slot) slotted_now (λ d is. is) c next
+
+    pub selected_slot : (new : D) (byte : ℕ) → byte ≡ (if second then 1 else 0) → seen new ≡ overwritten 9 (byte ∷ []) with_slot → Selected second (records_in store) (slot_with text) (seen store.disk) (seen new)
+    selected_slot new byte is next = selected_now second (records_in store) (text_in seen store) (slot_with text) (seen store.disk) with_slot (seen new) byte (ap (λ b. b == 1) is ∙ chooses second) slotted_now next
       where
         chooses : (b : Bool) → ((if b then 1 else 0) == 1) ≡ b
         chooses true = refl

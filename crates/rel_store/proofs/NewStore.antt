@@ -7,16 +7,16 @@ use Rattle.std.proofs.lemmas.Bool.Decides.{nat_tests}
 use Rattle.std.proofs.lemmas.List.{take_at, drop_at, drop-drop, length-replicate}
 use Rattle.rel_disk.specs.Damage.{overwritten, Torn, Only, Within}
 use Rattle.rel_disk.specs.Moments.{LeavesOnly}
-use Rattle.rel_disk.proofs.Moments.{joined, weakened}
+use Rattle.rel_disk.proofs.Moments.{weakened}
 use Rattle.rel_store.specs.Creation.{IsNoneOrNew, IsBegunAt, Creates, new_store}
 use Rattle.rel_store.specs.Layout.{magic, has_magic, base_slot, base_of, text_of, slot_with, new_layout}
-use Rattle.rel_store.specs.Moments.{IsTornFrom}
+use Rattle.rel_store.specs.Moments.{IsTornFrom, IsTornInSteps}
 use Rattle.rel_store.specs.Records.{record_bytes, records_from, records_of, Stands}
 use Rattle.rel_store.specs.declared.error.StoreError.TheVariants.{NotAStore, Damaged}
 use Rattle.rel_store.specs.Changed.{IsInNewStore}
 use Rattle.rel_store.proofs.Append.{one}
 use Rattle.rel_store.proofs.Moments.{touched}
-use Rattle.rel_store.proofs.Ownership.{Owns, one_write, two_writes}
+use Rattle.rel_store.proofs.Ownership.{Owns, steps_leave}
 use Rattle.rel_store.proofs.ReadLemmas.{length-record}
 use Rattle.rel_store.proofs.Whole.{Head, readable, stands, grown}
 
@@ -147,7 +147,7 @@ module _ (start : List ℕ) (few : length start ≤ 127) where
         let whole : c ≡ byte.0 ∷ ((bytes ++ is.0) ++ from.tail) = from.is ∙ ap (λ (l : List ℕ). l ++ ((bytes ++ is.0) ++ from.tail)) byte.1 in
         subst (IsNoneOrNew first start) (sym whole) (any_gate byte.0 ((bytes ++ is.0) ++ from.tail) (is.0 ++ from.tail) (append_assoc bytes is.0 from.tail ∙ behind bytes (is.0 ++ from.tail) spelled))
 
-    -- A creation whose first write is done: where it stands in the second write, and in the third.
+    -- A creation whose first write is done: where it stands while the rest is written, and the gate opened.
     module _ {D : Type 0} (moment : D → ℕ) (left_since : D → ℕ → List ℕ → Type 0) (seen : D → List ℕ) (may_leave : D → List ℕ → Type 0) (old at : D)
         (until : LeavesOnly moment left_since old at (IsTornFrom (may_leave old) 0 1)) (closed : seen at ≡ overwritten 0 (0 ∷ []) (seen old)) (synced : Only (seen at) (may_leave at)) where
       own_bytes : (bytes : List ℕ) → bytes ≡ new_layout start ++ (1 ∷ (record_bytes first ++ 0 ∷ [])) → Owns (IsInNewStore (length first)) 1 (length bytes)
@@ -161,33 +161,26 @@ module _ (start : List ℕ) (few : length start ≤ 127) where
         length-append (record_bytes first) (0 ∷ []),
       )
 
-      pub begun_second : (laid : D) (bytes : List ℕ) → bytes ≡ new_layout start ++ (1 ∷ (record_bytes first ++ 0 ∷ [])) → LeavesOnly moment left_since at laid (IsTornFrom (may_leave at) 1 (length bytes)) → IsBegunAt seen may_leave moment left_since first start old laid at
-      begun_second laid bytes spelled second = record {
+      pub begun : (new : D) (bytes : List ℕ) → bytes ≡ new_layout start ++ (1 ∷ (record_bytes first ++ 0 ∷ [])) → LeavesOnly moment left_since at new (IsTornInSteps (may_leave at) 1 bytes 0 (seen at)) → IsBegunAt seen may_leave moment left_since first start old new at
+      begun new bytes spelled leaves = record {
         until = until;
         closed = closed;
         synced = synced;
-        from = weakened moment left_since at laid _ _ (behind_leaves (seen at) (seen old) (length bytes) (may_leave at) closed synced) second;
-        others = one_write moment left_since seen may_leave (IsInNewStore (length first)) at laid synced 1 (length bytes) (own_bytes bytes spelled) second;
+        from = weakened moment left_since at new _ _ each leaves;
+        others = steps_leave moment left_since seen may_leave (IsInNewStore (length first)) at synced 1 bytes 0 (own_bytes bytes spelled) (λ i from within. omega (arith, within)) new leaves;
       }
+        where
+          laid : List ℕ
+          laid = overwritten 1 bytes (seen at)
 
-      pub begun_third : (laid new : D) (bytes : List ℕ) → bytes ≡ new_layout start ++ (1 ∷ (record_bytes first ++ 0 ∷ [])) → LeavesOnly moment left_since at laid (IsTornFrom (may_leave at) 1 (length bytes))
-          → seen laid ≡ overwritten 1 bytes (seen at) → Only (seen laid) (may_leave laid) → LeavesOnly moment left_since laid new (IsTornFrom (may_leave laid) 0 1) → IsBegunAt seen may_leave moment left_since first start old new at
-      begun_third laid new bytes spelled second written durable third =
-          let before = begun_second laid bytes spelled second in
-          record {
-            until = until;
-            closed = closed;
-            synced = synced;
-            from = joined moment left_since at laid new _ before.from
-                (weakened moment left_since laid new _ _ (gate_leaves (seen laid) bytes (may_leave laid) spelled (laid_out (seen at) (seen old) (seen laid) bytes closed written) durable) third);
-            others = two_writes moment left_since seen may_leave (IsInNewStore (length first)) at laid synced 1 (length bytes) (own_bytes bytes spelled) second bytes refl written durable new 0 1 (λ i from within. omega (arith, within)) third;
-          }
+          each : (c : List ℕ) → IsTornInSteps (may_leave at) 1 bytes 0 (seen at) c → IsNoneOrNew first start c
+          each c (inl second) = behind_leaves (seen at) (seen old) (length bytes) (may_leave at) closed synced c second
+          each c (inr third) = gate_leaves laid bytes (λ d. d ≡ laid) spelled (laid_out (seen at) (seen old) laid bytes closed refl) (λ d is. is) c third
 
 -- Once the gate is opened, the store stands over what there was.
-pub opened_over : (old closed laid bytes opened : List ℕ) → closed ≡ overwritten 0 (0 ∷ []) old → laid ≡ overwritten 1 bytes closed → opened ≡ overwritten 0 (1 ∷ []) laid → opened ≡ overwritten 0 (1 ∷ bytes) old
-opened_over old closed laid bytes opened is written opens =
-    let here : laid ≡ 0 ∷ (bytes ++ drop (1 + length bytes) (0 ∷ drop 1 old)) = written ∙ ap (overwritten 1 bytes) is in
-    opens ∙ ap (overwritten 0 (1 ∷ [])) here ∙ ap (λ (l : List ℕ). 1 ∷ (bytes ++ l)) rest
+pub opened_over : (old closed bytes opened : List ℕ) → closed ≡ overwritten 0 (0 ∷ []) old → opened ≡ overwritten 0 (1 ∷ []) (overwritten 1 bytes closed) → opened ≡ overwritten 0 (1 ∷ bytes) old
+opened_over old closed bytes opened is opens =
+    opens ∙ ap (λ l. overwritten 0 (1 ∷ []) (overwritten 1 bytes l)) is ∙ ap (λ (l : List ℕ). 1 ∷ (bytes ++ l)) rest
   where
     rest : drop (1 + length bytes) (0 ∷ drop 1 old) ≡ drop (0 + length (1 ∷ bytes)) old
     rest =

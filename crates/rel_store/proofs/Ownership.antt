@@ -6,11 +6,11 @@ use Rattle.std.proofs.lemmas.List.{drop_at, length-take-le, take-append-le, take
 use Rattle.rel_disk.specs.Damage.{overwritten, Torn, Only}
 use Rattle.rel_disk.specs.ImageLaws.{overwritten_is_torn}
 use Rattle.rel_disk.specs.Moments.{LeavesOnly}
-use Rattle.rel_disk.proofs.Moments.{started, joined, weakened}
+use Rattle.rel_disk.proofs.Moments.{started, weakened}
 use Rattle.rel_disk.proofs.PlaceLemmas.{torn_keeps}
 use Rattle.rel_store.specs.Changed.{LeavesOthers}
 use Rattle.rel_store.specs.Layout.{selected}
-use Rattle.rel_store.specs.Moments.{IsTornFrom}
+use Rattle.rel_store.specs.Moments.{IsTornInSteps}
 
 -- a call owns each byte of a write
 abbrev pub Owns : (ℕ → Type 0) → ℕ → ℕ → Type 0
@@ -51,31 +51,26 @@ overwritten_in_two at byte bytes old within =
     ∙ ap (λ (l : List ℕ). take at old ++ (byte ∷ l)) behind
     ∙ ap (λ n. take at old ++ (byte ∷ (bytes ++ drop n old))) size
 
--- the images of a disk at the moments of one write, and of a second that follows
+-- the images of a disk at the moments of a write, and of the byte that makes it count
 module _ {D : Type 0} (moment : D → ℕ) (left_since : D → ℕ → List ℕ → Type 0) (seen : D → List ℕ) (may_leave : D → List ℕ → Type 0) (is_own : ℕ → Type 0) where
   pub at_rest : (old : D) → Only (seen old) (may_leave old) → ((c : List ℕ) → left_since old (moment old) c → may_leave old c) → LeavesOnly moment left_since old old (LeavesOthers is_own (seen old))
   at_rest old only only_now = started moment left_since old (LeavesOthers is_own (seen old)) (λ c left. subst (LeavesOthers is_own (seen old)) (sym (only c (only_now c left))) (untouched is_own (seen old)))
 
-  module _ (old mid : D) (only : Only (seen old) (may_leave old)) (at n : ℕ) (own : Owns is_own at n) (first : LeavesOnly moment left_since old mid (IsTornFrom (may_leave old) at n)) where
-    pub one_write : LeavesOnly moment left_since old mid (LeavesOthers is_own (seen old))
-    one_write = weakened moment left_since old mid (IsTornFrom (may_leave old) at n) (LeavesOthers is_own (seen old)) each first
+  module _ (old : D) (only : Only (seen old) (may_leave old)) (at : ℕ) (bytes : List ℕ) (mark : ℕ) (own : Owns is_own at (length bytes)) (own_mark : Owns is_own mark 1) where
+    pub steps_leave : (new : D) → LeavesOnly moment left_since old new (IsTornInSteps (may_leave old) at bytes mark (seen old)) → LeavesOnly moment left_since old new (LeavesOthers is_own (seen old))
+    steps_leave new leaves = weakened moment left_since old new (IsTornInSteps (may_leave old) at bytes mark (seen old)) (LeavesOthers is_own (seen old)) each leaves
       where
-        each : (c : List ℕ) → IsTornFrom (may_leave old) at n c → LeavesOthers is_own (seen old) c
-        each c (inl now) = subst (LeavesOthers is_own (seen old)) (sym (only c now)) (untouched is_own (seen old))
-        each c (inr torn) = torn_leaves is_own at n (seen old) c own (subst (λ d. Torn at n d c) (only torn.0 torn.1) torn.2)
+        mid : List ℕ
+        mid = overwritten at bytes (seen old)
 
-    pub two_writes : (bytes : List ℕ) → length bytes ≡ n → seen mid ≡ overwritten at bytes (seen old) → Only (seen mid) (may_leave mid) → (new : D) (at' n' : ℕ) → Owns is_own at' n'
-        → LeavesOnly moment left_since mid new (IsTornFrom (may_leave mid) at' n') → LeavesOnly moment left_since old new (LeavesOthers is_own (seen old))
-    two_writes bytes size written durable new at' n' own' second =
-        joined moment left_since old mid new (LeavesOthers is_own (seen old)) one_write
-        (weakened moment left_since mid new (IsTornFrom (may_leave mid) at' n') (LeavesOthers is_own (seen old)) each second)
-      where
-        so_far : LeavesOthers is_own (seen old) (seen mid)
-        so_far = written_leaves is_own at bytes (seen old) (seen mid) (subst (Owns is_own at) (sym size) own) written
+        so_far : LeavesOthers is_own (seen old) mid
+        so_far = written_leaves is_own at bytes (seen old) mid own refl
 
-        each : (c : List ℕ) → IsTornFrom (may_leave mid) at' n' c → LeavesOthers is_own (seen old) c
-        each c (inl now) = subst (LeavesOthers is_own (seen old)) (sym (durable c now)) so_far
-        each c (inr torn) = both is_own (seen old) (seen mid) c so_far (torn_leaves is_own at' n' (seen mid) c own' (subst (λ d. Torn at' n' d c) (durable torn.0 torn.1) torn.2))
+        each : (c : List ℕ) → IsTornInSteps (may_leave old) at bytes mark (seen old) c → LeavesOthers is_own (seen old) c
+        each c (inl (inl now)) = subst (LeavesOthers is_own (seen old)) (sym (only c now)) (untouched is_own (seen old))
+        each c (inl (inr torn)) = torn_leaves is_own at (length bytes) (seen old) c own (subst (λ d. Torn at (length bytes) d c) (only torn.0 torn.1) torn.2)
+        each c (inr (inl now)) = subst (LeavesOthers is_own (seen old)) (sym now) so_far
+        each c (inr (inr torn)) = both is_own (seen old) mid c so_far (torn_leaves is_own mark 1 mid c own_mark (subst (λ d. Torn mark 1 d c) torn.1 torn.2))
 
 -- what is chosen for the start slot that doesn't count: its place, and its selector
 pub other : (x y : ℕ) (second : Bool) (value : ℕ) (bytes : List ℕ) → second ≡ (slice_index bytes 9 == 1) → value ≡ (if not second then x else y) → value ≡ selected (slice_index bytes 9) x y

@@ -2,8 +2,6 @@
 use Rattle.std.proofs.Common.{◌≡◌, inl, inr, ℕ, ◌+◌, ◌-◌, ◌<◌, ◌≤◌, Bool, true, false, not, List, [], ◌∷◌, ◌++◌, length, get_or, take, drop, Ok, refl, sym, ◌∙◌, ap, subst, arith, append_assoc, length-append, length-drop}
 use Rattle.std.specs.Prelude.{if◌then◌else◌, ◌==◌, slice_index, bytes_eq}
 use Rattle.std.specs.Int.{w64, from_be_bytes}
-use Rattle.std.proofs.lemmas.Bool.{cases_eq}
-use Rattle.std.proofs.lemmas.Bool.Decides.{nat_tests}
 use Rattle.std.proofs.lemmas.List.{take_at, drop_at, length-take-le, take-append-le, drop-append-le, drop-drop, get_or-drop, get_or-take, get_or_append_left, append-nil}
 use Rattle.rel_disk.specs.Damage.{overwritten, Torn, Only}
 use Rattle.rel_store.specs.Layout.{magic, part, selected, start_slot, base_slot, base_of}

@@ -7,7 +7,7 @@ ghost use Rattle.rel_store.specs.Layout.{has_magic, slot_with};
 ghost use Rattle.rel_store.specs.State.{disk_in, disk_of, end_in, records_in, text_in, Fits, IsSettled, IsSoundStore};
 
 use crate::bytes::spell_store;
-use crate::device::write_through;
+use crate::device::{write_and_commit, write_through};
 use crate::layout::{BEGINNING, CLOSED, FIRST_RECORD, MAX_BODY, OPEN, RECORD_HEAD, begins_a_store};
 use crate::{Store, StoreError};
 use rel_disk::{DeviceFault, Disk};
@@ -120,8 +120,7 @@ fn write_store<D: Disk>(disk: &mut D, bytes: &[u8]) -> Result<(), DeviceFault>
     ensures cause { IsErr result → HasFailed (D.failures disk.old) (D.failures disk.new) }
 {
     write_through(disk, 0, &[CLOSED])?;
-    write_through(disk, 1, bytes)?;
-    write_through(disk, 0, &[OPEN])
+    write_and_commit(disk, 1, bytes, 0, OPEN)
 }
 
 /// Whether the disk begins as one with a store does, with an open gate and the magic, whole or damaged: [`Store::create`]

@@ -9,7 +9,7 @@ ghost use Rattle.rel_store.specs.State.{disk_in, records_in, text_in, gate_in, e
 
 use crate::StoreError;
 use crate::bytes::{body_of_record, make_room, spell_record, start_slot};
-use crate::device::write_through;
+use crate::device::write_and_commit;
 use crate::layout::{
     MAX_BODY, MAX_END, OPEN, RECORD_HEAD, START_SELECTOR, slot_place, start_selector,
 };
@@ -124,8 +124,13 @@ impl<D: Disk> Store<D> {
         self.records.reserve(1)?;
         spell_record(alloc, &mut self.spare, body)?;
         self.must_reopen = true;
-        write_through(&mut self.disk, self.gate + 1, &self.spare[1..])?;
-        write_through(&mut self.disk, self.gate, &[OPEN])?;
+        write_and_commit(
+            &mut self.disk,
+            self.gate + 1,
+            &self.spare[1..],
+            self.gate,
+            OPEN,
+        )?;
         self.must_reopen = false;
         self.gate += (RECORD_HEAD + body.len()) as u64;
         let record = mem::replace(&mut self.spare, Vec::new(alloc));
@@ -199,11 +204,12 @@ impl<D: Disk> Store<D> {
         }
         let second = !self.second_start;
         self.must_reopen = true;
-        write_through(&mut self.disk, slot_place(second), &start_slot(text))?;
-        write_through(
+        write_and_commit(
             &mut self.disk,
+            slot_place(second),
+            &start_slot(text),
             START_SELECTOR as u64,
-            &[start_selector(second)],
+            start_selector(second),
         )?;
         self.second_start = second;
         self.must_reopen = false;

@@ -1,4 +1,4 @@
-use Rattle.std.proofs.Common.{◌≡◌, ℕ, ◌+◌, ◌-◌, ◌≤◌, List, [], ◌∷◌, ◌++◌, map, length, length-append, take, drop, inl, refl, sym, ◌∙◌, ap, arith, rules, Ok}
+use Rattle.std.proofs.Common.{◌≡◌, ℕ, ◌+◌, ◌-◌, List, [], ◌∷◌, ◌++◌, map, length, length-append, take, drop, inl, refl, sym, ◌∙◌, ap, arith, Ok, true≢false}
 use Rattle.std.specs.Prelude.{◌==◌}
 use Rattle.std.proofs.lemmas.Grind.{common_steps}
 use Rattle.std.proofs.lemmas.List.{take_all}
@@ -6,12 +6,15 @@ use Rattle.rel_disk.specs.Damage.{overwritten}
 use Rattle.rel_store.specs.Changed.{IsInRecord}
 use Rattle.rel_store.specs.Layout.{base_of}
 use Rattle.rel_store.specs.Records.{record_bytes, space}
-use Rattle.rel_store.specs.State.{records_in}
 use Rattle.rel_store.proofs.Exits.{no_success}
-use Rattle.rel_store.proofs.Append.{gate_within, staged_within}
-use Rattle.rel_store.proofs.Moments.{stands_now, resting, after_first, staged_now, after_second, appended_now}
-use Rattle.rel_store.proofs.Ownership.{Owns, at_rest, one_write, two_writes, overwritten_in_two}
+use Rattle.rel_store.proofs.Append.{gate_within}
+use Rattle.rel_store.proofs.Moments.{stands_now, resting, after_append, appended_now}
+use Rattle.rel_store.proofs.Ownership.{Owns, at_rest, steps_leave, overwritten_in_two}
 use Rattle.rel_store.proofs.ReadLemmas.{length-record}
+use Rattle.std.proofs.Math.Nat.{le_refl}
+use Rattle.rel_store.specs.declared.error.StoreError.TheVariants.{Device, MustReopen, Full}
+use Rattle.rel_store.proofs.Scan.{passed_on}
+use Rattle.rel_store.proofs.Refusals.{not_both, device_not_reopened, device_not_full, memory_not_reopened, memory_not_full, none_answered, same_store, sound_still}
 use Rattle.rel_store.proofs.store.Store.append.Goals as goal
 
 -- what stands behind the gate in a record's bytes
@@ -35,45 +38,30 @@ returns-in_err-reserve-clause-any_moment g c = λ works. resting g.D.Disk.moment
 pub returns-in_err-spell_record-clause-any_moment : goal.returns-in_err-spell_record-clause-any_moment
 returns-in_err-spell_record-clause-any_moment g c = λ works. resting g.D.Disk.moment g.D.Disk.left_since g.D.Disk.seen g.D.Disk.may_leave c.args.self.now (c.requires.settled works) _ (λ f here. inl here) (g.met.D.Disk.only_now c.args.self.now.disk)
 
-pub write_through-requires : goal.write_through-requires
-write_through-requires g c =
+pub write_and_commit-requires : goal.write_and_commit-requires
+write_and_commit-requires g c =
     let s = c.requires.settled c.if-self.false in
-    omega (arith, gate_within _ _ _ _ (stands_now g.D.Disk.moment g.D.Disk.left_since g.D.Disk.seen g.D.Disk.may_leave c.args.self.now s) s.end)
+    let within = gate_within _ _ _ _ (stands_now g.D.Disk.moment g.D.Disk.left_since g.D.Disk.seen g.D.Disk.may_leave c.args.self.now s) s.end in
+    record { at = omega (arith, within); mark = omega (arith, within) }
 
-pub returns-in_err-write_through-clause-any_moment : goal.returns-in_err-write_through-clause-any_moment
-returns-in_err-write_through-clause-any_moment g c = λ works.
+pub returns-in_err-write_and_commit-clause-any_moment : goal.returns-in_err-write_and_commit-clause-any_moment
+returns-in_err-write_and_commit-clause-any_moment g c = λ works.
     let short = (c.if-not-fits.ensures.0 refl).0 in
     let spelled = behind_gate c.deref.result.now c.args.body.now (c.deref.ensures.value ∙ c.in_ok-spell_record.ensures.ok) in
-    after_first g.D.Disk.moment g.D.Disk.left_since g.D.Disk.seen g.D.Disk.may_leave c.args.self.now (c.requires.settled works) c.args.body.now _ short spelled c.write_through.new.disk c.write_through.ensures.any_moment
-
-pub write_through-requires-2 : goal.write_through-requires-2
-write_through-requires-2 g c =
-    let s = c.requires.settled c.if-self.false in
-    let short = (c.if-not-fits.ensures.0 refl).0 in
-    let spelled = behind_gate c.deref.result.now c.args.body.now (c.deref.ensures.value ∙ c.in_ok-spell_record.ensures.ok) in
-    staged_within _ _ _ _ _ _ (staged_now g.D.Disk.moment g.D.Disk.left_since g.D.Disk.seen g.D.Disk.may_leave c.args.self.now s c.args.body.now _ short spelled c.write_through.new.disk c.in_ok-write_through.ensures.written)
-
-pub returns-in_err-write_through-2-clause-any_moment : goal.returns-in_err-write_through-2-clause-any_moment
-returns-in_err-write_through-2-clause-any_moment g c = λ works.
-    let short = (c.if-not-fits.ensures.0 refl).0 in
-    let spelled = behind_gate c.deref.result.now c.args.body.now (c.deref.ensures.value ∙ c.in_ok-spell_record.ensures.ok) in
-    after_second g.D.Disk.moment g.D.Disk.left_since g.D.Disk.seen g.D.Disk.may_leave c.args.self.now (c.requires.settled works) c.args.body.now _ short spelled c.write_through.new.disk c.write_through-2.new.disk
-    c.write_through.ensures.any_moment c.in_ok-write_through.ensures.written c.in_ok-write_through.ensures.durable c.write_through-2.ensures.any_moment
+    after_append g.D.Disk.moment g.D.Disk.left_since g.D.Disk.seen g.D.Disk.may_leave c.args.self.now (c.requires.settled works) c.args.body.now _ short spelled c.write_and_commit.new.disk c.write_and_commit.ensures.any_moment
 
 pub returns-clause-any_moment : goal.returns-clause-any_moment
 returns-clause-any_moment g c = λ works.
     let short = (c.if-not-fits.ensures.0 refl).0 in
     let spelled = behind_gate c.deref.result.now c.args.body.now (c.deref.ensures.value ∙ c.in_ok-spell_record.ensures.ok) in
-    after_second g.D.Disk.moment g.D.Disk.left_since g.D.Disk.seen g.D.Disk.may_leave c.args.self.now (c.requires.settled works) c.args.body.now _ short spelled c.write_through.new.disk c.write_through-2.new.disk
-    c.write_through.ensures.any_moment c.in_ok-write_through.ensures.written c.in_ok-write_through.ensures.durable c.write_through-2.ensures.any_moment
+    after_append g.D.Disk.moment g.D.Disk.left_since g.D.Disk.seen g.D.Disk.may_leave c.args.self.now (c.requires.settled works) c.args.body.now _ short spelled c.write_and_commit.new.disk c.write_and_commit.ensures.any_moment
 
 pub returns-clause-start : goal.returns-clause-start
 returns-clause-start g c =
     let s = c.requires.settled c.if-self.false in
     let short = (c.if-not-fits.ensures.0 refl).0 in
     let spelled = behind_gate c.deref.result.now c.args.body.now (c.deref.ensures.value ∙ c.in_ok-spell_record.ensures.ok) in
-    let a = appended_now g.D.Disk.moment g.D.Disk.left_since g.D.Disk.seen g.D.Disk.may_leave c.args.self.now s c.args.body.now _ short spelled c.write_through.new.disk c.write_through-2.new.disk c.in_ok-write_through.ensures.written c.in_ok-write_through-2.ensures.written in
-    a.here.start
+    (appended_now g.D.Disk.moment g.D.Disk.left_since g.D.Disk.seen g.D.Disk.may_leave c.args.self.now s c.args.body.now _ short spelled c.write_and_commit.new.disk c.in_ok-write_and_commit.ensures.written).here.start
 
 pub returns-clause-added : goal.returns-clause-added
 returns-clause-added g c = grind (arith, common_steps)
@@ -83,13 +71,13 @@ returns-clause-settled g c =
     let s = c.requires.settled c.if-self.false in
     let short = (c.if-not-fits.ensures.0 refl).0 in
     let spelled = behind_gate c.deref.result.now c.args.body.now (c.deref.ensures.value ∙ c.in_ok-spell_record.ensures.ok) in
-    let a = appended_now g.D.Disk.moment g.D.Disk.left_since g.D.Disk.seen g.D.Disk.may_leave c.args.self.now s c.args.body.now _ short spelled c.write_through.new.disk c.write_through-2.new.disk c.in_ok-write_through.ensures.written c.in_ok-write_through-2.ensures.written in
+    let a = appended_now g.D.Disk.moment g.D.Disk.left_since g.D.Disk.seen g.D.Disk.may_leave c.args.self.now s c.args.body.now _ short spelled c.write_and_commit.new.disk c.in_ok-write_and_commit.ensures.written in
     let added = returns-clause-added g c in
     record {
       works = refl;
       records = a.here.records ∙ ap (λ bodies. Ok bodies) (sym added);
-      durable = c.in_ok-write_through-2.ensures.durable;
-      end = a.end ∙ ap (λ bodies. base_of (g.D.Disk.seen c.write_through-2.new.disk) + space bodies) (sym added);
+      durable = c.in_ok-write_and_commit.ensures.durable;
+      end = a.end ∙ ap (λ bodies. base_of (g.D.Disk.seen c.write_and_commit.new.disk) + space bodies) (sym added);
       start = s.start ∙ ap (λ selector. selector == 1) (sym a.selector);
     }
 
@@ -105,22 +93,15 @@ returns-in_err-reserve-clause-others g c = λ works. at_rest g.D.Disk.moment g.D
 pub returns-in_err-spell_record-clause-others : goal.returns-in_err-spell_record-clause-others
 returns-in_err-spell_record-clause-others g c = λ works. at_rest g.D.Disk.moment g.D.Disk.left_since g.D.Disk.seen g.D.Disk.may_leave _ c.args.self.now.disk (c.requires.settled works).durable (g.met.D.Disk.only_now c.args.self.now.disk)
 
-pub returns-in_err-write_through-clause-others : goal.returns-in_err-write_through-clause-others
-returns-in_err-write_through-clause-others g c = λ works.
+pub returns-in_err-write_and_commit-clause-others : goal.returns-in_err-write_and_commit-clause-others
+returns-in_err-write_and_commit-clause-others g c = λ works.
     let spelled = behind_gate c.deref.result.now c.args.body.now (c.deref.ensures.value ∙ c.in_ok-spell_record.ensures.ok) in
-    one_write g.D.Disk.moment g.D.Disk.left_since g.D.Disk.seen g.D.Disk.may_leave _ c.args.self.now.disk c.write_through.new.disk (c.requires.settled works).durable _ _ (in_record _ c.args.self.now.gate c.args.body.now spelled) c.write_through.ensures.any_moment
-
-pub returns-in_err-write_through-2-clause-others : goal.returns-in_err-write_through-2-clause-others
-returns-in_err-write_through-2-clause-others g c = λ works.
-    let spelled = behind_gate c.deref.result.now c.args.body.now (c.deref.ensures.value ∙ c.in_ok-spell_record.ensures.ok) in
-    two_writes g.D.Disk.moment g.D.Disk.left_since g.D.Disk.seen g.D.Disk.may_leave _ c.args.self.now.disk c.write_through.new.disk (c.requires.settled works).durable _ _ (in_record _ c.args.self.now.gate c.args.body.now spelled) c.write_through.ensures.any_moment
-    _ refl c.in_ok-write_through.ensures.written c.in_ok-write_through.ensures.durable c.write_through-2.new.disk _ _ (is_gate c.args.self.now.gate (length c.args.body.now)) c.write_through-2.ensures.any_moment
+    steps_leave g.D.Disk.moment g.D.Disk.left_since g.D.Disk.seen g.D.Disk.may_leave _ c.args.self.now.disk (c.requires.settled works).durable _ _ _ (in_record _ c.args.self.now.gate c.args.body.now spelled) (is_gate c.args.self.now.gate (length c.args.body.now)) c.write_and_commit.new.disk c.write_and_commit.ensures.any_moment
 
 pub returns-clause-others : goal.returns-clause-others
 returns-clause-others g c = λ works.
     let spelled = behind_gate c.deref.result.now c.args.body.now (c.deref.ensures.value ∙ c.in_ok-spell_record.ensures.ok) in
-    two_writes g.D.Disk.moment g.D.Disk.left_since g.D.Disk.seen g.D.Disk.may_leave _ c.args.self.now.disk c.write_through.new.disk (c.requires.settled works).durable _ _ (in_record _ c.args.self.now.gate c.args.body.now spelled) c.write_through.ensures.any_moment
-    _ refl c.in_ok-write_through.ensures.written c.in_ok-write_through.ensures.durable c.write_through-2.new.disk _ _ (is_gate c.args.self.now.gate (length c.args.body.now)) c.write_through-2.ensures.any_moment
+    steps_leave g.D.Disk.moment g.D.Disk.left_since g.D.Disk.seen g.D.Disk.may_leave _ c.args.self.now.disk (c.requires.settled works).durable _ _ _ (in_record _ c.args.self.now.gate c.args.body.now spelled) (is_gate c.args.self.now.gate (length c.args.body.now)) c.write_and_commit.new.disk c.write_and_commit.ensures.any_moment
 
 pub returns-clause-bytes : goal.returns-clause-bytes
 returns-clause-bytes g c =
@@ -128,8 +109,8 @@ returns-clause-bytes g c =
     let old = g.D.Disk.seen c.args.self.now.disk in
     let spelled = behind_gate c.deref.result.now c.args.body.now (c.deref.ensures.value ∙ c.in_ok-spell_record.ensures.ok) in
     let within = gate_within _ _ _ _ (stands_now g.D.Disk.moment g.D.Disk.left_since g.D.Disk.seen g.D.Disk.may_leave c.args.self.now s) s.end in
-    c.in_ok-write_through-2.ensures.written
-    ∙ ap (overwritten c.args.self.now.gate (1 ∷ [])) (c.in_ok-write_through.ensures.written ∙ ap (λ l. overwritten (c.args.self.now.gate + 1) l old) spelled)
+    c.in_ok-write_and_commit.ensures.written
+    ∙ ap (λ l. overwritten c.args.self.now.gate (1 ∷ []) (overwritten (c.args.self.now.gate + 1) l old)) spelled
     ∙ overwritten_in_two c.args.self.now.gate 1 (record_bytes c.args.body.now ++ 0 ∷ []) old within
 
 -- after an error
@@ -163,32 +144,106 @@ returns-in_err-spell_record-clause-end g c = no_success _ _ c.from_residual-in_e
 pub returns-in_err-spell_record-clause-bytes : goal.returns-in_err-spell_record-clause-bytes
 returns-in_err-spell_record-clause-bytes g c = no_success _ _ c.from_residual-in_err-spell_record.ensures.0
 
-pub returns-in_err-write_through-clause-settled : goal.returns-in_err-write_through-clause-settled
-returns-in_err-write_through-clause-settled g c = no_success _ _ c.from_residual-in_err-write_through.ensures.0
+pub returns-in_err-write_and_commit-clause-settled : goal.returns-in_err-write_and_commit-clause-settled
+returns-in_err-write_and_commit-clause-settled g c = no_success _ _ c.from_residual-in_err-write_and_commit.ensures.0
 
-pub returns-in_err-write_through-clause-added : goal.returns-in_err-write_through-clause-added
-returns-in_err-write_through-clause-added g c = no_success _ _ c.from_residual-in_err-write_through.ensures.0
+pub returns-in_err-write_and_commit-clause-added : goal.returns-in_err-write_and_commit-clause-added
+returns-in_err-write_and_commit-clause-added g c = no_success _ _ c.from_residual-in_err-write_and_commit.ensures.0
 
-pub returns-in_err-write_through-clause-start : goal.returns-in_err-write_through-clause-start
-returns-in_err-write_through-clause-start g c = no_success _ _ c.from_residual-in_err-write_through.ensures.0
+pub returns-in_err-write_and_commit-clause-start : goal.returns-in_err-write_and_commit-clause-start
+returns-in_err-write_and_commit-clause-start g c = no_success _ _ c.from_residual-in_err-write_and_commit.ensures.0
 
-pub returns-in_err-write_through-clause-end : goal.returns-in_err-write_through-clause-end
-returns-in_err-write_through-clause-end g c = no_success _ _ c.from_residual-in_err-write_through.ensures.0
+pub returns-in_err-write_and_commit-clause-end : goal.returns-in_err-write_and_commit-clause-end
+returns-in_err-write_and_commit-clause-end g c = no_success _ _ c.from_residual-in_err-write_and_commit.ensures.0
 
-pub returns-in_err-write_through-clause-bytes : goal.returns-in_err-write_through-clause-bytes
-returns-in_err-write_through-clause-bytes g c = no_success _ _ c.from_residual-in_err-write_through.ensures.0
+pub returns-in_err-write_and_commit-clause-bytes : goal.returns-in_err-write_and_commit-clause-bytes
+returns-in_err-write_and_commit-clause-bytes g c = no_success _ _ c.from_residual-in_err-write_and_commit.ensures.0
 
-pub returns-in_err-write_through-2-clause-settled : goal.returns-in_err-write_through-2-clause-settled
-returns-in_err-write_through-2-clause-settled g c = no_success _ _ c.from_residual-in_err-write_through-2.ensures.0
+-- the store had failed already
+pub returns-then-self-clause-sound : goal.returns-then-self-clause-sound
+returns-then-self-clause-sound g c = c.requires
 
-pub returns-in_err-write_through-2-clause-added : goal.returns-in_err-write_through-2-clause-added
-returns-in_err-write_through-2-clause-added g c = no_success _ _ c.from_residual-in_err-write_through-2.ensures.0
+pub returns-then-self-clause-any_moment : goal.returns-then-self-clause-any_moment
+returns-then-self-clause-any_moment g c = λ works. absurd (not_both c.if-self.true works)
 
-pub returns-in_err-write_through-2-clause-start : goal.returns-in_err-write_through-2-clause-start
-returns-in_err-write_through-2-clause-start g c = no_success _ _ c.from_residual-in_err-write_through-2.ensures.0
+pub returns-then-self-clause-others : goal.returns-then-self-clause-others
+returns-then-self-clause-others g c = λ works. absurd (not_both c.if-self.true works)
 
-pub returns-in_err-write_through-2-clause-end : goal.returns-in_err-write_through-2-clause-end
-returns-in_err-write_through-2-clause-end g c = no_success _ _ c.from_residual-in_err-write_through-2.ensures.0
+pub returns-then-self-clause-counted : goal.returns-then-self-clause-counted
+returns-then-self-clause-counted g c = le_refl _
 
-pub returns-in_err-write_through-2-clause-bytes : goal.returns-in_err-write_through-2-clause-bytes
-returns-in_err-write_through-2-clause-bytes g c = no_success _ _ c.from_residual-in_err-write_through-2.ensures.0
+pub returns-then-self-clause-full : goal.returns-then-self-clause-full
+returns-then-self-clause-full g c = (λ told. cc told, λ p. absurd (not_both c.if-self.true p.0))
+
+pub returns-then-self-clause-reopened : goal.returns-then-self-clause-reopened
+returns-then-self-clause-reopened g c = (λ told. c.if-self.true, λ failed. refl)
+
+pub returns-then-self-clause-refused : goal.returns-then-self-clause-refused
+returns-then-self-clause-refused g c = (c.if-self.true, same_store _)
+
+-- the record doesn't fit
+pub returns-then-not-fits-clause-sound : goal.returns-then-not-fits-clause-sound
+returns-then-not-fits-clause-sound g c = c.requires
+
+pub returns-then-not-fits-clause-counted : goal.returns-then-not-fits-clause-counted
+returns-then-not-fits-clause-counted g c = le_refl _
+
+pub returns-then-not-fits-clause-full : goal.returns-then-not-fits-clause-full
+returns-then-not-fits-clause-full g c = (λ told. (c.if-self.false, λ fits. not_both (c.if-not-fits.ensures.1 fits) refl), λ p. refl)
+
+pub returns-then-not-fits-clause-reopened : goal.returns-then-not-fits-clause-reopened
+returns-then-not-fits-clause-reopened g c = (λ told. cc told, λ failed. absurd (not_both failed c.if-self.false))
+
+pub returns-then-not-fits-clause-refused : goal.returns-then-not-fits-clause-refused
+returns-then-not-fits-clause-refused g c = (λ fits. not_both (c.if-not-fits.ensures.1 fits) refl, c.if-self.false, same_store _)
+
+-- memory is refused
+pub returns-in_err-reserve-clause-sound : goal.returns-in_err-reserve-clause-sound
+returns-in_err-reserve-clause-sound g c = sound_still g.D.Disk.seen g.D.Disk.may_leave c.args.self.now c.reserve.new.self _ c.reserve.ensures.items c.requires
+
+pub returns-in_err-reserve-clause-counted : goal.returns-in_err-reserve-clause-counted
+returns-in_err-reserve-clause-counted g c = le_refl _
+
+pub returns-in_err-reserve-clause-full : goal.returns-in_err-reserve-clause-full
+returns-in_err-reserve-clause-full g c = memory_not_full _ _ (λ p. p.1 (c.if-not-fits.ensures.0 refl)) c.from_residual.ensures.1
+
+pub returns-in_err-reserve-clause-reopened : goal.returns-in_err-reserve-clause-reopened
+returns-in_err-reserve-clause-reopened g c = memory_not_reopened _ _ c.if-self.false c.from_residual.ensures.1
+
+pub returns-in_err-spell_record-clause-sound : goal.returns-in_err-spell_record-clause-sound
+returns-in_err-spell_record-clause-sound g c = sound_still g.D.Disk.seen g.D.Disk.may_leave c.args.self.now c.reserve.new.self _ c.reserve.ensures.items c.requires
+
+pub returns-in_err-spell_record-clause-counted : goal.returns-in_err-spell_record-clause-counted
+returns-in_err-spell_record-clause-counted g c = le_refl _
+
+pub returns-in_err-spell_record-clause-full : goal.returns-in_err-spell_record-clause-full
+returns-in_err-spell_record-clause-full g c = memory_not_full _ _ (λ p. p.1 (c.if-not-fits.ensures.0 refl)) c.from_residual-in_err-spell_record.ensures.1
+
+pub returns-in_err-spell_record-clause-reopened : goal.returns-in_err-spell_record-clause-reopened
+returns-in_err-spell_record-clause-reopened g c = memory_not_reopened _ _ c.if-self.false c.from_residual-in_err-spell_record.ensures.1
+
+-- the device fails
+pub returns-in_err-write_and_commit-clause-sound : goal.returns-in_err-write_and_commit-clause-sound
+returns-in_err-write_and_commit-clause-sound g c = record { settled = λ works. absurd (true≢false works) }
+
+pub returns-in_err-write_and_commit-clause-counted : goal.returns-in_err-write_and_commit-clause-counted
+returns-in_err-write_and_commit-clause-counted g c = c.write_and_commit.ensures.counted
+
+pub returns-in_err-write_and_commit-clause-full : goal.returns-in_err-write_and_commit-clause-full
+returns-in_err-write_and_commit-clause-full g c = device_not_full _ _ (λ p. p.1 (c.if-not-fits.ensures.0 refl)) c.from_residual-in_err-write_and_commit.ensures.1
+
+pub returns-in_err-write_and_commit-clause-reopened : goal.returns-in_err-write_and_commit-clause-reopened
+returns-in_err-write_and_commit-clause-reopened g c = device_not_reopened _ _ c.if-self.false c.from_residual-in_err-write_and_commit.ensures.1
+
+pub returns-in_err-write_and_commit-clause-refused : goal.returns-in_err-write_and_commit-clause-refused
+returns-in_err-write_and_commit-clause-refused g c = passed_on _ _ Device c.from_residual-in_err-write_and_commit.ensures.1 (c.in_err-write_and_commit.ensures.cause refl, c.if-self.false, refl, ap (map (λ v. v.items)) c.reserve.ensures.items)
+
+-- and doesn't fail
+pub returns-clause-counted : goal.returns-clause-counted
+returns-clause-counted g c = c.write_and_commit.ensures.counted
+
+pub returns-clause-full : goal.returns-clause-full
+returns-clause-full g c = none_answered _ Full _ (λ p. p.1 (c.if-not-fits.ensures.0 refl))
+
+pub returns-clause-reopened : goal.returns-clause-reopened
+returns-clause-reopened g c = none_answered _ MustReopen _ (λ failed. not_both failed c.if-self.false)
