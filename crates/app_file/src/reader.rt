@@ -11,7 +11,7 @@ use crate::App;
 use crate::contents::Contents;
 use erl_term::Term;
 use rel_files::text::is_version;
-use rel_files::{FileFault, read_one_term};
+use rel_files::{FileFault, FileTerm, read_one_term};
 use std::alloc::Global;
 
 /// Reads a `.app` file.
@@ -25,7 +25,8 @@ pub fn read_app(alloc: Global, bytes: &[u8]) -> Result<App, FileFault>
     ensures within { IfOk result (λ app. IsWithin 65 (value_of app.whole)) }
 {
     let file = read_one_term(alloc, bytes)?;
-    app_of_term(alloc, file.term, file.at)
+    let FileTerm { term, at } = file;
+    app_of_term(alloc, term, at)
 }
 
 /// The application that a term describes, which keeps the term. `at` is where the term begins, and so the place of a

@@ -3,6 +3,7 @@ use Rattle.std.proofs.Common.{◌≡◌, ◌⊎◌, inl, inr, ℕ, suc, ◌++◌
 use Rattle.std.specs.Option.{option_map}
 use Rattle.std.specs.Str.{bytes_eq}
 use Rattle.std.specs.List.{AllByRecursion}
+use Rattle.std.proofs.lemmas.List.{append-nil}
 use Rattle.std.proofs.lemmas.Slice.Eq.{bytes_eq-Decides}
 use Rattle.erl_term.specs.Value.{Value, Values, values_of}
 use Rattle.rel_files.specs.Name.{AreDistinct}
@@ -115,3 +116,18 @@ placed_on ms m later old new o ts us whole split takes_ grown so_far =
     ∙ (placed_more old o (placed later us)
     ∙ (ap (λ (p : Option TableTerm × List TableTerm). option_map (λ (rest : List (Option TableTerm)). old ++ rest) (behind later p)) takes_
     ∙ (ap (λ (ns : List (List ℕ)). option_map (λ (rest : List (Option TableTerm)). old ++ rest) (placed ns ts)) (sym split) ∙ so_far)))
+
+added_to_none : (r : Option (List (Option TableTerm))) → option_map (λ rest. [] ++ rest) r ≡ r
+added_to_none None = refl
+added_to_none (Some rest) = refl
+
+-- before the first is placed
+pub placed_first : (ms : List (List ℕ)) (done : List (Option TableTerm)) (ts : List TableTerm) → done ≡ [] → option_map (λ rest. done ++ rest) (placed ms ts) ≡ placed ms ts
+placed_first ms done ts none =
+    ap (λ (front : List (Option TableTerm)). option_map (λ (rest : List (Option TableTerm)). front ++ rest) (placed ms ts)) none ∙ added_to_none (placed ms ts)
+
+-- each module has its place, and no table is left
+pub placed_all : (ms : List (List ℕ)) (done : List (Option TableTerm)) (ts : List TableTerm) (whole : Option (List (Option TableTerm)))
+    → ms ≡ [] → ts ≡ [] → option_map (λ rest. done ++ rest) (placed ms ts) ≡ whole → Some done ≡ whole
+placed_all ms done ts whole ended none so_far =
+    ap Some (sym (append-nil done)) ∙ ((λ j. option_map (λ (rest : List (Option TableTerm)). done ++ rest) (placed (sym ended j) (sym none j))) ∙ so_far)

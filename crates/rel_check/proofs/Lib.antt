@@ -6,3 +6,4 @@ pub mod Seen
 pub mod Joins
 pub mod Levels
 pub mod Faults
+pub mod PartRows

@@ -1,13 +1,18 @@
 -- What a file says, or its fault, from the terms in it.
-use Rattle.std.proofs.Common.{◌≡◌, ℕ, List, [], ◌∷◌, ◌++◌, ◌⊎◌, inl, inr, map, Some, None, slice_get, refl, sym, ap, subst, ◌∙◌}
+use Rattle.std.proofs.Common.{◌≡◌, ◌≢◌, ℕ, List, [], ◌∷◌, ◌++◌, ◌⊎◌, inl, inr, map, Some, None, Result, Ok, Err, IfErr, IsErr, IsErrAnd, length, slice_get, refl, sym, ap, subst, ◌∙◌, arith}
+use Rattle.erl_term.specs.TermFault.{TermFault}
+use Rattle.erl_term.specs.TermFault.TheVariants as term
 use Rattle.erl_term.specs.Spanned.{Spanned}
 use Rattle.erl_term.specs.Value.{Value, value_of}
-use Rattle.erl_term.specs.Grammar.{Reading}
-use Rattle.erl_term.specs.Answers.{reading_of_spanned}
-use Rattle.rel_files.specs.Fault.{Fault}
-use Rattle.rel_files.specs.Fault.Fault.{bad_term}
+use Rattle.erl_term.specs.Grammar.{Reading, Reads}
+use Rattle.erl_term.specs.Answers.{TellsFault, reading_of_spanned}
+use Rattle.rel_files.specs.declared.fault.FileFault.{FileFault}
+use Rattle.rel_files.specs.declared.fault.FileFault.TheVariants.{NoMemory}
+use Rattle.rel_files.specs.declared.one_term.FileTerm.{FileTerm}
+use Rattle.rel_files.specs.Fault.{Fault, file_fault_of}
+use Rattle.rel_files.specs.Fault.Fault.{bad_term, bad_shape}
 use Rattle.rel_files.specs.File.{HasTermFault, HasFault, HasFileTerm}
-use Rattle.rel_files.specs.Kind.{HasTermAt, HasNoTerm}
+use Rattle.rel_files.specs.Kind.{HasTermAt, HasNoTerm, AreNotOne, IsCountFault}
 
 -- more than one term
 pub several : (xs all : List Spanned) (first last : Spanned) (r : Reading) → Some first ≡ slice_get xs 0 → all ≡ xs ++ last ∷ []
@@ -38,3 +43,46 @@ pub of_term : (bytes : List ℕ) (at : ℕ) (v : Value) (f : Fault) → HasTermA
 of_term bytes at v (bad_term e) has fault = absurd fault
 of_term bytes at v f (r, reads, is, from) fault =
     (r ∷ [], reads, subst (λ a. HasTermFault r.term a f) (sym from) (subst (λ w. HasTermFault w at f) (sym is) fault))
+
+-- the fault of a file that is no row of terms
+unreadable : (bytes : List ℕ) (e : TermFault) → TellsFault 64 bytes e → file_fault_of e ≢ NoMemory → IsCountFault bytes (file_fault_of e)
+unreadable bytes term.NoMemory tells other = absurd (other refl)
+unreadable bytes e tells other = inl (e, refl, tells)
+
+-- and so of one that is passed on
+pub tells_unreadable : (result : Result FileTerm FileFault) (bytes : List ℕ) (e : TermFault) → IsErr result × IsErrAnd result (λ f. f ≡ file_fault_of e)
+    → TellsFault 64 bytes e → IfErr result (λ f. f ≢ NoMemory → IsCountFault bytes f)
+tells_unreadable (Ok file) bytes e is tells = tt
+tells_unreadable (Err f) bytes e is tells = subst (λ (g : FileFault). g ≢ NoMemory → IsCountFault bytes g) (sym is.1) (unreadable bytes e tells)
+
+-- a file with no terms
+pub no_terms : (bytes : List ℕ) (all : List Spanned) → length all ≡ 0 → Reads 64 bytes (map reading_of_spanned all) → HasNoTerm bytes (bad_shape 0)
+no_terms bytes [] none reads = inr ([], reads, refl)
+no_terms bytes (x ∷ all) none reads = absurd (omega arith)
+
+-- no terms aren't one
+pub none_alone : (all : List Spanned) (r : Reading) → length all ≡ 0 → map reading_of_spanned all ≡ r ∷ [] → ⊥
+none_alone [] r none one = absurd cc
+none_alone (x ∷ all) r none one = absurd (omega arith)
+
+-- a file with more than one
+pub many_terms : (bytes : List ℕ) (xs all : List Spanned) (first last : Spanned) → Some first ≡ slice_get xs 0 → all ≡ xs ++ last ∷ []
+    → Reads 64 bytes (map reading_of_spanned all) → HasNoTerm bytes (bad_shape first.from)
+many_terms bytes [] all first last some split reads = absurd cc
+many_terms bytes (x ∷ xs) all first last some split reads =
+    let same : first ≡ x = cc in
+    let read : Reads 64 bytes (reading_of_spanned x ∷ map reading_of_spanned (xs ++ last ∷ [])) =
+    subst (λ (ss : List Spanned). Reads 64 bytes (map reading_of_spanned ss)) split reads in
+    inr (more xs read (ap (λ (s : Spanned). bad_shape s.from) same))
+  where
+    more : (xs : List Spanned) → Reads 64 bytes (reading_of_spanned x ∷ map reading_of_spanned (xs ++ last ∷ [])) → bad_shape first.from ≡ bad_shape x.from
+        → (rs : List Reading) × Reads 64 bytes rs × AreNotOne rs (bad_shape first.from)
+    more [] read is = (reading_of_spanned x ∷ reading_of_spanned last ∷ [], read, is)
+    more (y ∷ ys) read is = (reading_of_spanned x ∷ reading_of_spanned y ∷ map reading_of_spanned (ys ++ last ∷ []), read, is)
+
+-- a file with one
+pub one_term : (bytes : List ℕ) (xs all : List Spanned) (last : Spanned) → None ≡ slice_get xs 0 → all ≡ xs ++ last ∷ []
+    → Reads 64 bytes (map reading_of_spanned all) → HasTermAt bytes last.from (value_of last.term)
+one_term bytes [] all last none split reads =
+    (reading_of_spanned last, subst (λ (ss : List Spanned). Reads 64 bytes (map reading_of_spanned ss)) split reads, refl, refl)
+one_term bytes (x ∷ xs) all last none split reads = absurd cc

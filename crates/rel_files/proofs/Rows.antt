@@ -31,6 +31,17 @@ row_more {B} f all each items i item old new y whole within at read grown so_far
     ∙ (ap (option_map (λ (rest : List B). old ++ rest)) (sym (each.more (value_of item) later))
     ∙ (ap (λ (ts : List Term). option_map (λ (rest : List B). old ++ rest) (all (members_of ts))) (sym split) ∙ so_far))))
 
+-- an item gives nothing
+pub row_none : {B : Type 0} (f : Value → Option B) (all : Values → Option (List B)) (each : ReadsEach f all) (items : List Term) (i : ℕ) (item : Term)
+    (read : List B) (whole : Option (List B)) → i < length items → item ≡ get_or items i item → None ≡ f (value_of item)
+    → option_map (λ rest. read ++ rest) (all (members_of (drop i items))) ≡ whole → None ≡ whole
+row_none {B} f all each items i item read whole within at none so_far =
+    let later : Values = members_of (drop (i + 1) items) in
+    let split : drop i items ≡ item ∷ drop (i + 1) items = drop_more items i item within ∙ ap (λ (t : Term). t ∷ drop (i + 1) items) (sym at) in
+    ap (λ (o : Option B). option_map (λ (rest : List B). read ++ rest) (option_and_then (λ (b : B). option_map (λ (bs : List B). b ∷ bs) (all later)) o)) none
+    ∙ (ap (option_map (λ (rest : List B). read ++ rest)) (sym (each.more (value_of item) later))
+    ∙ (ap (λ (ts : List Term). option_map (λ (rest : List B). read ++ rest) (all (members_of ts))) (sym split) ∙ so_far))
+
 -- no step is left
 pub row_all : {B : Type 0} (f : Value → Option B) (all : Values → Option (List B)) (each : ReadsEach f all) (items : List Term) (i : ℕ) (read : List B)
     → length items ≤ i → option_map (λ rest. read ++ rest) (all (members_of (drop i items))) ≡ all (members_of items) → Some read ≡ all (members_of items)

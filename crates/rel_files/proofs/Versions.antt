@@ -1,7 +1,8 @@
 -- The release that a sketch is, where each version is one.
-use Rattle.std.proofs.Common.{◌≡◌, ℕ, ℤ, List, [], ◌∷◌, ◌++◌, map, Option, Some, refl, sym, ap, subst, ◌∙◌}
+use Rattle.std.proofs.Common.{◌≡◌, ℕ, ℤ, List, [], ◌∷◌, ◌++◌, length, map, Option, Some, None, refl, sym, ap, subst, ◌∙◌, arith}
 use Rattle.std.specs.List.{AllByRecursion}
 use Rattle.std.specs.Option.{option_map, option_and_then}
+use Rattle.std.proofs.lemmas.List.{append-nil}
 use Rattle.erl_term.specs.Value.{Values}
 use Rattle.erl_term.specs.Value.Value.{int}
 use Rattle.erl_term.specs.Value.Values.{no_values, value}
@@ -99,3 +100,20 @@ apps-more before after d old new a whole split made grown so_far =
     ∙ (ap (λ (o : Option Application). option_map (λ (as' : List Application). front ++ as')
     (option_and_then (λ (b : Application). option_map (λ (bs : List Application). b ∷ bs) later) o)) made
     ∙ (ap (λ (ds : List AppDraft). option_map (λ (as' : List Application). front ++ as') (apps_in (map app_sketch_of ds))) (sym split) ∙ so_far)))
+
+-- an application has no version
+pub apps-none : (before after : List AppDraft) (d : AppDraft) (made : List RelApp) (whole : Option (List Application))
+    → before ≡ d ∷ after → None ≡ app_in (app_sketch_of d) → option_map (λ as'. map application_of made ++ as') (apps_in (map app_sketch_of before)) ≡ whole
+    → None ≡ whole
+apps-none before after d made whole split none so_far =
+    let front = map application_of made in
+    let later = apps_in (map app_sketch_of after) in
+    ap (λ (o : Option Application). option_map (λ (as' : List Application). front ++ as')
+    (option_and_then (λ (b : Application). option_map (λ (bs : List Application). b ∷ bs) later) o)) none
+    ∙ (ap (λ (ds : List AppDraft). option_map (λ (as' : List Application). front ++ as') (apps_in (map app_sketch_of ds))) (sym split) ∙ so_far)
+
+-- no application is left
+pub apps-all : (left : List AppDraft) (made : List RelApp) (whole : Option (List Application)) → length left ≡ 0
+    → option_map (λ as'. map application_of made ++ as') (apps_in (map app_sketch_of left)) ≡ whole → Some (map application_of made) ≡ whole
+apps-all [] made whole none so_far = ap Some (sym (append-nil (map application_of made))) ∙ so_far
+apps-all (d ∷ left) made whole none so_far = absurd (omega arith)

@@ -9,7 +9,7 @@ use std::fmt::{self, Display, Formatter};
 
 /// What is wrong with a file. Of several faults the one that stands first here is reported. It is shown by its name, and by
 /// its place if it has one.
-#[derive(Debug, PartialEq, Drop)]
+#[derive(Debug, Drop)]
 pub enum FileFault {
     /// It is no row of terms.
     BadTerm(TermFault),

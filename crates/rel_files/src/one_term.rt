@@ -6,7 +6,7 @@ ghost use Rattle.erl_term.specs.Within.{IsWithin};
 ghost use Rattle.rel_files.specs.Kind.{HasTermAt, IsCountFault};
 
 use crate::FileFault;
-use erl_term::{Term, read_terms};
+use erl_term::{Spanned, Term, read_terms};
 use std::alloc::Global;
 
 /// The one term of a file, and the place where it begins.
@@ -34,8 +34,6 @@ pub fn read_one_term(alloc: Global, bytes: &[u8]) -> Result<FileTerm, FileFault>
     if let Some(first) = terms.first() {
         return Err(FileFault::BadShape(first.from));
     }
-    Ok(FileTerm {
-        term: last.term,
-        at: last.from,
-    })
+    let Spanned { term, from: at, .. } = last;
+    Ok(FileTerm { term, at })
 }

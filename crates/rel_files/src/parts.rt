@@ -139,21 +139,21 @@ fn title_in(term: &Term) -> Option<Title<'_>>
         record { name = members_of t.name.now; vsn = members_of t.vsn.now }) result
         ≡ title_in (value_of term.now) }
 {
-    let (name, vsn) = pair_in(term)?;
-    Some(Title {
-        name: list_in(name)?,
-        vsn: list_in(vsn)?,
-    })
+    match pair_in(term) {
+        Some((Term::List(name), Term::List(vsn))) => Some(Title {
+            name: name.as_slice(),
+            vsn: vsn.as_slice(),
+        }),
+        _ => None,
+    }
 }
 
 fn erts_in(term: &Term) -> Option<&[Term]>
     ensures { option_map (λ items. members_of items.now) result ≡ erts_in (value_of term.now) }
 {
-    let (word, vsn) = pair_in(term)?;
-    if is_word(word, "erts") {
-        list_in(vsn)
-    } else {
-        None
+    match pair_in(term) {
+        Some((word, vsn)) if is_word(word, "erts") => list_in(vsn),
+        _ => None,
     }
 }
 
@@ -164,13 +164,14 @@ pub(crate) fn rel_parts(term: &Term) -> Option<RelParts<'_>>
       apps = members_of p.apps.now;
     }) result ≡ rel_parts (value_of term.now) }
 {
-    let (word, title, erts, apps) = four_in(term)?;
+    let Some((word, title, erts, apps)) = four_in(term) else {
+        return None;
+    };
     if !is_word(word, "release") {
         return None;
     }
-    Some(RelParts {
-        title: title_in(title)?,
-        erts: erts_in(erts)?,
-        apps: list_in(apps)?,
-    })
+    match (title_in(title), erts_in(erts), list_in(apps)) {
+        (Some(title), Some(erts), Some(apps)) => Some(RelParts { title, erts, apps }),
+        _ => None,
+    }
 }

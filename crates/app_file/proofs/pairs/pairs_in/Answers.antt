@@ -2,7 +2,7 @@ use Rattle.std.proofs.Common.{Bor, map, refl}
 use Rattle.erl_term.specs.Term.{Term}
 use Rattle.erl_term.specs.Value.{Value, value_of}
 use Rattle.rel_files.specs.Parts.{pair_in}
-use Rattle.rel_files.proofs.Rows.{ReadsEach, row_more, row_all, viewed}
+use Rattle.rel_files.proofs.Rows.{ReadsEach, row_more, row_none, row_all, viewed}
 use Rattle.app_file.specs.Parts.{pairs_in}
 use Rattle.app_file.proofs.pairs.pairs_in.Goals as goal
 
@@ -20,3 +20,8 @@ loop-item-preserved c =
 
 pub returns : goal.returns
 returns c = row_all pair_in pairs_in each c.args.items.now c.loop-item.item-index (map pair_of c.loop-item.pairs.items) c.loop-item-test.false c.loop-item.invariant
+
+pub returns-in_default : goal.returns-in_default
+returns-in_default c =
+    row_none pair_in pairs_in each c.args.items.now c.loop-item.item-index c.item-item.result (map pair_of c.loop-item.pairs.items) _
+    c.loop-item-test.true c.item-item.is (rw c.in_default.is at c.pair_in.ensures) c.loop-item.invariant

@@ -1,6 +1,6 @@
 use Rattle.std.proofs.Common.{refl}
 use Rattle.mod_table.specs.Rows.{move_in, moves_in}
-use Rattle.rel_files.proofs.Rows.{ReadsEach, row_more, row_all}
+use Rattle.rel_files.proofs.Rows.{ReadsEach, row_more, row_none, row_all}
 use Rattle.mod_table.proofs.row_reader.moves_in.Goals as goal
 
 each : ReadsEach move_in moves_in
@@ -13,3 +13,8 @@ loop-term-preserved c =
 
 pub returns : goal.returns
 returns c = row_all move_in moves_in each c.args.terms.now c.loop-term.term-index c.loop-term.moves.items c.loop-term-test.false c.loop-term.invariant
+
+pub returns-in_default : goal.returns-in_default
+returns-in_default c =
+    row_none move_in moves_in each c.args.terms.now c.loop-term.term-index c.term-item.result c.loop-term.moves.items _
+    c.loop-term-test.true c.term-item.is (rw c.in_default.is at c.move_in.ensures) c.loop-term.invariant

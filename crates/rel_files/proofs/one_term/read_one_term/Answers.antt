@@ -1,11 +1,11 @@
-use Rattle.std.proofs.Common.{rules, ◌≡◌, ◌∷◌, [], Some, None, slice_get, Result, Ok, Err, MatchResult, IsErr, IsErrAnd, ◌∙◌, ap, sym}
+use Rattle.std.proofs.Common.{arith, rules, ◌≡◌, ◌∷◌, [], Some, None, length, slice_get, Result, Ok, Err, MatchResult, IsErr, IsErrAnd, ◌∙◌, ap, sym}
 use Rattle.erl_term.specs.Value.{value_of}
 use Rattle.erl_term.specs.Grammar.{Reading}
 use Rattle.rel_files.specs.declared.fault.FileFault.{FileFault}
 use Rattle.rel_files.specs.declared.fault.FileFault.TheVariants.{NoMemory}
 use Rattle.rel_files.specs.declared.one_term.FileTerm.{FileTerm}
 use Rattle.rel_files.specs.Fault.{file_fault_of}
-use Rattle.rel_files.proofs.Files.{several, alone}
+use Rattle.rel_files.proofs.Files.{several, alone, tells_unreadable, no_terms, none_alone, many_terms, one_term}
 use Rattle.rel_files.proofs.Limits.{last_keeps_limits}
 use Rattle.rel_files.proofs.one_term.read_one_term.Goals as goal
 
@@ -34,3 +34,27 @@ returns-clause-only c = λ r reads.
 
 pub returns-clause-within : goal.returns-clause-within
 returns-clause-within c = last_keeps_limits 64 c.args.bytes.now c.pop.new.self.items c.in_ok-terms.terms.items c.in-Some.last c.in-Some.ensures.items c.in_ok-terms.ensures.found
+
+pub returns-in_err-terms-clause-fault : goal.returns-in_err-terms-clause-fault
+returns-in_err-terms-clause-fault c =
+    tells_unreadable c.from_residual.result c.args.bytes.now c.in_err-terms.field-0.0 c.from_residual.ensures c.in_err-terms.ensures.fault
+
+-- nothing could be taken off the terms
+none : (c : goal.After-drop-terms) → length c.in_ok-terms.terms.items ≡ 0
+none c = omega (arith, c.in_ok-terms.terms.ok.0, c.in_default.ensures.cases.0)
+
+pub returns-in_default-clause-only : goal.returns-in_default-clause-only
+returns-in_default-clause-only c = λ r reads. absurd (none_alone c.in_ok-terms.terms.items r (none c) (c.in_ok-terms.ensures.only (r ∷ []) reads))
+
+pub returns-in_default-clause-fault : goal.returns-in_default-clause-fault
+returns-in_default-clause-fault c = λ other. no_terms c.args.bytes.now c.in_ok-terms.terms.items (none c) c.in_ok-terms.ensures.found
+
+pub returns-in-Some-first-clause-fault : goal.returns-in-Some-first-clause-fault
+returns-in-Some-first-clause-fault c = λ other.
+    let some : Some c.in-Some-first.first.now ≡ slice_get c.pop.new.self.items 0 = search rules in
+    many_terms c.args.bytes.now c.pop.new.self.items c.in_ok-terms.terms.items c.in-Some-first.first.now c.in-Some.last some c.in-Some.ensures.items c.in_ok-terms.ensures.found
+
+pub returns-clause-says : goal.returns-clause-says
+returns-clause-says c =
+    let none : None ≡ slice_get c.pop.new.self.items 0 = search rules in
+    one_term c.args.bytes.now c.pop.new.self.items c.in_ok-terms.terms.items c.in-Some.last none c.in-Some.ensures.items c.in_ok-terms.ensures.found

@@ -1,6 +1,6 @@
 use Rattle.std.proofs.Common.{◌∙◌, ◌++◌, string_bytes, ap, refl}
 use Rattle.rel_files.specs.Sketch.{character_in, characters_in}
-use Rattle.rel_files.proofs.Rows.{ReadsEach, row_more, row_all}
+use Rattle.rel_files.proofs.Rows.{ReadsEach, row_more, row_none, row_all}
 use Rattle.rel_files.proofs.text.characters_in.Goals as goal
 
 pub loop-item-preserved : goal.loop-item-preserved
@@ -17,3 +17,9 @@ returns c =
     let lowest = c.args.lowest in
     row_all (character_in lowest) (characters_in lowest) (record { none = refl; more = λ v vs. refl }) c.args.items.now c.loop-item.item-index
     (string_bytes c.loop-item.text) c.loop-item-test.false c.loop-item.invariant
+
+pub returns-in_default : goal.returns-in_default
+returns-in_default c =
+    let lowest = c.args.lowest in
+    row_none (character_in lowest) (characters_in lowest) (record { none = refl; more = λ v vs. refl }) c.args.items.now c.loop-item.item-index c.item-item.result
+    (string_bytes c.loop-item.text) _ c.loop-item-test.true c.item-item.is (rw c.in_default.is at c.character_in.ensures.found) c.loop-item.invariant

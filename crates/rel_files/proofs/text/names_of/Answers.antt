@@ -1,6 +1,6 @@
 use Rattle.std.proofs.Common.{◌∙◌, ap, map, string_bytes, Some, refl}
 use Rattle.rel_files.specs.Sketch.{name_in, names_of}
-use Rattle.rel_files.proofs.Rows.{ReadsEach, row_more, row_all, viewed}
+use Rattle.rel_files.proofs.Rows.{ReadsEach, row_more, row_none, row_all, viewed}
 use Rattle.rel_files.proofs.text.names_of.Goals as goal
 
 each : ReadsEach name_in names_of
@@ -15,3 +15,8 @@ loop-item-preserved c =
 
 pub returns : goal.returns
 returns c = row_all name_in names_of each c.args.items.now c.loop-item.item-index (map string_bytes c.loop-item.names.items) c.loop-item-test.false c.loop-item.invariant
+
+pub returns-in_default : goal.returns-in_default
+returns-in_default c =
+    row_none name_in names_of each c.args.items.now c.loop-item.item-index c.item-item.result (map string_bytes c.loop-item.names.items) _
+    c.loop-item-test.true c.item-item.is (rw c.in_default.is at c.name_in.ensures) c.loop-item.invariant
