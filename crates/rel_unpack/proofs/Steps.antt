@@ -1,5 +1,5 @@
 -- What a file says and whether it is taken.
-use Rattle.std.proofs.Common.{◌≡◌, ◌≢◌, inl, inr, ℕ, Bool, true, false, List, Option, Some, None, IsErr, MatchResult, Result, Ok, Err, refl, sym, ap, subst, ◌∙◌}
+use Rattle.std.proofs.Common.{◌≡◌, ◌≢◌, inl, inr, ℕ, Bool, true, false, List, Option, Some, None, IfOk, IsErr, MatchResult, Result, Ok, Err, refl, sym, ap, subst, ◌∙◌}
 use Rattle.std.specs.Prelude.{if◌then◌else◌}
 use Rattle.rel_unpack.specs.declared.error.UnpackError.{UnpackError}
 use Rattle.rel_unpack.specs.declared.error.UnpackError.TheVariants.{NoMemory}
@@ -27,6 +27,16 @@ fails_test {A} P test x y a has is same = inr (a, has, (ap Err same ∙ sym (ap 
 pub passed_on : {X Y : Type 0} (view : X → Y) (P : Outcome Y) (e : UnpackError) (r : Result X UnpackError) → IsErr r → IsErrAnd r (λ f. f ≡ e) → (e ≢ NoMemory → P (Err (refusal_of e))) → Answers view P r
 passed_on view P e (Ok x) err and told = cc err
 passed_on view P e (Err f) err and told = λ ne. subst (λ (y : UnpackError). P (Err (refusal_of y))) (sym and) (told (λ same. ne (and ∙ same)))
+
+-- and so is want of memory,
+pub no_memory_left : {X Y : Type 0} (view : X → Y) (P : Outcome Y) (r : Result X UnpackError) → IsErr r → IsErrAnd r (λ f. f ≡ NoMemory) → Answers view P r
+no_memory_left view P (Ok x) err none = cc err
+no_memory_left view P (Err e) err none = λ ne. absurd (ne none)
+
+-- with nothing to say of a value
+pub nothing_given : {X E : Type 0} (P : X → Type 0) (r : Result X E) → IsErr r → IfOk r P
+nothing_given P (Ok x) err = cc err
+nothing_given P (Err e) err = tt
 
 -- What a file says tells a missing file only where there is none,
 pub none_read : {X : Type 0} (form : Form X) (source : Source) (path p : List ℕ) → FileSays form source path (Err (missing_file p)) → source path (Err Missing)

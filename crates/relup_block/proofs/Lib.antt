@@ -5,3 +5,5 @@ pub mod ReverseLemmas
 pub mod PermutationLemmas
 pub mod DependencyLemmas
 pub mod BlockLemmas
+pub mod AppendLemmas
+pub mod WalkLemmas

@@ -1,9 +1,9 @@
 //! The instructions of a block.
-ghost use Rattle.std.specs.Prelude.{◌≡◌, IfOk, OnOk, map, string_bytes, filter, reverse};
+ghost use Rattle.std.specs.Prelude.{◌≡◌, List, IfOk, OnOk, map, string_bytes, filter, reverse};
 ghost use Rattle.std.specs.List.{filter_map};
 ghost use Rattle.std.specs.Option.{option_map};
 ghost use Rattle.relup_file.specs.Instruction.{suspension_of, change_of, purging_of};
-ghost use Rattle.relup_block.specs.Order.{block_item_of, block_items_of};
+ghost use Rattle.relup_block.specs.Order.{BlockItemForm, block_item_of, block_items_of, order};
 ghost use Rattle.relup_block.specs.Block.{written_timeout, suspension, resumption, change, purging, is_static, is_of_kind, loading, suspending, changing, resuming, updating, in_orders, block};
 ghost use Rattle.relup_block.specs.Memory.{Appends};
 
@@ -19,29 +19,6 @@ fn written_timeout(timeout: Timeout) -> Option<Timeout>
     match timeout {
         Timeout::Default => None,
         timeout => Some(timeout),
-    }
-}
-
-fn suspension(alloc: Global, item: BlockItem<'_>) -> Result<Option<Suspension>, AllocError>
-    ensures { IfOk result (λ o.
-        option_map suspension_of o ≡ suspension (block_item_of item.entry)) }
-{
-    match item {
-        BlockItem::Updated(update) => Ok(Some(Suspension {
-            name: String::from_str(alloc, update.name.as_str())?,
-            timeout: written_timeout(update.timeout),
-        })),
-        BlockItem::Loaded(_) => Ok(None),
-    }
-}
-
-fn resumption(alloc: Global, item: BlockItem<'_>) -> Result<Option<String>, AllocError>
-    ensures { IfOk result (λ o.
-        option_map string_bytes o ≡ resumption (block_item_of item.entry)) }
-{
-    match item {
-        BlockItem::Updated(update) => Ok(Some(String::from_str(alloc, update.name.as_str())?)),
-        BlockItem::Loaded(_) => Ok(None),
     }
 }
 
@@ -96,8 +73,11 @@ fn suspensions(alloc: Global, items: &[BlockItem<'_>]) -> Result<Vec<Suspension>
 {
     let mut suspensions = Vec::with_capacity(alloc, items.len())?;
     for item in items {
-        if let Some(suspension) = suspension(alloc, *item)? {
-            suspensions.push(suspension)?;
+        if let BlockItem::Updated(update) = *item {
+            suspensions.push(Suspension {
+                name: String::from_str(alloc, update.name.as_str())?,
+                timeout: written_timeout(update.timeout),
+            })?;
         }
     }
     Ok(suspensions)
@@ -109,8 +89,8 @@ fn resumptions(alloc: Global, items: &[BlockItem<'_>]) -> Result<Vec<String>, Al
 {
     let mut names = Vec::with_capacity(alloc, items.len())?;
     for item in items {
-        if let Some(name) = resumption(alloc, *item)? {
-            names.push(name)?;
+        if let BlockItem::Updated(update) = *item {
+            names.push(String::from_str(alloc, update.name.as_str())?)?;
         }
     }
     Ok(names)
@@ -148,9 +128,10 @@ fn push_suspend(
         (Appends out.old.items out.new.items (suspending (block_items_of items.now))) }
 {
     let suspensions = suspensions(alloc, items)?;
-    if !suspensions.is_empty() {
-        out.push(Instr::Suspend(suspensions))?;
+    if suspensions.is_empty() {
+        return Ok(());
     }
+    out.push(Instr::Suspend(suspensions))?;
     Ok(())
 }
 
@@ -163,9 +144,10 @@ fn push_resume(
         (Appends out.old.items out.new.items (resuming (block_items_of items.now))) }
 {
     let names = reversed_resumptions(alloc, items)?;
-    if !names.is_empty() {
-        out.push(Instr::Resume(names))?;
+    if names.is_empty() {
+        return Ok(());
     }
+    out.push(Instr::Resume(names))?;
     Ok(())
 }
 
@@ -179,12 +161,13 @@ fn push_changes(
         (Appends out.old.items out.new.items (changing direction (block_items_of items.now))) }
 {
     let changes = changes(alloc, items)?;
-    if !changes.is_empty() {
-        out.push(Instr::CodeChange(Conversion {
-            mode: Some(direction),
-            changes,
-        }))?;
+    if changes.is_empty() {
+        return Ok(());
     }
+    out.push(Instr::CodeChange(Conversion {
+        mode: Some(direction),
+        changes,
+    }))?;
     Ok(())
 }
 
@@ -203,21 +186,21 @@ fn push_loads(
 }
 
 // Those of static modules, or the others.
-fn items_that<'a>(
+fn push_loads_that(
     alloc: Global,
     wanted: bool,
-    items: &[BlockItem<'a>],
-) -> Result<Vec<BlockItem<'a>>, AllocError>
-    ensures { IfOk result (λ v.
-        block_items_of v.items ≡ filter (is_of_kind wanted) (block_items_of items.now)) }
+    items: &[BlockItem<'_>],
+    out: &mut Vec<Instr>,
+) -> Result<(), AllocError>
+    ensures { OnOk result (Appends out.old.items out.new.items
+        (loading (filter (is_of_kind wanted) (block_items_of items.now)))) }
 {
-    let mut kept = Vec::with_capacity(alloc, items.len())?;
     for item in items {
         if is_static(*item) == wanted {
-            kept.push(*item)?;
+            out.push(Instr::Load(purging(alloc, *item)?))?;
         }
     }
-    Ok(kept)
+    Ok(())
 }
 
 fn push_updates(
@@ -235,9 +218,9 @@ fn push_updates(
             push_changes(alloc, direction, items, out)
         }
         Direction::Down => {
-            push_loads(alloc, &items_that(alloc, true, items)?, out)?;
+            push_loads_that(alloc, true, items, out)?;
             push_changes(alloc, direction, items, out)?;
-            push_loads(alloc, &items_that(alloc, false, items)?, out)
+            push_loads_that(alloc, false, items, out)
         }
     }
 }
@@ -257,6 +240,17 @@ fn push_in_orders(
     push_resume(alloc, suspended, out)
 }
 
+// By which rules a block suspends, and loads and changes.
+fn rules(direction: Direction) -> (ChoiceRule, ChoiceRule)
+    ensures { (xs : List BlockItemForm) → block direction xs
+        ≡ in_orders direction (order result.0 xs) (order result.1 xs) }
+{
+    match direction {
+        Direction::Up => (ChoiceRule::DependentsFirst, ChoiceRule::DependenciesFirst),
+        Direction::Down => (ChoiceRule::DependenciesFirst, ChoiceRule::DependentsFirst),
+    }
+}
+
 /// Writes the instructions of a block behind those that stand in `out`. Up, what depends on others is suspended first and
 /// loaded last, and down the other way round.
 pub fn push_block(
@@ -268,26 +262,8 @@ pub fn push_block(
     ensures { OnOk result
         (Appends out.old.items out.new.items (block direction (block_items_of items.now))) }
 {
-    let dependents_first = order(alloc, ChoiceRule::DependentsFirst, items)?;
-    let dependencies_first = order(alloc, ChoiceRule::DependenciesFirst, items)?;
-    match direction {
-        Direction::Up => {
-            push_in_orders(
-                alloc,
-                direction,
-                &dependents_first,
-                &dependencies_first,
-                out,
-            )
-        }
-        Direction::Down => {
-            push_in_orders(
-                alloc,
-                direction,
-                &dependencies_first,
-                &dependents_first,
-                out,
-            )
-        }
-    }
+    let (suspending, loading) = rules(direction);
+    let suspended = order(alloc, suspending, items)?;
+    let loaded = order(alloc, loading, items)?;
+    push_in_orders(alloc, direction, &suspended, &loaded, out)
 }

@@ -2,3 +2,4 @@ pub mod PartLemmas
 pub mod AppendLemmas
 pub mod FirstLemmas
 pub mod NameLemmas
+pub mod WalkLemmas

@@ -1,10 +1,10 @@
 //! The applications that a way changes, each with the row of instructions that does it.
-ghost use Rattle.std.specs.Prelude.{◌≡◌, IfOk, reverse};
+ghost use Rattle.std.specs.Prelude.{◌≡◌, IfOk, map, reverse};
 ghost use Rattle.std.specs.List.{filter_map};
 ghost use Rattle.std.specs.Option.{option_map};
 ghost use Rattle.relup_row.specs.Release.{relup_app_of, relup_release_of, way_of};
 ghost use Rattle.relup_translate.specs.Translation.{coming_row, changing_row, going_row, rows};
-ghost use Rattle.relup_translate.specs.Memory.{row_of_change, rows_of};
+ghost use Rattle.relup_translate.specs.Memory.{row_of_change, row_of_kind, rows_of};
 
 use crate::refusals::{between_versions, other_version};
 use appup_file::AppupInstr;
@@ -20,6 +20,14 @@ pub(crate) enum AppChange<'a> {
     Changing(&'a [AppupInstr]),
     // It is removed.
     Going(&'a RelupApp),
+}
+
+// The kinds of what becomes of an application.
+#[derive(Clone, Copy)]
+enum ChangeKind {
+    Coming,
+    Changing,
+    Going,
 }
 
 fn coming<'a>(way: Way<'a>, app: &'a RelupApp) -> Option<AppChange<'a>>
@@ -53,41 +61,30 @@ fn going<'a>(way: Way<'a>, app: &'a RelupApp) -> Option<AppChange<'a>>
     }
 }
 
-fn all_coming(alloc: Global, way: Way<'_>) -> Result<Vec<AppChange<'_>>, AllocError>
-    ensures { IfOk result (λ v. rows_of v.items
-        ≡ filter_map (coming_row (way_of way.entry))
-        (relup_release_of way.entry.target.now).apps) }
+fn change_of_kind<'a>(way: Way<'a>, kind: ChangeKind, app: &'a RelupApp) -> Option<AppChange<'a>>
+    ensures { option_map row_of_change result
+        ≡ row_of_kind kind (way_of way.entry) (relup_app_of app.now) }
 {
-    let mut all = Vec::new(alloc);
-    for app in &way.target.apps {
-        if let Some(change) = coming(way, app) {
-            all.push(change)?;
-        }
+    match kind {
+        ChangeKind::Coming => coming(way, app),
+        ChangeKind::Changing => changing(way, app),
+        ChangeKind::Going => going(way, app),
     }
-    Ok(all)
 }
 
-fn all_changing(alloc: Global, way: Way<'_>) -> Result<Vec<AppChange<'_>>, AllocError>
+// Those of a kind, in the order of the applications.
+fn changes_of_kind<'a>(
+    alloc: Global,
+    way: Way<'a>,
+    kind: ChangeKind,
+    apps: &'a [RelupApp],
+) -> Result<Vec<AppChange<'a>>, AllocError>
     ensures { IfOk result (λ v. rows_of v.items
-        ≡ filter_map (changing_row (way_of way.entry))
-        (relup_release_of way.entry.target.now).apps) }
+        ≡ filter_map (row_of_kind kind (way_of way.entry)) (map relup_app_of apps.now)) }
 {
     let mut all = Vec::new(alloc);
-    for app in &way.target.apps {
-        if let Some(change) = changing(way, app) {
-            all.push(change)?;
-        }
-    }
-    Ok(all)
-}
-
-fn all_going(alloc: Global, way: Way<'_>) -> Result<Vec<AppChange<'_>>, AllocError>
-    ensures { IfOk result (λ v. rows_of v.items
-        ≡ filter_map (going_row (way_of way.entry)) (relup_release_of way.entry.left.now).apps) }
-{
-    let mut all = Vec::new(alloc);
-    for app in &way.left.apps {
-        if let Some(change) = going(way, app) {
+    for app in apps {
+        if let Some(change) = change_of_kind(way, kind, app) {
             all.push(change)?;
         }
     }
@@ -98,7 +95,7 @@ fn reversed_going(alloc: Global, way: Way<'_>) -> Result<Vec<AppChange<'_>>, All
     ensures { IfOk result (λ v. rows_of v.items ≡ reverse
         (filter_map (going_row (way_of way.entry)) (relup_release_of way.entry.left.now).apps)) }
 {
-    let mut going = all_going(alloc, way)?;
+    let mut going = changes_of_kind(alloc, way, ChangeKind::Going, &way.left.apps)?;
     going.reverse();
     Ok(going)
 }
@@ -107,8 +104,8 @@ fn reversed_going(alloc: Global, way: Way<'_>) -> Result<Vec<AppChange<'_>>, All
 pub(crate) fn changes(alloc: Global, way: Way<'_>) -> Result<Vec<AppChange<'_>>, AllocError>
     ensures { IfOk result (λ v. rows_of v.items ≡ rows (way_of way.entry)) }
 {
-    let mut all = all_coming(alloc, way)?;
-    let changing = all_changing(alloc, way)?;
+    let mut all = changes_of_kind(alloc, way, ChangeKind::Coming, &way.target.apps)?;
+    let changing = changes_of_kind(alloc, way, ChangeKind::Changing, &way.target.apps)?;
     let going = reversed_going(alloc, way)?;
     all.extend_from_slice(&changing)?;
     all.extend_from_slice(&going)?;

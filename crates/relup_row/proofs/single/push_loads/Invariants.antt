@@ -1,7 +1,7 @@
-use Rattle.std.proofs.Common.{◌≡◌, ◌++◌, map, take, string_bytes}
+use Rattle.std.proofs.Common.{◌≡◌, ◌++◌, map, drop, string_bytes}
 use Rattle.relup_file.specs.Instruction.{script_of}
 use Rattle.relup_row.specs.Script.{load_plainly}
 use Rattle.relup_row.proofs.single.push_loads.Given as goal
 
 abbrev pub invariant-loop-name : goal.invariant-loop-name
-invariant-loop-name l = script_of l.out.items ≡ script_of l.initial.out.items ++ map load_plainly (map string_bytes (take l.name-index l.names))
+invariant-loop-name l = script_of l.out.items ++ map load_plainly (map string_bytes (drop l.name-index l.names)) ≡ script_of l.initial.out.items ++ map load_plainly (map string_bytes l.names)
