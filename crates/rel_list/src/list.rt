@@ -34,10 +34,9 @@ impl Model for ReleaseList {
 }
 
 impl ReleaseList {
-    ghost use Rattle.rel_list.specs.Event.{event_of, step, boot_changes, with_statuses, list_assigned};
-    ghost use Rattle.rel_list.specs.Event.Event.{made, unpacked, installed, made_permanent, removed, reboot_old};
+    ghost use Rattle.rel_list.specs.Event.{event_of, step, boot_changes, with_statuses, list_assigned, without};
     ghost use Rattle.rel_list.specs.Releases.{entry, permanent, current, running, status_of, release_at, has_current, HasDistinctVersions};
-    ghost use Rattle.rel_list.specs.Refusal.{IsRefusedWith};
+    ghost use Rattle.rel_list.specs.Refusal.{refusal, IsRefusedWith};
     ghost use Rattle.rel_list.specs.Change.{status_after, AssignsNoCurrent};
     ghost use Rattle.rel_list.specs.Status.{runs};
     ghost use Rattle.rel_list.specs.Keyed.{entry_of, bundle_of};
@@ -58,13 +57,34 @@ impl ReleaseList {
         ensures refused { IfErr result (IsRefusedWith (event_of event) self.old) }
         ensures unchanged { OnErr result (self.new ≡ self.old) }
     {
+        if let Some(why) = self.refusal(&event) {
+            return Err(why);
+        }
+        self.take(alloc, event)
+    }
+
+    // Changes the list as an event says that it allows.
+    fn take(&mut self, alloc: Global, event: Event) -> Result<(), ListError>
+        requires { refusal (event_of event) self.old ≡ None }
+        ensures accepted { OnOk result (step (event_of event) self.old ≡ Some self.new) }
+        ensures refused { IfErr result (IsRefusedWith (event_of event) self.old) }
+        ensures unchanged { OnErr result (self.new ≡ self.old) }
+    {
         match event {
-            Event::Made(bundle) => self.make(alloc, bundle),
-            Event::Unpacked(bundle) => self.unpack(alloc, bundle),
-            Event::Installed(vsn) => self.install(vsn.as_str()),
-            Event::MadePermanent(vsn) => self.make_permanent(vsn.as_str()),
-            Event::Removed(vsn) => self.remove(vsn.as_str()),
-            Event::RebootOld(vsn) => self.reboot_old(vsn.as_str()),
+            Event::Made(bundle) => self.put(alloc, bundle, Status::Permanent),
+            Event::Unpacked(bundle) => self.put(alloc, bundle, Status::Unpacked),
+            Event::Installed(vsn) => {
+                self.change(StatusChange::Install(vsn.as_str()));
+                Ok(())
+            }
+            Event::MadePermanent(vsn) | Event::RebootOld(vsn) => {
+                self.change(StatusChange::MakePermanent(vsn.as_str()));
+                Ok(())
+            }
+            Event::Removed(vsn) => {
+                self.remove(vsn.as_str());
+                Ok(())
+            }
             Event::Boot => {
                 self.change(StatusChange::Boot);
                 Ok(())
@@ -72,94 +92,11 @@ impl ReleaseList {
         }
     }
 
-    // Takes the first release, as the permanent one.
-    fn make(&mut self, alloc: Global, bundle: Bundle) -> Result<(), ListError>
-        ensures accepted { OnOk result (step (made (bundle_of bundle)) self.old ≡ Some self.new) }
-        ensures refused { IfErr result (IsRefusedWith (made (bundle_of bundle)) self.old) }
-        ensures unchanged { OnErr result (self.new ≡ self.old) }
-    {
-        if !self.is_empty() {
-            return Err(ListError::ExistingRelease);
-        }
-        self.put(alloc, bundle, Status::Permanent)
-    }
-
-    // Takes a further release, unpacked.
-    fn unpack(&mut self, alloc: Global, bundle: Bundle) -> Result<(), ListError>
-        ensures accepted { OnOk result
-            (step (unpacked (bundle_of bundle)) self.old ≡ Some self.new) }
-        ensures refused { IfErr result (IsRefusedWith (unpacked (bundle_of bundle)) self.old) }
-        ensures unchanged { OnErr result (self.new ≡ self.old) }
-    {
-        if let Some(why) = self.unpacking_refusal(&bundle) {
-            return Err(why);
-        }
-        self.put(alloc, bundle, Status::Unpacked)
-    }
-
-    // Makes the release of this version current.
-    fn install(&mut self, vsn: &str) -> Result<(), ListError>
-        ensures accepted { OnOk result (step (installed vsn.now) self.old ≡ Some self.new) }
-        ensures refused { IfErr result (IsRefusedWith (installed vsn.now) self.old) }
-        ensures unchanged { OnErr result (self.new ≡ self.old) }
-    {
-        let Some(status) = self.status(vsn) else {
-            return Err(ListError::NoSuchRelease);
-        };
-        if self.runs(status) {
-            return Err(ListError::AlreadyInstalled);
-        }
-        self.change(StatusChange::Install(vsn));
-        Ok(())
-    }
-
-    // Makes the release of this version, the current one, permanent.
-    fn make_permanent(&mut self, vsn: &str) -> Result<(), ListError>
-        ensures accepted { OnOk result (step (made_permanent vsn.now) self.old ≡ Some self.new) }
-        ensures refused { IfErr result (IsRefusedWith (made_permanent vsn.now) self.old) }
-        ensures unchanged { OnErr result (self.new ≡ self.old) }
-    {
-        let Some(status) = self.status(vsn) else {
-            return Err(ListError::NoSuchRelease);
-        };
-        if !status.is_current() {
-            return Err(ListError::BadStatus(status));
-        }
-        self.change(StatusChange::MakePermanent(vsn));
-        Ok(())
-    }
-
     // Takes the release of this version out of the list.
-    fn remove(&mut self, vsn: &str) -> Result<(), ListError>
-        ensures accepted { OnOk result (step (removed vsn.now) self.old ≡ Some self.new) }
-        ensures refused { IfErr result (IsRefusedWith (removed vsn.now) self.old) }
-        ensures unchanged { OnErr result (self.new ≡ self.old) }
+    fn remove(&mut self, vsn: &str)
+        ensures { self.new ≡ without vsn.now self.old }
     {
-        match self.status(vsn) {
-            None => Err(ListError::NoSuchRelease),
-            Some(Status::Permanent) => Err(ListError::Permanent),
-            Some(Status::Current) => Err(ListError::Running),
-            Some(Status::Unpacked | Status::Old) => {
-                self.releases.shift_remove(vsn);
-                Ok(())
-            }
-        }
-    }
-
-    // Makes the release of this version, an old one, permanent.
-    fn reboot_old(&mut self, vsn: &str) -> Result<(), ListError>
-        ensures accepted { OnOk result (step (reboot_old vsn.now) self.old ≡ Some self.new) }
-        ensures refused { IfErr result (IsRefusedWith (reboot_old vsn.now) self.old) }
-        ensures unchanged { OnErr result (self.new ≡ self.old) }
-    {
-        let Some(status) = self.status(vsn) else {
-            return Err(ListError::NoSuchRelease);
-        };
-        if !status.is_old() {
-            return Err(ListError::BadStatus(status));
-        }
-        self.change(StatusChange::MakePermanent(vsn));
-        Ok(())
+        self.releases.shift_remove(vsn);
     }
 
     // Puts a release of a new version last.

@@ -1,11 +1,11 @@
 -- The new libraries of a release complete those of a list.
-use Rattle.std.proofs.Common.{◌≡◌, ℕ, ◌+◌, ◌<◌, ◌++◌, length, map, drop, get_or, append_assoc, Bool, true, false, cond, List, [], ◌∷◌, Option, Some, None, is_some, refl, sym, ap, subst, ◌∙◌, find}
-use Rattle.std.specs.Prelude.{not, if◌then◌else◌}
+use Rattle.std.proofs.Common.{◌≡◌, ◌≢◌, ℕ, ◌+◌, ◌<◌, ◌≤◌, ◌++◌, length, map, drop, get_or, append_assoc, Bool, true, false, cond, List, [], ◌∷◌, Option, Some, None, is_some, refl, sym, ap, subst, ◌∙◌, find}
+use Rattle.std.specs.Prelude.{not, if◌then◌else◌, MatchOption}
 use Rattle.std.specs.List.{AllByRecursion}
 use Rattle.std.specs.Option.{option_map, option_and_then, unwrap_or}
 use Rattle.std.specs.Str.{bytes_eq}
 use Rattle.std.proofs.lemmas.Slice.Eq.{bytes_eq-Decides}
-use Rattle.std.proofs.lemmas.List.{drop_more}
+use Rattle.std.proofs.lemmas.List.{append-nil, drop_all, drop_more}
 use Rattle.rel_files.specs.Release.{Application, application_of}
 use Rattle.rel_files.specs.declared.release.RelApp.{RelApp}
 use Rattle.rel_files.proofs.Options.{both, chained, mapped}
@@ -74,6 +74,21 @@ completed_none es apps i app old rest whole within at none so_far =
     let split : drop i apps ≡ app ∷ drop (i + 1) apps = drop_more apps i app within ∙ ap (λ (a : RelApp). a ∷ drop (i + 1) apps) (sym at) in
     ap (λ (n : Option (Library × List Library)). option_map (λ (more : List Library). old ++ more) (option_and_then (behind_library es later) n)) none
     ∙ (ap (λ (as' : List RelApp). option_map (λ (more : List Library). old ++ more) (completed es (map application_of as') rest)) (sym split) ∙ so_far)
+
+-- all applications have their libraries, where nothing is left of the new ones
+pub completed_all : {A B : Type 0} (libraries : A → List Library) (library : B → Library) (es : Releases) (apps : List RelApp) (i : ℕ) (found : A) (rest : List B) (o : Option A) (whole : Option (List Library))
+    → length apps ≤ i → MatchOption o (rest ≢ []) (λ all. (all ≡ found) × (rest ≡ []))
+    → option_map (λ more. libraries found ++ more) (completed es (map application_of (drop i apps)) (map library rest)) ≡ whole
+    → option_map libraries o ≡ whole
+completed_all {A = A} {B = B} libraries library es apps i found rest o whole past is so_far =
+    go rest o is (ap (λ (as' : List RelApp). option_map (λ (more : List Library). libraries found ++ more) (completed es (map application_of as') (map library rest))) (sym (drop_all i apps past)) ∙ so_far)
+  where
+    go : (rest : List B) (o : Option A) → MatchOption o (rest ≢ []) (λ all. (all ≡ found) × (rest ≡ []))
+        → option_map (λ more. libraries found ++ more) (completed es [] (map library rest)) ≡ whole → option_map libraries o ≡ whole
+    go [] None left ended = absurd (left refl)
+    go (l ∷ ls) None left ended = ended
+    go [] (Some all) (same, none) ended = ap Some (ap libraries same ∙ sym (append-nil (libraries found))) ∙ ended
+    go (l ∷ ls) (Some all) (same, none) ended = cc none
 
 -- The libraries of a node's first release are all new.
 pub completed_first : (apps : List Application) (ls : List Library) → AreLibrariesOf apps ls → completed [] apps ls ≡ Some ls

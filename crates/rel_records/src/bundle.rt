@@ -1,5 +1,5 @@
 // What a record brings.
-ghost use Rattle.std.specs.Prelude.{◌≡◌, is_some, map, None, Some, IsErrOf, IfOk};
+ghost use Rattle.std.specs.Prelude.{◌≡◌, ◌≢◌, is_some, map, [], None, Some, IsErrOf, IfOk, MatchOption};
 ghost use Rattle.std.specs.Option.{option_map};
 ghost use Rattle.library.specs.InMemory.{shared_of};
 ghost use Rattle.rel_check.specs.Fault.{release_fault};
@@ -55,10 +55,17 @@ fn complete(
         libraries.push(library)?;
         rest = left;
     }
+    Ok(unless_left(libraries, rest))
+}
+
+// These libraries, where nothing is left of the new ones.
+fn unless_left(libraries: Vec<Rc<Library>>, rest: &[Rc<Library>]) -> Option<Vec<Rc<Library>>>
+    ensures { MatchOption result (rest.now ≢ []) (λ all. (all ≡ libraries) × (rest.now ≡ [])) }
+{
     if rest.is_empty() {
-        Ok(Some(libraries))
+        Some(libraries)
     } else {
-        Ok(None)
+        None
     }
 }
 

@@ -10,7 +10,7 @@ use std::alloc::AllocError;
 use thiserror::Error;
 
 /// Why the records of a store make no list.
-#[derive(Clone, Copy, Debug, PartialEq, Eq, Error)]
+#[derive(Clone, Copy, Debug, Error)]
 pub enum RecordsError {
     /// The number of the first record, from 1, that no command could have written where it stands; 1 where there is none.
     #[error("record {0} is bad")]
@@ -21,7 +21,7 @@ pub enum RecordsError {
 }
 
 // Why a body isn't taken as a record.
-#[derive(Clone, Copy, PartialEq, Eq, Drop)]
+#[derive(Clone, Copy, Drop)]
 pub(crate) enum RecordFault {
     // no command could have written it there
     Bad,
