@@ -1,1 +1,2 @@
+pub mod FailureLemmas
 pub mod WriteLemmas

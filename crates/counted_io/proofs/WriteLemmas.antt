@@ -1,5 +1,5 @@
 -- What is written piece by piece.
-use Rattle.std.proofs.Common.{◌≡◌, ℕ, ◌-◌, arith, List, [], ◌++◌, length, take, drop, Option, None, Some, sym, ap, ◌∙◌, append_assoc, append-nil}
+use Rattle.std.proofs.Common.{◌≡◌, ℕ, ◌-◌, ◌<◌, ◌≤◌, arith, List, [], ◌++◌, length, take, drop, length-drop, Option, None, Some, sym, ap, ◌∙◌, append_assoc, append-nil}
 use Rattle.std.specs.Io.KnownBytes.{Appends}
 use Rattle.std.proofs.lemmas.List.{take-append-drop}
 use Rattle.std.proofs.lemmas.Grind.{common_steps}
@@ -33,3 +33,7 @@ moves old mid new all rest n w a = record {
 
 pub goes_on : (old mid new : Option (List ℕ)) (all rest : List ℕ) (n : ℕ) → Written old mid all rest → Appends mid new (take n rest) → Written old new all (take (length rest - n) (drop n rest))
 goes_on old mid new all rest n w a = rw (rest_of-drop rest n) (moves old mid new all rest n w a)
+
+-- and what is left is shorter than before
+pub is_shorter : (rest : List ℕ) (n : ℕ) → 0 < n → n ≤ length rest → length (take (length rest - n) (drop n rest)) < length rest
+is_shorter rest n some fits = let l : length (take (length rest - n) (drop n rest)) ≡ length (drop n rest) = ap length (rest_of-drop rest n) in omega (arith, length-drop n rest)

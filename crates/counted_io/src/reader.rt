@@ -6,19 +6,19 @@ use std::io::Read;
 use thiserror::Error;
 
 /// A read has failed. It isn't tried again.
-#[derive(Clone, Copy, Debug, PartialEq, Eq, Error)]
+#[derive(Clone, Copy, Debug, Error)]
 #[error("a read failed")]
 pub struct ReadFailed;
 
 /// A reader whose failures are counted.
-#[derive(Debug, Drop)]
+#[derive(Drop)]
 pub struct CountedReader<R> {
     reader: R,
     failures: u64,
 }
 
 impl<R: Read> CountedReader<R> {
-    ghost use Rattle.counted_io.specs.Failures.{Counts};
+    ghost use Rattle.counted_io.specs.Failures.{Counts, HasRisen};
     ghost use Rattle.counted_io.specs.Counted.{reader_of, left_in, failed_reads};
 
     /// A reader of which no read has failed yet.
@@ -46,10 +46,16 @@ impl<R: Read> CountedReader<R> {
     {
         match self.reader.read(&mut room[..most]) {
             Ok(count) => Ok(count),
-            Err(_) => {
-                self.failures = self.failures.saturating_add(1);
-                Err(ReadFailed)
-            }
+            Err(_) => Err(self.failure()),
         }
+    }
+
+    /// Counts a failure.
+    fn failure(&mut self) -> ReadFailed
+        ensures reader { self.new.reader ≡ self.old.reader }
+        ensures counted { HasRisen (failed_reads self.old) (failed_reads self.new) }
+    {
+        self.failures = self.failures.saturating_add(1);
+        ReadFailed
     }
 }

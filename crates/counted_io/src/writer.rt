@@ -6,12 +6,12 @@ use std::io::Write;
 use thiserror::Error;
 
 /// A write or a flush has failed, or a write took nothing. It isn't tried again.
-#[derive(Clone, Copy, Debug, PartialEq, Eq, Error)]
+#[derive(Clone, Copy, Debug, Error)]
 #[error("a write failed")]
 pub struct WriteFailed;
 
 /// A writer whose failures are counted.
-#[derive(Debug, Drop)]
+#[derive(Drop)]
 pub struct CountedWriter<W> {
     writer: W,
     failures: u64,

@@ -1,5 +1,5 @@
 -- What a line says, case by case.
-use Rattle.std.proofs.Common.{◌≡◌, ℕ, ◌≤◌, Bool, true, false, List, length, refl, sym, subst, ap, ◌∙◌, arith}
+use Rattle.std.proofs.Common.{◌≡◌, ℕ, ◌<◌, ◌≤◌, Bool, true, false, Bor, List, [], ◌∷◌, length, map, refl, sym, subst, ap, ◌∙◌, arith}
 use Rattle.std.specs.Prelude.{nat_lt, Result, Ok, Err}
 use Rattle.std.specs.Result.{IfOk}
 use Rattle.std.specs.Str.{IsUtf8, is_utf8}
@@ -10,7 +10,7 @@ use Rattle.session_input.specs.declared.line.Line.{Line}
 use Rattle.session_input.specs.declared.parsed_line.ParsedLine.{ParsedLine as ParsedLineInMemory}
 use Rattle.session_input.specs.Lines.{IsKept}
 use Rattle.session_input.specs.ParsedLine.{parsed_line_of}
-use Rattle.session_input.specs.Commands.{ParsedLine, parse_line, parse_words, words_of, is_blank, most_line}
+use Rattle.session_input.specs.Commands.{ParsedLine, parse_line, parse_words, parse_relup, words_of, is_blank, most_line}
 use Rattle.session_input.specs.Commands.ParsedLine.{blank, whole_command}
 use Rattle.session_input.specs.Commands.Command.{bad}
 
@@ -47,3 +47,17 @@ parsed_text (Ok said) line xs text kept is_empty utf8 same says = λ l k. says_t
 pub parsed_no_text : (xs l : List ℕ) → IsLine xs l → is_blank xs ≡ false → (IsUtf8 xs → ⊥) → whole_command bad ≡ parse_line l
 parsed_no_text xs l kept is_empty no_text =
     along (λ ys. whole_command bad ≡ parse_line ys) xs l kept (λ short. sym (rw (is_short (length xs) short, is_empty, not_utf8 xs no_text) refl))
+
+-- fewer words than three ask for no relup, and neither do more
+pub few_words : (words : List (Bor (List ℕ))) → length words < 3 → whole_command bad ≡ parse_relup (map (λ word. word.now) words)
+few_words [] few = refl
+few_words (new ∷ []) few = refl
+few_words (new ∷ ups ∷ []) few = refl
+few_words (new ∷ ups ∷ downs ∷ words) few = absurd (omega arith)
+
+pub many_words : (words : List (Bor (List ℕ))) → 4 ≤ length words → whole_command bad ≡ parse_relup (map (λ word. word.now) words)
+many_words [] many = absurd (omega arith)
+many_words (new ∷ []) many = absurd (omega arith)
+many_words (new ∷ ups ∷ []) many = absurd (omega arith)
+many_words (new ∷ ups ∷ downs ∷ []) many = absurd (omega arith)
+many_words (new ∷ ups ∷ downs ∷ more ∷ words) many = refl
