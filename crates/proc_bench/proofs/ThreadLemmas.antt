@@ -6,14 +6,10 @@ use Rattle.std.proofs.Crossing.{crosses}
 use Rattle.proc_table.proofs.ThreadLemmas.{table_sync, pass_send, worker_send}
 use Rattle.proc_table.proofs.pid.Pid.TheSendSync as pid
 use Rattle.proc_bench.specs.contracts.works.Calls as Calls
-use Rattle.proc_bench.specs.contracts.works.Locked as Locked
 use Rattle.proc_bench.specs.contracts.works.Steps as Steps
 
 pub calls_send : (ℓ : NamedLft) → IsSend (Calls.the_row ℓ)
 calls_send ℓ = declared_send (Calls.the_type ℓ) (search (sendable, table_sync), (pass_send, (pid.the_send, tt)))
 
-pub steps_send : IsSend Steps.the_row
-steps_send = declared_send Steps.the_type (worker_send, tt)
-
-pub locked_send : (ℓ : NamedLft) → IsSend (Locked.the_row ℓ)
-locked_send ℓ = declared_send (Locked.the_type ℓ) (worker_send, (search (sendable, crosses) depth 8, tt))
+pub steps_send : (ℓ : NamedLft) → IsSend (Steps.the_row ℓ)
+steps_send ℓ = declared_send (Steps.the_type ℓ) (worker_send, (search (sendable, crosses) depth 8, tt))

@@ -12,15 +12,15 @@ mod works;
 
 use mod_table::{Restart, Table, Worker, read_mod};
 use proc_history::{Beginning, Name};
-use proc_table::{HandlerSeat, Pid, ProcTable};
+use proc_table::{HandlerSeat, Pid, ProcTable, SLOTS};
 use std::alloc::Global;
 use std::io::Eprint;
 use std::process::ExitCode;
 use std::sync::{Mutex, Wait};
-use std::thread::Threads;
+use std::thread::{Threads, join};
 use std::time::{Clock, CpuClock};
 use watch::Watch;
-use works::{Calls, Locked, Steps, Work, four_at_once, two_at_once};
+use works::{Calls, Steps, Work, two_at_once};
 
 /// It counts its calls.
 const COUNTER: &[u8] = b"{worker,counter,\"1\",0,[{add,1,1}]}.";
@@ -39,23 +39,25 @@ fn beginning(alloc: Global, worker: &Worker) -> Option<Beginning> {
     })
 }
 
-// It begins in this slot.
-fn begin<R: Wait>(
+// One begins in each slot of a new table, with round 1.
+fn begin_all<R: Wait>(
     rt: &R,
     alloc: Global,
     table: &ProcTable,
     seat: &mut HandlerSeat,
-    slot: usize,
     worker: &Worker,
-) -> Option<Pid>
+) -> Option<()>
     requires { seat.old.table ≡ table.now }
     ensures { seat.new.table ≡ seat.old.table }
 {
-    let pid = Pid::new(slot, 0)?;
-    let begins = beginning(alloc, worker)?;
-    table.begin(rt, seat, pid, begins).ok()
+    for _ in 0..SLOTS {
+        let begins = beginning(alloc, worker)?;
+        table.begin_lowest(rt, seat, begins).ok()?;
+    }
+    Some(())
 }
 
+// Measures a work that one thread does.
 fn by_one<R: Wait + Clock + CpuClock + Eprint, A: Work + Drop>(
     rt: &R,
     what: &str,
@@ -66,173 +68,89 @@ fn by_one<R: Wait + Clock + CpuClock + Eprint, A: Work + Drop>(
     watch.tell(rt, what, 1).ok()
 }
 
+// Measures works that two threads do.
 fn by_two<R: Threads + Wait + Sync + Clock + CpuClock + Eprint, A: Work + Drop + Send>(
     rt: &R,
     what: &str,
-    first: A,
-    second: A,
+    works: (A, A),
 ) -> Option<()> {
+    let (first, second) = works;
     let watch = Watch::start(rt).ok()?;
     two_at_once(rt, first, second);
     watch.tell(rt, what, 2).ok()
 }
 
+// Measures works that four threads do.
 fn by_four<R: Threads + Wait + Sync + Clock + CpuClock + Eprint, A: Work + Drop + Send>(
     rt: &R,
     what: &str,
-    first: A,
-    second: A,
-    third: A,
-    fourth: A,
+    one_half: (A, A),
+    other_half: (A, A),
 ) -> Option<()> {
+    let (first, second) = one_half;
+    let (third, fourth) = other_half;
     let watch = Watch::start(rt).ok()?;
-    four_at_once(rt, first, second, third, fourth);
+    join(
+        rt,
+        || two_at_once(rt, first, second),
+        || two_at_once(rt, third, fourth),
+    );
     watch.tell(rt, what, 4).ok()
 }
 
-// Calls of one process.
-fn of_one<R: Threads + Wait + Sync + Clock + CpuClock + Eprint>(
-    rt: &R,
-    table: &ProcTable,
+// Two clients, who call the processes in these slots.
+fn two_clients<'t>(
+    table: &'t ProcTable,
     seat: &mut HandlerSeat,
-    pid: Pid,
-) -> Option<()>
+    first: usize,
+    second: usize,
+) -> Option<(Calls<'t>, Calls<'t>)>
     requires { seat.old.table ≡ table.now }
     ensures { seat.new.table ≡ seat.old.table }
 {
-    let what = "calls of one process";
-    by_one(rt, what, Calls::new(table, seat, pid))?;
-    let first = Calls::new(table, seat, pid);
-    let second = Calls::new(table, seat, pid);
-    by_two(rt, what, first, second)?;
-    let first = Calls::new(table, seat, pid);
-    let second = Calls::new(table, seat, pid);
-    let third = Calls::new(table, seat, pid);
-    let fourth = Calls::new(table, seat, pid);
-    by_four(rt, what, first, second, third, fourth)
+    let first = Pid::new(first, 1)?;
+    let second = Pid::new(second, 1)?;
+    Some((
+        Calls::new(table, seat, first),
+        Calls::new(table, seat, second),
+    ))
 }
 
-// Calls of four processes, each by a client of its own.
-fn of_four<R: Threads + Wait + Sync + Clock + CpuClock + Eprint>(
+// Calls of the processes in these slots, by a client each.
+fn calls_by_four<R: Threads + Wait + Sync + Clock + CpuClock + Eprint>(
     rt: &R,
     what: &str,
     table: &ProcTable,
     seat: &mut HandlerSeat,
-    pids: [Pid; 4],
-) -> Option<()>
-    requires { seat.old.table ≡ table.now }
-    ensures { seat.new.table ≡ seat.old.table }
-{
-    let [one, two, three, four] = pids;
-    let first = Calls::new(table, seat, one);
-    let second = Calls::new(table, seat, two);
-    let third = Calls::new(table, seat, three);
-    let fourth = Calls::new(table, seat, four);
-    by_four(rt, what, first, second, third, fourth)
-}
-
-fn steps(alloc: Global, worker: &Worker) -> Option<Steps> {
-    Some(Steps {
-        worker: worker.copy(alloc).ok()?,
-    })
-}
-
-fn two_steps(alloc: Global, worker: &Worker) -> Option<(Steps, Steps)> {
-    let first = steps(alloc, worker)?;
-    Some((first, steps(alloc, worker)?))
-}
-
-// The same work without a table of processes.
-fn plain<R: Threads + Wait + Sync + Clock + CpuClock + Eprint>(
-    rt: &R,
-    alloc: Global,
-    worker: &Worker,
-) -> Option<()> {
-    let what = "plain calls";
-    by_one(rt, what, steps(alloc, worker)?)?;
-    let (first, second) = two_steps(alloc, worker)?;
-    let (third, fourth) = two_steps(alloc, worker)?;
-    by_four(rt, what, first, second, third, fourth)
-}
-
-fn locked<'l>(alloc: Global, worker: &Worker, state: &'l Mutex<u32>) -> Option<Locked<'l>> {
-    Some(Locked {
-        worker: worker.copy(alloc).ok()?,
-        state,
-    })
-}
-
-fn two_locked<'l>(
-    alloc: Global,
-    worker: &Worker,
-    state: &'l Mutex<u32>,
-) -> Option<(Locked<'l>, Locked<'l>)> {
-    let first = locked(alloc, worker, state)?;
-    Some((first, locked(alloc, worker, state)?))
-}
-
-// The same work under a lock of std.
-fn under_a_lock<R: Threads + Wait + Sync + Clock + CpuClock + Eprint>(
-    rt: &R,
-    alloc: Global,
-    worker: &Worker,
-    state: &Mutex<u32>,
-) -> Option<()> {
-    let what = "steps under one lock";
-    by_one(rt, what, locked(alloc, worker, state)?)?;
-    let (first, second) = two_locked(alloc, worker, state)?;
-    let (third, fourth) = two_locked(alloc, worker, state)?;
-    by_four(rt, what, first, second, third, fourth)
-}
-
-// Four processes, each in its slot.
-fn begin_four<R: Wait>(
-    rt: &R,
-    alloc: Global,
-    table: &ProcTable,
-    seat: &mut HandlerSeat,
     slots: [usize; 4],
-    worker: &Worker,
-) -> Option<[Pid; 4]>
+) -> Option<()>
     requires { seat.old.table ≡ table.now }
     ensures { seat.new.table ≡ seat.old.table }
 {
     let [one, two, three, four] = slots;
-    Some([
-        begin(rt, alloc, table, seat, one, worker)?,
-        begin(rt, alloc, table, seat, two, worker)?,
-        begin(rt, alloc, table, seat, three, worker)?,
-        begin(rt, alloc, table, seat, four, worker)?,
-    ])
+    let first = two_clients(table, seat, one, two)?;
+    let second = two_clients(table, seat, three, four)?;
+    by_four(rt, what, first, second)
 }
 
-// Calls of processes. The words of eight slots side by side lie in one line of a processor's cache.
+// Calls of one process, and of four at once. The words of eight slots side by side lie in one line of a processor's cache.
 fn calls_at<R: Threads + Wait + Sync + Clock + CpuClock + Eprint>(
     rt: &R,
-    alloc: Global,
     table: &ProcTable,
     seat: &mut HandlerSeat,
-    worker: &Worker,
 ) -> Option<()>
     requires { seat.old.table ≡ table.now }
 {
-    let near = begin_four(rt, alloc, table, seat, [0, 1, 2, 3], worker)?;
-    let apart = begin_four(rt, alloc, table, seat, [8, 24, 40, 56], worker)?;
-    of_one(rt, table, seat, near[0])?;
-    of_four(
-        rt,
-        "calls of four processes side by side",
-        table,
-        seat,
-        near,
-    )?;
-    of_four(
-        rt,
-        "calls of four processes in slots apart",
-        table,
-        seat,
-        apart,
-    )
+    let of_one = "calls of one process";
+    let side_by_side = "calls of four processes side by side";
+    let apart = "calls of four processes in slots apart";
+    let pid = Pid::new(0, 1)?;
+    by_one(rt, of_one, Calls::new(table, seat, pid))?;
+    let two = two_clients(table, seat, 0, 0)?;
+    by_two(rt, of_one, two)?;
+    calls_by_four(rt, of_one, table, seat, [0, 0, 0, 0])?;
+    calls_by_four(rt, side_by_side, table, seat, [0, 1, 2, 3])?;
+    calls_by_four(rt, apart, table, seat, [8, 24, 40, 56])
 }
 
 // They are called at a new table.
@@ -243,7 +161,38 @@ fn calls<R: Threads + Wait + Sync + Clock + CpuClock + Eprint>(
 ) -> Option<()> {
     let (table, seat) = ProcTable::new(alloc).ok()?;
     let mut seat = seat;
-    calls_at(rt, alloc, &table, &mut seat, worker)
+    begin_all(rt, alloc, &table, &mut seat, worker)?;
+    calls_at(rt, &table, &mut seat)
+}
+
+fn steps<'l>(alloc: Global, worker: &Worker, lock: Option<&'l Mutex<u32>>) -> Option<Steps<'l>> {
+    Some(Steps {
+        worker: worker.copy(alloc).ok()?,
+        lock,
+    })
+}
+
+fn two_steps<'l>(
+    alloc: Global,
+    worker: &Worker,
+    lock: Option<&'l Mutex<u32>>,
+) -> Option<(Steps<'l>, Steps<'l>)> {
+    let first = steps(alloc, worker, lock)?;
+    Some((first, steps(alloc, worker, lock)?))
+}
+
+// The same work without a table of processes.
+fn steps_by<R: Threads + Wait + Sync + Clock + CpuClock + Eprint>(
+    rt: &R,
+    alloc: Global,
+    what: &str,
+    worker: &Worker,
+    lock: Option<&Mutex<u32>>,
+) -> Option<()> {
+    by_one(rt, what, steps(alloc, worker, lock)?)?;
+    let first = two_steps(alloc, worker, lock)?;
+    let second = two_steps(alloc, worker, lock)?;
+    by_four(rt, what, first, second)
 }
 
 // All that is measured, with this table of the processes.
@@ -253,22 +202,16 @@ fn bench_of<R: Threads + Wait + Sync + Clock + CpuClock + Eprint>(
     worker: &Worker,
 ) -> Option<()> {
     calls(rt, alloc, worker)?;
-    plain(rt, alloc, worker)?;
-    under_a_lock(rt, alloc, worker, &Mutex::new(0))
-}
-
-fn bench<R: Threads + Wait + Sync + Clock + CpuClock + Eprint>(
-    rt: &R,
-    alloc: Global,
-) -> Option<()> {
-    match read_mod(alloc, COUNTER) {
-        Ok(Table::Worker(worker)) => bench_of(rt, alloc, &worker),
-        _ => None,
-    }
+    steps_by(rt, alloc, "plain calls", worker, None)?;
+    let lock = Mutex::new(0);
+    steps_by(rt, alloc, "steps under one lock", worker, Some(&lock))
 }
 
 fn main(rt: HostRuntime) -> ExitCode {
-    match bench(&rt, rt.alloc()) {
+    let Ok(Table::Worker(worker)) = read_mod(rt.alloc(), COUNTER) else {
+        return ExitCode::FAILURE;
+    };
+    match bench_of(&rt, rt.alloc(), &worker) {
         Some(()) => ExitCode::SUCCESS,
         None => ExitCode::FAILURE,
     }

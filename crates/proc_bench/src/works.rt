@@ -46,40 +46,38 @@ impl Work for Calls<'_> {
     }
 }
 
-/// The same work without a table of processes.
+/// The same work without a table of processes: with a state of its own, or with one that is shared under a lock of std.
 #[derive(Drop)]
-pub(crate) struct Steps {
+pub(crate) struct Steps<'l> {
     pub(crate) worker: Worker,
+    pub(crate) lock: Option<&'l Mutex<u32>>,
 }
 
-impl Work for Steps {
-    fn work<R: Wait>(self, _rt: &R) {
-        let mut state = 0;
-        for _ in 0..TIMES {
-            match self.worker.step(state, 1) {
-                Step::Next(next, _) => state = next,
-                _ => {}
-            }
+impl Work for Steps<'_> {
+    fn work<R: Wait>(self, rt: &R) {
+        match self.lock {
+            Some(lock) => step_under(rt, &self.worker, lock),
+            None => step_alone(&self.worker),
         }
     }
 }
 
-/// The same work under a lock of std.
-#[derive(Drop)]
-pub(crate) struct Locked<'l> {
-    pub(crate) worker: Worker,
-    pub(crate) state: &'l Mutex<u32>,
+fn step_alone(worker: &Worker) {
+    let mut state = 0;
+    for _ in 0..TIMES {
+        step(worker, &mut state);
+    }
 }
 
-impl Work for Locked<'_> {
-    fn work<R: Wait>(self, rt: &R) {
-        for _ in 0..TIMES {
-            let mut state = self.state.lock(rt);
-            match self.worker.step(*state, 1) {
-                Step::Next(next, _) => *state = next,
-                _ => {}
-            }
-        }
+fn step_under<R: Wait>(rt: &R, worker: &Worker, lock: &Mutex<u32>) {
+    for _ in 0..TIMES {
+        step(worker, &mut lock.lock(rt));
+    }
+}
+
+fn step(worker: &Worker, state: &mut u32) {
+    if let Step::Next(next, _) = worker.step(*state, 1) {
+        *state = next;
     }
 }
 
@@ -90,19 +88,4 @@ pub(crate) fn two_at_once<R: Threads + Wait + Sync, A: Work + Drop + Send>(
     second: A,
 ) {
     join(rt, || first.work(rt), || second.work(rt));
-}
-
-/// Four threads, each with its work.
-pub(crate) fn four_at_once<R: Threads + Wait + Sync, A: Work + Drop + Send>(
-    rt: &R,
-    first: A,
-    second: A,
-    third: A,
-    fourth: A,
-) {
-    join(
-        rt,
-        || two_at_once(rt, first, second),
-        || two_at_once(rt, third, fourth),
-    );
 }

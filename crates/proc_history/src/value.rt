@@ -8,7 +8,7 @@ use crate::Name;
 use mod_table::{Restart, Step, Worker};
 
 /// What a process is at.
-#[derive(Clone, Copy, Debug, PartialEq, Eq)]
+#[derive(Clone, Copy)]
 pub enum Standing {
     /// It answers calls.
     Up,
@@ -19,7 +19,7 @@ pub enum Standing {
 }
 
 /// What comes of a call that reached a process.
-#[derive(Clone, Copy, Debug, PartialEq, Eq)]
+#[derive(Clone, Copy)]
 pub enum Outcome {
     /// The reply.
     Done(u32),

@@ -103,7 +103,7 @@ fn no_values(alloc: Global) -> Result<Vec<Value>, AllocError>
 {
     let mut values = Vec::with_capacity(alloc, SLOTS)?;
     for _ in 0..SLOTS {
-        values.push(Value::nothing())?;
+        values.push_reserved(Value::nothing());
     }
     Ok(values)
 }

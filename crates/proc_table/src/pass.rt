@@ -5,7 +5,7 @@ use proc_history::Value;
 use std::marker::Model;
 
 /// What a call answers.
-#[derive(Clone, Copy, Debug, PartialEq, Eq)]
+#[derive(Clone, Copy)]
 pub enum Tried {
     /// The reply.
     Done(u32),
@@ -22,7 +22,7 @@ pub enum Tried {
 }
 
 /// What a peek answers.
-#[derive(Clone, Copy, Debug, PartialEq, Eq)]
+#[derive(Clone, Copy)]
 pub enum Peeked {
     /// The state.
     Seen(u32),

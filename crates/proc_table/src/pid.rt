@@ -5,7 +5,7 @@ ghost use Rattle.proc_table.specs.Agrees.{slots};
 use crate::SLOTS;
 
 /// A process: its slot, and the round in which it began there.
-#[derive(Clone, Copy, Debug, PartialEq, Eq)]
+#[derive(Clone, Copy)]
 pub struct Pid {
     pub slot: usize,
     pub round: u32,

@@ -1,0 +1,29 @@
+//! The answer to a case.
+use crate::steps::follow_steps;
+use crate::threads::push_clients;
+use proc_table::ProcTable;
+use std::alloc::{AllocError, Global};
+use std::sync::Wait;
+use std::thread::Threads;
+use text_cases::Answer;
+
+/// The answer in one of two modes, each at a new table.
+///
+/// `steps`: what steps answer, as in [`follow_steps`]. `clients CALLS HOLDS`: what two clients and the handler see in threads of
+/// their own, as in [`push_clients`].
+pub(crate) fn answer<R: Threads + Wait + Sync>(
+    rt: &R,
+    alloc: Global,
+    mode: &str,
+    text: &[u8],
+) -> Result<String, AllocError> {
+    let words = str::from_utf8(text).unwrap_or("");
+    let mut answer = Answer::new(alloc);
+    let (table, seat) = ProcTable::new(alloc)?;
+    match mode {
+        "steps" => follow_steps(rt, alloc, &table, seat, words, &mut answer),
+        "clients" => push_clients(rt, alloc, &table, seat, words, &mut answer),
+        _ => answer.push("no such mode"),
+    }
+    answer.finish()
+}
