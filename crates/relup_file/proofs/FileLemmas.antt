@@ -1,46 +1,66 @@
 -- What a relup file says, or its fault.
-use Rattle.std.proofs.Common.{◌≡◌, ◌≢◌, ℕ, List, [], ◌∷◌, Result, Ok, Err, MatchResult, IfErr, IsErr, IsErrAnd, ◌⊎◌, inl, inr, refl, sym, ap, subst, ◌∙◌}
+use Rattle.std.proofs.Common.{◌≡◌, ◌≢◌, ℕ, List, [], ◌∷◌, string_bytes, Result, Ok, Err, MatchResult, IfOk, IfErr, IsErr, IsErrAnd, ◌⊎◌, inl, inr, refl, sym, ap, subst, ◌∙◌}
 use Rattle.erl_term.specs.TermFault.{TermFault}
 use Rattle.erl_term.specs.TermFault.TheVariants as term
 use Rattle.erl_term.specs.Value.{Value}
 use Rattle.erl_term.specs.Grammar.{Reading, Reads}
 use Rattle.erl_term.specs.Faults.{IsFault}
-use Rattle.erl_term.specs.Answers.{TellsFault}
 use Rattle.erl_term.proofs.Exact.{one_reading, never_both as reads_or_fails, reads_or_fault}
 use Rattle.erl_term.proofs.OneFault.{one_fault as one_term_fault}
+use Rattle.rel_files.specs.declared.fault.FileFault.{FileFault}
+use Rattle.rel_files.specs.declared.fault.FileFault.TheVariants as file
+use Rattle.rel_files.specs.Fault.{Fault}
+use Rattle.rel_files.specs.Fault.Fault.{bad_term, bad_shape, duplicate, bad_version}
+use Rattle.rel_files.specs.Kind.{HasNoTerm, IsCountFault}
 use Rattle.relup_file.specs.declared.fault.RelupFault.{RelupFault}
 use Rattle.relup_file.specs.declared.fault.RelupFault.TheVariants.{BadTerm, BadShape, NoMemory}
-use Rattle.relup_file.specs.Fault.{relup_fault_of}
+use Rattle.relup_file.specs.Fault.{relup_fault_of, relup_fault_of_file}
 use Rattle.relup_file.specs.Instruction.{RelupForm}
 use Rattle.relup_file.specs.Form.{IsRelupTerm}
 use Rattle.relup_file.specs.Parts.{relup_in}
-use Rattle.relup_file.specs.File.{HasFileTerm, SaysRelup, HasTermFault, IsTermFault, AreNotOne, IsTextFault, HaveFault, IsRelupFault}
+use Rattle.relup_file.specs.File.{HasFileTerm, SaysRelup, HasTermFault, IsTermFault, HaveFault, IsRelupFault}
 use Rattle.relup_file.proofs.RelupLemmas.{relup_in-term, from_relup, from_fault, relup_in-fault}
 
 -- a fault of the terms is the file's
-pub tells_terms : (bytes : List ℕ) (e : TermFault) → TellsFault 64 bytes e → relup_fault_of e ≢ NoMemory → IsTextFault bytes (relup_fault_of e)
-tells_terms bytes term.NoMemory fault other = absurd (other refl)
-tells_terms bytes e fault other = fault
+of_bad_term : (bytes : List ℕ) (e : TermFault) → IsFault 64 bytes e → relup_fault_of e ≢ NoMemory → IsRelupFault bytes (relup_fault_of e)
+of_bad_term bytes term.NoMemory fault other = absurd (other refl)
+of_bad_term bytes e fault other = fault
+
+of_no_row : (bytes : List ℕ) (e : TermFault) → HasNoTerm bytes (bad_term e) → relup_fault_of e ≢ NoMemory → IsRelupFault bytes (relup_fault_of e)
+of_no_row bytes e (inl (d, is, fault)) other = let same : d ≡ e = cc in of_bad_term bytes e (subst (IsFault 64 bytes) same fault) other
+of_no_row bytes e (inr ([], reads, is)) other = absurd cc
+of_no_row bytes e (inr (r ∷ [], reads, is)) other = absurd is
+of_no_row bytes e (inr (r ∷ s ∷ rs, reads, is)) other = absurd cc
+
+-- none or several terms are no outer shape
+of_count : (bytes : List ℕ) (f : Fault) → ((e : TermFault) → f ≡ bad_term e → ⊥) → HasNoTerm bytes f → IsRelupFault bytes (BadShape 0)
+of_count bytes f row (inl (e, is, fault)) = absurd (row e is)
+of_count bytes f row (inr ([], reads, is)) = ([], reads, refl)
+of_count bytes f row (inr (r ∷ [], reads, is)) = absurd is
+of_count bytes f row (inr (r ∷ s ∷ rs, reads, is)) = (r ∷ s ∷ rs, reads, refl)
+
+-- the fault of a file that hasn't one term
+pub tells_terms : (bytes : List ℕ) (f : FileFault) → (f ≢ file.NoMemory → IsCountFault bytes f) → relup_fault_of_file f ≢ NoMemory → IsRelupFault bytes (relup_fault_of_file f)
+tells_terms bytes (file.BadTerm e) h other = of_no_row bytes e (h (λ same. absurd cc)) other
+tells_terms bytes (file.BadShape at) h other = of_count bytes (bad_shape at) (λ e is. absurd cc) (h (λ same. absurd cc))
+tells_terms bytes (file.Duplicate name) h other = of_count bytes (duplicate (string_bytes name)) (λ e is. absurd cc) (h (λ same. absurd cc))
+tells_terms bytes file.BadVersion h other = of_count bytes bad_version (λ e is. absurd cc) (h (λ same. absurd cc))
+tells_terms bytes file.NoMemory h other = absurd (other refl)
 
 -- a fault that is passed on
 pub passed_on : {A : Type 0} (P : RelupFault → Type 0) (result : Result A RelupFault) (f : RelupFault) → IsErr result × IsErrAnd result (λ g. g ≡ f) → P f → IfErr result P
 passed_on P (Ok x) f is h = tt
 passed_on P (Err g) f is h = subst P (sym is.1) h
 
+-- no value, where a fault is passed on
+pub no_value : {A : Type 0} (P : A → Type 0) (result : Result A RelupFault) (f : RelupFault) → IsErr result × IsErrAnd result (λ g. g ≡ f) → IfOk result P
+no_value P (Ok x) f is = absurd is.1
+no_value P (Err g) f is = tt
+
 pub only_memory : {A : Type 0} (P : A → Type 0) (result : Result A RelupFault) (f : RelupFault) → IsErr result × IsErrAnd result (λ g. g ≡ f) → f ≡ NoMemory
     → MatchResult result P (λ g. g ≡ NoMemory)
 only_memory P (Ok x) f is e = absurd is.1
 only_memory P (Err g) f is e = is.1 ∙ e
-
-zero_fault : (rs : List Reading) (n : ℕ) → AreNotOne rs → n ≡ 0 → HaveFault rs n
-zero_fault [] n several is = is
-zero_fault (r ∷ []) n several is = absurd several
-zero_fault (r ∷ s ∷ rs) n several is = is
-
-pub text_fault : (bytes : List ℕ) (f : RelupFault) → IsTextFault bytes f → IsRelupFault bytes f
-text_fault bytes (BadTerm e) h = h
-text_fault bytes (BadShape n) (rs, reads, several, is) = (rs, reads, zero_fault rs n several is)
-text_fault bytes NoMemory h = absurd h
 
 pub term_fault : (bytes : List ℕ) (v : Value) (f : RelupFault) → HasFileTerm bytes v → IsTermFault v f → IsRelupFault bytes f
 term_fault bytes v (BadTerm e) has h = absurd h

@@ -6,3 +6,4 @@ pub mod EntryLemmas
 pub mod RelupLemmas
 pub mod Printed
 pub mod FileLemmas
+pub mod Wrapped

@@ -3,6 +3,8 @@ use Rattle.std.specs.Prelude.{ℕ, List, ◌++◌, codes, decimal}
 use Rattle.erl_term.specs.TermFault.{TermFault}
 use Rattle.erl_term.specs.TermFault.TheVariants as term
 use Rattle.erl_term.specs.FaultTexts.{term_fault_text}
+use Rattle.rel_files.specs.declared.fault.FileFault.{FileFault}
+use Rattle.rel_files.specs.declared.fault.FileFault.TheVariants as file
 use Rattle.relup_file.specs.declared.fault.RelupFault.{RelupFault}
 use Rattle.relup_file.specs.declared.fault.RelupFault.TheVariants.{BadTerm, BadShape, NoMemory}
 
@@ -10,6 +12,12 @@ use Rattle.relup_file.specs.declared.fault.RelupFault.TheVariants.{BadTerm, BadS
 abbrev pub relup_fault_of : TermFault → RelupFault
 relup_fault_of term.NoMemory = NoMemory
 relup_fault_of e = BadTerm e
+
+-- the fault of a file that hasn't one term
+abbrev pub relup_fault_of_file : FileFault → RelupFault
+relup_fault_of_file (file.BadTerm e) = relup_fault_of e
+relup_fault_of_file file.NoMemory = NoMemory
+relup_fault_of_file f = BadShape 0
 
 -- how a fault is shown
 abbrev pub relup_fault_text : RelupFault → List ℕ

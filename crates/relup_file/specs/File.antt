@@ -44,16 +44,6 @@ abbrev pub IsTermFault : Value → RelupFault → Type 0
 IsTermFault v (BadShape n) = HasTermFault v n
 IsTermFault v f = ⊥
 
--- Why the file has no term that is its only one: it is no row of terms, or a row of none or several.
-abbrev pub AreNotOne : List Reading → Type 0
-AreNotOne (r ∷ []) = ⊥
-AreNotOne rs = Unit {0}
-
-abbrev pub IsTextFault : List ℕ → RelupFault → Type 0
-IsTextFault bytes (BadTerm e) = IsFault 64 bytes e
-IsTextFault bytes (BadShape n) = (rs : List Reading) × Reads 64 bytes rs × AreNotOne rs × (n ≡ 0)
-IsTextFault bytes NoMemory = ⊥
-
 -- the fault of the terms of a file: there is to be one
 abbrev pub HaveFault : List Reading → ℕ → Type 0
 HaveFault (r ∷ []) n = HasTermFault r.term n

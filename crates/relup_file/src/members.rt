@@ -2,11 +2,11 @@
 ghost use Rattle.std.specs.Prelude.{◌≡◌, IfOk, map, string_bytes};
 ghost use Rattle.std.specs.Option.{option_map};
 ghost use Rattle.erl_term.specs.Value.{members_of, value_of};
-ghost use Rattle.relup_file.specs.Parts.{one_in, three, triple_in, word_in, version_in, modules_in, purge_mode_of, purge_mode_in, direction_of, mode_in, timeout_of, timeout_in};
+ghost use Rattle.relup_file.specs.Parts.{one_in, triple_in, word_in, version_in, modules_in, purge_mode_of, purge_mode_in, direction_of, mode_in, timeout_of, timeout_in};
 
 use crate::{Direction, PurgeMode, Timeout};
 use erl_term::Term;
-use rel_files::parts::list_in;
+use rel_files::parts::{list_in, three};
 use rel_files::text::{names_of, text_in};
 use std::alloc::{AllocError, Global};
 
@@ -33,16 +33,6 @@ pub fn triple_in(term: &Term) -> Option<(&Term, &Term, &Term)>
         Term::Tuple(members) => three(members),
         _ => None,
     }
-}
-
-fn three(members: &[Term]) -> Option<(&Term, &Term, &Term)>
-    ensures { option_map (λ p. (value_of p.0.now, value_of p.1.now, value_of p.2.now)) result
-        ≡ three (members_of members.now) }
-{
-    let (first, rest) = members.split_first()?;
-    let (second, rest) = rest.split_first()?;
-    let third = one_in(rest)?;
-    Some((first, second, third))
 }
 
 /// The text of an atom.

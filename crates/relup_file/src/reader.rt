@@ -1,14 +1,15 @@
 //! From a relup file to a relup.
 ghost use Rattle.std.specs.Prelude.{◌≡◌, ◌≢◌, IfOk, IfErr, MatchResult};
-ghost use Rattle.erl_term.specs.Value.{Value, value_of};
+ghost use Rattle.erl_term.specs.Value.{value_of};
 ghost use Rattle.erl_term.specs.Within.{IsWithin};
 ghost use Rattle.relup_file.specs.Instruction.{RelupForm, relup_of};
 ghost use Rattle.relup_file.specs.Form.{IsRelupTerm, IsRelup};
-ghost use Rattle.relup_file.specs.File.{HasFileTerm, IsTextFault, SaysRelup, IsTermFault, IsRelupFault};
+ghost use Rattle.relup_file.specs.File.{HasFileTerm, SaysRelup, IsTermFault, IsRelupFault};
 
 use crate::entries::relup_in;
 use crate::{Relup, RelupFault};
-use erl_term::{Term, read_terms};
+use erl_term::Term;
+use rel_files::read_one_term;
 use std::alloc::Global;
 
 /// A relup file: its term, and the relup that this says.
@@ -44,9 +45,12 @@ pub fn read_relup_file(alloc: Global, bytes: &[u8]) -> Result<RelupFile, RelupFa
     // The term has short atoms, and few brackets are open at once when it is printed.
     ensures within { IfOk result (λ file. IsWithin 65 (value_of file.term)) }
 {
-    let term = file_term(alloc, bytes)?;
-    let relup = relup_of_term(alloc, &term)?;
-    Ok(RelupFile { term, relup })
+    let file = read_one_term(alloc, bytes)?;
+    let relup = relup_of_term(alloc, &file.term)?;
+    Ok(RelupFile {
+        term: file.term,
+        relup,
+    })
 }
 
 /// The relup that a term says.
@@ -59,22 +63,4 @@ pub fn relup_of_term(alloc: Global, term: &Term) -> Result<Relup, RelupFault>
     ensures fits { IfOk result (λ relup. IsRelup (relup_of relup)) }
 {
     relup_in(alloc, term)
-}
-
-// The one term of a file.
-fn file_term(alloc: Global, bytes: &[u8]) -> Result<Term, RelupFault>
-    ensures found { IfOk result (λ term. HasFileTerm bytes.now (value_of term)) }
-    ensures only { (v : Value) → HasFileTerm bytes.now v →
-        MatchResult result (λ term. value_of term ≡ v) (λ f. f ≡ RelupFault.NoMemory) }
-    ensures fault { IfErr result (λ f. f ≢ RelupFault.NoMemory → IsTextFault bytes.now f) }
-    ensures within { IfOk result (λ term. IsWithin 65 (value_of term)) }
-{
-    let mut terms = read_terms(alloc, bytes)?;
-    let Some(last) = terms.pop() else {
-        return Err(RelupFault::BadShape(0));
-    };
-    if let Some(_first) = terms.first() {
-        return Err(RelupFault::BadShape(0));
-    }
-    Ok(last.term)
 }

@@ -1,0 +1,8 @@
+use Rattle.std.proofs.Common.{ap}
+use Rattle.std.specs.Option.{option_map}
+use Rattle.relup_file.specs.declared.instruction.Timeout.{Timeout}
+use Rattle.appup_file.specs.Instruction.{UpdateForm, update_of}
+use Rattle.appup_file.proofs.instruction.Update.with_timeout.Goals as goal
+
+pub returns : goal.returns
+returns c = let u : UpdateForm = update_of c.args.self in ap (option_map (λ (x : Timeout). record u { timeout = x })) c.in_ok-self.ensures
