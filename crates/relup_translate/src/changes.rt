@@ -91,11 +91,20 @@ fn changes_of_kind<'a>(
     Ok(all)
 }
 
+// Those that go, in their order.
+fn all_going(alloc: Global, way: Way<'_>) -> Result<Vec<AppChange<'_>>, AllocError>
+    ensures { IfOk result (λ v. rows_of v.items
+        ≡ filter_map (going_row (way_of way.entry)) (relup_release_of way.entry.left.now).apps) }
+{
+    changes_of_kind(alloc, way, ChangeKind::Going, &way.left.apps)
+}
+
+// Those that go, the last one first.
 fn reversed_going(alloc: Global, way: Way<'_>) -> Result<Vec<AppChange<'_>>, AllocError>
     ensures { IfOk result (λ v. rows_of v.items ≡ reverse
         (filter_map (going_row (way_of way.entry)) (relup_release_of way.entry.left.now).apps)) }
 {
-    let mut going = changes_of_kind(alloc, way, ChangeKind::Going, &way.left.apps)?;
+    let mut going = all_going(alloc, way)?;
     going.reverse();
     Ok(going)
 }
