@@ -1,4 +1,3 @@
 pub mod OutcomeLemmas
 pub mod ScriptLemmas
 pub mod ItselfLemmas
-pub mod WalkLemmas

@@ -3,7 +3,7 @@ use Rattle.appup_file.specs.Instruction.{appup_instruction_of}
 use Rattle.relup_row.specs.Release.{way_of}
 use Rattle.relup_row.specs.Fetches.{mention_of}
 use Rattle.relup_row.specs.Script.{mentions, mentions_by}
-use Rattle.relup_row.proofs.WalkLemmas.{one_further, none_left}
+use Rattle.relup_block.proofs.WalkLemmas.{one_further, none_left}
 use Rattle.relup_row.proofs.rows.push_mentions.Goals as goal
 
 pub loop-instr-preserved : goal.loop-instr-preserved

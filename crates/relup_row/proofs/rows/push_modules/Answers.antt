@@ -2,7 +2,8 @@ use Rattle.std.proofs.Common.{◌++◌, List, map, string_bytes, option_to_list,
 use Rattle.std.specs.List.{filter_map}
 use Rattle.relup_row.specs.Release.{relup_release_of}
 use Rattle.relup_row.specs.Fetches.{mention, mention_of}
-use Rattle.relup_row.proofs.WalkLemmas.{one_further, none_left, before_rest}
+use Rattle.relup_block.proofs.WalkLemmas.{one_further, none_left}
+use Rattle.relup_row.proofs.WalkLemmas.{before_rest}
 use Rattle.relup_row.proofs.rows.push_modules.Goals as goal
 
 pub loop-name-preserved : goal.loop-name-preserved

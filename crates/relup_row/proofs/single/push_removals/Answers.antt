@@ -2,7 +2,7 @@ use Rattle.std.proofs.Common.{[], ◌∷◌, map, string_bytes, refl, ap, ◌∙
 use Rattle.relup_file.specs.Instruction.{instruction_of}
 use Rattle.relup_file.specs.Instruction.Instruction.{remove}
 use Rattle.relup_row.specs.Script.{plain_purging, remove_plainly}
-use Rattle.relup_row.proofs.WalkLemmas.{one_pushed, one_further, none_left}
+use Rattle.relup_block.proofs.WalkLemmas.{one_pushed, one_further, none_left}
 use Rattle.relup_row.proofs.single.push_removals.Goals as goal
 
 pub loop-name-preserved : goal.loop-name-preserved

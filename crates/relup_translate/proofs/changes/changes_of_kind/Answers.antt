@@ -4,7 +4,7 @@ use Rattle.std.specs.Option.{option_map}
 use Rattle.std.proofs.lemmas.List.{append-nil}
 use Rattle.relup_row.specs.Release.{relup_app_of, way_of}
 use Rattle.relup_translate.specs.Memory.{row_of_change, row_of_kind, rows_of}
-use Rattle.relup_translate.proofs.WalkLemmas.{one_pushed, one_further}
+use Rattle.relup_block.proofs.WalkLemmas.{one_pushed, one_further}
 use Rattle.relup_translate.proofs.changes.changes_of_kind.Goals.{in-Some+in_ok-push, in_default}
 use Rattle.relup_translate.proofs.changes.changes_of_kind.Goals as goal
 

@@ -3,7 +3,7 @@ use Rattle.std.specs.List.{flat_map}
 use Rattle.relup_file.specs.Instruction.{instruction_of}
 use Rattle.relup_row.specs.Script.{written_fetches}
 use Rattle.relup_translate.specs.Memory.{row_of_change}
-use Rattle.relup_translate.proofs.WalkLemmas.{one_further, none_left}
+use Rattle.relup_block.proofs.WalkLemmas.{one_further, none_left}
 use Rattle.relup_translate.proofs.script.push_all_fetches.Goals as goal
 
 pub loop-change-preserved : goal.loop-change-preserved

@@ -4,7 +4,7 @@ use Rattle.relup_file.specs.Instruction.{instruction_of}
 use Rattle.relup_row.specs.Release.{way_of}
 use Rattle.relup_row.specs.Script.{row_script}
 use Rattle.relup_translate.specs.Memory.{row_of_change}
-use Rattle.relup_translate.proofs.WalkLemmas.{one_further, none_left}
+use Rattle.relup_block.proofs.WalkLemmas.{one_further, none_left}
 use Rattle.relup_translate.proofs.script.push_changes.Goals as goal
 
 pub loop-change-preserved : goal.loop-change-preserved
