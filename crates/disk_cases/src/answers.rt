@@ -2,7 +2,7 @@
 use crate::damage::push_damaged;
 use crate::disks::{append_to, calls_twice, case_disk, disk_of};
 use crate::sessions::follow;
-use rel_disk::{DeviceFault, MemDisk};
+use rel_disk::DeviceFault;
 use rel_store::Store;
 use std::alloc::{AllocError, Global};
 use text_cases::Answer;
@@ -30,26 +30,21 @@ use text_cases::Answer;
 pub(crate) fn answer(alloc: Global, mode: &str, text: &[u8]) -> Result<String, AllocError> {
     let mut answer = Answer::new(alloc);
     if mode == "start" {
-        on_store(alloc, text, "open; read_start", &mut answer)?;
+        on_store(alloc, text, "open; read_start", &mut answer);
     } else {
-        push_of_text(alloc, mode, str::from_utf8(text).unwrap_or(""), &mut answer)?;
+        push_of_text(alloc, mode, str::from_utf8(text).unwrap_or(""), &mut answer);
     }
     answer.finish()
 }
 
 // The answer in the modes whose cases are UTF-8.
-fn push_of_text(
-    alloc: Global,
-    mode: &str,
-    text: &str,
-    answer: &mut Answer,
-) -> Result<(), AllocError> {
+fn push_of_text(alloc: Global, mode: &str, text: &str, answer: &mut Answer) {
     match mode {
-        "disk" => on_disk(alloc, text, answer),
-        "node" => {
-            follow(alloc, case_disk(alloc)?, text, answer);
-            Ok(())
+        "disk" => {
+            let (words, sessions) = text.split_once(" | ").unwrap_or((text, ""));
+            on_disk(alloc, words, sessions, answer);
         }
+        "node" => on_disk(alloc, "4096 65536", text, answer),
         "store" => on_store(alloc, b"14.2 A\n", text, answer),
         "damaged" => push_damaged(alloc, text, answer),
         _ => push_of_calls(alloc, mode, text, answer),
@@ -57,49 +52,35 @@ fn push_of_text(
 }
 
 // That in the modes that follow no sessions.
-fn push_of_calls(
-    alloc: Global,
-    mode: &str,
-    text: &str,
-    answer: &mut Answer,
-) -> Result<(), AllocError> {
+fn push_of_calls(alloc: Global, mode: &str, text: &str, answer: &mut Answer) {
     match mode {
         "append" => append_to(alloc, text, answer),
         "twice" => calls_twice(alloc, text, answer),
-        "fault" => write!(answer.text, "{}", DeviceFault),
-        _ => answer.text.push_str("no such mode"),
+        "fault" => answer.push_shown(&DeviceFault),
+        _ => answer.push("no such mode"),
     }
 }
 
-fn on_store(
-    alloc: Global,
-    start: &[u8],
-    sessions: &str,
-    answer: &mut Answer,
-) -> Result<(), AllocError> {
-    match new_store(alloc, start)? {
-        Some(disk) => drop(follow(alloc, disk, sessions, answer)),
-        None => answer.push("no store"),
-    }
-    Ok(())
-}
-
-// A disk with a new store, in whose start slot this text stands, if it has room there.
-fn new_store(alloc: Global, start: &[u8]) -> Result<Option<MemDisk>, AllocError> {
+// What sessions answer on a disk with a new store, in whose start slot this text stands, if it has
+// room there.
+fn on_store(alloc: Global, start: &[u8], sessions: &str, answer: &mut Answer) {
     if start.len() > 127 {
-        return Ok(None);
+        return answer.push("no store");
     }
-    match Store::create(alloc, case_disk(alloc)?, b"[].", start) {
-        Ok(store) => Ok(Some(store.into_disk())),
-        Err(_) => Ok(None),
+    let Ok(disk) = case_disk(alloc) else {
+        return answer.note_no_memory();
+    };
+    match Store::create(alloc, disk, b"[].", start) {
+        Ok(store) => drop(follow(alloc, store.into_disk(), sessions, answer)),
+        Err(_) => answer.push("no store"),
     }
 }
 
-fn on_disk(alloc: Global, text: &str, answer: &mut Answer) -> Result<(), AllocError> {
-    let (words, sessions) = text.split_once(" | ").unwrap_or((text, ""));
-    match disk_of(alloc, words)? {
-        Some(disk) => drop(follow(alloc, disk, sessions, answer)),
-        None => answer.push("no disk"),
+// What they answer on the disk of these words, if it can hold what it begins with.
+fn on_disk(alloc: Global, words: &str, sessions: &str, answer: &mut Answer) {
+    match disk_of(alloc, words) {
+        Ok(Some(disk)) => drop(follow(alloc, disk, sessions, answer)),
+        Ok(None) => answer.push("no disk"),
+        Err(_) => answer.note_no_memory(),
     }
-    Ok(())
 }

@@ -9,15 +9,17 @@ use text_cases::{Answer, first_word, number};
 /// Appends for how many places it is so, up to the first for which it isn't, that the disk which
 /// these sessions make, with this byte there, is booted to one release or two or is refused for what
 /// it holds; and how many places there are.
-pub(crate) fn push_damaged(
-    alloc: Global,
-    text: &str,
-    answer: &mut Answer,
-) -> Result<(), AllocError> {
+pub(crate) fn push_damaged(alloc: Global, text: &str, answer: &mut Answer) {
     let (byte, sessions) = first_word(text);
-    let len = made(alloc, sessions)?.len().unwrap_or(0);
-    let explained = explained_with(alloc, sessions, (number(byte) % 256) as u8, len)?;
-    write!(answer.text, "explained {explained} of {len}")
+    match explained_with(alloc, sessions, (number(byte) % 256) as u8) {
+        Ok((explained, len)) => {
+            answer.push("explained ");
+            answer.push_number(explained);
+            answer.push(" of ");
+            answer.push_number(len);
+        }
+        Err(_) => answer.note_no_memory(),
+    }
 }
 
 // The disk that these sessions make.
@@ -30,13 +32,16 @@ fn made(alloc: Global, sessions: &str) -> Result<MemDisk, AllocError> {
     }
 }
 
-// How many of its places are explained with this byte, up to the first that isn't.
-fn explained_with(alloc: Global, sessions: &str, byte: u8, len: u64) -> Result<u64, AllocError> {
+// How many of its places are explained with this byte, up to the first that isn't, and how many
+// there are.
+fn explained_with(alloc: Global, sessions: &str, byte: u8) -> Result<(u64, u64), AllocError> {
+    let len = made(alloc, sessions)?.len().unwrap_or(0);
     for at in 0..len {
         let mut disk = made(alloc, sessions)?;
-        if patch(&mut disk, at, &[byte]).is_err() || !is_explained(alloc, disk) {
-            return Ok(at);
+        let is_patched = patch(&mut disk, at, &[byte]).is_ok();
+        if !is_explained(alloc, disk) || !is_patched {
+            return Ok((at, len));
         }
     }
-    Ok(len)
+    Ok((len, len))
 }

@@ -21,14 +21,11 @@ pub(crate) fn case_disk(alloc: Global) -> Result<MemDisk, AllocError> {
 pub(crate) fn disk_of(alloc: Global, words: &str) -> Result<Option<MemDisk>, AllocError> {
     let (capacity, rest) = first_word(words);
     let (log, bytes) = first_word(rest);
-    let (capacity, log) = (number(capacity), number(log));
-    if bytes.is_empty() {
-        return Ok(Some(MemDisk::new(alloc, capacity, log)?));
-    }
+    let capacity = number(capacity);
     if bytes.len() > capacity {
         return Ok(None);
     }
-    let disk = MemDisk::with_bytes(alloc, bytes.as_bytes(), capacity, log)?;
+    let disk = MemDisk::with_bytes(alloc, bytes.as_bytes(), capacity, number(log))?;
     Ok(Some(disk))
 }
 
@@ -43,28 +40,32 @@ pub(crate) fn failing<D: Disk>(disk: D, how: &str, call: u64) -> FailDisk<D>
     }
 }
 
-/// All that a read gives, if it is given.
+/// All that a read gives. Where none is given, that is appended.
 pub(crate) fn bytes_of<D: Disk>(
     alloc: Global,
     disk: &mut D,
-) -> Result<Option<Vec<u8>>, AllocError> {
+    answer: &mut Answer,
+) -> Option<Vec<u8>> {
     let Ok(len) = disk.len() else {
-        return Ok(None);
+        answer.push("no bytes");
+        return None;
     };
-    let mut bytes = vec![in alloc; 0; len as usize]?;
-    match disk.read(0, &mut bytes) {
-        Ok(()) => Ok(Some(bytes)),
-        Err(_) => Ok(None),
+    let Ok(mut bytes) = vec![in alloc; 0; len as usize] else {
+        answer.note_no_memory();
+        return None;
+    };
+    if disk.read(0, &mut bytes).is_err() {
+        answer.push("no bytes");
+        return None;
     }
+    Some(bytes)
 }
 
 /// Appends all that a read gives, in quotes.
 pub(crate) fn push_read<D: Disk>(alloc: Global, disk: &mut D, answer: &mut Answer) {
     answer.push("\"");
-    match bytes_of(alloc, disk) {
-        Ok(Some(bytes)) => answer.push_bytes(&bytes),
-        Ok(None) => answer.push("no bytes"),
-        Err(_) => answer.note_no_memory(),
+    if let Some(bytes) = bytes_of(alloc, disk, answer) {
+        answer.push_bytes(&bytes);
     }
     answer.push("\"");
 }
@@ -77,15 +78,15 @@ pub(crate) fn push_failures(failures: u64, answer: &mut Answer) {
 
 /// Appends what two disks in one another answer that fail one call each. Both failures are counted
 /// beside those of the disk within.
-pub(crate) fn calls_twice(
-    alloc: Global,
-    numbers: &str,
-    answer: &mut Answer,
-) -> Result<(), AllocError> {
+pub(crate) fn calls_twice(alloc: Global, numbers: &str, answer: &mut Answer) {
     let (outer, inner) = first_word(numbers);
-    let disk = FailDisk::new(MemDisk::new(alloc, 1, 1024)?, number(inner) as u64);
-    push_around(disk, number(outer) as u64, answer);
-    Ok(())
+    match MemDisk::new(alloc, 1, 1024) {
+        Ok(disk) => {
+            let disk = FailDisk::new(disk, number(inner) as u64);
+            push_around(disk, number(outer) as u64, answer);
+        }
+        Err(_) => answer.note_no_memory(),
+    }
 }
 
 // That of a disk around this one.
@@ -106,29 +107,26 @@ fn push_five_calls<D: Disk>(disk: &mut D, answer: &mut Answer) {
 /// Appends what a call of each kind answers: a write, the length, a sync, a read and a cut in this
 /// order.
 pub(crate) fn five_calls<D: Disk>(disk: &mut D, answer: &mut Answer) {
-    three_calls(disk, answer);
-    answer.push_is_ok(disk.read(0, &mut []).is_ok());
-    answer.push(" ");
-    answer.push_is_ok(disk.cut(0).is_ok());
+    answer.push_is_ok(disk.write_at(0, b"ab").is_ok());
+    push_call(disk.len().is_ok(), answer);
+    push_call(disk.sync().is_ok(), answer);
+    push_call(disk.read(0, &mut []).is_ok(), answer);
+    push_call(disk.cut(0).is_ok(), answer);
 }
 
-// A write, the length and a sync.
-fn three_calls<D: Disk>(disk: &mut D, answer: &mut Answer) {
-    answer.push_is_ok(disk.write_at(0, b"ab").is_ok());
+fn push_call(is_ok: bool, answer: &mut Answer) {
     answer.push(" ");
-    answer.push_is_ok(disk.len().is_ok());
-    answer.push(" ");
-    answer.push_is_ok(disk.sync().is_ok());
-    answer.push(" ");
+    answer.push_is_ok(is_ok);
 }
 
 /// Appends whether an append succeeds, and what is read then.
-pub(crate) fn append_to(alloc: Global, case: &str, answer: &mut Answer) -> Result<(), AllocError> {
+pub(crate) fn append_to(alloc: Global, case: &str, answer: &mut Answer) {
     let (how, call) = first_word(case);
-    let disk = failing(MemDisk::new(alloc, 64, 1024)?, how, number(call) as u64);
-    let mut disk = appended(disk, answer);
+    let Ok(disk) = MemDisk::new(alloc, 64, 1024) else {
+        return answer.note_no_memory();
+    };
+    let mut disk = appended(failing(disk, how, number(call) as u64), answer);
     push_read(alloc, &mut disk, answer);
-    Ok(())
 }
 
 fn appended(disk: FailDisk<MemDisk>, answer: &mut Answer) -> MemDisk

@@ -18,59 +18,67 @@ fn push_list(list: &ReleaseList, answer: &mut Answer) {
     }
 }
 
+// Why a node refused something, where it did.
+fn push_refusal(done: Result<(), HandlerError>, answer: &mut Answer) {
+    if let Err(error) = done {
+        answer.push_shown(&error);
+    }
+}
+
 // The releases of a node, or why it doesn't list them.
 fn releases<D: Disk>(node: &Handler<D>, answer: &mut Answer) {
     match node.which_releases() {
         Ok(list) => push_list(list, answer),
-        Err(error) => answer.push_shown(&error),
+        Err(error) => push_refusal(Err(error), answer),
     }
 }
 
-// Whether a command was done.
-fn push_done(done: &Result<(), HandlerError>, answer: &mut Answer) {
-    match done {
-        Ok(()) => answer.push("ok"),
-        Err(error) => answer.push_shown(error),
-    }
-}
-
-// What a node answers to a further release: the version that it took in.
-fn unpack<D: Disk>(alloc: Global, node: &mut Handler<D>, release: &str, answer: &mut Answer)
+// Has a node take a further release in, and appends its version.
+fn unpack<D: Disk>(
+    alloc: Global,
+    node: &mut Handler<D>,
+    release: &str,
+    answer: &mut Answer,
+) -> Result<(), HandlerError>
     requires { IsSound D.seen D.may_leave node.old }
     ensures { IsSound D.seen D.may_leave node.new }
 {
-    match node.set_unpacked(alloc, &ReleaseFiles, release) {
-        Ok(vsn) => answer.push_after("took ", vsn.as_str()),
-        Err(error) => answer.push_shown(&error),
-    }
+    let vsn = node.set_unpacked(alloc, &ReleaseFiles, release)?;
+    answer.push_after("took ", vsn.as_str());
+    Ok(())
 }
 
-// What a node answers to the installation of the release of this version.
-fn install<D: Disk>(alloc: Global, node: &mut Handler<D>, vsn: &str, answer: &mut Answer)
+// Has it install the release of this version, and appends the version that ran before.
+fn install<D: Disk>(
+    alloc: Global,
+    node: &mut Handler<D>,
+    vsn: &str,
+    answer: &mut Answer,
+) -> Result<(), HandlerError>
     requires { IsSound D.seen D.may_leave node.old }
     ensures { IsSound D.seen D.may_leave node.new }
 {
-    match node.install_release(alloc, vsn) {
-        Ok(installed) => answer.push_after("other ", installed.other.as_str()),
-        Err(error) => answer.push_shown(&error),
-    }
+    let installed = node.install_release(alloc, vsn)?;
+    answer.push_after("other ", installed.other.as_str());
+    Ok(())
 }
 
-// What a node tells of its start record.
-fn tell_start<D: Disk>(alloc: Global, node: &mut Handler<D>, answer: &mut Answer)
+// Appends what it tells of its start record.
+fn tell_start<D: Disk>(
+    alloc: Global,
+    node: &mut Handler<D>,
+    answer: &mut Answer,
+) -> Result<(), HandlerError>
     requires { IsSound D.seen D.may_leave node.old }
     ensures { IsSound D.seen D.may_leave node.new }
 {
-    match node.start(alloc) {
-        Ok(start) => {
-            answer.push("starts ");
-            push_start(&start, answer);
-        }
-        Err(error) => answer.push_shown(&error),
-    }
+    let start = node.start(alloc)?;
+    answer.push("starts ");
+    push_start(&start, answer);
+    Ok(())
 }
 
-// Whether a node does what the sign says with the release of this version.
+// Has it do what the sign says with the release of this version.
 fn change<D: Disk>(
     alloc: Global,
     node: &mut Handler<D>,
@@ -87,23 +95,39 @@ fn change<D: Disk>(
     }
 }
 
-// What a node answers to a command, where one is given, with a blank before it.
+// Has it follow a command, and appends what it answers unless it refuses.
+fn follow_command<D: Disk>(
+    alloc: Global,
+    node: &mut Handler<D>,
+    word: &str,
+    answer: &mut Answer,
+) -> Result<(), HandlerError>
+    requires { IsSound D.seen D.may_leave node.old }
+    ensures { IsSound D.seen D.may_leave node.new }
+{
+    let mut rest = word.chars();
+    let sign = rest.next();
+    let vsn = rest.as_str();
+    match sign {
+        Some('?') => tell_start(alloc, node, answer),
+        Some('+') => install(alloc, node, vsn, answer),
+        Some(sign @ ('!' | '<' | '-')) => {
+            change(alloc, node, sign, vsn)?;
+            answer.push("ok");
+            Ok(())
+        }
+        _ => unpack(alloc, node, word, answer),
+    }
+}
+
+// What it answers to a command, where one is given, with a blank before it.
 fn command<D: Disk>(alloc: Global, node: &mut Handler<D>, word: &str, answer: &mut Answer)
     requires { IsSound D.seen D.may_leave node.old }
     ensures { IsSound D.seen D.may_leave node.new }
 {
-    if word.is_empty() {
-        return;
-    }
-    answer.push(" ");
-    let mut rest = word.chars();
-    match rest.next() {
-        Some('?') => tell_start(alloc, node, answer),
-        Some('+') => install(alloc, node, rest.as_str(), answer),
-        Some(sign @ ('!' | '<' | '-')) => {
-            push_done(&change(alloc, node, sign, rest.as_str()), answer)
-        }
-        _ => unpack(alloc, node, word, answer),
+    if !word.is_empty() {
+        answer.push(" ");
+        push_refusal(follow_command(alloc, node, word, answer), answer);
     }
 }
 
@@ -157,38 +181,29 @@ pub(crate) fn create_node<D: Disk + Drop>(
     match Handler::create(alloc, disk, &ReleaseFiles, first) {
         Ok(node) => follow_node(alloc, node, more, answer),
         Err((error, disk)) => {
-            answer.push_shown(&error);
+            push_refusal(Err(error), answer);
             disk
         }
     }
 }
 
-/// What the node on this disk answers that is given these commands, or why it isn't booted.
+/// What the node on this disk answers that is given these words as commands, or with `unpack` to a
+/// further release and no more, or why it isn't booted.
 pub(crate) fn boots<D: Disk + Drop>(
     alloc: Global,
     disk: D,
-    commands: &str,
+    how: &str,
+    words: &str,
     answer: &mut Answer,
 ) -> D {
     match boot(alloc, disk) {
-        Ok(node) => follow_node(alloc, node, commands, answer),
-        Err((error, disk)) => {
-            answer.push_debug(&error);
-            disk
-        }
-    }
-}
-
-/// What the node on this disk answers to a further release, and no more.
-pub(crate) fn unpack_once<D: Disk + Drop>(
-    alloc: Global,
-    disk: D,
-    release: &str,
-    answer: &mut Answer,
-) -> D {
-    match boot(alloc, disk) {
-        Ok(mut node) => {
-            unpack(alloc, &mut node, release, answer);
+        Ok(node) => {
+            let mut node = node;
+            if how == "unpack" {
+                push_refusal(unpack(alloc, &mut node, words, answer), answer);
+            } else {
+                push_followed(alloc, &mut node, words, answer);
+            }
             node.into_disk()
         }
         Err((error, disk)) => {
@@ -210,7 +225,11 @@ fn has_one_or_two<D: Disk>(node: &Handler<D>) -> bool {
 /// device nor memory failed.
 pub(crate) fn is_explained<D: Disk + Drop>(alloc: Global, disk: D) -> bool {
     match boot(alloc, disk) {
-        Ok(node) => has_one_or_two(&node),
+        Ok(node) => {
+            let is_explained = has_one_or_two(&node);
+            drop(node.into_disk());
+            is_explained
+        }
         Err((error, _disk)) => !matches!(error, BootError::Device | BootError::NoMemory),
     }
 }

@@ -1,6 +1,8 @@
 //! Sessions on a disk in memory.
+ghost use Rattle.rel_store.specs.State.{IsSettled};
+
 use crate::disks::{bytes_of, failing, five_calls, push_failures, push_read};
-use crate::nodes::{boots, create_node, unpack_once};
+use crate::nodes::{boots, create_node};
 use crate::steps::{body_of, follow_steps, push_done};
 use crate::store_callers::append_both;
 use rel_disk::{DeviceFault, Disk};
@@ -63,14 +65,12 @@ fn session_on<D: Disk + Drop>(alloc: Global, disk: D, words: &str, answer: &mut 
     let (word, rest) = first_word(words);
     match word {
         "create" => create(alloc, disk, rest, answer),
-        "both" => both(alloc, disk, rest, answer),
-        "open" | "open;" => open(alloc, disk, words, answer),
+        "open" | "open;" | "both" => open(alloc, disk, words, answer),
         "node" => create_node(alloc, disk, rest, answer),
-        "boot" => boots(alloc, disk, rest, answer),
-        "unpack" => unpack_once(alloc, disk, rest, answer),
+        "boot" | "unpack" => boots(alloc, disk, word, rest, answer),
         _ => {
             let mut disk = disk;
-            change(alloc, &mut disk, words, answer);
+            follow_call(alloc, &mut disk, word, rest, answer);
             disk
         }
     }
@@ -93,29 +93,14 @@ fn create<D: Disk + Drop>(alloc: Global, disk: D, body: &str, answer: &mut Answe
     }
 }
 
-fn both<D: Disk + Drop>(alloc: Global, disk: D, bodies: &str, answer: &mut Answer) -> D {
-    match Store::open_disk(alloc, disk) {
-        Ok(store) => {
-            let mut store = store;
-            let (a, b) = first_word(bodies);
-            push_done(
-                append_both(&mut store, alloc, a.as_bytes(), b.as_bytes()),
-                answer,
-            );
-            store.into_disk()
-        }
-        Err((error, disk)) => {
-            push_done(Err(error), answer);
-            disk
-        }
-    }
-}
-
 fn open<D: Disk + Drop>(alloc: Global, disk: D, words: &str, answer: &mut Answer) -> D {
     match Store::open_disk(alloc, disk) {
         Ok(store) => {
             let mut store = store;
-            follow_steps(alloc, &mut store, words, answer);
+            match words.strip_prefix("both ") {
+                Some(bodies) => push_both(alloc, &mut store, bodies, answer),
+                None => follow_steps(alloc, &mut store, words, answer),
+            }
             store.into_disk()
         }
         Err((error, disk)) => {
@@ -125,42 +110,69 @@ fn open<D: Disk + Drop>(alloc: Global, disk: D, words: &str, answer: &mut Answer
     }
 }
 
-// A session without a store.
-fn change<D: Disk>(alloc: Global, disk: &mut D, words: &str, answer: &mut Answer) {
-    let (word, rest) = first_word(words);
-    match word {
-        "write" => push_write(disk, rest, answer),
-        "cut" => answer.push_is_ok(cut(disk, number(rest) as u64).is_ok()),
-        "sync" => answer.push_is_ok(disk.sync().is_ok()),
-        "patch" => push_patch(alloc, disk, rest, answer),
-        "shorten" => answer.push_is_ok(shorten(disk, number(rest) as u64).is_ok()),
-        _ => tell(alloc, disk, words, answer),
-    }
+// Adds two records to a store.
+fn push_both<D: Disk>(alloc: Global, store: &mut Store<D>, bodies: &str, answer: &mut Answer)
+    requires { IsSettled D.seen D.may_leave store.old }
+{
+    let (a, b) = first_word(bodies);
+    push_done(
+        append_both(store, alloc, a.as_bytes(), b.as_bytes()),
+        answer,
+    );
 }
 
-// A session that changes nothing, and the one that makes a call of each kind.
-fn tell<D: Disk>(alloc: Global, disk: &mut D, words: &str, answer: &mut Answer) {
-    let (word, rest) = first_word(words);
+// A session without a store.
+fn follow_call<D: Disk>(alloc: Global, disk: &mut D, word: &str, rest: &str, answer: &mut Answer) {
     match word {
         "read" => push_read(alloc, disk, answer),
         "bytes" => push_part(alloc, disk, rest, answer),
         "length" => push_length(disk, answer),
         "failures" => answer.push_number(disk.failures()),
         "calls" => five_calls(disk, answer),
-        _ => answer.push("no such session"),
+        _ => {
+            let done = change(alloc, disk, word, rest, answer);
+            answer.push_is_ok(done.is_ok());
+        }
     }
 }
 
-fn push_write<D: Disk>(disk: &mut D, words: &str, answer: &mut Answer) {
-    let (at, bytes) = first_word(words);
-    answer.push_is_ok(write(disk, number(at) as u64, bytes.as_bytes()).is_ok());
+// A call that changes the disk, or syncs it.
+fn change<D: Disk>(
+    alloc: Global,
+    disk: &mut D,
+    word: &str,
+    rest: &str,
+    answer: &mut Answer,
+) -> Result<(), DeviceFault> {
+    let (place, bytes) = first_word(rest);
+    let place = number(place) as u64;
+    match word {
+        "write" => write(disk, place, bytes.as_bytes()),
+        "cut" => cut(disk, place),
+        "patch" => patch_named(alloc, disk, place, bytes, answer),
+        "shorten" => shorten(disk, place),
+        "sync" => disk.sync(),
+        _ => {
+            answer.push("no such session, ");
+            Err(DeviceFault)
+        }
+    }
 }
 
-fn push_patch<D: Disk>(alloc: Global, disk: &mut D, words: &str, answer: &mut Answer) {
-    let (at, bytes) = first_word(words);
-    match bytes_named(alloc, bytes) {
-        Ok(bytes) => answer.push_is_ok(patch(disk, number(at) as u64, &bytes).is_ok()),
-        Err(_) => answer.note_no_memory(),
+// Writes the bytes whose numbers these words are, and syncs the disk.
+fn patch_named<D: Disk>(
+    alloc: Global,
+    disk: &mut D,
+    at: u64,
+    words: &str,
+    answer: &mut Answer,
+) -> Result<(), DeviceFault> {
+    match bytes_named(alloc, words) {
+        Ok(bytes) => patch(disk, at, &bytes),
+        Err(_) => {
+            answer.note_no_memory();
+            Ok(())
+        }
     }
 }
 
@@ -175,10 +187,10 @@ fn bytes_named(alloc: Global, words: &str) -> Result<Vec<u8>, AllocError> {
 
 // Writes from a place on that is not past the end.
 fn write<D: Disk>(disk: &mut D, at: u64, bytes: &[u8]) -> Result<(), DeviceFault> {
-    if disk.len()? < at {
-        return Err(DeviceFault);
+    match disk.len() {
+        Ok(len) if at <= len => disk.write_at(at, bytes),
+        _ => Err(DeviceFault),
     }
-    disk.write_at(at, bytes)
 }
 
 /// Writes these bytes over those from a place on, and syncs the disk.
@@ -189,10 +201,10 @@ pub(crate) fn patch<D: Disk>(disk: &mut D, at: u64, bytes: &[u8]) -> Result<(), 
 
 // Cuts a disk that is that long.
 fn cut<D: Disk>(disk: &mut D, len: u64) -> Result<(), DeviceFault> {
-    if disk.len()? < len {
-        return Err(DeviceFault);
+    match disk.len() {
+        Ok(old) if len <= old => disk.cut(len),
+        _ => Err(DeviceFault),
     }
-    disk.cut(len)
 }
 
 fn shorten<D: Disk>(disk: &mut D, len: u64) -> Result<(), DeviceFault> {
@@ -210,12 +222,8 @@ fn push_length<D: Disk>(disk: &mut D, answer: &mut Answer) {
 // Appends the bytes from the first of these places to the second, or to the end.
 fn push_part<D: Disk>(alloc: Global, disk: &mut D, places: &str, answer: &mut Answer) {
     let (from, to) = first_word(places);
-    match bytes_of(alloc, disk) {
-        Ok(Some(bytes)) => {
-            let to = number(to).min(bytes.len());
-            answer.push_bytes(bytes.get(number(from)..to).unwrap_or(b"none"));
-        }
-        Ok(None) => answer.push("no bytes"),
-        Err(_) => answer.note_no_memory(),
+    if let Some(bytes) = bytes_of(alloc, disk, answer) {
+        let to = number(to).min(bytes.len());
+        answer.push_bytes(bytes.get(number(from)..to).unwrap_or(b"none"));
     }
 }

@@ -1,5 +1,7 @@
 //! The answer to a case.
 use crate::{apps, checks, libraries, lists, readers, records, release_files, terms};
+use app_file::read_app;
+use rel_files::read_rel;
 use std::alloc::{AllocError, Global};
 use text_cases::Answer;
 
@@ -20,18 +22,26 @@ use text_cases::Answer;
 /// The others are those of the files of a release: of [`libraries`] and of [`checks::push_answer`].
 pub(crate) fn answer(alloc: Global, mode: &str, text: &[u8]) -> Result<String, AllocError> {
     let mut answer = Answer::new(alloc);
-    match mode {
-        "terms" | "record" | "print" | "prefixes" => {
-            terms::push_answer(alloc, mode, text, &mut answer)
-        }
-        "rel" | "term" | "apps" => release_files::push_answer(alloc, mode, text, &mut answer),
-        "app" | "app_term" | "app_whole" => apps::push_answer(alloc, mode, text, &mut answer),
-        "bodies" => records::push_list_of(alloc, text, &mut answer),
-        "written" => records::push_written(alloc, text, &mut answer),
-        "release" | "unpack" => libraries::push_answer(alloc, mode, text, &mut answer),
-        _ => push_of_text(alloc, mode, str::from_utf8(text).unwrap_or(""), &mut answer),
-    }
+    push_answer(alloc, mode, text, &mut answer);
     answer.finish()
+}
+
+fn push_answer(alloc: Global, mode: &str, text: &[u8], answer: &mut Answer) {
+    match mode {
+        "terms" => terms::push_terms(alloc, text, answer),
+        "record" => terms::push_record(alloc, text, answer),
+        "print" => terms::push_printed(alloc, text, answer),
+        "prefixes" => terms::push_prefixes(alloc, text, answer),
+        "rel" => release_files::push_read(read_rel(alloc, text), answer),
+        "term" => release_files::push_read(release_files::of_the_term(alloc, text), answer),
+        "apps" => release_files::push_with_apps(alloc, text, answer),
+        "app" => apps::push_read(read_app(alloc, text), answer),
+        "app_term" => apps::push_read(apps::of_the_term(alloc, text), answer),
+        "app_whole" => apps::push_whole(alloc, text, answer),
+        "bodies" => records::push_list_of(alloc, text, answer),
+        "release" | "unpack" => libraries::push_answer(alloc, mode, text, answer),
+        _ => push_of_text(alloc, mode, str::from_utf8(text).unwrap_or(""), answer),
+    }
 }
 
 // The answer in the modes whose cases are UTF-8.
@@ -39,6 +49,7 @@ fn push_of_text(alloc: Global, mode: &str, text: &str, answer: &mut Answer) {
     match mode {
         "events" => lists::push_followed(alloc, text, answer),
         "readers" => readers::push_followed(alloc, text, answer),
+        "written" => records::push_written(alloc, text, answer),
         "differs" => libraries::push_difference(alloc, text, answer),
         "twice" => libraries::push_compared(alloc, text, text, answer),
         _ => checks::push_answer(alloc, mode, text, answer),

@@ -6,26 +6,17 @@ use rel_files::FileFault;
 use std::alloc::Global;
 use text_cases::Answer;
 
-/// What the text, a file, says: in `app` as it is read, in `app_term` as its term is read again, in `app_whole` the term
-/// itself. Or the fault.
-pub(crate) fn push_answer(alloc: Global, mode: &str, text: &[u8], answer: &mut Answer) {
-    match mode {
-        "app" => push_read(&read_app(alloc, text), answer),
-        "app_term" => push_read(&of_the_term(alloc, text), answer),
-        _ => push_whole(alloc, &read_app(alloc, text), answer),
-    }
-}
-
-// Reads the file's term again.
-fn of_the_term(alloc: Global, file: &[u8]) -> Result<App, FileFault> {
+/// Reads the file's term again.
+pub(crate) fn of_the_term(alloc: Global, file: &[u8]) -> Result<App, FileFault> {
     let read = read_app(alloc, file)?;
     app_of_term(alloc, read.whole.clone()?, 0)
 }
 
-fn push_read(read: &Result<App, FileFault>, answer: &mut Answer) {
+/// Appends what a file says, or its fault.
+pub(crate) fn push_read(read: Result<App, FileFault>, answer: &mut Answer) {
     match read {
-        Ok(app) => push_app(app, answer),
-        Err(fault) => push_fault(fault, answer),
+        Ok(app) => push_app(&app, answer),
+        Err(fault) => push_fault(&fault, answer),
     }
 }
 
@@ -40,10 +31,10 @@ fn push_app(app: &App, answer: &mut Answer) {
     }
 }
 
-// The whole term of a file, as it is printed.
-fn push_whole(alloc: Global, read: &Result<App, FileFault>, answer: &mut Answer) {
-    match read {
+/// Appends the whole term of a file, as it is printed, or its fault.
+pub(crate) fn push_whole(alloc: Global, file: &[u8], answer: &mut Answer) {
+    match read_app(alloc, file) {
         Ok(app) => answer.push_made(&print(alloc, &app.whole)),
-        Err(fault) => push_fault(fault, answer),
+        Err(fault) => push_fault(&fault, answer),
     }
 }

@@ -74,6 +74,19 @@ pub(crate) fn push_libraries(alloc: Global, list: &ReleaseList, answer: &mut Ans
     }
 }
 
+/// Whether it is the release of this version as [`release`] makes it.
+pub(crate) fn is_release(given: Option<&Rel>, vsn: &str) -> bool {
+    match given {
+        Some(given) => {
+            given.name.as_str() == "r"
+                && given.vsn.as_str() == vsn
+                && given.erts.as_str() == "14.2"
+                && given.apps.is_empty()
+        }
+        None => false,
+    }
+}
+
 /// The release of this version, without applications.
 pub(crate) fn release(alloc: Global, vsn: &str) -> Result<Rel, AllocError> {
     Ok(Rel {

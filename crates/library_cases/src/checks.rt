@@ -1,8 +1,9 @@
 //! What is wrong with a release.
+use crate::libraries::push_refusal;
 use crate::made_files::{push_modules, push_tree, push_worker};
 use rel_check::{Named, ReleaseFault, check_release};
 use rel_files::RelApp;
-use rel_unpack::{ApplicationFiles, read_libraries, read_release};
+use rel_unpack::{ApplicationFiles, UnpackError, read_libraries, read_release};
 use std::alloc::Global;
 use text_cases::{Answer, CaseFiles, first_word, number};
 
@@ -41,18 +42,15 @@ fn push_files(mode: &str, first: usize, second: usize, files: &mut Answer) {
 
 // What is wrong with a release, or with one of its files.
 fn push_checked(alloc: Global, lines: &[u8], answer: &mut Answer) {
-    let files = CaseFiles { lines };
-    match read_release(alloc, &files, "r.rel") {
-        Ok(file) => push_checked_files(alloc, &files, file.release.apps.as_slice(), answer),
-        Err(error) => answer.push_shown(&error),
-    }
+    push_refusal(check(alloc, &CaseFiles { lines }, answer), answer);
 }
 
-fn push_checked_files(alloc: Global, files: &CaseFiles<'_>, apps: &[RelApp], answer: &mut Answer) {
-    match read_libraries(alloc, files, apps) {
-        Ok(read) => push_checked_libraries(alloc, apps, &read, answer),
-        Err(_) => answer.note_no_memory(),
-    }
+fn check(alloc: Global, files: &CaseFiles<'_>, answer: &mut Answer) -> Result<(), UnpackError> {
+    let file = read_release(alloc, files, "r.rel")?;
+    let apps = file.release.apps.as_slice();
+    let read = read_libraries(alloc, files, apps)?;
+    push_checked_libraries(alloc, apps, &read, answer);
+    Ok(())
 }
 
 fn push_checked_libraries(

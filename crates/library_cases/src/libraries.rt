@@ -1,7 +1,6 @@
 //! A release, and the libraries of its applications.
 use erl_term::{Term, print};
 use library::{Library, library_of_term};
-use rel_files::RelFile;
 use rel_unpack::{ApplicationFiles, UnpackError, read_libraries, read_release};
 use std::alloc::Global;
 use std::rc::Rc;
@@ -12,22 +11,31 @@ use text_cases::{Answer, CaseFiles};
 /// taken.
 pub(crate) fn push_answer(alloc: Global, mode: &str, text: &[u8], answer: &mut Answer) {
     let files = CaseFiles { lines: text };
-    match mode {
-        "release" => push_release(&read_release(alloc, &files, "r.rel"), answer),
-        _ => push_unpacked(alloc, &unpacked(alloc, &files), answer),
+    let read = match mode {
+        "release" => push_release(alloc, &files, answer),
+        _ => push_unpacked(alloc, &files, answer),
+    };
+    push_refusal(read, answer);
+}
+
+/// Appends why files aren't taken, where they aren't.
+pub(crate) fn push_refusal(read: Result<(), UnpackError>, answer: &mut Answer) {
+    if let Err(error) = read {
+        answer.push_shown(&error);
     }
 }
 
-fn push_release(read: &Result<RelFile, UnpackError>, answer: &mut Answer) {
-    match read {
-        Ok(file) => {
-            let release = &file.release;
-            let (name, vsn, count) = (&release.name, &release.vsn, release.apps.len());
-            let done = write!(answer.text, "{name} {vsn} with {count}");
-            answer.note(done);
-        }
-        Err(error) => answer.push_shown(error),
-    }
+fn push_release(
+    alloc: Global,
+    files: &CaseFiles<'_>,
+    answer: &mut Answer,
+) -> Result<(), UnpackError> {
+    let file = read_release(alloc, files, "r.rel")?;
+    let release = &file.release;
+    answer.push_after(release.name.as_str(), " ");
+    answer.push_after(release.vsn.as_str(), " with ");
+    answer.push_number(release.apps.len() as u64);
+    Ok(())
 }
 
 fn unpacked(alloc: Global, files: &CaseFiles<'_>) -> Result<ApplicationFiles, UnpackError> {
@@ -36,17 +44,18 @@ fn unpacked(alloc: Global, files: &CaseFiles<'_>) -> Result<ApplicationFiles, Un
 }
 
 // The refusal, if there is one, and each library as its record's term has it, once it was read back from this.
-fn push_unpacked(alloc: Global, read: &Result<ApplicationFiles, UnpackError>, answer: &mut Answer) {
-    match read {
-        Ok(read) => {
-            match &read.refusal {
-                Some(why) => answer.push_shown(why),
-                None => answer.push("ok"),
-            }
-            push_libraries(alloc, read.libraries.as_slice(), answer);
-        }
-        Err(error) => answer.push_shown(error),
+fn push_unpacked(
+    alloc: Global,
+    files: &CaseFiles<'_>,
+    answer: &mut Answer,
+) -> Result<(), UnpackError> {
+    let read = unpacked(alloc, files)?;
+    match &read.refusal {
+        Some(why) => answer.push_shown(why),
+        None => answer.push("ok"),
     }
+    push_libraries(alloc, read.libraries.as_slice(), answer);
+    Ok(())
 }
 
 fn push_libraries(alloc: Global, libraries: &[Rc<Library>], answer: &mut Answer) {
@@ -77,19 +86,17 @@ pub(crate) fn push_difference(alloc: Global, text: &str, answer: &mut Answer) {
 
 /// Whether the last library of the old files is the same as that of the new ones.
 pub(crate) fn push_compared(alloc: Global, old: &str, new: &str, answer: &mut Answer) {
-    match last_library(alloc, old) {
-        Ok(Some(before)) => push_compared_with(alloc, before.as_ref(), new, answer),
-        Ok(None) => answer.push("no library"),
-        Err(error) => answer.push_shown(&error),
-    }
+    push_refusal(compare(alloc, old, new, answer), answer);
 }
 
-fn push_compared_with(alloc: Global, before: &Library, new: &str, answer: &mut Answer) {
-    match last_library(alloc, new) {
-        Ok(Some(after)) => push_sameness(before, after.as_ref(), answer),
-        Ok(None) => answer.push("no library"),
-        Err(error) => answer.push_shown(&error),
+fn compare(alloc: Global, old: &str, new: &str, answer: &mut Answer) -> Result<(), UnpackError> {
+    let before = last_library(alloc, old)?;
+    let after = last_library(alloc, new)?;
+    match (&before, &after) {
+        (Some(before), Some(after)) => push_sameness(before, after, answer),
+        _ => answer.push("no library"),
     }
+    Ok(())
 }
 
 fn push_sameness(before: &Library, after: &Library, answer: &mut Answer) {

@@ -26,12 +26,10 @@ pub(crate) fn push_event(alloc: Global, list: &mut ReleaseList, words: &str, ans
 
 fn push_taken(taken: Result<(), ListError>, answer: &mut Answer) {
     match taken {
-        Ok(()) => answer.push("ok, "),
-        Err(error) => {
-            let done = write!(answer.text, "{error}, ");
-            answer.note(done);
-        }
+        Ok(()) => answer.push("ok"),
+        Err(error) => answer.push_shown(&error),
     }
+    answer.push(", ");
 }
 
 /// The event of these words: its name, and the version of its release, or the release of the words behind it.
@@ -67,15 +65,11 @@ pub(crate) fn push_list(list: &ReleaseList, answer: &mut Answer) {
         let done = write!(answer.text, "{vsn} {:?}, ", list.status(vsn));
         answer.note(done);
     }
-    let done = write!(
-        answer.text,
-        "len {}, permanent {}, runs {}, a boot changes {}",
-        list.len(),
-        version(list.permanent()),
-        version(list.running()),
-        list.boot_events().unwrap_or("none")
-    );
-    answer.note(done);
+    answer.push("len ");
+    answer.push_number(list.len() as u64);
+    answer.push_after(", permanent ", version(list.permanent()));
+    answer.push_after(", runs ", version(list.running()));
+    answer.push_after(", a boot changes ", list.boot_events().unwrap_or("none"));
 }
 
 /// The version of a release.

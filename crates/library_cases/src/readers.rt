@@ -1,10 +1,8 @@
 //! Lists of releases, as each reader of them shows them.
-use crate::bundles::release;
+use crate::bundles::is_release;
 use crate::lists::{push_event, version};
-use crate::release_files::push_release;
-use rel_files::Rel;
 use rel_list::ReleaseList;
-use std::alloc::{AllocError, Global};
+use std::alloc::Global;
 use text_cases::Answer;
 
 /// What each reader of a list that is empty at first gives, and then the answer to each event with what they give behind
@@ -16,30 +14,25 @@ pub(crate) fn push_followed(alloc: Global, events: &str, answer: &mut Answer) {
         push_event(alloc, &mut list, words, answer);
         push_readers(&list, answer);
     }
-    match is_first_of(alloc, &list) {
-        Ok(is_first) => {
-            let done = write!(answer.text, "A is permanent and runs: {is_first}");
-            answer.note(done);
-        }
-        Err(_) => answer.note_no_memory(),
-    }
+    let is_first = is_release(list.permanent(), "A") && is_release(list.running(), "A");
+    answer.push("A is permanent and runs: ");
+    answer.push(if is_first { "true" } else { "false" });
 }
 
 // What each reader gives: the releases with their statuses, and the rest. No list here has a release D.
 fn push_readers(list: &ReleaseList, answer: &mut Answer) {
     for listed in list.releases() {
-        let vsn = listed.release.vsn.as_str();
-        let done = write!(answer.text, "{vsn} {}, ", listed.status.as_str());
-        answer.note(done);
+        answer.push_after(listed.release.vsn.as_str(), " ");
+        answer.push_after(listed.status.as_str(), ", ");
     }
     push_current(list, answer);
     push_size(list, answer);
 }
 
 fn push_current(list: &ReleaseList, answer: &mut Answer) {
-    let (permanent, running) = (version(list.permanent()), version(list.running()));
-    let done = write!(answer.text, "permanent {permanent}, runs {running}, ");
-    answer.note(done);
+    answer.push_after("permanent ", version(list.permanent()));
+    answer.push_after(", runs ", version(list.running()));
+    answer.push(", ");
 }
 
 fn push_size(list: &ReleaseList, answer: &mut Answer) {
@@ -50,20 +43,4 @@ fn push_size(list: &ReleaseList, answer: &mut Answer) {
         "A {a:?}, D {d:?}, len {len}, empty {is_empty}; "
     );
     answer.note(done);
-}
-
-// Whether the release A, as the events have it, is the permanent one and runs.
-fn is_first_of(alloc: Global, list: &ReleaseList) -> Result<bool, AllocError> {
-    let first = shown(alloc, Some(&release(alloc, "A")?))?;
-    let permanent = shown(alloc, list.permanent())?;
-    let running = shown(alloc, list.running())?;
-    Ok(permanent.as_str() == first.as_str() && running.as_str() == first.as_str())
-}
-
-fn shown(alloc: Global, release: Option<&Rel>) -> Result<String, AllocError> {
-    let mut text = Answer::new(alloc);
-    if let Some(release) = release {
-        push_release(release, &mut text);
-    }
-    text.finish()
 }

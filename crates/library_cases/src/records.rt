@@ -28,12 +28,11 @@ fn push_read(alloc: Global, read: &Result<ReleaseList, RecordsError>, answer: &m
 }
 
 /// The body of the record that the event on the first line writes behind the list that the other lines make.
-pub(crate) fn push_written(alloc: Global, text: &[u8], answer: &mut Answer) {
-    let Some(end) = text.iter().position(|byte| *byte == b'\n') else {
+pub(crate) fn push_written(alloc: Global, text: &str, answer: &mut Answer) {
+    let Some((words, bodies)) = text.split_once('\n') else {
         return answer.push("no list");
     };
-    let words = str::from_utf8(&text[..end]).unwrap_or("");
-    match lines(alloc, &text[end + 1..]) {
+    match lines(alloc, bodies.as_bytes()) {
         Ok(bodies) => push_written_behind(alloc, bodies.as_slice(), words, answer),
         Err(_) => answer.note_no_memory(),
     }

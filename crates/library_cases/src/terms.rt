@@ -1,21 +1,11 @@
 //! Terms, as `erl_term` reads and prints them.
-use erl_term::{Spanned, Term, TermFault, print, read_record, read_terms};
+use erl_term::{Spanned, TermFault, print, read_record, read_terms};
 use std::alloc::Global;
 use text_cases::Answer;
 
-/// The answer in the modes of terms.
-pub(crate) fn push_answer(alloc: Global, mode: &str, text: &[u8], answer: &mut Answer) {
-    match mode {
-        "terms" => push_terms(&read_terms(alloc, text), answer),
-        "record" => push_record(&read_record(alloc, text), answer),
-        "print" => push_printed(alloc, &read_record(alloc, text), answer),
-        _ => push_prefixes(alloc, text, answer),
-    }
-}
-
-// Each term with its places, or the fault.
-fn push_terms(read: &Result<Vec<Spanned>, TermFault>, answer: &mut Answer) {
-    match read {
+/// Appends each term of a text with its places, or the fault.
+pub(crate) fn push_terms(alloc: Global, text: &[u8], answer: &mut Answer) {
+    match &read_terms(alloc, text) {
         Ok(terms) if terms.is_empty() => answer.push("no term"),
         Ok(terms) => push_spanned(terms, answer),
         Err(fault) => answer.push_shown(fault),
@@ -31,17 +21,17 @@ fn push_spanned(terms: &[Spanned], answer: &mut Answer) {
     }
 }
 
-// The one term of a record's body, or the fault.
-fn push_record(read: &Result<Term, TermFault>, answer: &mut Answer) {
-    match read {
+/// Appends the one term of a record's body, or the fault.
+pub(crate) fn push_record(alloc: Global, text: &[u8], answer: &mut Answer) {
+    match &read_record(alloc, text) {
         Ok(term) => answer.push_debug(term),
         Err(fault) => answer.push_shown(fault),
     }
 }
 
-// What a clone of the one term is printed as, or the fault.
-fn push_printed(alloc: Global, read: &Result<Term, TermFault>, answer: &mut Answer) {
-    match read {
+/// Appends what a clone of the one term is printed as, or the fault.
+pub(crate) fn push_printed(alloc: Global, text: &[u8], answer: &mut Answer) {
+    match &read_record(alloc, text) {
         Ok(term) => match term.clone() {
             Ok(copy) => answer.push_made(&print(alloc, &copy)),
             Err(_) => answer.note_no_memory(),
@@ -50,9 +40,9 @@ fn push_printed(alloc: Global, read: &Result<Term, TermFault>, answer: &mut Answ
     }
 }
 
-// How many terms each prefix has, or its fault. Prefixes in a row with the same answer are one entry, with the least and
-// the greatest of their lengths.
-fn push_prefixes(alloc: Global, text: &[u8], answer: &mut Answer) {
+/// Appends how many terms each prefix has, or its fault. Prefixes in a row with the same answer are one entry, with the least
+/// and the greatest of their lengths.
+pub(crate) fn push_prefixes(alloc: Global, text: &[u8], answer: &mut Answer) {
     let mut least = 0;
     let mut found = count(alloc, &[]);
     for length in 1..=text.len() {

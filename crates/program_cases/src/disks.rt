@@ -24,22 +24,23 @@ pub(crate) fn push_openings(host: &HostRuntime, name: &str, answer: &mut Answer)
 
 /// Writes at a place within the disk.
 pub(crate) fn put<D: Disk>(disk: &mut D, at: u64, bytes: &[u8]) -> Result<(), DeviceFault> {
-    if disk.len()? < at {
-        return Err(DeviceFault);
+    match disk.len() {
+        Ok(len) if at <= len => disk.write_at(at, bytes),
+        _ => Err(DeviceFault),
     }
-    disk.write_at(at, bytes)
 }
 
 /// Cuts to a length within the disk.
 pub(crate) fn shorten<D: Disk>(disk: &mut D, len: u64) -> Result<(), DeviceFault> {
-    if disk.len()? < len {
-        return Err(DeviceFault);
+    match disk.len() {
+        Ok(old) if len <= old => disk.cut(len),
+        _ => Err(DeviceFault),
     }
-    disk.cut(len)
 }
 
 /// Appends all bytes that a read gives.
-pub(crate) fn push_all<D: Disk>(alloc: Global, disk: &mut D, answer: &mut Answer) {
+pub(crate) fn push_all<D: Disk + Drop>(alloc: Global, disk: D, answer: &mut Answer) {
+    let mut disk = disk;
     let Ok(len) = disk.len() else {
         return answer.push("no length");
     };
@@ -52,20 +53,21 @@ pub(crate) fn push_all<D: Disk>(alloc: Global, disk: &mut D, answer: &mut Answer
     }
 }
 
-// Three writes and a cut.
-fn edit<D: Disk>(disk: &mut D) -> Result<(), DeviceFault> {
-    put(disk, 0, b"hello, disk")?;
-    put(disk, 3, b"XY")?;
-    shorten(disk, 9)?;
-    put(disk, 9, b"k!")?;
-    disk.sync()
+// Whether three writes and a cut are done and synced.
+fn edit<D: Disk + Drop>(disk: D) -> bool {
+    let mut disk = disk;
+    put(&mut disk, 0, b"hello, disk").is_ok()
+        && put(&mut disk, 3, b"XY").is_ok()
+        && shorten(&mut disk, 9).is_ok()
+        && put(&mut disk, 9, b"k!").is_ok()
+        && disk.sync().is_ok()
 }
 
 /// Appends the bytes of the disk over a file before and behind an edit.
 pub(crate) fn push_edited(host: &HostRuntime, name: &str, answer: &mut Answer) {
     push_disk(host, name, answer);
     let edited = match FileDisk::open(host, host.alloc(), name) {
-        Ok(mut disk) => edit(&mut disk).is_ok(),
+        Ok(disk) => edit(disk),
         Err(_) => false,
     };
     answer.push(if edited { " edited " } else { " not edited " });
@@ -75,9 +77,9 @@ pub(crate) fn push_edited(host: &HostRuntime, name: &str, answer: &mut Answer) {
 // The bytes of a disk over a file.
 fn push_disk(host: &HostRuntime, name: &str, answer: &mut Answer) {
     match FileDisk::open(host, host.alloc(), name) {
-        Ok(mut disk) => {
+        Ok(disk) => {
             answer.push("[");
-            push_all(host.alloc(), &mut disk, answer);
+            push_all(host.alloc(), disk, answer);
             answer.push("]");
         }
         Err(_) => answer.push("not opened"),

@@ -16,7 +16,7 @@ pub(crate) fn push_faults(host: &HostRuntime, words: &str, answer: &mut Answer) 
             push_steps(&mut disk, steps, answer);
             answer.push_number(disk.failures());
             answer.push(" failures, ");
-            push_all(host.alloc(), &mut disk, answer);
+            push_all(host.alloc(), disk, answer);
         }
         None => answer.push("not opened"),
     }

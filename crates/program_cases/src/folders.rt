@@ -43,10 +43,12 @@ pub(crate) fn push_read(host: &HostRuntime, root: Option<String>, path: &str, an
 }
 
 fn push_found(read: &Result<Vec<u8>, FilesError>, answer: &mut Answer) {
-    let done = match read {
-        Ok(bytes) if bytes.len() < 8 => return answer.push_bytes(bytes),
-        Ok(bytes) => write!(answer.text, "{} bytes", bytes.len()),
-        Err(error) => write!(answer.text, "{error}"),
-    };
-    answer.note(done);
+    match read {
+        Ok(bytes) if bytes.len() < 8 => answer.push_bytes(bytes),
+        Ok(bytes) => {
+            answer.push_number(bytes.len() as u64);
+            answer.push(" bytes");
+        }
+        Err(error) => answer.push_shown(error),
+    }
 }

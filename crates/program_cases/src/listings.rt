@@ -1,31 +1,17 @@
 //! Listings of the terms of a text.
 use crate::failing_readers::Broken;
 use crate::narrow_writers::{Bounded, Room};
-use crate::sessions::push_written;
+use crate::sessions::{push_end, push_written};
 use counted_io::{CountedReader, CountedWriter};
-use erl_consult::{ConsultError, consult};
+use erl_consult::consult;
 use std::alloc::Global;
 use std::io;
 use std::io::{ErrorKind, Read};
 use text_cases::{Answer, first_word, number};
 
-/// What is written of a text, with ` | ` for a newline, and behind it in parentheses how the listing ended, in one of three
-/// modes.
-///
-/// - `list`: the text is listed.
-/// - `list_broken`: the text is the kind of an error, and what a reader gives before it fails so.
-/// - `list_bytes`: the text is two numbers and what is listed. It is taken a byte at a write. So many writes are taken and so
-///   many flushes. Then a write takes nothing, and a flush fails.
-pub(crate) fn push_listing(alloc: Global, mode: &str, text: &[u8], answer: &mut Answer) {
-    match mode {
-        "list" => push_consulted(alloc, text, wide(), answer),
-        "list_broken" => push_broken(alloc, words(text), answer),
-        _ => push_in_room(alloc, words(text), answer),
-    }
-}
-
-fn words(text: &[u8]) -> &str {
-    str::from_utf8(text).unwrap_or("")
+/// Appends what is written of a text, with ` | ` for a newline, and behind it in parentheses how the listing ended.
+pub(crate) fn push_listed(alloc: Global, text: &[u8], answer: &mut Answer) {
+    push_consulted(alloc, text, wide(), answer);
 }
 
 // Room for all that the cases write.
@@ -38,7 +24,8 @@ fn wide() -> Room {
     }
 }
 
-fn push_broken(alloc: Global, text: &str, answer: &mut Answer) {
+/// The same of what a reader gives before it fails. In front of that stands the kind of its error.
+pub(crate) fn push_broken(alloc: Global, text: &str, answer: &mut Answer) {
     let (kind, text) = first_word(text);
     let reader = Broken {
         text: text.as_bytes(),
@@ -56,7 +43,9 @@ fn kind_of(word: &str) -> io::ErrorKind {
     }
 }
 
-fn push_in_room(alloc: Global, text: &str, answer: &mut Answer) {
+/// The same of what stands behind two numbers. It is taken a byte at a write. So many writes are taken and so many flushes.
+/// Then a write takes nothing, and a flush fails.
+pub(crate) fn push_in_room(alloc: Global, text: &str, answer: &mut Answer) {
     let (writes, rest) = first_word(text);
     let (flushes, text) = first_word(rest);
     let room = Room {
@@ -79,15 +68,5 @@ fn push_consulted<R: Read + Drop>(alloc: Global, reader: R, room: Room, answer: 
     let ended = consult(alloc, &mut reader, &mut writer);
     drop(writer);
     push_written(&written, answer);
-    push_end(ended, answer);
-}
-
-fn push_end(ended: Result<(), ConsultError>, answer: &mut Answer) {
-    match ended {
-        Ok(()) => answer.push("(end)"),
-        Err(error) => {
-            let done = write!(answer.text, "(ended by {error:?})");
-            answer.note(done);
-        }
-    }
+    push_end(&ended, answer);
 }

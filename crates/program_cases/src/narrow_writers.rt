@@ -90,6 +90,6 @@ fn follow_into(
     };
     let (disk, ended) = run(alloc, disk, APPLICATIONS, input, writer);
     push_written(&written, answer);
-    push_end(ended, answer);
+    push_end(&ended, answer);
     disk
 }

@@ -19,9 +19,12 @@ pub(crate) fn push_options(alloc: Global, words: &str, answer: &mut Answer) {
 }
 
 fn push_given(name: &str, given: &Option<String>, answer: &mut Answer) {
-    let done = match given {
-        Some(value) => write!(answer.text, "{name} [{value}]"),
-        None => write!(answer.text, "{name} none"),
-    };
-    answer.note(done);
+    answer.push(name);
+    match given {
+        Some(value) => {
+            answer.push_after(" [", value.as_str());
+            answer.push("]");
+        }
+        None => answer.push(" none"),
+    }
 }

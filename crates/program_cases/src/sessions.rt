@@ -5,6 +5,7 @@ use rel_disk::{Disk, MemDisk};
 use rel_session::session;
 use session_input::{Input, SessionError};
 use std::alloc::{AllocError, Global};
+use std::fmt;
 use std::io::{Read, Write};
 use text_cases::{Answer, CaseFiles};
 
@@ -20,32 +21,17 @@ const DISK: usize = 65_536;
 /// one case are parted by ` || `. They follow each other on one disk, which is empty at first.
 ///
 /// Where a text has sessions, their lines are parted by ` | `, and the sessions by ` || `. A line `@NAME` stands for the lines
-/// that give the files of this name (src/given.rt). A file that isn't given in its session comes from a source. But for the
-/// modes `bare` and `files`, this has the application `ch_app` of the versions 1 and 2, without modules.
-///
-/// - `session`: the text has sessions.
-/// - `bare`: so, and the source has no files.
-/// - `files`: the source has the files before the first ` || `, which are parted by ` | `: for each its path, a blank and its
-///   bytes. Behind that are sessions.
-/// - `raw`: the text is the bytes of one input, as in [`push_input`].
-pub(crate) fn push_sessions(alloc: Global, mode: &str, text: &str, answer: &mut Answer) {
-    match mode {
-        "session" => push_over(alloc, APPLICATIONS, text, answer),
-        "bare" => push_over(alloc, "", text, answer),
-        _ => push_over_files(alloc, text, answer),
-    }
-}
-
-// Sessions over a source of these files.
-fn push_over(alloc: Global, files: &str, text: &str, answer: &mut Answer) {
+/// that give the files of this name (src/given.rt). A file that isn't given in its session comes from a source of these files,
+/// which have the form of [`APPLICATIONS`].
+pub(crate) fn push_over(alloc: Global, files: &str, text: &str, answer: &mut Answer) {
     match empty_disk(alloc) {
         Ok(disk) => follow_all(alloc, disk, files, Some(text), answer),
         Err(_) => answer.note_no_memory(),
     }
 }
 
-// Sessions behind the files of their source.
-fn push_over_files(alloc: Global, text: &str, answer: &mut Answer) {
+/// Sessions behind the files of their source.
+pub(crate) fn push_over_files(alloc: Global, text: &str, answer: &mut Answer) {
     let (files, text) = text.split_once(" || ").unwrap_or((text, ""));
     match files.replace(alloc, " | ", "\n") {
         Ok(files) => push_over(alloc, files.as_str(), text, answer),
@@ -70,12 +56,13 @@ pub(crate) fn push_blanks(alloc: Global, bytes: usize, answer: &mut Answer) {
 }
 
 fn blanks(alloc: Global, bytes: usize) -> Result<String, AllocError> {
-    let mut input = String::from_str(alloc, "file p\n")?;
+    let mut input = Answer::new(alloc);
+    input.push("file p\n");
     for _ in 1..bytes {
-        input.push(' ')?;
+        input.push(" ");
     }
-    input.push_str("\n.end\ncreate p\n")?;
-    Ok(input)
+    input.push("\n.end\ncreate p\n");
+    input.finish()
 }
 
 /// A disk with nothing on it.
@@ -93,17 +80,17 @@ pub(crate) fn first_of(text: &str) -> (&str, Option<&str>) {
 
 /// The input of a session.
 pub(crate) fn input_of(alloc: Global, text: &str) -> Result<String, AllocError> {
-    let mut input = String::new(alloc);
+    let mut input = Answer::new(alloc);
     for line in text.split(" | ") {
-        push_line(&mut input, line)?;
+        push_line(line, &mut input);
     }
-    Ok(input)
+    input.finish()
 }
 
-fn push_line(input: &mut String, line: &str) -> Result<(), AllocError> {
+fn push_line(line: &str, input: &mut Answer) {
     match line.strip_prefix('@') {
-        Some(name) => input.push_str(given(name)),
-        None => writeln!(input, "{line}"),
+        Some(name) => input.push(given(name)),
+        None => input.push_after(line, "\n"),
     }
 }
 
@@ -152,7 +139,7 @@ fn follow<D: Disk + Drop, R: Read + Drop>(
     let mut written = Vec::new(alloc);
     let (disk, ended) = run(alloc, disk, files, reader, &mut written);
     push_written(&written, answer);
-    push_end(ended, answer);
+    push_end(&ended, answer);
     disk
 }
 
@@ -188,13 +175,14 @@ pub(crate) fn push_written(written: &[u8], answer: &mut Answer) {
     }
 }
 
-/// Appends how a session ended.
-pub(crate) fn push_end(ended: Result<(), SessionError>, answer: &mut Answer) {
+/// Appends how a session or a listing ended.
+pub(crate) fn push_end<E: fmt::Debug>(ended: &Result<(), E>, answer: &mut Answer) {
     match ended {
         Ok(()) => answer.push("(end)"),
         Err(error) => {
-            let done = write!(answer.text, "(ended by {error:?})");
-            answer.note(done);
+            answer.push("(ended by ");
+            answer.push_debug(error);
+            answer.push(")");
         }
     }
 }

@@ -1,12 +1,13 @@
 //! Sessions whose disk, reader or writer fails.
 use crate::failing_readers::{push_broken, push_letters};
+use crate::host::push_host;
 use crate::narrow_writers::{Room, push_in_room};
 use crate::sessions::{APPLICATIONS, empty_disk, first_of, follow_all, follow_text, push_blanks};
 use rel_disk::FailDisk;
 use std::alloc::Global;
 use text_cases::{Answer, first_word, number};
 
-/// The answer in one of seven modes, whose text begins with a number.
+/// The answer in one of seven modes, whose text begins with a number, or in one of [`push_host`].
 ///
 /// - `blanks`: the input gives a file of so many bytes, a line of blanks, and makes a node of it.
 /// - `fail`: behind the number are sessions. The disk's call of this number, counted from 1, fails in the first session, and
@@ -18,16 +19,19 @@ use text_cases::{Answer, first_word, number};
 ///   then a write fails.
 /// - `writes`: behind the number are another one and sessions. So many writes of the first session and so many flushes are
 ///   taken. Then a write takes nothing, and a flush fails.
-pub(crate) fn push_stream(alloc: Global, mode: &str, text: &str, answer: &mut Answer) {
-    let (word, text) = first_word(text);
+pub(crate) fn push_stream(host: &HostRuntime, mode: &str, text: &str, answer: &mut Answer) {
+    let alloc = host.alloc();
+    let (word, rest) = first_word(text);
     let count = number(word);
     match mode {
         "blanks" => push_blanks(alloc, count, answer),
-        "broken" => push_broken(alloc, text.as_bytes(), count, answer),
+        "broken" => push_broken(alloc, rest.as_bytes(), count, answer),
         "letters" => push_letters(alloc, count, answer),
-        "bytes" => push_in_room(alloc, Room::of_bytes(count as u64), text, answer),
-        "writes" => push_writes(alloc, count as u64, text, answer),
-        _ => push_failing(alloc, mode == "part", count as u64, text, answer),
+        "bytes" => push_in_room(alloc, Room::of_bytes(count as u64), rest, answer),
+        "writes" => push_writes(alloc, count as u64, rest, answer),
+        "fail" => push_failing(alloc, false, count as u64, rest, answer),
+        "part" => push_failing(alloc, true, count as u64, rest, answer),
+        _ => push_host(host, mode, text, answer),
     }
 }
 

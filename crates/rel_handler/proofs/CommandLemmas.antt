@@ -225,15 +225,15 @@ of_command (removed v) es = of_refused_or (refusal (removed v) es) (step (remove
 of_command (reboot_old v) es = of_refused_or (refusal (reboot_old v) es) (step (reboot_old v) es)
 of_command boot es = of_refused_or (refusal boot es) (step boot es)
 
--- A further release is refused by the list or its limits, and nothing changed.
-pub refused_by_list : {D : Type 0} (failures : D → ℕ) (h : Handler D) (p : Bundle) (size : ℕ) (why : HandlerError) → is_dead h ≡ false → commanded (unpacked p) (list_in h) ≡ Err why
-    → CommandRefused failures (unpacked p) size h h why
-refused_by_list failures h p size why alive barred = by_why why (subst IsListAnswer barred (of_command (unpacked p) (list_in h))) barred
+-- An event is refused by the list or its limits, and nothing changed.
+pub refused_by_list : {D : Type 0} (failures : D → ℕ) (h : Handler D) (e : Event) (size : ℕ) (why : HandlerError) → is_dead h ≡ false → commanded e (list_in h) ≡ Err why
+    → CommandRefused failures e size h h why
+refused_by_list failures h e size why alive barred = by_why why (subst IsListAnswer barred (of_command e (list_in h))) barred
   where
     same : IsSame h h
     same = record { disk = refl; list = refl; dead = refl; end = refl }
 
-    by_why : (why : HandlerError) → IsListRefusal why → commanded (unpacked p) (list_in h) ≡ Err why → CommandRefused failures (unpacked p) size h h why
+    by_why : (why : HandlerError) → IsListRefusal why → commanded e (list_in h) ≡ Err why → CommandRefused failures e size h h why
     by_why told.Dead of barred = absurd of
     by_why told.Full of barred = absurd of
     by_why told.Device of barred = absurd of

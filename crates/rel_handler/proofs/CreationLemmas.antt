@@ -16,7 +16,7 @@ use Rattle.rel_handler.specs.declared.error.HandlerError.{HandlerError}
 
 module _ {D : Type 0} (v : Ghosts D) (old now : D) (read : HasOnlyRead v.seen v.may_leave v.moment v.left_since old now) where
   -- nothing was written
-  read_alone : WritesNothing v.seen v.may_leave v.moment v.left_since old now
+  pub read_alone : WritesNothing v.seen v.may_leave v.moment v.left_since old now
   read_alone = record { same = read.same; any_moment = read.any_moment }
 
   not_begun : (k : Known) → Begins v.seen v.may_leave v.moment v.left_since k old now

@@ -12,18 +12,24 @@ use Rattle.start_record.specs.Text.{Versions, AreVersions, start_text}
 use Rattle.rel_handler.specs.Commits.{Commits, IsDone, Keeps, MakesPermanent}
 use Rattle.rel_handler.specs.Files.{started}
 use Rattle.rel_handler.specs.Image.{IsImageAt, start_slot}
-use Rattle.rel_handler.specs.Refusals.{CommandRefused}
+use Rattle.rel_handler.specs.Refusals.{CommandRefused, IsStartRefusal}
 use Rattle.rel_handler.specs.State.{disk_in, list_in, is_dead, end_in, start_in, HasStarted, IsReady, IsSound}
 use Rattle.rel_handler.specs.Taking.{change_size}
-use Rattle.rel_handler.specs.declared.error.HandlerError.TheVariants.{Device}
+use Rattle.rel_handler.specs.declared.error.HandlerError.{HandlerError}
+use Rattle.rel_handler.specs.declared.error.HandlerError.TheVariants.{Device, NoMemory}
 use Rattle.rel_handler.specs.declared.handler.Handler.{Handler}
-use Rattle.rel_handler.proofs.CommandLemmas.{commanded_step, permanent_behind, listed_versions}
-use Rattle.rel_handler.proofs.Commits.{have_versions, commits_then, is_started_then, is_done_then, fails_then}
+use Rattle.rel_handler.proofs.CommandLemmas.{commanded_step, permanent_behind, listed_versions, unlisted}
+use Rattle.rel_handler.proofs.Commits.{all_same, have_versions, commits_then, is_started_then, is_done_then, fails_then}
 
 -- it brings no release
 pub brings_none : (vsn : List ℕ) (e : Event) → MakesPermanent vsn e → IsOfListed e
 brings_none vsn e (inl is) = subst IsOfListed (sym is) tt
 brings_none vsn e (inr is) = subst IsOfListed (sym is) tt
+
+-- no start was found for it, and nothing has changed
+pub no_start : {D : Type 0} (failures : D → ℕ) (h : Handler D) → is_dead h ≡ false → (vsn : List ℕ) (e : Event) → MakesPermanent vsn e → (size : ℕ) (why : HandlerError) → IsStartRefusal vsn (list_in h) why → CommandRefused failures e size h h why
+no_start failures h alive vsn e moves size NoMemory refused = (alive, all_same h)
+no_start failures h alive vsn e moves size why (none, is) = subst (CommandRefused failures e size h h) (sym is) ((alive, unlisted vsn e (list_in h) moves none), all_same h)
 
 -- the versions of the release that a list has at this version
 abbrev pub AreOf : {D : Type 0} → Handler D → List ℕ → Versions → Type 0

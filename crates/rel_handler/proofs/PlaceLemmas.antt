@@ -26,7 +26,7 @@ no_place v source path h b e alive small read still (inr (inl (is, listed))) =
       read = read;
       free = listed_free b (list_in h) listed;
       commits = still;
-      refused = refused_by_list v.failures h (bundle_brought b) (unpacked_size b (list_in h)) ExistingRelease alive (there_already (bundle_brought b) (list_in h) small listed);
+      refused = refused_by_list v.failures h (unpacked (bundle_brought b)) (unpacked_size b (list_in h)) ExistingRelease alive (there_already (bundle_brought b) (list_in h) small listed);
     }))))
 no_place v source path h b e alive small read still (inr (inr (fresh, barred))) =
     inr (inr (inl (record { brought = b; read = read; alive = alive; fresh = fresh; barred = barred; same = unchanged_handler h })))

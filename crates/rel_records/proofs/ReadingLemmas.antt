@@ -162,7 +162,7 @@ not_release : (f : FileFault) → fault_of_release f ≡ Bad → f ≡ file.NoMe
 not_release f bad is = cc (bad, ap fault_of_release is)
 
 -- a fault that is told as a bad record
-told_bad : {T : Type 0} (r : Result T RecordFault) (f : RecordFault) → IsErr r × IsErrAnd r (λ e. e ≡ f) → IsErrOf r Bad → f ≡ Bad
+pub told_bad : {T : Type 0} (r : Result T RecordFault) (f : RecordFault) → IsErr r × IsErrAnd r (λ e. e ≡ f) → IsErrOf r Bad → f ≡ Bad
 told_bad (Ok x) f told bad = absurd told.1
 told_bad (Err e) f told bad = sym told.1 ∙ cc bad
 

@@ -41,7 +41,7 @@ impl GivenFiles {
 }
 
 /// The files that were given, and those of a source behind them.
-#[derive(Clone, Copy)]
+#[derive(Drop)]
 pub struct SessionFiles<'a, F: Files> {
     /// The files that were given.
     pub given: &'a GivenFiles,

@@ -101,18 +101,7 @@ fn tuple_of_four(
         value_of t ≡ tuple (values_of
         (value_of first ∷ value_of second ∷ value_of third ∷ value_of fourth ∷ []))) }
 {
-    let mut parts = Vec::new(alloc);
-    parts.push(first)?;
-    parts.push(second)?;
-    parts.push(third)?;
-    parts.push(fourth)?;
-    Ok(tuple_term(parts))
-}
-
-fn tuple_term(parts: Vec<Term>) -> Term
-    ensures { value_of result ≡ tuple (values_of (map value_of parts.items)) }
-{
-    Term::Tuple(parts)
+    Ok(Term::Tuple(vec![in alloc; first, second, third, fourth]?))
 }
 
 fn list_term(members: Vec<Term>) -> Term

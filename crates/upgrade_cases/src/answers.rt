@@ -1,9 +1,11 @@
 //! The answer to a case.
-use crate::{appups, made_relups, relups, relups_of_files, tables};
+use crate::{appups, calls, made_relups, relups, relups_of_files, tables};
 use std::alloc::{AllocError, Global};
+use std::sync::Wait;
+use std::thread::Threads;
 use text_cases::Answer;
 
-/// The answer in one of nineteen modes. A text that can't be read is answered by its fault.
+/// The answer in one of 21 modes. A text that can't be read is answered by its fault.
 ///
 /// `mod`: the table of a file. `term`: the same, read again from the file's term. `step`: what comes of a call; the text is a
 /// state, an input and a file. `change`: the state after a change of code; the text is a direction, a version, an extra
@@ -17,9 +19,16 @@ use text_cases::Answer;
 /// is read of the instructions of a file's only upgrade. `up`, `down`: the instructions that are found; the text is a
 /// version and a file with a blank between.
 ///
+/// `steps`, `clients`: what clients see of processes, as in [`calls::push_answer`].
+///
 /// The others are those of relups that are made: of [`made_relups::push_answer`] and of
 /// [`relups_of_files::push_answer`].
-pub(crate) fn answer(alloc: Global, mode: &str, text: &[u8]) -> Result<String, AllocError> {
+pub(crate) fn answer<R: Threads + Wait + Sync>(
+    rt: &R,
+    alloc: Global,
+    mode: &str,
+    text: &[u8],
+) -> Result<String, AllocError> {
     let mut answer = Answer::new(alloc);
     match mode {
         "mod" | "term" | "step" | "change" => tables::push_answer(alloc, mode, text, &mut answer),
@@ -30,6 +39,7 @@ pub(crate) fn answer(alloc: Global, mode: &str, text: &[u8]) -> Result<String, A
         "translate" | "translate_up" | "translate_down" => {
             made_relups::push_answer(alloc, mode, text, &mut answer)
         }
+        "steps" | "clients" => calls::push_answer(rt, alloc, mode, text, &mut answer)?,
         _ => relups_of_files::push_answer(alloc, mode, text, &mut answer),
     }
     answer.finish()

@@ -1,10 +1,11 @@
 use Rattle.std.proofs.Common.{◌≡◌, ◌⊎◌, inr, sym, ◌∙◌, subst}
 use Rattle.rel_disk.specs.Moments.{LeavesOnly}
 use Rattle.rel_disk.proofs.Moments.{weakened}
+use Rattle.rel_list.specs.Event.{booted}
 use Rattle.rel_store.proofs.OnlyReads.{read_on}
 use Rattle.rel_store.specs.Contents.{HasOnlyRead}
 use Rattle.rel_handler.specs.Events.{IsStoredAs}
-use Rattle.rel_handler.specs.Image.{IsStarted, IsRepairOf}
+use Rattle.rel_handler.specs.Image.{IsImageOf, IsStarted, IsRepairOf}
 use Rattle.rel_handler.specs.Moments.{SettlesAt}
 use Rattle.rel_handler.specs.Refusals.{BootRefused}
 use Rattle.rel_handler.specs.State.{disk_in}
@@ -23,6 +24,15 @@ pub returns-in-Ok-repair-clause-recovers : goal.returns-in-Ok-repair-clause-reco
 returns-in-Ok-repair-clause-recovers g c = λ k all.
     let of = all (g.D.Disk.seen c.args.disk) (g.met.D.Disk.reads_an_image c.args.disk) in
     boots_to k (g.D.Disk.seen c.args.disk) _ of (c.repair.ensures.repairs.list ∙ c.in-Ok.ensures.only of.list of.image_of)
+
+-- it is the node that was read
+pub returns-in-Ok-repair-clause-image : goal.returns-in-Ok-repair-clause-image
+returns-in-Ok-repair-clause-image g c =
+    let opened = c.in-Ok.ensures.opened in
+    subst (λ es. IsImageOf (g.D.Disk.seen c.args.disk) es × (booted es ≡ es)) (sym c.repair.ensures.repairs.list) (opened.image, opened.again)
+
+pub returns-in-Ok-repair-clause-only : goal.returns-in-Ok-repair-clause-only
+returns-in-Ok-repair-clause-only g c = λ es image. c.repair.ensures.repairs.list ∙ c.in-Ok.ensures.only es image
 
 -- the start record was right
 pub returns-in-Ok-repair-clause-right : goal.returns-in-Ok-repair-clause-right

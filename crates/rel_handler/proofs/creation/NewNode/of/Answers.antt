@@ -10,3 +10,6 @@ returns-clause-body c =
     let b = brought_of c.args.brought in
     ap length (c.in_ok-body.ensures.body (release_of c.args.brought.file.release))
     ∙ ap (λ ls. length (body_of b.found.term (makes b.found.release (map shared_of ls)))) c.as_slice.ensures.value
+
+pub returns-clause-spells : goal.returns-clause-spells
+returns-clause-spells c = rw c.as_slice.ensures.value at c.in_ok-body.ensures.spells (release_of c.args.brought.file.release) c.requires.file.says

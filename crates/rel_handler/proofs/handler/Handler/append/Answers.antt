@@ -1,16 +1,19 @@
-use Rattle.std.proofs.Common.{◌≡◌, ◌+◌, [], ◌∷◌, ◌++◌, arith, rules, refl, sym, ap, ◌∙◌, subst, length}
+use Rattle.std.proofs.Common.{◌≡◌, ◌+◌, [], ◌∷◌, ◌++◌, true≢false, arith, refl, sym, ap, ◌∙◌, subst, length}
 use Rattle.rel_disk.specs.Moments.{HasFailed}
 use Rattle.rel_list.specs.Event.{event_of}
 use Rattle.rel_store.specs.Layout.{text_of}
 use Rattle.rel_store.specs.State as store
 use Rattle.rel_handler.specs.Commits.{Commits}
 use Rattle.rel_handler.proofs.CommandLemmas.{commanded_then}
-use Rattle.rel_handler.proofs.Commits.{opened, left_so, rested, unchanged, failed_so, reserved_works, commits, ready_next, is_done}
+use Rattle.rel_handler.proofs.Commits.{all_same, opened, left_so, rested, unchanged, failed_so, reserved_works, commits, ready_next, is_done}
 use Rattle.rel_handler.proofs.handler.Handler.append.Goals as goal
 
 -- the store is full
 pub returns-then-not-fits-clause-commits : goal.returns-then-not-fits-clause-commits
 returns-then-not-fits-clause-commits g c = unchanged g.D.Disk c.args.self.now c.requires.sound (g.met.D.Disk.only_now _) (event_of c.args.event) (length c.args.body.now)
+
+pub returns-then-not-fits-clause-refused : goal.returns-then-not-fits-clause-refused
+returns-then-not-fits-clause-refused g c = (c.requires.allowed, (λ has. true≢false (sym (c.if-not-fits.ensures.1 has))), all_same c.args.self.now)
 
 -- there is no memory for the record
 pub returns-then-is_err-clause-commits : goal.returns-then-is_err-clause-commits
@@ -54,7 +57,7 @@ returns-then-is_err-3-clause-refused g c =
     let size = length c.args.body.now in
     let stepped = opened c.accept.result _ c.if-is_err-2.ensures.value c.accept.ensures.accepted in
     let works = reserved_works g.D.Disk h c.requires.sound c.requires.allowed.0 c.reserve.new.self c.reserve.ensures.kept (event_of c.args.event) c.accept.new.self c.args.body.now c.requires.told stepped in
-    let fits : store.Fits (store.end_in h.store) size = search rules in
+    let fits : store.Fits (store.end_in h.store) size = c.if-not-fits.ensures.0 refl in
     let room = opened c.reserve.result _ c.if-is_err.ensures.value c.reserve.ensures.room size (omega arith) in
     let failed = failed_so g.D.Disk.failures c.reserve.new.self c.append.new.self size c.append.result c.if-is_err-3.ensures.value (rw c.as_bytes.ensures.value at c.append.ensures.refused) (subst (λ n. store.Fits n size) (sym c.reserve.ensures.kept.end) fits) room works in
     ((c.requires.allowed.0, c.requires.allowed.1, fits), subst (λ d. HasFailed (g.D.Disk.failures d) (g.D.Disk.failures (store.disk_in c.append.new.self))) c.reserve.ensures.kept.disk failed, refl)
@@ -89,7 +92,7 @@ returns-clause-done g c =
     let e = event_of c.args.event in
     let size = length c.args.body.now in
     let stepped = opened c.accept.result _ c.if-is_err-2.ensures.value c.accept.ensures.accepted in
-    let fits : store.Fits (store.end_in h.store) size = search rules in
+    let fits : store.Fits (store.end_in h.store) size = c.if-not-fits.ensures.0 refl in
     let added : store.records_in c.append.new.self ≡ store.records_in c.reserve.new.self ++ c.as_bytes.result.now ∷ [] = opened c.append.result _ c.if-is_err-3.ensures.value c.append.ensures.added in
     let end : store.end_in c.append.new.self ≡ store.end_in c.reserve.new.self + (5 + length c.as_bytes.result.now) = opened c.append.result _ c.if-is_err-3.ensures.value c.append.ensures.end in
     is_done g.D.Disk h c.requires.sound c.requires.allowed.0 c.reserve.new.self c.reserve.ensures.kept e c.accept.new.self c.args.body.now c.requires.told stepped

@@ -1,7 +1,6 @@
-use Rattle.std.proofs.Common.{◌≡◌, None, rules, length, ap, sym, ◌∙◌, subst}
+use Rattle.std.proofs.Common.{◌≡◌, length, ap, sym, ◌∙◌, subst}
 use Rattle.std.specs.Prelude.{IfErr, OnOk}
 use Rattle.rel_list.specs.Event.{event_of}
-use Rattle.rel_list.specs.Refusal.{refusal}
 use Rattle.rel_records.specs.Reading.{Spells}
 use Rattle.rel_records.specs.Writing.{record_of}
 use Rattle.rel_store.specs.State.{records_in}
@@ -9,13 +8,23 @@ use Rattle.rel_handler.specs.Commits.{Commits, IsDone}
 use Rattle.rel_handler.specs.Refusals.{CommandRefused}
 use Rattle.rel_handler.specs.State.{list_in}
 use Rattle.rel_handler.specs.Taking.{change_size}
-use Rattle.rel_handler.proofs.Commits.{unchanged, have_versions}
-use Rattle.rel_handler.proofs.CommandLemmas.{list_allows}
+use Rattle.rel_handler.specs.declared.error.HandlerError.TheVariants.{NoMemory}
+use Rattle.rel_handler.proofs.Commits.{all_same, refuses_with, unchanged, have_versions}
+use Rattle.rel_handler.proofs.CommandLemmas.{list_allows, list_refuses, refused_by_list}
 use Rattle.rel_handler.proofs.handler.Handler.append_change.Goals as goal
 
 pub change_body-requires-clause-versions : goal.change_body-requires-clause-versions
 change_body-requires-clause-versions g c =
     have_versions (records_in c.args.self.now.store) (list_in c.args.self.now) (c.requires.sound.ready c.requires.works).list
+
+-- the list doesn't allow it
+pub returns-in-Some-clause-refused : goal.returns-in-Some-clause-refused
+returns-in-Some-clause-refused g c =
+    let e = event_of c.args.event in
+    let h = c.args.self.now in
+    let size = change_size e (list_in h) in
+    subst (CommandRefused g.D.Disk.failures e size h h) (sym c.from.ensures)
+    (refused_by_list g.D.Disk.failures h e size _ c.requires.works (list_refuses e (list_in h) c.in-Some.why c.requires.listed (sym c.in-Some.ensures)))
 
 -- nothing was written yet
 pub returns-in-Some-clause-commits : goal.returns-in-Some-clause-commits
@@ -26,10 +35,15 @@ pub returns-in_err-body-clause-commits : goal.returns-in_err-body-clause-commits
 returns-in_err-body-clause-commits g c =
     unchanged g.D.Disk c.args.self.now c.requires.sound (g.met.D.Disk.only_now _) (event_of c.args.event) (change_size (event_of c.args.event) (list_in c.args.self.now))
 
+pub returns-in_err-body-clause-refused : goal.returns-in_err-body-clause-refused
+returns-in_err-body-clause-refused g c =
+    let e = event_of c.args.event in
+    let h = c.args.self.now in
+    refuses_with (CommandRefused g.D.Disk.failures e (change_size e (list_in h)) h h) c.from_residual.result NoMemory c.from_residual.ensures (c.requires.works, all_same h)
+
 pub append-requires-clause-allowed : goal.append-requires-clause-allowed
 append-requires-clause-allowed g c =
-    let allowed : refusal (event_of c.args.event) (list_in c.args.self.now) ≡ None = search rules in
-    (c.requires.works, list_allows (event_of c.args.event) (list_in c.args.self.now) c.requires.listed allowed)
+    (c.requires.works, list_allows (event_of c.args.event) (list_in c.args.self.now) c.requires.listed (sym c.in_default.ensures))
 
 pub append-requires-clause-told : goal.append-requires-clause-told
 append-requires-clause-told g c =

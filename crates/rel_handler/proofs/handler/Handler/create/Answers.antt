@@ -1,10 +1,31 @@
+use Rattle.std.proofs.Common.{◌≡◌, inl, true, refl, sym, subst}
+use Rattle.rel_files.specs.Release.{release_of}
+use Rattle.rel_records.specs.Limits.{is_small}
+use Rattle.rel_unpack.specs.declared.unpacking.ReleaseFiles.{ReleaseFiles}
 use Rattle.rel_unpack.specs.Unpacking.{brought_of}
-use Rattle.rel_handler.proofs.CreationLemmas.{not_made_of}
+use Rattle.rel_handler.specs.Files.{IsRelFile}
+use Rattle.rel_handler.proofs.Boots.{unwritten}
+use Rattle.rel_handler.proofs.CreationLemmas.{not_made_of, read_alone}
 use Rattle.rel_handler.proofs.Images.{has_a_store}
 use Rattle.rel_handler.proofs.ReleaseLemmas.{brings_same, still_free, still_whole, made_so, not_made_so}
 use Rattle.rel_handler.proofs.handler.Handler.create.Goals as goal
 
+-- the release's file is refused
+pub returns-in-Err-clause-taken : goal.returns-in-Err-clause-taken
+returns-in-Err-clause-taken g c = λ there.
+    (unwritten g.D.Disk.seen g.D.Disk.may_leave g.D.Disk.moment g.D.Disk.left_since c.args.disk (g.met.D.Disk.only_now c.args.disk), refl)
+
+pub returns-in-Err-clause-refused : goal.returns-in-Err-clause-refused
+returns-in-Err-clause-refused g c =
+    inl (c.in-Err.ensures.refused, unwritten g.D.Disk.seen g.D.Disk.may_leave g.D.Disk.moment g.D.Disk.left_since c.args.disk (g.met.D.Disk.only_now c.args.disk))
+
 -- a node may have it
+pub make-requires-clause-file : goal.make-requires-clause-file
+make-requires-clause-file g c = subst (λ (r : ReleaseFiles). IsRelFile r.file) (sym c.in-Ok-unless_refused.ensures.brought) c.in-Ok.ensures.file
+
+pub make-requires-clause-small : goal.make-requires-clause-small
+make-requires-clause-small g c = subst (λ (r : ReleaseFiles). is_small (release_of r.file.release) ≡ true) (sym c.in-Ok-unless_refused.ensures.brought) c.in-Ok.ensures.small
+
 pub make-requires-clause-whole : goal.make-requires-clause-whole
 make-requires-clause-whole g c =
     still_whole c.in-Ok.brought c.in-Ok-unless_refused.brought c.in-Ok-unless_refused.ensures.brought c.in-Ok.ensures.whole c.in-Ok-unless_refused.ensures.free
@@ -38,3 +59,8 @@ returns-in-Err-clause-node g c = has_a_store (g.D.Disk.seen c.args.disk)
 
 pub returns-in-Err-unless_refused-clause-node : goal.returns-in-Err-unless_refused-clause-node
 returns-in-Err-unless_refused-clause-node g c = has_a_store (g.D.Disk.seen c.args.disk)
+
+-- nothing is written over what was only read
+pub returns-in-Err-unless_refused-clause-taken : goal.returns-in-Err-unless_refused-clause-taken
+returns-in-Err-unless_refused-clause-taken g c = λ there.
+    (read_alone g.D.Disk c.args.disk c.existing_or-error.new.disk c.existing_or-error.ensures.read, refl)

@@ -1,4 +1,4 @@
-use Rattle.std.proofs.Common.{subst}
+use Rattle.std.proofs.Common.{inl, ap, subst}
 use Rattle.rel_list.specs.Event.Event.{made_permanent}
 use Rattle.rel_handler.specs.Commits.{Commits, IsDone}
 use Rattle.rel_handler.specs.State.{list_in}
@@ -24,6 +24,9 @@ pub returns-in_err-from_str-clause-refused : goal.returns-in_err-from_str-clause
 returns-in_err-from_str-clause-refused g c =
     let h = c.args.self.now in
     refuses_with (CommandRefused g.D.Disk.failures (made_permanent c.args.vsn.now) (change_size (made_permanent c.args.vsn.now) (list_in h)) h h) c.from_residual.result NoMemory c.from_residual.ensures (c.if-self.false, all_same h)
+
+pub move_permanent-requires-clause-moves : goal.move_permanent-requires-clause-moves
+move_permanent-requires-clause-moves g c = inl (ap made_permanent c.in_ok-from_str.ensures.ok)
 
 -- the move was refused
 pub returns-in_err-move_permanent-clause-commits : goal.returns-in_err-move_permanent-clause-commits

@@ -5,7 +5,7 @@ use Rattle.rel_handler.specs.Taking.{change_size}
 use Rattle.rel_handler.specs.State.{list_in}
 use Rattle.rel_handler.specs.declared.error.HandlerError.TheVariants.{Device}
 use Rattle.rel_handler.proofs.Commits.{refuses_with, unchanged}
-use Rattle.rel_handler.proofs.PermanenceLemmas.{brings_none, are_versions, moving, not_moved, moved_start, is_moved}
+use Rattle.rel_handler.proofs.PermanenceLemmas.{brings_none, no_start, are_versions, moving, not_moved, moved_start, is_moved}
 use Rattle.rel_handler.proofs.handler.Handler.move_permanent.Goals as goal
 
 pub append_change-requires-clause-listed : goal.append_change-requires-clause-listed
@@ -20,9 +20,23 @@ pub returns-in_err-start-clause-commits : goal.returns-in_err-start-clause-commi
 returns-in_err-start-clause-commits g c =
     unchanged g.D.Disk c.args.self.now c.requires.sound (g.met.D.Disk.only_now _) (event_of c.args.event) (change_size (event_of c.args.event) (list_in c.args.self.now))
 
+pub returns-in_err-start-clause-refused : goal.returns-in_err-start-clause-refused
+returns-in_err-start-clause-refused g c =
+    let e = event_of c.args.event in
+    let h = c.args.self.now in
+    let why = c.in_err-start.field-0.0 in
+    refuses_with (CommandRefused g.D.Disk.failures e (change_size e (list_in h)) h h) c.from_residual.result why c.from_residual.ensures
+    (no_start g.D.Disk.failures h c.requires.works c.args.vsn.now e c.requires.moves _ why c.in_err-start.ensures.refused)
+
 -- the first write failed, or was refused
 pub returns-in_err-append_change-clause-commits : goal.returns-in_err-append_change-clause-commits
 returns-in_err-append_change-clause-commits g c = c.in_err-append_change.ensures.commits
+
+pub returns-in_err-append_change-clause-refused : goal.returns-in_err-append_change-clause-refused
+returns-in_err-append_change-clause-refused g c =
+    let e = event_of c.args.event in
+    let h = c.args.self.now in
+    refuses_with (CommandRefused g.D.Disk.failures e (change_size e (list_in h)) h c.append_change.new.self) c.from_residual-in_err-append_change.result c.in_err-append_change.field-0.0 c.from_residual-in_err-append_change.ensures c.in_err-append_change.ensures.refused
 
 -- the device failed in the second write
 pub returns-in_err-commit_start-clause-commits : goal.returns-in_err-commit_start-clause-commits

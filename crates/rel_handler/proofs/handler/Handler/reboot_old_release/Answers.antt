@@ -1,11 +1,12 @@
-use Rattle.std.proofs.Common.{subst}
+use Rattle.std.proofs.Common.{inr, ap, subst}
 use Rattle.std.specs.Prelude.{IfErr, OnOk}
 use Rattle.rel_list.specs.Event.Event.{reboot_old}
 use Rattle.rel_handler.specs.Commits.{Commits, IsDone}
 use Rattle.rel_handler.specs.Refusals.{CommandRefused}
 use Rattle.rel_handler.specs.State.{list_in}
 use Rattle.rel_handler.specs.Taking.{change_size}
-use Rattle.rel_handler.proofs.Commits.{unchanged}
+use Rattle.rel_handler.specs.declared.error.HandlerError.TheVariants.{NoMemory}
+use Rattle.rel_handler.proofs.Commits.{all_same, refuses_with, unchanged}
 use Rattle.rel_handler.proofs.handler.Handler.reboot_old_release.Goals as goal
 
 -- nothing was done yet
@@ -16,6 +17,14 @@ returns-then-self-clause-commits g c =
 pub returns-in_err-from_str-clause-commits : goal.returns-in_err-from_str-clause-commits
 returns-in_err-from_str-clause-commits g c =
     unchanged g.D.Disk c.args.self.now c.requires (g.met.D.Disk.only_now _) (reboot_old c.args.vsn.now) (change_size (reboot_old c.args.vsn.now) (list_in c.args.self.now))
+
+pub returns-in_err-from_str-clause-refused : goal.returns-in_err-from_str-clause-refused
+returns-in_err-from_str-clause-refused g c =
+    let h = c.args.self.now in
+    refuses_with (CommandRefused g.D.Disk.failures (reboot_old c.args.vsn.now) (change_size (reboot_old c.args.vsn.now) (list_in h)) h h) c.from_residual.result NoMemory c.from_residual.ensures (c.if-self.false, all_same h)
+
+pub move_permanent-requires-clause-moves : goal.move_permanent-requires-clause-moves
+move_permanent-requires-clause-moves g c = inr (ap reboot_old c.in_ok-from_str.ensures.ok)
 
 -- it was moved or refused
 pub returns-clause-commits : goal.returns-clause-commits

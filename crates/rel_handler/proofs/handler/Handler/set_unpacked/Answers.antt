@@ -1,4 +1,4 @@
-use Rattle.std.proofs.Common.{inl, inr, sym, subst, rules}
+use Rattle.std.proofs.Common.{inl, inr, refl, sym, subst, rules}
 use Rattle.rel_list.specs.Event.Event.{unpacked}
 use Rattle.rel_handler.specs.Files.{bundle_brought, unpacked_size}
 use Rattle.rel_handler.specs.Unpacking.{IsToldAs, UnpackingRefused}
@@ -8,6 +8,17 @@ use Rattle.rel_handler.proofs.Commits.{refuses_with, unchanged}
 use Rattle.rel_handler.proofs.ReleaseLemmas.{brings_same, still_agree, still_free, still_whole, brought_free, agrees_so, unchanged_handler}
 use Rattle.rel_handler.proofs.handler.Handler.set_unpacked.Goals as goal
 
+-- a dead handler takes nothing in
+pub returns-then-self-clause-refused : goal.returns-then-self-clause-refused
+returns-then-self-clause-refused g c = inl (refl, c.if-self.true, unchanged_handler c.args.self.now)
+
+-- the release's file is refused
+pub returns-in_err-brought-clause-refused : goal.returns-in_err-brought-clause-refused
+returns-in_err-brought-clause-refused g c =
+    let h = c.args.self.now in
+    refuses_with (UnpackingRefused g.D.Disk (g.F.Files.gives c.args.files.now) c.args.path.now h h) c.from_residual.result c.in_err-brought.field-0.0 c.from_residual.ensures
+    (inr (inl (c.in_err-brought.ensures.refused, c.if-self.false, unchanged_handler h)))
+
 -- the list has no place for it
 pub returns-in_err-vsn-clause-refused : goal.returns-in_err-vsn-clause-refused
 returns-in_err-vsn-clause-refused g c =
@@ -16,7 +27,7 @@ returns-in_err-vsn-clause-refused g c =
     let b = brought_of c.in_ok-brought.brought in
     let why = c.in_err-vsn.field-0.0 in
     refuses_with (UnpackingRefused g.D.Disk source c.args.path.now h h) c.from_residual-in_err-vsn.result why c.from_residual-in_err-vsn.ensures
-    (no_place g.D.Disk source c.args.path.now h b why (search rules) c.in_ok-brought.ensures.small c.in_ok-brought.ensures.brought
+    (no_place g.D.Disk source c.args.path.now h b why c.if-self.false c.in_ok-brought.ensures.small c.in_ok-brought.ensures.brought
     (unchanged g.D.Disk h c.requires (g.met.D.Disk.only_now _) (unpacked (bundle_brought b)) (unpacked_size b h.list)) c.in_err-vsn.ensures.refused)
 
 -- its files are refused
@@ -30,7 +41,7 @@ returns-in_err-brought-2-clause-refused g c =
     (inr (inr (inl (record {
       brought = b;
       read = c.in_ok-brought.ensures.brought;
-      alive = search rules;
+      alive = c.if-self.false;
       fresh = c.in_ok-vsn.ensures.fresh;
       barred = subst (λ o. IsToldAs o why) (sym (agrees_so b h.list c.in_ok-vsn.ensures.fresh c.in_ok-vsn.ensures.agree)) c.in_err-brought-2.ensures.refused;
       same = unchanged_handler h;

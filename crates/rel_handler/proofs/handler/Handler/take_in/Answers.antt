@@ -26,7 +26,7 @@ returns-in-Some-clause-commits g c =
 pub returns-in-Some-clause-refused : goal.returns-in-Some-clause-refused
 returns-in-Some-clause-refused g c =
     let b = brought_of c.args.brought in
-    refused_by_list g.D.Disk.failures c.args.self.now (bundle_brought b) (unpacked_size b (list_in c.args.self.now)) c.in-Some.why c.requires.alive c.in-Some.ensures
+    refused_by_list g.D.Disk.failures c.args.self.now (unpacked (bundle_brought b)) (unpacked_size b (list_in c.args.self.now)) c.in-Some.why c.requires.alive c.in-Some.ensures
 
 -- no memory for its libraries, or for its record
 pub returns-in_err-libraries-clause-commits : goal.returns-in_err-libraries-clause-commits

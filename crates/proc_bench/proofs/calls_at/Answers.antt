@@ -1,6 +1,0 @@
-use denote.Param.Send.{sendable}
-use Rattle.proc_bench.proofs.ThreadLemmas.{calls_send}
-use Rattle.proc_bench.proofs.calls_at.Goals as goal
-
-pub by_two-requires-send-A : goal.by_two-requires-send-A
-by_two-requires-send-A g c κs = search (sendable, calls_send)

@@ -1,6 +1,0 @@
-use denote.Param.Send.{sendable}
-use Rattle.proc_bench.proofs.ThreadLemmas.{steps_send}
-use Rattle.proc_bench.proofs.steps_by.Goals as goal
-
-pub by_four-requires-send-A : goal.by_four-requires-send-A
-by_four-requires-send-A g c κs = search (sendable, steps_send)

@@ -1,0 +1,21 @@
+use Rattle.std.proofs.Common.{Err, sym, ap}
+use Rattle.rel_list.specs.Event.Event.{made}
+use Rattle.rel_list.specs.Keyed.{bundle_of}
+use Rattle.rel_records.proofs.Bringing.{accepted, not_accepted, nothing_brought}
+use Rattle.rel_records.proofs.ReadingLemmas.{told_bad}
+use Rattle.rel_records.proofs.lists.make.Goals as goal
+
+-- the record brings nothing
+pub returns-in_err-bundle-clause-bad : goal.returns-in_err-bundle-clause-bad
+returns-in_err-bundle-clause-bad c = λ bad.
+    nothing_brought _ made c.args.list.now _ (c.in_err-bundle.ensures.bad (ap (λ f. Err f) (told_bad c.from_residual.result c.in_err-bundle.field-0.0 c.from_residual.ensures bad)))
+
+-- the list refuses what it brings
+pub returns-in_err-accept-clause-bad : goal.returns-in_err-accept-clause-bad
+returns-in_err-accept-clause-bad c = λ bad.
+    not_accepted _ made c.args.list.now _ (bundle_of c.in_ok-bundle.bundle) c.in_ok-bundle.ensures.brought c.in_err-accept.field-0.0 c.in_err-accept.ensures.refused
+    c.from_residual-in_err-accept.result c.from_residual-in_err-accept.ensures bad
+
+-- it takes it
+pub returns-clause-taken : goal.returns-clause-taken
+returns-clause-taken c = accepted _ made c.args.list.now _ (bundle_of c.in_ok-bundle.bundle) _ (sym c.if-not-is_small.ensures) c.in_ok-bundle.ensures.brought c.in_ok-accept.ensures.accepted
