@@ -1,6 +1,6 @@
 pub mod BodyLemmas
 pub mod ReadingLemmas
-pub mod Bringing
+pub mod BundleLemmas
 pub mod ListLemmas
 pub mod RecordPlaces
 pub mod CompletionLemmas

@@ -1,7 +1,7 @@
 use Rattle.std.proofs.Common.{Err, sym, ap}
 use Rattle.rel_list.specs.Event.Event.{made}
 use Rattle.rel_list.specs.Keyed.{bundle_of}
-use Rattle.rel_records.proofs.Bringing.{accepted, not_accepted, nothing_brought}
+use Rattle.rel_records.proofs.BundleLemmas.{accepted, not_accepted, nothing_brought}
 use Rattle.rel_records.proofs.ReadingLemmas.{told_bad}
 use Rattle.rel_records.proofs.lists.make.Goals as goal
 

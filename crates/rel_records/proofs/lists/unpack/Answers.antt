@@ -4,7 +4,7 @@ use Rattle.rel_files.specs.Release.{release_of}
 use Rattle.rel_list.specs.Event.Event.{unpacked}
 use Rattle.rel_list.specs.Keyed.{bundle_of}
 use Rattle.rel_records.specs.Limits.{is_small, most_releases}
-use Rattle.rel_records.proofs.Bringing.{accepted, not_accepted, nothing_brought}
+use Rattle.rel_records.proofs.BundleLemmas.{accepted, not_accepted, nothing_brought}
 use Rattle.rel_records.proofs.ReadingLemmas.{told_bad}
 use Rattle.rel_records.proofs.lists.unpack.Goals as goal
 
