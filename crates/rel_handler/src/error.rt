@@ -15,7 +15,7 @@ use std::fmt::{self, Debug, Display, Formatter};
 use thiserror::Error;
 
 /// Why a command was refused. Nothing has changed then, but after `Device`.
-#[derive(Drop, Error)]
+#[derive(Error)]
 pub enum HandlerError {
     /// The list has no release of this version.
     NoSuchRelease,
@@ -52,6 +52,31 @@ pub enum HandlerError {
     NoMemory,
     /// A node is on the disk already.
     Exists,
+}
+
+// Let go by one call: a derived drop would stand field by field at each exit of a caller.
+impl Drop for HandlerError {
+    fn drop(self) {
+        match self {
+            HandlerError::LibDiffers(_text)
+            | HandlerError::MissingFile(_text)
+            | HandlerError::VsnMismatch(_text)
+            | HandlerError::NoTable(_text) => {}
+            HandlerError::BadFile(_path, _trouble) => {}
+            HandlerError::NoSuchRelease
+            | HandlerError::ExistingRelease
+            | HandlerError::AlreadyInstalled
+            | HandlerError::BadStatus(_)
+            | HandlerError::Permanent
+            | HandlerError::Running
+            | HandlerError::TooMany
+            | HandlerError::Device
+            | HandlerError::Full
+            | HandlerError::Dead
+            | HandlerError::NoMemory
+            | HandlerError::Exists => {}
+        }
+    }
 }
 
 impl HandlerError {

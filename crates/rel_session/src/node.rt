@@ -101,8 +101,18 @@ fn line_of(
 {
     match done {
         Ok(line) => Ok(Some(line)),
-        Err(HandlerError::NoMemory) => Err(SessionError::NoMemory),
-        Err(why) => text_of(refusal_line(alloc, &why)),
+        Err(why) => refusal_of(alloc, &why),
+    }
+}
+
+/// The line that tells why a command was refused.
+fn refusal_of(alloc: Global, why: &HandlerError) -> Result<Option<String>, SessionError>
+    ensures line { IfOk result (λ text. IsLine (Err why.now) text) }
+    ensures memory { IfErr result (λ e. e ≡ SessionError.NoMemory) }
+{
+    match why {
+        HandlerError::NoMemory => Err(SessionError::NoMemory),
+        why => text_of(refusal_line(alloc, why)),
     }
 }
 
