@@ -101,12 +101,12 @@ fn line_of(
 {
     match done {
         Ok(line) => Ok(Some(line)),
-        Err(why) => refusal_of(alloc, &why),
+        Err(why) => text_of_refusal(alloc, &why),
     }
 }
 
 /// The line that tells why a command was refused.
-fn refusal_of(alloc: Global, why: &HandlerError) -> Result<Option<String>, SessionError>
+fn text_of_refusal(alloc: Global, why: &HandlerError) -> Result<Option<String>, SessionError>
     ensures line { IfOk result (λ text. IsLine (Err why.now) text) }
     ensures memory { IfErr result (λ e. e ≡ SessionError.NoMemory) }
 {
