@@ -17,6 +17,7 @@ EachSays says vs xs = ⊥
 abbrev pub SaysTable : Value → TableTerm → Type 0
 SaysTable v t = (t.term ≡ v) × IsTableTerm v t.table
 
+-- The terms are those of these tables, in their order.
 abbrev pub AreTables : Values → List TableTerm → Type 0
 AreTables vs ts = EachSays SaysTable vs ts
 
@@ -24,6 +25,7 @@ AreTables vs ts = EachSays SaysTable vs ts
 abbrev pub SaysLibrary : Value → Library → Type 0
 SaysLibrary v l = IsLibrary l × (library_term l ≡ v)
 
+-- The terms are those of these libraries, in their order.
 abbrev pub AreOfLibraries : Values → List Library → Type 0
 AreOfLibraries vs ls = EachSays SaysLibrary vs ls
 
