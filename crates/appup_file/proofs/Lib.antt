@@ -4,4 +4,3 @@ pub mod Defaults
 pub mod FullTerms
 pub mod Spellings
 pub mod TermLemmas
-pub mod Wrapped

@@ -21,6 +21,7 @@ mod reader;
 mod record;
 mod term;
 
+pub use clone::copy_terms;
 pub use erl_token::TermFault;
 pub use reader::{MAX_DEPTH, read_terms};
 pub use record::{RECORD_DEPTH, read_record};

@@ -14,5 +14,7 @@
 pub mod laws;
 mod printer;
 
-pub use erl_reader::{MAX_DEPTH, RECORD_DEPTH, Spanned, Term, TermFault, read_record, read_terms};
+pub use erl_reader::{
+    MAX_DEPTH, RECORD_DEPTH, Spanned, Term, TermFault, copy_terms, read_record, read_terms,
+};
 pub use printer::print;

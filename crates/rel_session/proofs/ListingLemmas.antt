@@ -1,8 +1,8 @@
 -- Lists made one by one.
-use Rattle.std.proofs.Common.{◌≡◌, ℕ, ◌+◌, ◌<◌, ◌++◌, pos, List, [], ◌∷◌, map, ◌≤◌, length, take, get_or, refl, ap, sym, ◌∙◌}
+use Rattle.std.proofs.Common.{◌≡◌, ℕ, ◌+◌, ◌<◌, ◌++◌, pos, List, [], ◌∷◌, map, ◌≤◌, length, take, get_or, append_assoc, refl, ap, sym, ◌∙◌}
 use Rattle.std.proofs.lemmas.List.{map-append, map_more, flat_map_more, take_more, take_all}
 use Rattle.std.specs.List.{flat_map}
-use Rattle.std.specs.Prelude.{Result, Ok, Err, IfOk, codes, decimal}
+use Rattle.std.specs.Prelude.{Result, Ok, Err, IfOk, OnOk, codes, decimal}
 use Rattle.erl_term.specs.Value.{Value, value_of, values_of}
 use Rattle.erl_term.specs.Term.{Term}
 use Rattle.rel_files.specs.declared.release.RelApp.{RelApp}
@@ -65,6 +65,11 @@ line_more listed i l old new within at grown so_far =
     let before = map entry_of (take i listed) in
     let entries : map entry_of (take (i + 1) listed) ≡ before ++ entry_of l ∷ [] = map_more entry_of listed i l within ∙ ap (λ m. before ++ entry_of m ∷ []) (sym at) in
     grown ∙ ap (λ t. t ++ release_line (entry_of l)) so_far ∙ flat_map_more release_line [] before (entry_of l) ∙ ap (flat_map release_line) (sym entries)
+
+-- a line and its newline are put at the end
+pub line_at_end : {E : Type 0} (r : Result (Unit {0}) E) (old mid new line told : List ℕ) → OnOk r (new ≡ mid ++ codes "\n") → mid ≡ old ++ line → line ≡ told → OnOk r (new ≡ old ++ (told ++ codes "\n"))
+line_at_end (Err e) old mid new line told end grown is = tt
+line_at_end (Ok done) old mid new line told end grown is = end ∙ ap (λ t. t ++ codes "\n") (grown ∙ ap (λ t. old ++ t) is) ∙ append_assoc old told (codes "\n")
 
 -- all lines are there, and the last one, which tells how many there are
 pub whole_listing : (listed : List ListedRelease) (i count : ℕ) (releases : Releases) (lines last text : List ℕ) → length listed ≤ i → map entry_of listed ≡ releases → lines ≡ flat_map release_line (map entry_of (take i listed))

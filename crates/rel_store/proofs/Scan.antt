@@ -7,7 +7,7 @@ use Rattle.std.proofs.lemmas.Bool.Decides.{nat_tests}
 use Rattle.std.specs.Int.{w32, from_be_bytes}
 use Rattle.std.proofs.lemmas.List.{drop_more, drop-drop, drop-take, take-take, get_or-drop, get_or-take, length-take-le}
 use Rattle.rel_disk.specs.Moments.{HasFailed}
-use Rattle.rel_store.specs.Contents.{OpenRefused, RecordRefused, RecordsRefused}
+use Rattle.rel_store.specs.Contents.{DeviceRefused, OpenRefused, RecordRefused, RecordsRefused}
 use Rattle.rel_store.specs.Layout.{base_of}
 use Rattle.rel_store.specs.Records.{told_length, told_body, is_whole, onto, records_from, space}
 use Rattle.rel_store.specs.declared.error.StoreError.{StoreError}
@@ -142,7 +142,7 @@ read_body_more bytes mid after base gate size bodies body so_far same same' ther
     read_more bytes base gate (gate + (5 + size)) bodies body behind so_far is_open refl whole is next
 
 -- a failure since a moment is one since an earlier one
-failed_since : (begun before now : ℕ) → begun ≤ before → before ≤ now → HasFailed before now → HasFailed begun now
+pub failed_since : (begun before now : ℕ) → begun ≤ before → before ≤ now → HasFailed before now → HasFailed begun now
 failed_since begun before now le le' failed = elim (cases_lt begun now) [
   | inl rose ↦ inl rose
   | inr level ↦ inr (elim failed [ inl more ↦ absurd (omega arith) | inr most ↦ omega arith ])
@@ -156,6 +156,16 @@ refused_since told begun before now NotAStore le le' why = why
 refused_since told begun before now Exists le le' why = why
 refused_since told begun before now Full le le' why = why
 refused_since told begun before now MustReopen le le' why = why
+
+-- a read of a body that is refused
+pub refused_in_read : (told : Result (List (List ℕ)) StoreError) (begun before now : ℕ) (e : StoreError) → begun ≤ before → before ≤ now → DeviceRefused before now e → RecordsRefused told begun now e
+refused_in_read told begun before now Device le le' why = failed_since begun before now le le' why
+refused_in_read told begun before now NoMemory le le' why = why
+refused_in_read told begun before now NotAStore le le' why = why
+refused_in_read told begun before now (Damaged at) le le' why = absurd why
+refused_in_read told begun before now Exists le le' why = why
+refused_in_read told begun before now Full le le' why = why
+refused_in_read told begun before now MustReopen le le' why = why
 
 -- why the next record isn't read
 pub refused_there : (bytes mid : List ℕ) (base gate : ℕ) (bodies : List (List ℕ)) (begun before now : ℕ) (e : StoreError) → IsReadTo bytes base gate bodies → mid ≡ bytes → begun ≤ before → before ≤ now

@@ -100,6 +100,11 @@ module _ (at n : ℕ) (middle old new : List ℕ) (p : Patched at n middle old n
 abbrev pub slot_place : Bool → ℕ
 slot_place second = if second then 144 else 16
 
+-- it stands before the records
+pub place_low : (second : Bool) (place : ℕ) → place ≡ slot_place second → place ≤ 144
+place_low true place is = omega arith
+place_low false place is = omega arith
+
 -- while the slot that doesn't count is written, the store stands as it was
 pub slot_kept : (second : Bool) (middle old new : List ℕ) (bodies : List (List ℕ)) (text : List ℕ) → Stands bodies text old → (slice_index old 9 == 1) ≡ not second → Patched (slot_place second) 128 middle old new
     → Stands bodies text new

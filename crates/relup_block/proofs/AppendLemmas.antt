@@ -1,5 +1,5 @@
 -- Instructions written one after another.
-use Rattle.std.proofs.Common.{◌≡◌, ◌<◌, sym, ap, subst, ◌∙◌, List, [], ◌∷◌, ◌++◌, length, map, arith}
+use Rattle.std.proofs.Common.{◌≡◌, ◌<◌, sym, ap, subst, ◌∙◌, List, [], ◌∷◌, ◌++◌, length, map, Result, OnOk, arith}
 use Rattle.std.proofs.lemmas.List.{append-nil, map-append}
 use Rattle.relup_file.specs.declared.instruction.Instr.{Instr}
 use Rattle.relup_file.specs.Instruction.{Instruction, instruction_of, script_of}
@@ -18,7 +18,7 @@ pub none_over : {A B : Type 0} (view : A → B) (f : List B → Instruction) (it
 none_over view f [] bs old is none = subst (λ l. Appends old old (over f l)) is (none_appended old)
 none_over view f (x ∷ xs) bs old is none = absurd (omega (arith, none))
 
-pub one_over : {A B : Type 0} (view : A → B) (f : List B → Instruction) (items : List A) (bs : List B) (old new : List Instr) (i : Instr) → map view items ≡ bs → 0 < length items
-    → new ≡ old ++ (i ∷ []) → instruction_of i ≡ f (map view items) → Appends old new (over f bs)
-one_over view f [] bs old new i is some pushed made = absurd (omega (arith, some))
-one_over view f (x ∷ xs) bs old new i is some pushed made = subst (λ l. Appends old new (over f l)) is (one_appended old new i (f (map view (x ∷ xs))) pushed made)
+pub one_over : {A B T E : Type 0} (view : A → B) (f : List B → Instruction) (items : List A) (bs : List B) (old new : List Instr) (r : Result T E) → map view items ≡ bs → 0 < length items
+    → OnOk r (Appends old new (f (map view items) ∷ [])) → OnOk r (Appends old new (over f bs))
+one_over view f [] bs old new r is some written = absurd (omega (arith, some))
+one_over view f (x ∷ xs) bs old new r is some written = subst (λ l. OnOk r (Appends old new (over f l))) is written

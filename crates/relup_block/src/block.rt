@@ -1,8 +1,8 @@
 //! The instructions of a block.
-ghost use Rattle.std.specs.Prelude.{◌≡◌, List, IfOk, OnOk, map, string_bytes, filter, reverse};
+ghost use Rattle.std.specs.Prelude.{◌≡◌, ◌∷◌, [], List, IfOk, OnOk, map, string_bytes, filter, reverse};
 ghost use Rattle.std.specs.List.{filter_map};
 ghost use Rattle.std.specs.Option.{option_map};
-ghost use Rattle.relup_file.specs.Instruction.{suspension_of, change_of, purging_of};
+ghost use Rattle.relup_file.specs.Instruction.{suspension_of, change_of, purging_of, instruction_of};
 ghost use Rattle.relup_block.specs.Order.{BlockItemForm, block_item_of, block_items_of, order};
 ghost use Rattle.relup_block.specs.Block.{written_timeout, suspension, resumption, change, purging, is_static, is_of_kind, loading, suspending, changing, resuming, updating, in_orders, block};
 ghost use Rattle.relup_block.specs.Memory.{Appends};
@@ -11,6 +11,14 @@ use crate::order::{BlockItem, ChoiceRule, order};
 use appup_file::{ModType, StateChange};
 use relup_file::{Change, Conversion, Direction, Instr, Purging, Suspension, Timeout};
 use std::alloc::{AllocError, Global};
+
+/// Writes an instruction behind those that stand in `out`.
+pub fn push_instr(instr: Instr, out: &mut Vec<Instr>) -> Result<(), AllocError>
+    ensures { OnOk result (Appends out.old.items out.new.items (instruction_of instr ∷ [])) }
+{
+    out.push(instr)?;
+    Ok(())
+}
 
 // A timeout, where it is not the default.
 fn written_timeout(timeout: Timeout) -> Option<Timeout>
@@ -22,14 +30,14 @@ fn written_timeout(timeout: Timeout) -> Option<Timeout>
     }
 }
 
-fn change(alloc: Global, item: BlockItem<'_>) -> Result<Option<Change>, AllocError>
+fn change(item: BlockItem<'_>) -> Result<Option<Change>, AllocError>
     ensures { IfOk result (λ o. option_map change_of o ≡ change (block_item_of item.entry)) }
 {
     match item {
         BlockItem::Updated(update) => match &update.change {
             StateChange::Soft => Ok(None),
             StateChange::Advanced(extra) => Ok(Some(Change {
-                name: String::from_str(alloc, update.name.as_str())?,
+                name: update.name.clone()?,
                 extra: extra.clone()?,
             })),
         },
@@ -37,17 +45,17 @@ fn change(alloc: Global, item: BlockItem<'_>) -> Result<Option<Change>, AllocErr
     }
 }
 
-fn purging(alloc: Global, item: BlockItem<'_>) -> Result<Purging, AllocError>
+fn purging(item: BlockItem<'_>) -> Result<Purging, AllocError>
     ensures { IfOk result (λ p. purging_of p ≡ purging (block_item_of item.entry)) }
 {
     match item {
         BlockItem::Updated(update) => Ok(Purging {
-            name: String::from_str(alloc, update.name.as_str())?,
+            name: update.name.clone()?,
             pre: update.pre,
             post: update.post,
         }),
         BlockItem::Loaded(load) => Ok(Purging {
-            name: String::from_str(alloc, load.name.as_str())?,
+            name: load.name.clone()?,
             pre: load.pre,
             post: load.post,
         }),
@@ -75,7 +83,7 @@ fn suspensions(alloc: Global, items: &[BlockItem<'_>]) -> Result<Vec<Suspension>
     for item in items {
         if let BlockItem::Updated(update) = *item {
             suspensions.push(Suspension {
-                name: String::from_str(alloc, update.name.as_str())?,
+                name: update.name.clone()?,
                 timeout: written_timeout(update.timeout),
             })?;
         }
@@ -90,7 +98,7 @@ fn resumptions(alloc: Global, items: &[BlockItem<'_>]) -> Result<Vec<String>, Al
     let mut names = Vec::with_capacity(alloc, items.len())?;
     for item in items {
         if let BlockItem::Updated(update) = *item {
-            names.push(String::from_str(alloc, update.name.as_str())?)?;
+            names.push(update.name.clone()?)?;
         }
     }
     Ok(names)
@@ -112,7 +120,7 @@ fn changes(alloc: Global, items: &[BlockItem<'_>]) -> Result<Vec<Change>, AllocE
 {
     let mut changes = Vec::with_capacity(alloc, items.len())?;
     for item in items {
-        if let Some(change) = change(alloc, *item)? {
+        if let Some(change) = change(*item)? {
             changes.push(change)?;
         }
     }
@@ -131,8 +139,7 @@ fn push_suspend(
     if suspensions.is_empty() {
         return Ok(());
     }
-    out.push(Instr::Suspend(suspensions))?;
-    Ok(())
+    push_instr(Instr::Suspend(suspensions), out)
 }
 
 fn push_resume(
@@ -147,8 +154,7 @@ fn push_resume(
     if names.is_empty() {
         return Ok(());
     }
-    out.push(Instr::Resume(names))?;
-    Ok(())
+    push_instr(Instr::Resume(names), out)
 }
 
 fn push_changes(
@@ -164,30 +170,34 @@ fn push_changes(
     if changes.is_empty() {
         return Ok(());
     }
-    out.push(Instr::CodeChange(Conversion {
-        mode: Some(direction),
-        changes,
-    }))?;
-    Ok(())
+    push_instr(
+        Instr::CodeChange(Conversion {
+            mode: Some(direction),
+            changes,
+        }),
+        out,
+    )
 }
 
-fn push_loads(
-    alloc: Global,
-    items: &[BlockItem<'_>],
-    out: &mut Vec<Instr>,
-) -> Result<(), AllocError>
+fn push_load(item: BlockItem<'_>, out: &mut Vec<Instr>) -> Result<(), AllocError>
+    ensures { OnOk result
+        (Appends out.old.items out.new.items (loading (block_item_of item.entry ∷ []))) }
+{
+    push_instr(Instr::Load(purging(item)?), out)
+}
+
+fn push_loads(items: &[BlockItem<'_>], out: &mut Vec<Instr>) -> Result<(), AllocError>
     ensures { OnOk result
         (Appends out.old.items out.new.items (loading (block_items_of items.now))) }
 {
     for item in items {
-        out.push(Instr::Load(purging(alloc, *item)?))?;
+        push_load(*item, out)?;
     }
     Ok(())
 }
 
 // Those of static modules, or the others.
 fn push_loads_that(
-    alloc: Global,
     wanted: bool,
     items: &[BlockItem<'_>],
     out: &mut Vec<Instr>,
@@ -197,7 +207,7 @@ fn push_loads_that(
 {
     for item in items {
         if is_static(*item) == wanted {
-            out.push(Instr::Load(purging(alloc, *item)?))?;
+            push_load(*item, out)?;
         }
     }
     Ok(())
@@ -214,13 +224,13 @@ fn push_updates(
 {
     match direction {
         Direction::Up => {
-            push_loads(alloc, items, out)?;
+            push_loads(items, out)?;
             push_changes(alloc, direction, items, out)
         }
         Direction::Down => {
-            push_loads_that(alloc, true, items, out)?;
+            push_loads_that(true, items, out)?;
             push_changes(alloc, direction, items, out)?;
-            push_loads_that(alloc, false, items, out)
+            push_loads_that(false, items, out)
         }
     }
 }

@@ -2,7 +2,7 @@
 //! appup(4), systools:make_relup/3; the order is this project's own).
 //!
 //! [`push_block`] writes the instructions of the definition `block`. They go by two orders of the block's items, which two
-//! rules of choice give (specs/Order).
+//! rules of choice give (specs/Order). [`push_instr`] writes a single one.
 //!
 //! The functions of `laws` say of the definition that an order has each item once, and follows dependencies that have no
 //! cycle; that each module is loaded once and each state changed once; that the updated
@@ -16,5 +16,5 @@ mod block;
 pub mod laws;
 mod order;
 
-pub use block::push_block;
+pub use block::{push_block, push_instr};
 pub use order::{BlockItem, is_among};

@@ -11,7 +11,6 @@
 //! Only tested: that a relup is read and printed where memory is there. Trusted: the toolchain alone.
 #![tactic(auto)]
 
-mod copies;
 mod entries;
 mod fault;
 mod instruction;

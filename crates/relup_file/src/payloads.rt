@@ -5,12 +5,11 @@ ghost use Rattle.erl_term.specs.Value.{members_of, value_of};
 ghost use Rattle.relup_file.specs.Instruction.{fetch_of, suspension_of, purging_of, change_of, conversion_of, call_of};
 ghost use Rattle.relup_file.specs.Parts.{all_in, fetch_in, limited_in, suspension_in, suspensions_in, purging_in, change_in, changes_in, with_changes, with_mode, conversion_in, call_in};
 
-use crate::copies::copy_terms;
 use crate::members::{
     mode_in, modules_in, one_in, purge_mode_in, timeout_in, triple_in, version_in, word_in,
 };
 use crate::{Call, Change, Conversion, Direction, Fetch, Purging, Suspension};
-use erl_term::Term;
+use erl_term::{Term, copy_terms};
 use rel_files::parts::{list_in, pair_in};
 use rel_files::text::name_in;
 use std::alloc::{AllocError, Global};

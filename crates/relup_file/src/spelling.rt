@@ -5,12 +5,11 @@ ghost use Rattle.rel_files.specs.Form.{list_of};
 ghost use Rattle.relup_file.specs.Instruction.{fetch_of, suspension_of, purging_of, change_of, conversion_of, call_of, instruction_of};
 ghost use Rattle.relup_file.specs.Form.{one, command, atoms_term, purge_word, direction_word, timeout_term, fetch_term, suspension_term, purging_term, change_term, conversion_members, call_term, instruction_term};
 
-use crate::copies::copy_terms;
 use crate::terms::{atom_term, atoms_term, command, pair_term, text_term, triple_term};
 use crate::{
     Call, Change, Conversion, Direction, Fetch, Instr, PurgeMode, Purging, Suspension, Timeout,
 };
-use erl_term::Term;
+use erl_term::{Term, copy_terms};
 use std::alloc::{AllocError, Global};
 
 fn purge_word(mode: PurgeMode) -> &'static str

@@ -6,10 +6,9 @@ ghost use Rattle.relup_file.specs.Instruction.{instruction_of, script_of};
 ghost use Rattle.relup_file.specs.Parts.{all_in, bare_in, modules_in, over_modules, single_in, other_single_in, tagged_in, instruction_in, script_in};
 
 use crate::Instr;
-use crate::copies::copy_terms;
 use crate::members::{modules_in, one_in};
 use crate::payloads::{call_in, conversion_in, fetch_in, purging_in, suspensions_in};
-use erl_term::Term;
+use erl_term::{Term, copy_terms};
 use std::alloc::{AllocError, Global};
 
 fn bare_in(word: &str) -> Option<Instr>

@@ -3,3 +3,4 @@ pub mod AppendLemmas
 pub mod FirstLemmas
 pub mod NameLemmas
 pub mod WalkLemmas
+pub mod FetchLemmas

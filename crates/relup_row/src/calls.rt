@@ -1,6 +1,6 @@
 //! What starts, stops, loads and unloads applications in a script.
-ghost use Rattle.std.specs.Prelude.{◌≡◌, ◌∷◌, [], IfOk, OnOk, codes, string_bytes};
-ghost use Rattle.erl_term.specs.Value.{members_of, value_of};
+ghost use Rattle.std.specs.Prelude.{◌≡◌, ◌∷◌, [], IfOk, OnOk, codes, map, string_bytes};
+ghost use Rattle.erl_term.specs.Value.{value_of, values_of};
 ghost use Rattle.erl_term.specs.Value.Value.{atom};
 ghost use Rattle.rel_files.specs.Form.{start_word};
 ghost use Rattle.relup_file.specs.Instruction.{instruction_of};
@@ -9,10 +9,12 @@ ghost use Rattle.relup_block.specs.Memory.{Appends};
 
 use erl_term::Term;
 use rel_files::StartType;
+use relup_block::push_instr;
 use relup_file::{Call, Instr};
 use std::alloc::{AllocError, Global};
 
-fn start_word(start: StartType) -> &'static str
+// Of any lifetime, so that it may stand in one slice with other words.
+fn start_word<'a>(start: StartType) -> &'a str
     ensures { result.now ≡ start_word start }
 {
     match start {
@@ -24,32 +26,29 @@ fn start_word(start: StartType) -> &'static str
     }
 }
 
-fn atom_term(alloc: Global, word: &str) -> Result<Term, AllocError>
-    ensures { IfOk result (λ t. value_of t ≡ atom word.now) }
+fn atoms(alloc: Global, words: &[&str]) -> Result<Vec<Term>, AllocError>
+    ensures { IfOk result (λ v. map value_of v.items ≡ map (λ w. atom w.now) words.now) }
 {
-    Ok(Term::Atom(String::from_str(alloc, word)?))
+    let mut atoms = Vec::with_capacity(alloc, words.len())?;
+    for word in words {
+        atoms.push(Term::Atom(String::from_str(alloc, word)?))?;
+    }
+    Ok(atoms)
 }
 
-fn application_call(alloc: Global, function: &str, args: Vec<Term>) -> Result<Instr, AllocError>
-    ensures { IfOk result (λ i.
-        instruction_of i ≡ application_call function.now (members_of args.items)) }
+// A call of a function of the module `application`, with atoms.
+fn application_call(alloc: Global, function: &str, words: &[&str]) -> Result<Instr, AllocError>
+    ensures { IfOk result (λ i. instruction_of i
+        ≡ application_call function.now (values_of (map (λ w. atom w.now) words.now))) }
 {
     Ok(Instr::Apply(Call {
         name: String::from_str(alloc, "application")?,
         function: String::from_str(alloc, function)?,
-        args,
+        args: atoms(alloc, words)?,
     }))
 }
 
-// A call with an application alone.
-fn call_with(alloc: Global, function: &str, app: &str) -> Result<Instr, AllocError>
-    ensures { IfOk result (λ i. instruction_of i ≡ call_with function.now app.now) }
-{
-    let mut args = Vec::with_capacity(alloc, 1)?;
-    args.push(atom_term(alloc, app)?)?;
-    application_call(alloc, function, args)
-}
-
+// With an application alone.
 pub(crate) fn push_call(
     alloc: Global,
     function: &str,
@@ -59,17 +58,22 @@ pub(crate) fn push_call(
     ensures { OnOk result
         (Appends out.old.items out.new.items (call_with function.now app.now ∷ [])) }
 {
-    out.push(call_with(alloc, function, app)?)?;
-    Ok(())
+    push_instr(application_call(alloc, function, &[app])?, out)
 }
 
-fn start_call(alloc: Global, start: StartType, app: &str) -> Result<Instr, AllocError>
-    ensures { IfOk result (λ i. instruction_of i ≡ start_call start app.now) }
+fn push_start_call(
+    alloc: Global,
+    start: StartType,
+    app: &str,
+    out: &mut Vec<Instr>,
+) -> Result<(), AllocError>
+    ensures { OnOk result
+        (Appends out.old.items out.new.items (start_call start app.now ∷ [])) }
 {
-    let mut args = Vec::with_capacity(alloc, 2)?;
-    args.push(atom_term(alloc, app)?)?;
-    args.push(atom_term(alloc, start_word(start))?)?;
-    application_call(alloc, "start", args)
+    push_instr(
+        application_call(alloc, "start", &[app, start_word(start)])?,
+        out,
+    )
 }
 
 // How an application of this type is started, loaded alone, or neither.
@@ -82,9 +86,8 @@ pub(crate) fn push_start(
     ensures { OnOk result (Appends out.old.items out.new.items (starting start app.now)) }
 {
     match start {
-        StartType::Load => out.push(call_with(alloc, "load", app)?)?,
-        StartType::Unloaded => {}
-        start => out.push(start_call(alloc, start, app)?)?,
+        StartType::Load => push_call(alloc, "load", app, out),
+        StartType::Unloaded => Ok(()),
+        start => push_start_call(alloc, start, app, out),
     }
-    Ok(())
 }

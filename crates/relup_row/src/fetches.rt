@@ -1,11 +1,13 @@
 //! Which modules a script fetches, and from which applications.
-ghost use Rattle.std.specs.Prelude.{◌≡◌, IfOk, OnOk, map, string_bytes};
+ghost use Rattle.std.specs.Prelude.{◌≡◌, ◌∷◌, [], ℕ, List, IfOk, OnOk, map, string_bytes};
 ghost use Rattle.relup_file.specs.Instruction.{fetch_of};
+ghost use Rattle.relup_file.specs.Instruction.Instruction.{load_object_code};
 ghost use Rattle.relup_row.specs.Release.{relup_app_of};
-ghost use Rattle.relup_row.specs.Fetches.{mention_of, module_of, app_of, firsts, modules_in, fetch, fetching};
+ghost use Rattle.relup_row.specs.Fetches.{MentionForm, mention_of, module_of, app_of, firsts, modules_in, fetch, fetching};
 ghost use Rattle.relup_block.specs.Memory.{Appends};
 
 use crate::release::RelupApp;
+use relup_block::push_instr;
 use relup_file::{Fetch, Instr};
 use std::alloc::{AllocError, Global};
 use std::collections::BTreeSet;
@@ -17,36 +19,48 @@ pub struct Mention<'a> {
     pub app: &'a RelupApp,
 }
 
-// The first mention of each module.
-fn first_of_modules<'a>(
-    alloc: Global,
-    mentions: &[Mention<'a>],
-) -> Result<Vec<Mention<'a>>, AllocError>
-    ensures { IfOk result (λ v.
-        map mention_of v.items ≡ firsts module_of (map mention_of mentions.now)) }
-{
-    let mut seen: BTreeSet<&str> = BTreeSet::new(alloc);
-    let mut firsts = Vec::new(alloc);
-    for mention in mentions {
-        if seen.insert(mention.name)? {
-            firsts.push(*mention)?;
-        }
-    }
-    Ok(firsts)
+// A name that each mention has.
+trait MentionName {
+    ghost name: { MentionForm → List ℕ };
+
+    fn of<'a>(mention: &Mention<'a>) -> &'a str
+        ensures { result.now ≡ name (mention_of mention.now) };
 }
 
-// The first mention of each application.
-fn first_of_apps<'a>(
+// That of the module.
+struct ModuleName;
+
+impl MentionName for ModuleName {
+    ghost name = { module_of };
+
+    fn of<'a>(mention: &Mention<'a>) -> &'a str {
+        mention.name
+    }
+}
+
+// That of the application.
+struct AppName;
+
+impl MentionName for AppName {
+    ghost name = { app_of };
+
+    fn of<'a>(mention: &Mention<'a>) -> &'a str {
+        mention.app.name.as_str()
+    }
+}
+
+// The first mention of each name.
+fn firsts_by<'a, N: MentionName>(
     alloc: Global,
     mentions: &[Mention<'a>],
 ) -> Result<Vec<Mention<'a>>, AllocError>
     ensures { IfOk result (λ v.
-        map mention_of v.items ≡ firsts app_of (map mention_of mentions.now)) }
+        map mention_of v.items ≡ firsts N.name (map mention_of mentions.now)) }
 {
     let mut seen: BTreeSet<&str> = BTreeSet::new(alloc);
     let mut firsts = Vec::new(alloc);
     for mention in mentions {
-        if seen.insert(mention.app.name.as_str())? {
+        if seen.insert(N::of(mention))? {
             firsts.push(*mention)?;
         }
     }
@@ -72,10 +86,22 @@ fn fetch(alloc: Global, mentions: &[Mention<'_>], app: &RelupApp) -> Result<Fetc
         fetch_of f ≡ fetch (map mention_of mentions.now) (relup_app_of app.now)) }
 {
     Ok(Fetch {
-        app: String::from_str(alloc, app.name.as_str())?,
-        vsn: String::from_str(alloc, app.vsn.as_str())?,
+        app: app.name.clone()?,
+        vsn: app.vsn.clone()?,
         modules: modules_in(alloc, app.name.as_str(), mentions)?,
     })
+}
+
+fn push_fetch(
+    alloc: Global,
+    modules: &[Mention<'_>],
+    app: &RelupApp,
+    out: &mut Vec<Instr>,
+) -> Result<(), AllocError>
+    ensures { OnOk result (Appends out.old.items out.new.items
+        (load_object_code (fetch (map mention_of modules.now) (relup_app_of app.now)) ∷ [])) }
+{
+    push_instr(Instr::LoadObjectCode(fetch(alloc, modules, app)?), out)
 }
 
 /// Writes the `load_object_code` of these modules: one for each application, where it is first mentioned.
@@ -87,10 +113,10 @@ pub fn push_fetches(
     ensures { OnOk result
         (Appends out.old.items out.new.items (fetching (map mention_of mentions.now))) }
 {
-    let modules = first_of_modules(alloc, mentions)?;
-    let apps = first_of_apps(alloc, mentions)?;
+    let modules = firsts_by::<ModuleName>(alloc, mentions)?;
+    let apps = firsts_by::<AppName>(alloc, mentions)?;
     for mention in &apps {
-        out.push(Instr::LoadObjectCode(fetch(alloc, &modules, mention.app)?))?;
+        push_fetch(alloc, &modules, mention.app, out)?;
     }
     Ok(())
 }

@@ -41,7 +41,7 @@ impl ModuleNames {
     {
         let mut sorted = BTreeSet::new(alloc);
         for name in &names {
-            sorted.insert(String::from_str(alloc, name.as_str())?)?;
+            sorted.insert(name.clone()?)?;
         }
         Ok(ModuleNames { names, sorted })
     }

@@ -14,7 +14,7 @@ use crate::fetches::Mention;
 use crate::release::{RelupRelease, Way};
 use crate::single::push_single;
 use appup_file::AppupInstr;
-use relup_block::{BlockItem, push_block};
+use relup_block::{BlockItem, push_block, push_instr};
 use relup_file::Instr;
 use std::alloc::{AllocError, Global};
 
@@ -41,9 +41,10 @@ fn push_module<'a>(
     ensures { OnOk result (map mention_of out.new.items ≡ map mention_of out.old.items
         ++ option_to_list (mention (relup_release_of target.now) name.now)) }
 {
-    if let Some(app) = target.owner(name) {
-        out.push(Mention { name, app })?;
-    }
+    let Some(app) = target.owner(name) else {
+        return Ok(());
+    };
+    out.push(Mention { name, app })?;
     Ok(())
 }
 
@@ -107,12 +108,11 @@ fn push_written_fetch(
 {
     match instr {
         AppupInstr::LowLevel(instr) => match instr {
-            Instr::LoadObjectCode(_) => out.push(copy_instr(alloc, instr)?)?,
-            _ => {}
+            Instr::LoadObjectCode(_) => push_instr(copy_instr(alloc, instr)?, out),
+            _ => Ok(()),
         },
-        _ => {}
+        _ => Ok(()),
     }
-    Ok(())
 }
 
 /// Writes the `load_object_code` that a row has itself.

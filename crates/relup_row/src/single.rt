@@ -1,18 +1,20 @@
 //! What the instructions outside a block become, behind the point of no return.
-ghost use Rattle.std.specs.Prelude.{◌≡◌, ◌∷◌, [], IfOk, OnOk, codes, map, string_bytes};
+ghost use Rattle.std.specs.Prelude.{◌≡◌, ◌∷◌, [], IfOk, OnOk, map, string_bytes};
 ghost use Rattle.relup_file.specs.Instruction.{purging_of, instruction_of};
 ghost use Rattle.appup_file.specs.Instruction.{appup_instruction_of};
 ghost use Rattle.relup_row.specs.Release.{relup_app_of, relup_release_of, way_of, app_named};
-ghost use Rattle.relup_row.specs.Script.{plain_purging, load_plainly, remove_plainly, call_with, leaving, coming, stopping, going, of_app, restarting, deleting, in_place, single};
+ghost use Rattle.relup_row.specs.Script.{plain_purging, load_plainly, remove_plainly, leaving, coming, stopping, going, of_app, restarting, in_place, single};
 ghost use Rattle.relup_block.specs.Memory.{Appends};
 
 use crate::calls::{push_call, push_start};
-use crate::copies::{copy_instr, copy_names};
+use crate::copies::copy_instr;
 use crate::release::{RelupApp, Way};
 use appup_file::AppupInstr;
 use rel_files::StartType;
+use relup_block::push_instr;
 use relup_file::{Instr, PurgeMode, Purging};
 use std::alloc::{AllocError, Global};
+use std::slice;
 
 // A module with the default words.
 fn plain_purging(alloc: Global, name: &str) -> Result<Purging, AllocError>
@@ -25,12 +27,26 @@ fn plain_purging(alloc: Global, name: &str) -> Result<Purging, AllocError>
     })
 }
 
+// It is loaded with them.
+fn push_load(alloc: Global, name: &str, out: &mut Vec<Instr>) -> Result<(), AllocError>
+    ensures { OnOk result (Appends out.old.items out.new.items (load_plainly name.now ∷ [])) }
+{
+    push_instr(Instr::Load(plain_purging(alloc, name)?), out)
+}
+
+// It is removed with them.
+fn push_removal(alloc: Global, name: &str, out: &mut Vec<Instr>) -> Result<(), AllocError>
+    ensures { OnOk result (Appends out.old.items out.new.items (remove_plainly name.now ∷ [])) }
+{
+    push_instr(Instr::Remove(plain_purging(alloc, name)?), out)
+}
+
 fn push_loads(alloc: Global, names: &[String], out: &mut Vec<Instr>) -> Result<(), AllocError>
     ensures { OnOk result (Appends out.old.items out.new.items
         (map load_plainly (map string_bytes names.now))) }
 {
     for name in names {
-        out.push(Instr::Load(plain_purging(alloc, name.as_str())?))?;
+        push_load(alloc, name.as_str(), out)?;
     }
     Ok(())
 }
@@ -40,26 +56,18 @@ fn push_removals(alloc: Global, names: &[String], out: &mut Vec<Instr>) -> Resul
         (map remove_plainly (map string_bytes names.now))) }
 {
     for name in names {
-        out.push(Instr::Remove(plain_purging(alloc, name.as_str())?))?;
+        push_removal(alloc, name.as_str(), out)?;
     }
     Ok(())
 }
 
-// The modules of an application leave.
-fn push_leaving(alloc: Global, app: &RelupApp, out: &mut Vec<Instr>) -> Result<(), AllocError>
+// These modules leave.
+fn push_leaving(alloc: Global, names: &[String], out: &mut Vec<Instr>) -> Result<(), AllocError>
     ensures { OnOk result
-        (Appends out.old.items out.new.items (leaving (relup_app_of app.now).modules)) }
+        (Appends out.old.items out.new.items (leaving (map string_bytes names.now))) }
 {
-    push_removals(alloc, app.modules.as_slice(), out)?;
-    out.push(Instr::Purge(copy_names(alloc, app.modules.as_slice())?))?;
-    Ok(())
-}
-
-fn push_stop(alloc: Global, app: &RelupApp, out: &mut Vec<Instr>) -> Result<(), AllocError>
-    ensures { OnOk result (Appends out.old.items out.new.items
-        (call_with (codes "stop") (relup_app_of app.now).name ∷ [])) }
-{
-    push_call(alloc, "stop", app.name.as_str(), out)
+    push_removals(alloc, names, out)?;
+    push_instr(Instr::Purge(Vec::from_clones(alloc, names)?), out)
 }
 
 fn push_coming(
@@ -79,9 +87,8 @@ fn push_stopping(alloc: Global, app: &RelupApp, out: &mut Vec<Instr>) -> Result<
     ensures { OnOk result
         (Appends out.old.items out.new.items (stopping (relup_app_of app.now))) }
 {
-    push_stop(alloc, app, out)?;
-    push_leaving(alloc, app, out)?;
-    Ok(())
+    push_call(alloc, "stop", app.name.as_str(), out)?;
+    push_leaving(alloc, app.modules.as_slice(), out)
 }
 
 fn push_going(alloc: Global, app: &RelupApp, out: &mut Vec<Instr>) -> Result<(), AllocError>
@@ -161,21 +168,9 @@ fn push_in_place(alloc: Global, instr: &Instr, out: &mut Vec<Instr>) -> Result<(
         (Appends out.old.items out.new.items (in_place (instruction_of instr.now))) }
 {
     match instr {
-        Instr::LoadObjectCode(_) => {}
-        instr => out.push(copy_instr(alloc, instr)?)?,
+        Instr::LoadObjectCode(_) => Ok(()),
+        instr => push_instr(copy_instr(alloc, instr)?, out),
     }
-    Ok(())
-}
-
-fn push_deleted(alloc: Global, name: &str, out: &mut Vec<Instr>) -> Result<(), AllocError>
-    ensures { OnOk result
-        (Appends out.old.items out.new.items (deleting name.now)) }
-{
-    let mut names = Vec::with_capacity(alloc, 1)?;
-    names.push(String::from_str(alloc, name)?)?;
-    out.push(Instr::Remove(plain_purging(alloc, name)?))?;
-    out.push(Instr::Purge(names))?;
-    Ok(())
 }
 
 // An instruction outside a block.
@@ -192,11 +187,12 @@ pub(crate) fn push_single(
         AppupInstr::Update(_) | AppupInstr::UpdateSupervisor(_) | AppupInstr::LoadModule(_) => {
             Ok(())
         }
-        AppupInstr::AddModule(added) => {
-            out.push(Instr::Load(plain_purging(alloc, added.name.as_str())?))?;
-            Ok(())
-        }
-        AppupInstr::DeleteModule(deleted) => push_deleted(alloc, deleted.name.as_str(), out),
+        AppupInstr::AddModule(added) => push_load(alloc, added.name.as_str(), out),
+        AppupInstr::DeleteModule(deleted) => push_leaving(
+            alloc,
+            slice::from_ref(&deleted.name),
+            out,
+        ),
         AppupInstr::AddApplication(app) => {
             push_added(alloc, way, app.start, app.name.as_str(), out)
         }

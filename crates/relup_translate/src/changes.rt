@@ -1,5 +1,5 @@
 //! The applications that a way changes, each with the row of instructions that does it.
-ghost use Rattle.std.specs.Prelude.{◌≡◌, IfOk, map, reverse};
+ghost use Rattle.std.specs.Prelude.{◌≡◌, ◌++◌, IfOk, OnOk, map, reverse};
 ghost use Rattle.std.specs.List.{filter_map};
 ghost use Rattle.std.specs.Option.{option_map};
 ghost use Rattle.relup_row.specs.Release.{relup_app_of, relup_release_of, way_of};
@@ -72,51 +72,47 @@ fn change_of_kind<'a>(way: Way<'a>, kind: ChangeKind, app: &'a RelupApp) -> Opti
     }
 }
 
-// Those of a kind, in the order of the applications.
-fn changes_of_kind<'a>(
-    alloc: Global,
+// Adds those of a kind, in the order of the applications.
+fn push_changes_of_kind<'a>(
     way: Way<'a>,
     kind: ChangeKind,
     apps: &'a [RelupApp],
-) -> Result<Vec<AppChange<'a>>, AllocError>
-    ensures { IfOk result (λ v. rows_of v.items
-        ≡ filter_map (row_of_kind kind (way_of way.entry)) (map relup_app_of apps.now)) }
+    out: &mut Vec<AppChange<'a>>,
+) -> Result<(), AllocError>
+    ensures { OnOk result (rows_of out.new.items ≡ rows_of out.old.items
+        ++ filter_map (row_of_kind kind (way_of way.entry)) (map relup_app_of apps.now)) }
 {
-    let mut all = Vec::new(alloc);
     for app in apps {
         if let Some(change) = change_of_kind(way, kind, app) {
-            all.push(change)?;
+            out.push(change)?;
         }
     }
-    Ok(all)
+    Ok(())
 }
 
-// Those that go, in their order.
-fn all_going(alloc: Global, way: Way<'_>) -> Result<Vec<AppChange<'_>>, AllocError>
-    ensures { IfOk result (λ v. rows_of v.items
-        ≡ filter_map (going_row (way_of way.entry)) (relup_release_of way.entry.left.now).apps) }
-{
-    changes_of_kind(alloc, way, ChangeKind::Going, &way.left.apps)
-}
-
-// Those that go, the last one first.
-fn reversed_going(alloc: Global, way: Way<'_>) -> Result<Vec<AppChange<'_>>, AllocError>
-    ensures { IfOk result (λ v. rows_of v.items ≡ reverse
+// Adds those that go, the last one first.
+fn push_going<'a>(
+    alloc: Global,
+    way: Way<'a>,
+    out: &mut Vec<AppChange<'a>>,
+) -> Result<(), AllocError>
+    ensures { OnOk result (rows_of out.new.items ≡ rows_of out.old.items ++ reverse
         (filter_map (going_row (way_of way.entry)) (relup_release_of way.entry.left.now).apps)) }
 {
-    let mut going = all_going(alloc, way)?;
+    let mut going = Vec::new(alloc);
+    push_changes_of_kind(way, ChangeKind::Going, &way.left.apps, &mut going)?;
     going.reverse();
-    Ok(going)
+    out.extend_from_slice(&going)?;
+    Ok(())
 }
 
 // All of them in their order.
 pub(crate) fn changes(alloc: Global, way: Way<'_>) -> Result<Vec<AppChange<'_>>, AllocError>
     ensures { IfOk result (λ v. rows_of v.items ≡ rows (way_of way.entry)) }
 {
-    let mut all = changes_of_kind(alloc, way, ChangeKind::Coming, &way.target.apps)?;
-    let changing = changes_of_kind(alloc, way, ChangeKind::Changing, &way.target.apps)?;
-    let going = reversed_going(alloc, way)?;
-    all.extend_from_slice(&changing)?;
-    all.extend_from_slice(&going)?;
+    let mut all = Vec::new(alloc);
+    push_changes_of_kind(way, ChangeKind::Coming, &way.target.apps, &mut all)?;
+    push_changes_of_kind(way, ChangeKind::Changing, &way.target.apps, &mut all)?;
+    push_going(alloc, way, &mut all)?;
     Ok(all)
 }

@@ -32,21 +32,21 @@ impl TranslationFault<'_> {
     {
         match self {
             TranslationFault::NoAppup(app) => {
-                Ok(TranslateError::NoAppup(String::from_str(alloc, app)?))
+                String::from_str(alloc, app).map(TranslateError::NoAppup)
             }
             TranslationFault::NoEntry(app, vsn) => Ok(TranslateError::NoEntry(
                 String::from_str(alloc, app)?,
                 String::from_str(alloc, vsn)?,
             )),
             TranslationFault::UnknownModule(name) => {
-                Ok(TranslateError::UnknownModule(String::from_str(alloc, name)?))
+                String::from_str(alloc, name).map(TranslateError::UnknownModule)
             }
             TranslationFault::RegexVersion(app) => {
-                Ok(TranslateError::RegexVersion(String::from_str(alloc, app)?))
+                String::from_str(alloc, app).map(TranslateError::RegexVersion)
             }
             TranslationFault::NeedsNewEmulator => Ok(TranslateError::NeedsNewEmulator),
             TranslationFault::Unsupported(app) => {
-                Ok(TranslateError::Unsupported(String::from_str(alloc, app)?))
+                String::from_str(alloc, app).map(TranslateError::Unsupported)
             }
         }
     }

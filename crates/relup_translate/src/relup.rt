@@ -44,7 +44,7 @@ fn relup_between(
         (map relup_release_of ups.now) (map relup_release_of downs.now)) }
 {
     Ok(Relup {
-        vsn: String::from_str(alloc, new.vsn.as_str())?,
+        vsn: new.vsn.clone()?,
         ups: entries(alloc, Direction::Up, new, ups)?,
         downs: entries(alloc, Direction::Down, new, downs)?,
     })
@@ -76,7 +76,7 @@ fn entry(
         ≡ entry direction (relup_release_of new.now) (relup_release_of other.now)) }
 {
     Ok(RelupEntry {
-        vsn: String::from_str(alloc, other.vsn.as_str())?,
+        vsn: other.vsn.clone()?,
         descr: Term::List(Vec::new(alloc)),
         script: way_script(alloc, Way::between(direction, new, other))?,
     })

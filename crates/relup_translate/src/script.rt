@@ -4,12 +4,13 @@ ghost use Rattle.std.specs.List.{flat_map};
 ghost use Rattle.relup_file.specs.Instruction.{script_of};
 ghost use Rattle.relup_row.specs.Release.{way_of};
 ghost use Rattle.relup_row.specs.Fetches.{mention_of};
-ghost use Rattle.relup_row.specs.Script.{mentions, written_fetches, row_script};
+ghost use Rattle.relup_row.specs.Script.{mentions, written_fetches, row_script, script};
 ghost use Rattle.relup_translate.specs.Translation.{way_script};
 ghost use Rattle.relup_block.specs.Memory.{Appends};
 ghost use Rattle.relup_translate.specs.Memory.{row_of_change, rows_of};
 
 use crate::changes::{AppChange, changes};
+use relup_block::push_instr;
 use relup_file::Instr;
 use relup_row::{
     Mention, Way, push_added, push_app_modules, push_fetches, push_mentions, push_removed,
@@ -108,15 +109,27 @@ fn push_changes(
 }
 
 // The fetches, the point of no return, and all else.
+fn push_script(
+    alloc: Global,
+    way: Way<'_>,
+    changes: &[AppChange<'_>],
+    out: &mut Vec<Instr>,
+) -> Result<(), AllocError>
+    ensures { OnOk result (Appends out.old.items out.new.items
+        (script (way_of way.entry) (rows_of changes.now))) }
+{
+    let mentions = all_mentions(alloc, way, changes)?;
+    push_fetches(alloc, &mentions, out)?;
+    push_all_fetches(alloc, changes, out)?;
+    push_instr(Instr::PointOfNoReturn, out)?;
+    push_changes(alloc, way, changes, out)
+}
+
 pub(crate) fn way_script(alloc: Global, way: Way<'_>) -> Result<Vec<Instr>, AllocError>
     ensures { IfOk result (λ v. script_of v.items ≡ way_script (way_of way.entry)) }
 {
     let changes = changes(alloc, way)?;
-    let mentions = all_mentions(alloc, way, &changes)?;
     let mut script = Vec::new(alloc);
-    push_fetches(alloc, &mentions, &mut script)?;
-    push_all_fetches(alloc, &changes, &mut script)?;
-    script.push(Instr::PointOfNoReturn)?;
-    push_changes(alloc, way, &changes, &mut script)?;
+    push_script(alloc, way, &changes, &mut script)?;
     Ok(script)
 }

@@ -1,5 +1,5 @@
 pub mod Bytes
+pub mod Causes
 pub mod LineLemmas
-pub mod WordLemmas
 pub mod ParsedLines
 pub mod CommandLemmas

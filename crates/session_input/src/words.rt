@@ -10,12 +10,5 @@ pub fn split_at(alloc: Global, text: &str, separator: char) -> Result<Vec<&str>,
     ensures { IfOk result (λ parts.
         map (λ part. part.now) parts.items ≡ split_at separator text.now) }
 {
-    let mut parts = Vec::new(alloc);
-    let mut rest = text;
-    while let Some((part, more)) = rest.split_once(separator) {
-        parts.push(part)?;
-        rest = more;
-    }
-    parts.push(rest)?;
-    Ok(parts)
+    text.split(separator).collect(alloc)
 }

@@ -1,6 +1,7 @@
-use Rattle.std.proofs.Common.{rules, ◌≡◌, ◌+◌, ◌++◌, ◌∷◌, [], ◌∙◌, Bool, true, false, cond, map, take, sym, ap}
-use Rattle.std.proofs.lemmas.List.{map_push, take_more}
+use Rattle.std.proofs.Common.{rules, ◌≡◌, ◌+◌, ◌++◌, ◌∷◌, [], ◌∙◌, Bool, true, false, cond, map, take, append-nil, sym, ap}
+use Rattle.std.proofs.lemmas.List.{map_push, take_more, take_all}
 use Rattle.library.specs.InMemory.{library_of, shared_of}
+use Rattle.rel_list.specs.Releases.{each_once}
 use Rattle.rel_list.proofs.LibraryLaws.{is_among, once-more}
 use Rattle.rel_list.proofs.libraries.push_new.Goals as goal
 use Rattle.rel_list.proofs.libraries.push_new.Goals.{then-not-is_among+in_ok-push, else-not-is_among}
@@ -29,3 +30,9 @@ loop-library-preserved c = λ ls were.
           same ∙ sym (ap (λ (b : Bool). cond b old (old ++ library ∷ [])) there)
     ] in
     once-more ls (map shared_of (take i c.args.libraries.now)) (map shared_of (take (i + 1) c.args.libraries.now)) library old new grown (c.loop-library.invariant ls were) is
+
+pub loop-library-init : goal.loop-library-init
+loop-library-init c = λ ls were. were ∙ ap each_once (sym (append-nil ls))
+
+pub returns : goal.returns
+returns c = λ ls were. c.loop-library.invariant ls were ∙ ap (λ r. each_once (ls ++ map shared_of r)) (take_all _ c.args.libraries.now c.loop-library-test.false)

@@ -1,3 +1,7 @@
+use Rattle.std.proofs.Common.{◌≡◌, ap, subst, string_bytes}
+use Rattle.std.specs.Prelude.{IfOk}
+use Rattle.rel_session.specs.Refusals.{refusal_of, refusal_line}
+use Rattle.rel_session.proofs.refusal.refusal_line.Goals.{in-NoSuchRelease, in-ExistingRelease, in-AlreadyInstalled, in-Permanent, in-Running, in-TooMany, in-Device, in-Full, in-Dead, in-NoMemory, in-Exists}
 use Rattle.rel_session.proofs.refusal.refusal_line.Goals as goal
 
 pub returns-in-BadStatus : goal.returns-in-BadStatus
@@ -18,35 +22,19 @@ returns-in-VsnMismatch c = rw c.in-VsnMismatch.is (rw c.as_str-in-VsnMismatch.en
 pub returns-in-NoTable : goal.returns-in-NoTable
 returns-in-NoTable c = rw c.in-NoTable.is (rw c.as_str-in-NoTable.ensures.value at c.with_detail-in-NoTable.ensures)
 
-pub returns-in-NoSuchRelease : goal.returns-in-NoSuchRelease
-returns-in-NoSuchRelease c = rw c.in-NoSuchRelease.is c.from_str.ensures.ok
-
-pub returns-in-ExistingRelease : goal.returns-in-ExistingRelease
-returns-in-ExistingRelease c = rw c.in-ExistingRelease.is c.from_str-in-ExistingRelease.ensures.ok
-
-pub returns-in-AlreadyInstalled : goal.returns-in-AlreadyInstalled
-returns-in-AlreadyInstalled c = rw c.in-AlreadyInstalled.is c.from_str-in-AlreadyInstalled.ensures.ok
-
-pub returns-in-Permanent : goal.returns-in-Permanent
-returns-in-Permanent c = rw c.in-Permanent.is c.from_str-in-Permanent.ensures.ok
-
-pub returns-in-Running : goal.returns-in-Running
-returns-in-Running c = rw c.in-Running.is c.from_str-in-Running.ensures.ok
-
-pub returns-in-TooMany : goal.returns-in-TooMany
-returns-in-TooMany c = rw c.in-TooMany.is c.from_str-in-TooMany.ensures.ok
-
-pub returns-in-Device : goal.returns-in-Device
-returns-in-Device c = rw c.in-Device.is c.from_str-in-Device.ensures.ok
-
-pub returns-in-Full : goal.returns-in-Full
-returns-in-Full c = rw c.in-Full.is c.from_str-in-Full.ensures.ok
-
-pub returns-in-Dead : goal.returns-in-Dead
-returns-in-Dead c = rw c.in-Dead.is c.from_str-in-Dead.ensures.ok
-
-pub returns-in-NoMemory : goal.returns-in-NoMemory
-returns-in-NoMemory c = rw c.in-NoMemory.is c.from_str-in-NoMemory.ensures.ok
-
-pub returns-in-Exists : goal.returns-in-Exists
-returns-in-Exists c = rw c.in-Exists.is c.from_str-in-Exists.ensures.ok
+pub returns : goal.returns
+returns c =
+    let line : c.match-why.line.now ≡ refusal_line (refusal_of c.args.why.now) = elim c.match-why.branch [
+      | in-NoSuchRelease w ↦ rw w.in-NoSuchRelease.is (ap (λ text. text.now) w.line-is)
+      | in-ExistingRelease w ↦ rw w.in-ExistingRelease.is (ap (λ text. text.now) w.line-is)
+      | in-AlreadyInstalled w ↦ rw w.in-AlreadyInstalled.is (ap (λ text. text.now) w.line-is)
+      | in-Permanent w ↦ rw w.in-Permanent.is (ap (λ text. text.now) w.line-is)
+      | in-Running w ↦ rw w.in-Running.is (ap (λ text. text.now) w.line-is)
+      | in-TooMany w ↦ rw w.in-TooMany.is (ap (λ text. text.now) w.line-is)
+      | in-Device w ↦ rw w.in-Device.is (ap (λ text. text.now) w.line-is)
+      | in-Full w ↦ rw w.in-Full.is (ap (λ text. text.now) w.line-is)
+      | in-Dead w ↦ rw w.in-Dead.is (ap (λ text. text.now) w.line-is)
+      | in-NoMemory w ↦ rw w.in-NoMemory.is (ap (λ text. text.now) w.line-is)
+      | in-Exists w ↦ rw w.in-Exists.is (ap (λ text. text.now) w.line-is)
+    ] in
+    subst (λ text. IfOk c.from_str.result (λ s. string_bytes s ≡ text)) line c.from_str.ensures.ok

@@ -1,19 +1,21 @@
 use Rattle.std.proofs.Common.{◌≡◌, ℕ, ◌+◌, ◌≤◌, true, List, [], ◌∷◌, ◌++◌, length, length-drop, drop, get_or, Option, Some, Ok, ap, subst, sym, ◌∙◌, arith}
 use Rattle.rel_store.specs.Records.{is_whole, told_length}
+use Rattle.rel_store.specs.declared.error.StoreError.TheVariants.{NoMemory}
 use Rattle.std.specs.Prelude.{IfSome}
 use Rattle.std.proofs.lemmas.Grind.{common_steps}
 use Rattle.rel_store.proofs.Exits.{no_value}
 use Rattle.rel_store.proofs.OnlyReads.{read_on}
-use Rattle.rel_store.proofs.Scan.{IsReadTo, whole_from, bodies_of, read_body_more, read_all, refused_there, passed_on}
+use Rattle.rel_store.proofs.Scan.{IsReadTo, whole_from, bodies_of, read_body_more, read_all, refused_there, refused_in_read, passed_on}
 use Rattle.rel_store.proofs.contents.read_records.Goals as goal
 
 some_so : {A : Type 0} (P : A → Type 0) (o : Option A) (x : A) → o ≡ Some x → IfSome o P → P x
 some_so P o x is holds = subst (λ q. IfSome q P) is holds
 
-in_bounds : (bytes : List ℕ) (gate size len : ℕ) → (get_or bytes gate 0 ≡ 1) × (is_whole (drop (gate + 1) bytes) ≡ true) × (size ≡ told_length (drop (gate + 1) bytes)) → len ≡ length bytes → len ≤ 18446744073709551615 → gate + (5 + size) ≤ 18446744073709551615
-in_bounds bytes gate size len there same few =
+-- a whole record is no longer than it may be, and ends within the disk
+ends_within : (bytes : List ℕ) (gate size : ℕ) → (get_or bytes gate 0 ≡ 1) × (is_whole (drop (gate + 1) bytes) ≡ true) × (size ≡ told_length (drop (gate + 1) bytes)) → (size ≤ 16777216) × (gate + (5 + size) ≤ length bytes)
+ends_within bytes gate size there =
     let whole = whole_from (drop (gate + 1) bytes) there.1 in
-    omega (arith, whole.1, there.2, same, few, length-drop (gate + 1) bytes)
+    (omega (arith, whole.0, there.2), omega (arith, whole.1, there.2, length-drop (gate + 1) bytes))
 
 pub returns-in_err-size-clause-refused : goal.returns-in_err-size-clause-refused
 returns-in_err-size-clause-refused g c =
@@ -70,21 +72,44 @@ returns-in_err-push-clause-records g c = no_value _ _ c.from_residual-in_err-pus
 pub returns-in_err-push-clause-gate : goal.returns-in_err-push-clause-gate
 returns-in_err-push-clause-gate g c = no_value _ _ c.from_residual-in_err-push.ensures.0
 
--- a whole record ends within the disk
+-- so much has been read that nothing of it is past the disk's end
+pub record_at-requires-clause-within : goal.record_at-requires-clause-within
+record_at-requires-clause-within g c = omega (arith, c.loop-records.invariant.0.within, c.requires.len)
+
+pub record_at-requires-clause-len : goal.record_at-requires-clause-len
+record_at-requires-clause-len g c = c.requires.len ∙ ap length (sym c.loop-records.invariant.1.same)
+
+pub read_body-requires : goal.read_body-requires
+read_body-requires g c =
+    let there = ends_within (g.D.Disk.seen c.loop-records.disk) c.loop-records.gate c.in-Some.size (some_so _ c.in_ok-size.field-0 c.in-Some.size c.in-Some.is c.in_ok-size.ensures.open) in
+    omega (arith, there.1, ap length c.record_at.ensures.reads.same)
+
 pub overflow_add-gate : goal.overflow_add-gate
 overflow_add-gate g c =
-    let (read, reads, counted) = c.loop-records.invariant in
-    let seen = g.D.Disk.seen c.loop-records.disk in
-    let there = some_so _ c.in_ok-size.field-0 c.in-Some.size c.in-Some.is c.in_ok-size.ensures.open in
-    let few : c.args.len ≤ 18446744073709551615 = omega (arith, c.ranges.len) in
-    let long = in_bounds seen c.loop-records.gate c.in-Some.size c.args.len there (c.requires.len ∙ ap length (sym reads.same)) few in
-    omega (arith, long)
+    let there = ends_within (g.D.Disk.seen c.loop-records.disk) c.loop-records.gate c.in-Some.size (some_so _ c.in_ok-size.field-0 c.in-Some.size c.in-Some.is c.in_ok-size.ensures.open) in
+    omega (arith, there.1, c.requires.len, ap length c.loop-records.invariant.1.same, c.ranges.len)
+
+pub overflow_add-gate-in-Some : goal.overflow_add-gate-in-Some
+overflow_add-gate-in-Some g c =
+    omega (arith, (ends_within (g.D.Disk.seen c.loop-records.disk) c.loop-records.gate c.in-Some.size (some_so _ c.in_ok-size.field-0 c.in-Some.size c.in-Some.is c.in_ok-size.ensures.open)).0)
 
 pub overflow_add-gate-in-Some-2 : goal.overflow_add-gate-in-Some-2
 overflow_add-gate-in-Some-2 g c =
+    let there = ends_within (g.D.Disk.seen c.loop-records.disk) c.loop-records.gate c.in-Some.size (some_so _ c.in_ok-size.field-0 c.in-Some.size c.in-Some.is c.in_ok-size.ensures.open) in
+    omega (arith, there.1, c.requires.len, ap length c.loop-records.invariant.1.same, c.ranges.len)
+
+pub loop-records-smaller : goal.loop-records-smaller
+loop-records-smaller g c = omega (arith, c.loop-records.invariant.0.within, c.requires.len)
+
+-- the device fails, or memory is refused
+pub returns-in_err-body-clause-refused : goal.returns-in_err-body-clause-refused
+returns-in_err-body-clause-refused g c =
     let (read, reads, counted) = c.loop-records.invariant in
-    let seen = g.D.Disk.seen c.loop-records.disk in
-    let there = some_so _ c.in_ok-size.field-0 c.in-Some.size c.in-Some.is c.in_ok-size.ensures.open in
-    let few : c.args.len ≤ 18446744073709551615 = omega (arith, c.ranges.len) in
-    let long = in_bounds seen c.loop-records.gate c.in-Some.size c.args.len there (c.requires.len ∙ ap length (sym reads.same)) few in
-    omega (arith, long)
+    passed_on _ c.from_residual-in_err-body.result c.in_err-body.field-0.0 c.from_residual-in_err-body.ensures.1
+    (refused_in_read _ (g.D.Disk.failures c.args.disk.now) (g.D.Disk.failures c.record_at.new.disk) (g.D.Disk.failures c.read_body.new.disk) c.in_err-body.field-0.0 (omega (arith, counted, c.record_at.ensures.counted)) c.read_body.ensures.counted c.in_err-body.ensures.refused)
+
+pub returns-in_err-push-clause-refused : goal.returns-in_err-push-clause-refused
+returns-in_err-push-clause-refused g c = passed_on _ _ NoMemory c.from_residual-in_err-push.ensures.1 tt
+
+pub returns-clause-gate : goal.returns-clause-gate
+returns-clause-gate g c = c.loop-records.invariant.0.place

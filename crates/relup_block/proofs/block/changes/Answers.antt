@@ -5,7 +5,7 @@ use Rattle.std.proofs.lemmas.List.{append-nil}
 use Rattle.relup_file.specs.Instruction.{change_of}
 use Rattle.relup_block.specs.Order.{block_item_of, block_items_of}
 use Rattle.relup_block.specs.Block.{change}
-use Rattle.relup_block.proofs.WalkLemmas.{one_pushed, one_further}
+use Rattle.relup_block.proofs.WalkLemmas.{one_pushed, one_further, none_left}
 use Rattle.relup_block.proofs.block.changes.Goals.{in-Some+in_ok-push, in_default}
 use Rattle.relup_block.proofs.block.changes.Goals as goal
 
@@ -25,3 +25,7 @@ loop-item-preserved c =
           (ap (λ o. cons_option o (filter_map change later)) (sym c.in_ok-change.ensures ∙ ap (option_map change_of) w.in_default.is))
           (ap (λ v. map change_of v.items) w.changes-is ∙ sym (append-nil (map change_of made))) c.loop-item.invariant
     ]
+
+pub returns : goal.returns
+returns c =
+    none_left change_of block_item_of (filter_map change) c.args.items.now c.loop-item.item-index c.loop-item.changes.items _ refl c.loop-item-test.false c.loop-item.invariant

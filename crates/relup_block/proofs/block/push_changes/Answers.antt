@@ -1,4 +1,4 @@
-use Rattle.std.proofs.Common.{◌≡◌, ◌<◌, Some, List, length, refl, rules}
+use Rattle.std.proofs.Common.{◌≡◌, ◌<◌, Some, List, length, rules}
 use Rattle.relup_file.specs.Instruction.{ChangeForm, change_of}
 use Rattle.relup_file.specs.Instruction.Instruction.{code_change}
 use Rattle.relup_block.proofs.AppendLemmas.{none_over, one_over}
@@ -12,4 +12,4 @@ returns-then-is_empty c =
 pub returns : goal.returns
 returns c =
     let some : 0 < length c.in_ok-changes.changes.items = (search rules) in
-    one_over change_of (λ (cs : List ChangeForm). code_change (record { mode = Some c.args.direction; changes = cs })) _ _ _ _ _ c.in_ok-changes.ensures some c.in_ok-push.ensures.items refl
+    one_over change_of (λ (cs : List ChangeForm). code_change (record { mode = Some c.args.direction; changes = cs })) _ _ c.args.out.now.items c.push_instr.new.out.items c.push_instr.result c.in_ok-changes.ensures some c.push_instr.ensures

@@ -1,4 +1,4 @@
-use Rattle.std.proofs.Common.{◌≡◌, ◌<◌, length, string_bytes, refl, rules}
+use Rattle.std.proofs.Common.{◌≡◌, ◌<◌, length, string_bytes, rules}
 use Rattle.relup_file.specs.Instruction.Instruction.{resume}
 use Rattle.relup_block.proofs.AppendLemmas.{none_over, one_over}
 use Rattle.relup_block.proofs.block.push_resume.Goals as goal
@@ -11,4 +11,4 @@ returns-then-is_empty c =
 pub returns : goal.returns
 returns c =
     let some : 0 < length c.in_ok-names.names.items = (search rules) in
-    one_over string_bytes resume _ _ _ _ _ c.in_ok-names.ensures some c.in_ok-push.ensures.items refl
+    one_over string_bytes resume _ _ c.args.out.now.items c.push_instr.new.out.items c.push_instr.result c.in_ok-names.ensures some c.push_instr.ensures

@@ -1,4 +1,4 @@
-use Rattle.std.proofs.Common.{◌≡◌, ◌<◌, length, refl, rules}
+use Rattle.std.proofs.Common.{◌≡◌, ◌<◌, length, rules}
 use Rattle.relup_file.specs.Instruction.{suspension_of}
 use Rattle.relup_file.specs.Instruction.Instruction.{suspend}
 use Rattle.relup_block.proofs.AppendLemmas.{none_over, one_over}
@@ -12,4 +12,4 @@ returns-then-is_empty c =
 pub returns : goal.returns
 returns c =
     let some : 0 < length c.in_ok-suspensions.suspensions.items = (search rules) in
-    one_over suspension_of suspend _ _ _ _ _ c.in_ok-suspensions.ensures some c.in_ok-push.ensures.items refl
+    one_over suspension_of suspend _ _ c.args.out.now.items c.push_instr.new.out.items c.push_instr.result c.in_ok-suspensions.ensures some c.push_instr.ensures

@@ -2,7 +2,7 @@ use Rattle.std.proofs.Common.{◌+◌, [], ◌∷◌, cond, filter, drop, refl, 
 use Rattle.std.proofs.lemmas.List.{append-nil}
 use Rattle.relup_block.specs.Order.{block_item_of, block_items_of}
 use Rattle.relup_block.specs.Counts.{has_deps}
-use Rattle.relup_block.proofs.WalkLemmas.{one_pushed, one_further}
+use Rattle.relup_block.proofs.WalkLemmas.{one_pushed, one_further, none_left}
 use Rattle.relup_block.proofs.order.naming.Goals.{then-has_deps+in_ok-push, else-has_deps}
 use Rattle.relup_block.proofs.order.naming.Goals as goal
 
@@ -22,3 +22,7 @@ loop-item-preserved c =
           (ap (λ b. cond b (block_item_of x ∷ filter has_deps later) (filter has_deps later)) (sym c.has_deps.ensures ∙ w.if-has_deps.false))
           (ap (λ v. block_items_of v.items) w.kept-is ∙ sym (append-nil (block_items_of made))) c.loop-item.invariant
     ]
+
+pub returns : goal.returns
+returns c =
+    none_left block_item_of block_item_of (filter has_deps) c.args.items.now c.loop-item.item-index c.loop-item.kept.items _ refl c.loop-item-test.false c.loop-item.invariant

@@ -1,15 +1,14 @@
-use Rattle.std.proofs.Common.{[], ◌∷◌, map, string_bytes, refl, ap, ◌∙◌}
-use Rattle.relup_file.specs.Instruction.{instruction_of}
-use Rattle.relup_file.specs.Instruction.Instruction.{remove}
-use Rattle.relup_row.specs.Script.{plain_purging, remove_plainly}
-use Rattle.relup_block.proofs.WalkLemmas.{one_pushed, one_further, none_left}
+use Rattle.std.proofs.Common.{[], ◌∷◌, ◌++◌, map, string_bytes, refl, ap, ◌∙◌}
+use Rattle.relup_file.specs.Instruction.{instruction_of, script_of}
+use Rattle.relup_row.specs.Script.{remove_plainly}
+use Rattle.relup_block.proofs.WalkLemmas.{one_further, none_left}
 use Rattle.relup_row.proofs.single.push_removals.Goals as goal
 
 pub loop-name-preserved : goal.loop-name-preserved
 loop-name-preserved c =
-    one_further instruction_of string_bytes (map remove_plainly) c.args.names.now c.loop-name.name-index c.name-item.result c.loop-name.out.items c.push.new.self.items (remove_plainly (string_bytes c.name-item.result) ∷ []) _
+    one_further instruction_of string_bytes (map remove_plainly) c.args.names.now c.loop-name.name-index c.name-item.result c.loop-name.out.items c.push_removal.new.out.items (remove_plainly (string_bytes c.name-item.result) ∷ []) _
     c.loop-name-test.true c.name-item.is refl
-    (one_pushed instruction_of _ _ _ (remove_plainly (string_bytes c.name-item.result)) c.in_ok-push.ensures.items (ap remove (c.in_ok-plain_purging.ensures ∙ ap plain_purging c.as_str.ensures.value))) c.loop-name.invariant
+    (c.in_ok-push_removal.ensures ∙ ap (λ n. script_of c.loop-name.out.items ++ (remove_plainly n ∷ [])) c.as_str.ensures.value) c.loop-name.invariant
 
 pub returns : goal.returns
 returns c =

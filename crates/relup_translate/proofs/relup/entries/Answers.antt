@@ -1,5 +1,5 @@
 use Rattle.std.proofs.Common.{◌<◌, ◌∷◌, [], ◌++◌, length, map, take, sym, ap, ap₂, ◌∙◌, arith}
-use Rattle.std.proofs.lemmas.List.{map_push, take_more}
+use Rattle.std.proofs.lemmas.List.{map_push, take_more, take_all}
 use Rattle.relup_file.specs.Instruction.{entry_of}
 use Rattle.relup_row.specs.Release.{relup_release_of}
 use Rattle.relup_translate.specs.Translation.{entry}
@@ -18,3 +18,8 @@ loop-other-preserved c =
     ∙ sym (map_push of_other (map relup_release_of (take i others)) (relup_release_of other))
     ∙ ap (map of_other) (sym (map_push relup_release_of (take i others) other))
     ∙ ap (λ rs. map of_other (map relup_release_of rs)) (ap (λ r. take i others ++ r ∷ []) c.other-item.is ∙ sym (take_more others i other within))
+
+pub returns : goal.returns
+returns c =
+    c.loop-other.invariant
+    ∙ ap (λ rs. map (entry c.args.direction (relup_release_of c.args.new.now)) (map relup_release_of rs)) (take_all c.loop-other.other-index c.args.others.now c.loop-other-test.false)

@@ -1,9 +1,9 @@
 use Rattle.std.proofs.Common.{◌≡◌, ◌+◌, ◌++◌, ◌∷◌, [], ◌∙◌, map, take, sym, ap}
-use Rattle.std.proofs.lemmas.List.{map_push, take_more}
+use Rattle.std.proofs.lemmas.List.{map_push, take_more, take_all}
 use Rattle.library.specs.InMemory.{library_of}
 use Rattle.library.specs.InMemory.{shared_of}
 use Rattle.rel_list.specs.Keyed.{entry_of}
-use Rattle.rel_list.specs.Releases.{each_once, libraries_named}
+use Rattle.rel_list.specs.Releases.{each_once, libraries_named, libraries_of}
 use Rattle.rel_list.proofs.LibraryLaws.{libraries-push}
 use Rattle.rel_list.proofs.list.ReleaseList.libs.Goals as goal
 
@@ -20,3 +20,9 @@ loop-listed-preserved c =
     let pushed : map (λ k. library_of k.now) c.push_new.new.found.items ≡ each_once (named ++ map shared_of c.as_slice.result.now) =
     c.in_ok-push_new.ensures named c.loop-listed.invariant in
     pushed ∙ ap (λ ls. each_once (named ++ map shared_of ls)) c.as_slice.ensures.value ∙ sym (ap each_once more)
+
+pub returns : goal.returns
+returns c =
+    c.loop-listed.invariant
+    ∙ ap (λ r. libraries_of (map entry_of r)) (take_all _ c.releases-releases.result.now c.loop-listed-test.false)
+    ∙ ap libraries_of c.releases-releases.ensures.entries

@@ -1,10 +1,11 @@
-use Rattle.std.proofs.Common.{◌≡◌, ◌⊎◌, inl, inr, ◌+◌, ◌<◌, ◌≤◌, length, take, drop, sym, ◌∙◌, ap, subst, arith}
+use Rattle.std.proofs.Common.{◌≡◌, ◌⊎◌, inl, inr, ◌+◌, ◌<◌, ◌≤◌, length, take, drop, refl, sym, ◌∙◌, ap, subst, arith}
 use Rattle.rel_store.specs.Contents.{RecordsRefused}
 use Rattle.rel_store.specs.Records.{records_from, space}
+use Rattle.rel_store.specs.declared.error.StoreError.TheVariants.{Device}
 use Rattle.rel_store.proofs.Exits.{no_value}
 use Rattle.rel_store.proofs.Layouts.{no_magic, selector_there, no_base, records_there, place_there, refused_by_records}
 use Rattle.rel_store.proofs.OnlyReads.{read_first, read_twice, read_on}
-use Rattle.rel_store.proofs.Scan.{bodies_of, passed_on, refused_since}
+use Rattle.rel_store.proofs.Scan.{bodies_of, passed_on, failed_since, refused_since}
 use Rattle.rel_store.proofs.contents.Contents.read.Goals as goal
 
 pub returns-then-not-begins_a_store-clause-refused : goal.returns-then-not-begins_a_store-clause-refused
@@ -78,3 +79,10 @@ returns-in_err-read-clause-ok g c = no_value _ _ c.from_residual-in_err-read.ens
 
 pub returns-in_err-found-clause-ok : goal.returns-in_err-found-clause-ok
 returns-in_err-found-clause-ok g c = no_value _ _ c.from_residual-in_err-found.ensures.0
+
+-- the device fails
+pub returns-in_err-len-clause-refused : goal.returns-in_err-len-clause-refused
+returns-in_err-len-clause-refused g c = passed_on _ _ Device c.from_residual.ensures.1 (c.in_err-len.ensures.cause refl)
+
+pub returns-in_err-read-clause-refused : goal.returns-in_err-read-clause-refused
+returns-in_err-read-clause-refused g c = passed_on _ _ Device c.from_residual-in_err-read.ensures.1 (failed_since _ _ _ c.len.ensures.counted c.read.ensures.counted (c.in_err-read.ensures.cause refl))

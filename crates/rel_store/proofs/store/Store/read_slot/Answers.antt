@@ -5,7 +5,9 @@ use Rattle.rel_store.specs.Layout.{base_of, start_slot, text_of}
 use Rattle.rel_store.specs.Records.{records_of, space}
 use Rattle.rel_store.specs.State.{records_in}
 use Rattle.rel_store.proofs.Exits.{no_success}
-use Rattle.rel_store.proofs.Moments.{after_reading}
+use Rattle.rel_store.proofs.Append.{gate_low, gate_within}
+use Rattle.rel_store.proofs.Moments.{after_reading, stands_now}
+use Rattle.rel_store.proofs.Slots.{place_low}
 use Rattle.rel_store.proofs.OnlyReads.{nothing_read, read_first}
 use Rattle.rel_store.specs.declared.error.StoreError.TheVariants.{Device, MustReopen}
 use Rattle.rel_store.proofs.Scan.{passed_on}
@@ -60,6 +62,13 @@ returns-in_err-read-clause-only_read g c =
 pub returns-clause-only_read : goal.returns-clause-only_read
 returns-clause-only_read g c =
     read_first g.D.Disk.seen g.D.Disk.may_leave g.D.Disk.moment g.D.Disk.left_since c.args.self.now.disk (g.met.D.Disk.only_now c.args.self.now.disk) c.read.new.self c.read.ensures.same c.read.ensures.crash c.read.ensures.time
+
+-- the slots stand before the records
+pub read-requires : goal.read-requires
+read-requires g c =
+    let s = c.requires.settled c.if-self.false in
+    let here = stands_now g.D.Disk.moment g.D.Disk.left_since g.D.Disk.seen g.D.Disk.may_leave c.args.self.now s in
+    omega (arith, gate_low _ _ _ _ here s.end, gate_within _ _ _ _ here s.end, place_low _ _ c.slot_place.ensures)
 
 -- what was read is the slot that counts
 read_text : (old : List ℕ) (second : Bool) (place n : ℕ) (buf : List ℕ) → n ≡ 128 → second ≡ (slice_index old 9 == 1) → place ≡ (if second then 144 else 16) → buf ≡ slice_range old place (place + n) → buf ≡ text_of old

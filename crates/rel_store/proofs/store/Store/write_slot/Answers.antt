@@ -6,8 +6,10 @@ use Rattle.rel_store.specs.Layout.{other_slot, slot_with}
 use Rattle.rel_store.specs.Records.{space}
 use Rattle.rel_store.specs.State.{records_in}
 use Rattle.rel_store.proofs.Exits.{no_success}
-use Rattle.rel_store.proofs.Moments.{after_start, selected_slot}
+use Rattle.rel_store.proofs.Append.{gate_low, gate_within}
+use Rattle.rel_store.proofs.Moments.{after_start, selected_slot, stands_now}
 use Rattle.rel_store.proofs.Ownership.{Owns, steps_leave, other}
+use Rattle.rel_store.proofs.Slots.{place_low}
 use Rattle.std.proofs.Math.Nat.{le_refl}
 use Rattle.rel_store.specs.declared.error.StoreError.TheVariants.{Device, MustReopen}
 use Rattle.rel_store.proofs.Scan.{passed_on}
@@ -21,6 +23,15 @@ in_slot bytes place slot text few at spelled = λ i from within.
 
 is_selector : (bytes : List ℕ) → Owns (IsInOtherSlot bytes) 9 1
 is_selector bytes = λ i from within. inl (omega (arith, from, within))
+
+-- the slots and their selector stand before the records
+pub write_and_commit-requires : goal.write_and_commit-requires
+write_and_commit-requires g c =
+    let s = c.requires.sound.settled c.if-self.false in
+    let here = stands_now g.D.Disk.moment g.D.Disk.left_since g.D.Disk.seen g.D.Disk.may_leave c.args.self.now s in
+    let low = gate_low _ _ _ _ here s.end in
+    let within = gate_within _ _ _ _ here s.end in
+    record { at = omega (arith, low, within, place_low _ _ c.slot_place.ensures); mark = omega (arith, low, within) }
 
 -- the slot that doesn't count is written first, then the selector
 pub returns-in_err-write_and_commit-clause-any_moment : goal.returns-in_err-write_and_commit-clause-any_moment

@@ -9,4 +9,4 @@ loop-name-preserved c =
     let name = c.name-item.result in
     let within : i < length names = omega arith in
     let at : get_or names i name ≡ name = ap (λ ns. get_or ns i name) (sym c.deref-name-items.ensures.value) ∙ sym c.name-item.is in
-    one_more names i name c.in_ok-from_str.field-0 _ _ within at (c.in_ok-from_str.ensures.ok ∙ c.as_str.ensures.value) c.in_ok-insert.ensures.updates c.loop-name.invariant
+    one_more names i name c.in_ok-clone.field-0 _ _ within at c.in_ok-clone.ensures.cases c.in_ok-insert.ensures.updates c.loop-name.invariant

@@ -1,4 +1,7 @@
-use Rattle.std.proofs.Common.{rules, arith}
+use Rattle.std.proofs.Common.{ℕ, rules, arith}
+use Rattle.std.specs.Prelude.{Option}
+use Rattle.std.proofs.lemmas.Result.{IfOk-from_err}
+use Rattle.session_input.proofs.Causes.{cause_passes, cause_of_memory, next_without_memory, error_of_memory}
 use Rattle.session_input.proofs.LineLemmas.{one_more, ends_at_newline, ends_at_end, error_passes}
 use Rattle.session_input.proofs.input.Input.next_line.Goals as goal
 
@@ -29,3 +32,21 @@ returns-then-is_begun-clause-spends g c =
     let same = rw c.in_default.is at c.in_ok-byte.ensures.spends in
     let less = c.loop-line.invariant.2 c.if-is_begun.true in
     omega arith
+
+pub returns-in_err-byte-clause-spends : goal.returns-in_err-byte-clause-spends
+returns-in_err-byte-clause-spends g c = IfOk-from_err c.from_residual.result _ c.from_residual.ensures.0
+
+pub returns-in_err-byte-clause-cause : goal.returns-in_err-byte-clause-cause
+returns-in_err-byte-clause-cause g c =
+    cause_passes (Option ℕ) _ _ c.args.self.now c.loop-line.self c.next.new.self c.from_residual.ensures.1 c.loop-line.invariant.3 c.in_err-byte.ensures.cause
+
+pub returns-in_err-push-clause-line : goal.returns-in_err-push-clause-line
+returns-in_err-push-clause-line g c =
+    next_without_memory _ _ _ _ (error_of_memory _ _ c.from_residual-in_err-push.ensures.1 c.in_err-push.ensures.memory)
+
+pub returns-in_err-push-clause-spends : goal.returns-in_err-push-clause-spends
+returns-in_err-push-clause-spends g c = IfOk-from_err c.from_residual-in_err-push.result _ c.from_residual-in_err-push.ensures.0
+
+pub returns-in_err-push-clause-cause : goal.returns-in_err-push-clause-cause
+returns-in_err-push-clause-cause g c =
+    cause_of_memory _ c.args.self.now c.next.new.self (error_of_memory _ _ c.from_residual-in_err-push.ensures.1 c.in_err-push.ensures.memory)

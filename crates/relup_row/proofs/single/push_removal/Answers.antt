@@ -1,0 +1,10 @@
+use Rattle.std.proofs.Common.{OnOk, [], ◌∷◌, subst}
+use Rattle.relup_file.specs.Instruction.{PurgingForm}
+use Rattle.relup_file.specs.Instruction.Instruction.{remove}
+use Rattle.relup_block.specs.Memory.{Appends}
+use Rattle.relup_row.proofs.single.push_removal.Goals as goal
+
+pub returns : goal.returns
+returns c =
+    subst (λ (p : PurgingForm). OnOk c.push_instr.result (Appends c.args.out.now.items c.push_instr.new.out.items (remove p ∷ [])))
+    c.in_ok-plain_purging.ensures c.push_instr.ensures
