@@ -7,7 +7,7 @@ use rel_store::Store;
 use std::alloc::{AllocError, Global};
 use text_cases::Answer;
 
-/// The answer in one of seven modes. Sizes and places are in bytes.
+/// The answer in one of eight modes. Sizes and places are in bytes.
 ///
 /// `disk`: what the sessions of the text answer, one after another on a disk. The disk is as in
 /// [`disk_of`]; behind ` | ` stand the sessions, as in [`follow`]. `node`: the same on an empty disk
@@ -29,31 +29,21 @@ use text_cases::Answer;
 /// `fault`: the text of a fault of a device.
 pub(crate) fn answer(alloc: Global, mode: &str, text: &[u8]) -> Result<String, AllocError> {
     let mut answer = Answer::new(alloc);
-    if mode == "start" {
-        on_store(alloc, text, "open; read_start", &mut answer);
-    } else {
-        push_of_text(alloc, mode, str::from_utf8(text).unwrap_or(""), &mut answer);
-    }
+    push_answer(alloc, mode, text, &mut answer);
     answer.finish()
 }
 
-// The answer in the modes whose cases are UTF-8.
-fn push_of_text(alloc: Global, mode: &str, text: &str, answer: &mut Answer) {
+fn push_answer(alloc: Global, mode: &str, bytes: &[u8], answer: &mut Answer) {
+    let text = str::from_utf8(bytes).unwrap_or("");
     match mode {
         "disk" => {
-            let (words, sessions) = text.split_once(" | ").unwrap_or((text, ""));
-            on_disk(alloc, words, sessions, answer);
+            let (sizes, sessions) = text.split_once(" | ").unwrap_or((text, ""));
+            on_disk(alloc, sizes, sessions, answer);
         }
         "node" => on_disk(alloc, "4096 65536", text, answer),
         "store" => on_store(alloc, b"14.2 A\n", text, answer),
+        "start" => on_store(alloc, bytes, "open; read_start", answer),
         "damaged" => push_damaged(alloc, text, answer),
-        _ => push_of_calls(alloc, mode, text, answer),
-    }
-}
-
-// That in the modes that follow no sessions.
-fn push_of_calls(alloc: Global, mode: &str, text: &str, answer: &mut Answer) {
-    match mode {
         "append" => append_to(alloc, text, answer),
         "twice" => calls_twice(alloc, text, answer),
         "fault" => answer.push_shown(&DeviceFault),
@@ -61,26 +51,22 @@ fn push_of_calls(alloc: Global, mode: &str, text: &str, answer: &mut Answer) {
     }
 }
 
-// What sessions answer on a disk with a new store, in whose start slot this text stands, if it has
-// room there.
-fn on_store(alloc: Global, start: &[u8], sessions: &str, answer: &mut Answer) {
-    if start.len() > 127 {
-        return answer.push("no store");
-    }
-    let Ok(disk) = case_disk(alloc) else {
-        return answer.note_no_memory();
-    };
-    match Store::create(alloc, disk, b"[].", start) {
-        Ok(store) => drop(follow(alloc, store.into_disk(), sessions, answer)),
-        Err(_) => answer.push("no store"),
+// What sessions answer on the disk of these words.
+fn on_disk(alloc: Global, words: &str, sessions: &str, answer: &mut Answer) {
+    match disk_of(alloc, words) {
+        Ok(disk) => drop(follow(alloc, disk, sessions, answer)),
+        Err(_) => answer.note_no_memory(),
     }
 }
 
-// What they answer on the disk of these words, if it can hold what it begins with.
-fn on_disk(alloc: Global, words: &str, sessions: &str, answer: &mut Answer) {
-    match disk_of(alloc, words) {
-        Ok(Some(disk)) => drop(follow(alloc, disk, sessions, answer)),
-        Ok(None) => answer.push("no disk"),
-        Err(_) => answer.note_no_memory(),
+// What they answer on a disk with a new store, in whose start slot this text stands, as far as it
+// has room there.
+fn on_store(alloc: Global, start: &[u8], sessions: &str, answer: &mut Answer) {
+    let Ok(disk) = case_disk(alloc) else {
+        return answer.note_no_memory();
+    };
+    match Store::create(alloc, disk, b"[].", &start[..start.len().min(127)]) {
+        Ok(store) => drop(follow(alloc, store.into_disk(), sessions, answer)),
+        Err(_) => answer.push("no store"),
     }
 }

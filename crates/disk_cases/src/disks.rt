@@ -2,41 +2,34 @@
 ghost use Rattle.std.specs.Prelude.{◌≡◌, []};
 
 use crate::disk_callers::append;
-use rel_disk::{Disk, FailDisk, MemDisk};
+use rel_disk::{DeviceFault, Disk, FailDisk, MemDisk};
 use std::alloc::{AllocError, Global};
 use text_cases::{Answer, first_word, number};
 
-// The bytes that the disks of nodes hold, and those of their logs.
-const CAPACITY: usize = 4096;
-
-const LOG: usize = 1 << 16;
-
 /// The empty disk of a case that names none.
 pub(crate) fn case_disk(alloc: Global) -> Result<MemDisk, AllocError> {
-    MemDisk::new(alloc, CAPACITY, LOG)
+    MemDisk::new(alloc, 4096, 1 << 16)
 }
 
 /// The disk that these words name: its capacity, the bytes of its log, and those with which it
-/// begins, if there are any.
-pub(crate) fn disk_of(alloc: Global, words: &str) -> Result<Option<MemDisk>, AllocError> {
+/// begins, as many as it holds.
+pub(crate) fn disk_of(alloc: Global, words: &str) -> Result<MemDisk, AllocError> {
     let (capacity, rest) = first_word(words);
-    let (log, bytes) = first_word(rest);
+    let (log, text) = first_word(rest);
     let capacity = number(capacity);
-    if bytes.len() > capacity {
-        return Ok(None);
-    }
-    let disk = MemDisk::with_bytes(alloc, bytes.as_bytes(), capacity, number(log))?;
-    Ok(Some(disk))
+    let bytes = &text.as_bytes()[..text.len().min(capacity)];
+    MemDisk::with_bytes(alloc, bytes, capacity, number(log))
 }
 
 /// The disk whose call of this number fails, and with `part` has a part of its effect.
-pub(crate) fn failing<D: Disk>(disk: D, how: &str, call: u64) -> FailDisk<D>
+pub(crate) fn failing<D: Disk>(disk: D, how: &str, call: &str) -> FailDisk<D>
     ensures { result.disk ≡ disk }
 {
-    if how == "part" {
-        FailDisk::failing_in_part(disk, call)
-    } else {
-        FailDisk::new(disk, call)
+    FailDisk {
+        disk,
+        left: number(call) as u64,
+        refused: 0,
+        in_part: matches!(how, "part"),
     }
 }
 
@@ -78,13 +71,14 @@ pub(crate) fn push_failures(failures: u64, answer: &mut Answer) {
 
 /// Appends what two disks in one another answer that fail one call each. Both failures are counted
 /// beside those of the disk within.
-pub(crate) fn calls_twice(alloc: Global, numbers: &str, answer: &mut Answer) {
-    let (outer, inner) = first_word(numbers);
+pub(crate) fn calls_twice(alloc: Global, calls: &str, answer: &mut Answer) {
+    let (outer, inner) = first_word(calls);
     match MemDisk::new(alloc, 1, 1024) {
-        Ok(disk) => {
-            let disk = FailDisk::new(disk, number(inner) as u64);
-            push_around(disk, number(outer) as u64, answer);
-        }
+        Ok(disk) => push_around(
+            FailDisk::new(disk, number(inner) as u64),
+            number(outer) as u64,
+            answer,
+        ),
         Err(_) => answer.note_no_memory(),
     }
 }
@@ -108,15 +102,15 @@ fn push_five_calls<D: Disk>(disk: &mut D, answer: &mut Answer) {
 /// order.
 pub(crate) fn five_calls<D: Disk>(disk: &mut D, answer: &mut Answer) {
     answer.push_is_ok(disk.write_at(0, b"ab").is_ok());
-    push_call(disk.len().is_ok(), answer);
-    push_call(disk.sync().is_ok(), answer);
-    push_call(disk.read(0, &mut []).is_ok(), answer);
-    push_call(disk.cut(0).is_ok(), answer);
+    push_call(disk.len(), answer);
+    push_call(disk.sync(), answer);
+    push_call(disk.read(0, &mut []), answer);
+    push_call(disk.cut(0), answer);
 }
 
-fn push_call(is_ok: bool, answer: &mut Answer) {
+fn push_call<T: Drop>(done: Result<T, DeviceFault>, answer: &mut Answer) {
     answer.push(" ");
-    answer.push_is_ok(is_ok);
+    answer.push_is_ok(done.is_ok());
 }
 
 /// Appends whether an append succeeds, and what is read then.
@@ -125,21 +119,12 @@ pub(crate) fn append_to(alloc: Global, case: &str, answer: &mut Answer) {
     let Ok(disk) = MemDisk::new(alloc, 64, 1024) else {
         return answer.note_no_memory();
     };
-    let mut disk = appended(failing(disk, how, number(call) as u64), answer);
-    push_read(alloc, &mut disk, answer);
-}
-
-fn appended(disk: FailDisk<MemDisk>, answer: &mut Answer) -> MemDisk
-    requires { disk.disk.calls ≡ [] }
-{
-    match append(disk, b"abc") {
-        Ok(disk) => {
-            answer.push("ok ");
-            disk.disk
-        }
-        Err((_, disk)) => {
-            answer.push("fails ");
-            disk.disk
-        }
-    }
+    let (is_ok, disk) = match append(failing(disk, how, call), b"abc") {
+        Ok(disk) => (true, disk),
+        Err((_, disk)) => (false, disk),
+    };
+    let mut disk = disk;
+    answer.push_is_ok(is_ok);
+    answer.push(" ");
+    push_read(alloc, &mut disk.disk, answer);
 }

@@ -5,167 +5,119 @@ use crate::files::ReleaseFiles;
 use crate::steps::push_start;
 use rel_disk::Disk;
 use rel_handler::{BootError, Handler, HandlerError, boot};
-use rel_list::ReleaseList;
 use std::alloc::Global;
 use text_cases::{Answer, first_word};
 
-// The versions with their statuses, in order.
-fn push_list(list: &ReleaseList, answer: &mut Answer) {
-    for listed in list.releases() {
-        answer.push(listed.release.vsn.as_str());
-        answer.push_after(" ", listed.status.as_str());
-        answer.push(";");
-    }
-}
-
-// Why a node refused something, where it did.
-fn push_refusal(done: Result<(), HandlerError>, answer: &mut Answer) {
-    if let Err(error) = done {
-        answer.push_shown(&error);
-    }
-}
-
-// The releases of a node, or why it doesn't list them.
-fn releases<D: Disk>(node: &Handler<D>, answer: &mut Answer) {
+// Appends the versions with their statuses, in order, or why the node doesn't list them.
+fn push_releases<D: Disk>(node: &Handler<D>, answer: &mut Answer) {
     match node.which_releases() {
-        Ok(list) => push_list(list, answer),
-        Err(error) => push_refusal(Err(error), answer),
+        Ok(list) => {
+            for listed in list.releases() {
+                answer.push_after(listed.release.vsn.as_str(), " ");
+                answer.push_after(listed.status.as_str(), ";");
+            }
+        }
+        Err(error) => answer.push_shown(&error),
     }
 }
 
 // Has a node take a further release in, and appends its version.
-fn unpack<D: Disk>(
-    alloc: Global,
-    node: &mut Handler<D>,
-    release: &str,
-    answer: &mut Answer,
-) -> Result<(), HandlerError>
+fn unpack<D: Disk>(alloc: Global, node: &mut Handler<D>, release: &str, answer: &mut Answer)
     requires { IsSound D.seen D.may_leave node.old }
     ensures { IsSound D.seen D.may_leave node.new }
 {
-    let vsn = node.set_unpacked(alloc, &ReleaseFiles, release)?;
-    answer.push_after("took ", vsn.as_str());
-    Ok(())
-}
-
-// Has it install the release of this version, and appends the version that ran before.
-fn install<D: Disk>(
-    alloc: Global,
-    node: &mut Handler<D>,
-    vsn: &str,
-    answer: &mut Answer,
-) -> Result<(), HandlerError>
-    requires { IsSound D.seen D.may_leave node.old }
-    ensures { IsSound D.seen D.may_leave node.new }
-{
-    let installed = node.install_release(alloc, vsn)?;
-    answer.push_after("other ", installed.other.as_str());
-    Ok(())
-}
-
-// Appends what it tells of its start record.
-fn tell_start<D: Disk>(
-    alloc: Global,
-    node: &mut Handler<D>,
-    answer: &mut Answer,
-) -> Result<(), HandlerError>
-    requires { IsSound D.seen D.may_leave node.old }
-    ensures { IsSound D.seen D.may_leave node.new }
-{
-    let start = node.start(alloc)?;
-    answer.push("starts ");
-    push_start(&start, answer);
-    Ok(())
-}
-
-// Has it do what the sign says with the release of this version.
-fn change<D: Disk>(
-    alloc: Global,
-    node: &mut Handler<D>,
-    sign: char,
-    vsn: &str,
-) -> Result<(), HandlerError>
-    requires { IsSound D.seen D.may_leave node.old }
-    ensures { IsSound D.seen D.may_leave node.new }
-{
-    match sign {
-        '!' => node.make_permanent(alloc, vsn),
-        '<' => node.reboot_old_release(alloc, vsn),
-        _ => node.remove_release(alloc, vsn),
+    match node.set_unpacked(alloc, &ReleaseFiles, release) {
+        Ok(vsn) => answer.push_after("took ", vsn.as_str()),
+        Err(error) => answer.push_shown(&error),
     }
 }
 
-// Has it follow a command, and appends what it answers unless it refuses.
-fn follow_command<D: Disk>(
-    alloc: Global,
-    node: &mut Handler<D>,
-    word: &str,
-    answer: &mut Answer,
-) -> Result<(), HandlerError>
+// Has it install the release of this version, and appends the version that ran before.
+fn install<D: Disk>(alloc: Global, node: &mut Handler<D>, vsn: &str, answer: &mut Answer)
+    requires { IsSound D.seen D.may_leave node.old }
+    ensures { IsSound D.seen D.may_leave node.new }
+{
+    match node.install_release(alloc, vsn) {
+        Ok(installed) => answer.push_after("other ", installed.other.as_str()),
+        Err(error) => answer.push_shown(&error),
+    }
+}
+
+// Appends what it tells of its start record.
+fn tell_start<D: Disk>(alloc: Global, node: &mut Handler<D>, answer: &mut Answer)
+    requires { IsSound D.seen D.may_leave node.old }
+    ensures { IsSound D.seen D.may_leave node.new }
+{
+    match node.start(alloc) {
+        Ok(start) => {
+            answer.push("starts ");
+            push_start(&start, answer);
+        }
+        Err(error) => answer.push_shown(&error),
+    }
+}
+
+// Appends that it did something, or why it refused.
+fn push_done(done: Result<(), HandlerError>, answer: &mut Answer) {
+    match done {
+        Ok(()) => answer.push("ok"),
+        Err(error) => answer.push_shown(&error),
+    }
+}
+
+// Has it follow a command, where one is given, and appends what it answers, with a blank before it.
+fn follow_command<D: Disk>(alloc: Global, node: &mut Handler<D>, word: &str, answer: &mut Answer)
     requires { IsSound D.seen D.may_leave node.old }
     ensures { IsSound D.seen D.may_leave node.new }
 {
     let mut rest = word.chars();
-    let sign = rest.next();
+    let Some(sign) = rest.next() else {
+        return;
+    };
     let vsn = rest.as_str();
+    answer.push(" ");
     match sign {
-        Some('?') => tell_start(alloc, node, answer),
-        Some('+') => install(alloc, node, vsn, answer),
-        Some(sign @ ('!' | '<' | '-')) => {
-            change(alloc, node, sign, vsn)?;
-            answer.push("ok");
-            Ok(())
-        }
+        '?' => tell_start(alloc, node, answer),
+        '+' => install(alloc, node, vsn, answer),
+        '!' => push_done(node.make_permanent(alloc, vsn), answer),
+        '<' => push_done(node.reboot_old_release(alloc, vsn), answer),
+        '-' => push_done(node.remove_release(alloc, vsn), answer),
         _ => unpack(alloc, node, word, answer),
     }
 }
 
-// What it answers to a command, where one is given, with a blank before it.
-fn command<D: Disk>(alloc: Global, node: &mut Handler<D>, word: &str, answer: &mut Answer)
-    requires { IsSound D.seen D.may_leave node.old }
-    ensures { IsSound D.seen D.may_leave node.new }
-{
-    if !word.is_empty() {
-        answer.push(" ");
-        push_refusal(follow_command(alloc, node, word, answer), answer);
-    }
-}
-
-// What it answers to each of at most three commands.
-fn command_all<D: Disk>(alloc: Global, node: &mut Handler<D>, commands: &str, answer: &mut Answer)
-    requires { IsSound D.seen D.may_leave node.old }
-{
-    let (first, more) = first_word(commands);
-    let (second, third) = first_word(more);
-    command(alloc, node, first, answer);
-    command(alloc, node, second, answer);
-    command(alloc, node, third, answer);
-}
-
-// Its releases, and where commands are given, what it answers to them, whether it is dead then, and
-// its releases.
+// Appends its releases, and where commands are given, what it answers to each of at most three,
+// whether it is dead then, and its releases.
 fn push_followed<D: Disk>(alloc: Global, node: &mut Handler<D>, commands: &str, answer: &mut Answer)
     requires { IsSound D.seen D.may_leave node.old }
 {
-    releases(node, answer);
-    if commands.is_empty() {
-        return;
+    push_releases(node, answer);
+    if !commands.is_empty() {
+        let (first, more) = first_word(commands);
+        let (second, third) = first_word(more);
+        follow_command(alloc, node, first, answer);
+        follow_command(alloc, node, second, answer);
+        follow_command(alloc, node, third, answer);
+        answer.push(if node.is_dead() { " dead " } else { " open " });
+        push_releases(node, answer);
     }
-    command_all(alloc, node, commands, answer);
-    answer.push(if node.is_dead() { " dead " } else { " open " });
-    releases(node, answer);
 }
 
+// Has it follow these commands, or with `unpack` take a further release in and no more.
 fn follow_node<D: Disk + Drop>(
     alloc: Global,
     node: Handler<D>,
-    commands: &str,
+    how: &str,
+    words: &str,
     answer: &mut Answer,
 ) -> D
     requires { IsSound D.seen D.may_leave node }
 {
     let mut node = node;
-    push_followed(alloc, &mut node, commands, answer);
+    match how {
+        "unpack" => unpack(alloc, &mut node, words, answer),
+        _ => push_followed(alloc, &mut node, words, answer),
+    }
     node.into_disk()
 }
 
@@ -179,9 +131,9 @@ pub(crate) fn create_node<D: Disk + Drop>(
 ) -> D {
     let (first, more) = first_word(words);
     match Handler::create(alloc, disk, &ReleaseFiles, first) {
-        Ok(node) => follow_node(alloc, node, more, answer),
+        Ok(node) => follow_node(alloc, node, "node", more, answer),
         Err((error, disk)) => {
-            push_refusal(Err(error), answer);
+            answer.push_shown(&error);
             disk
         }
     }
@@ -197,15 +149,7 @@ pub(crate) fn boots<D: Disk + Drop>(
     answer: &mut Answer,
 ) -> D {
     match boot(alloc, disk) {
-        Ok(node) => {
-            let mut node = node;
-            if how == "unpack" {
-                push_refusal(unpack(alloc, &mut node, words, answer), answer);
-            } else {
-                push_followed(alloc, &mut node, words, answer);
-            }
-            node.into_disk()
-        }
+        Ok(node) => follow_node(alloc, node, how, words, answer),
         Err((error, disk)) => {
             answer.push_debug(&error);
             disk
@@ -216,7 +160,7 @@ pub(crate) fn boots<D: Disk + Drop>(
 // Whether a node has one release or two.
 fn has_one_or_two<D: Disk>(node: &Handler<D>) -> bool {
     match node.which_releases() {
-        Ok(list) => list.len() == 1 || list.len() == 2,
+        Ok(list) => matches!(list.len(), 1 | 2),
         Err(_) => false,
     }
 }

@@ -7,7 +7,7 @@ use crate::steps::{body_of, follow_steps, push_done};
 use crate::store_callers::append_both;
 use rel_disk::{DeviceFault, Disk};
 use rel_store::Store;
-use std::alloc::{AllocError, Global};
+use std::alloc::Global;
 use text_cases::{Answer, first_word, number};
 
 /// Appends what sessions answer, one after another on this disk, with ` | ` between them as between
@@ -51,21 +51,22 @@ pub(crate) fn follow<D: Disk + Drop>(
 // Each session hands its disk back.
 fn session<D: Disk + Drop>(alloc: Global, disk: D, words: &str, answer: &mut Answer) -> D {
     let (how, rest) = first_word(words);
-    if how != "fail" && how != "part" {
-        return session_on(alloc, disk, words, answer);
+    match how {
+        "fail" | "part" => {
+            let (call, words) = first_word(rest);
+            let disk = session_on(alloc, failing(disk, how, call), words, answer);
+            push_failures(disk.failures(), answer);
+            disk.disk
+        }
+        _ => session_on(alloc, disk, words, answer),
     }
-    let (call, words) = first_word(rest);
-    let disk = failing(disk, how, number(call) as u64);
-    let disk = session_on(alloc, disk, words, answer);
-    push_failures(disk.failures(), answer);
-    disk.disk
 }
 
 fn session_on<D: Disk + Drop>(alloc: Global, disk: D, words: &str, answer: &mut Answer) -> D {
     let (word, rest) = first_word(words);
     match word {
         "create" => create(alloc, disk, rest, answer),
-        "open" | "open;" | "both" => open(alloc, disk, words, answer),
+        "open" | "open;" | "both" => open(alloc, disk, word, rest, answer),
         "node" => create_node(alloc, disk, rest, answer),
         "boot" | "unpack" => boots(alloc, disk, word, rest, answer),
         _ => {
@@ -87,24 +88,24 @@ fn create<D: Disk + Drop>(alloc: Global, disk: D, body: &str, answer: &mut Answe
             store.into_disk()
         }
         Err((error, disk)) => {
-            push_done(Err(error), answer);
+            answer.push_debug(&error);
             disk
         }
     }
 }
 
-fn open<D: Disk + Drop>(alloc: Global, disk: D, words: &str, answer: &mut Answer) -> D {
+fn open<D: Disk + Drop>(alloc: Global, disk: D, how: &str, words: &str, answer: &mut Answer) -> D {
     match Store::open_disk(alloc, disk) {
         Ok(store) => {
             let mut store = store;
-            match words.strip_prefix("both ") {
-                Some(bodies) => push_both(alloc, &mut store, bodies, answer),
-                None => follow_steps(alloc, &mut store, words, answer),
+            match how {
+                "both" => push_both(alloc, &mut store, words, answer),
+                _ => follow_steps(alloc, &mut store, words, answer),
             }
             store.into_disk()
         }
         Err((error, disk)) => {
-            push_done(Err(error), answer);
+            answer.push_debug(&error);
             disk
         }
     }
@@ -130,7 +131,7 @@ fn follow_call<D: Disk>(alloc: Global, disk: &mut D, word: &str, rest: &str, ans
         "failures" => answer.push_number(disk.failures()),
         "calls" => five_calls(disk, answer),
         _ => {
-            let done = change(alloc, disk, word, rest, answer);
+            let done = change(disk, word, rest, answer);
             answer.push_is_ok(done.is_ok());
         }
     }
@@ -138,7 +139,6 @@ fn follow_call<D: Disk>(alloc: Global, disk: &mut D, word: &str, rest: &str, ans
 
 // A call that changes the disk, or syncs it.
 fn change<D: Disk>(
-    alloc: Global,
     disk: &mut D,
     word: &str,
     rest: &str,
@@ -149,8 +149,11 @@ fn change<D: Disk>(
     match word {
         "write" => write(disk, place, bytes.as_bytes()),
         "cut" => cut(disk, place),
-        "patch" => patch_named(alloc, disk, place, bytes, answer),
-        "shorten" => shorten(disk, place),
+        "patch" => patch(disk, place, bytes),
+        "shorten" => {
+            cut(disk, place)?;
+            disk.sync()
+        }
         "sync" => disk.sync(),
         _ => {
             answer.push("no such session, ");
@@ -159,30 +162,15 @@ fn change<D: Disk>(
     }
 }
 
-// Writes the bytes whose numbers these words are, and syncs the disk.
-fn patch_named<D: Disk>(
-    alloc: Global,
-    disk: &mut D,
-    at: u64,
-    words: &str,
-    answer: &mut Answer,
-) -> Result<(), DeviceFault> {
-    match bytes_named(alloc, words) {
-        Ok(bytes) => patch(disk, at, &bytes),
-        Err(_) => {
-            answer.note_no_memory();
-            Ok(())
-        }
-    }
-}
-
-// The bytes whose numbers these words are.
-fn bytes_named(alloc: Global, words: &str) -> Result<Vec<u8>, AllocError> {
-    let mut bytes = Vec::new(alloc);
+/// Writes the bytes whose numbers these words are, one after another from a place on, and syncs the
+/// disk.
+pub(crate) fn patch<D: Disk>(disk: &mut D, at: u64, words: &str) -> Result<(), DeviceFault> {
+    let mut at = at;
     for word in words.split(' ') {
-        bytes.push((number(word) % 256) as u8)?;
+        write(disk, at, &[(number(word) % 256) as u8])?;
+        at = at.saturating_add(1);
     }
-    Ok(bytes)
+    disk.sync()
 }
 
 // Writes from a place on that is not past the end.
@@ -193,23 +181,12 @@ fn write<D: Disk>(disk: &mut D, at: u64, bytes: &[u8]) -> Result<(), DeviceFault
     }
 }
 
-/// Writes these bytes over those from a place on, and syncs the disk.
-pub(crate) fn patch<D: Disk>(disk: &mut D, at: u64, bytes: &[u8]) -> Result<(), DeviceFault> {
-    write(disk, at, bytes)?;
-    disk.sync()
-}
-
 // Cuts a disk that is that long.
 fn cut<D: Disk>(disk: &mut D, len: u64) -> Result<(), DeviceFault> {
     match disk.len() {
         Ok(old) if len <= old => disk.cut(len),
         _ => Err(DeviceFault),
     }
-}
-
-fn shorten<D: Disk>(disk: &mut D, len: u64) -> Result<(), DeviceFault> {
-    cut(disk, len)?;
-    disk.sync()
 }
 
 fn push_length<D: Disk>(disk: &mut D, answer: &mut Answer) {

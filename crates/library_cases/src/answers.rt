@@ -1,5 +1,5 @@
 //! The answer to a case.
-use crate::{apps, checks, libraries, lists, readers, records, release_files, terms};
+use crate::{apps, checks, libraries, lists, records, release_files, terms};
 use app_file::read_app;
 use rel_files::read_rel;
 use std::alloc::{AllocError, Global};
@@ -38,8 +38,6 @@ fn push_answer(alloc: Global, mode: &str, text: &[u8], answer: &mut Answer) {
         "app" => apps::push_read(read_app(alloc, text), answer),
         "app_term" => apps::push_read(apps::of_the_term(alloc, text), answer),
         "app_whole" => apps::push_whole(alloc, text, answer),
-        "bodies" => records::push_list_of(alloc, text, answer),
-        "release" | "unpack" => libraries::push_answer(alloc, mode, text, answer),
         _ => push_of_text(alloc, mode, str::from_utf8(text).unwrap_or(""), answer),
     }
 }
@@ -47,11 +45,13 @@ fn push_answer(alloc: Global, mode: &str, text: &[u8], answer: &mut Answer) {
 // The answer in the modes whose cases are UTF-8.
 fn push_of_text(alloc: Global, mode: &str, text: &str, answer: &mut Answer) {
     match mode {
-        "events" => lists::push_followed(alloc, text, answer),
-        "readers" => readers::push_followed(alloc, text, answer),
+        "events" => lists::push_followed(alloc, false, text, answer),
+        "readers" => lists::push_followed(alloc, true, text, answer),
+        "bodies" => records::push_behind(alloc, text, "", answer),
         "written" => records::push_written(alloc, text, answer),
         "differs" => libraries::push_difference(alloc, text, answer),
         "twice" => libraries::push_compared(alloc, text, text, answer),
+        "release" | "unpack" | "check" => libraries::push_answer(alloc, mode, text, answer),
         _ => checks::push_answer(alloc, mode, text, answer),
     }
 }

@@ -22,12 +22,11 @@ pub(crate) fn push_read(read: Result<App, FileFault>, answer: &mut Answer) {
 
 // The name, the version, the modules, and the module that starts it, if the file names one.
 fn push_app(app: &App, answer: &mut Answer) {
-    let done = write!(answer.text, "{} {}", app.name, app.vsn);
-    answer.note(done);
+    answer.push_after(app.name.as_str(), " ");
+    answer.push(app.vsn.as_str());
     push_names(app.modules.as_slice(), answer);
     if let Some(top) = &app.top {
-        answer.push("; starts ");
-        answer.push(top.as_str());
+        answer.push_after("; starts ", top.as_str());
     }
 }
 

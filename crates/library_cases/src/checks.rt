@@ -1,26 +1,21 @@
 //! What is wrong with a release.
-use crate::libraries::push_refusal;
+use crate::libraries;
 use crate::made_files::{push_modules, push_tree, push_worker};
 use rel_check::{Named, ReleaseFault, check_release};
 use rel_files::RelApp;
-use rel_unpack::{ApplicationFiles, UnpackError, read_libraries, read_release};
+use rel_unpack::ApplicationFiles;
 use std::alloc::Global;
-use text_cases::{Answer, CaseFiles, first_word, number};
+use text_cases::{Answer, first_word, number};
 
-/// The answer in one of five modes. `check`: the text is a line for each file, its path, a blank and its bytes. The release
-/// is that of the file `r.rel`.
-///
-/// The others make their files. `tree`: the text is a width and a depth, as in [`push_tree`]. `lost`: the same without the
-/// worker's file. `modules`: the text is a number of modules. `rows`: it is a number of rows in the worker's table.
+/// The answer in one of four modes, which make the files of the release that is checked. `tree`: the text is a width and a
+/// depth, as in [`push_tree`]. `lost`: the same without the worker's file. `modules`: the text is a number of modules.
+/// `rows`: it is a number of rows in the worker's table.
 pub(crate) fn push_answer(alloc: Global, mode: &str, text: &str, answer: &mut Answer) {
-    if mode == "check" {
-        return push_checked(alloc, text.as_bytes(), answer);
-    }
     let (first, second) = first_word(text);
     let mut files = Answer::new(alloc);
     push_files(mode, number(first), number(second), &mut files);
     match files.finish() {
-        Ok(files) => push_checked(alloc, files.as_bytes(), answer),
+        Ok(files) => libraries::push_answer(alloc, "check", files.as_str(), answer),
         Err(_) => answer.note_no_memory(),
     }
 }
@@ -40,20 +35,8 @@ fn push_files(mode: &str, first: usize, second: usize, files: &mut Answer) {
     }
 }
 
-// What is wrong with a release, or with one of its files.
-fn push_checked(alloc: Global, lines: &[u8], answer: &mut Answer) {
-    push_refusal(check(alloc, &CaseFiles { lines }, answer), answer);
-}
-
-fn check(alloc: Global, files: &CaseFiles<'_>, answer: &mut Answer) -> Result<(), UnpackError> {
-    let file = read_release(alloc, files, "r.rel")?;
-    let apps = file.release.apps.as_slice();
-    let read = read_libraries(alloc, files, apps)?;
-    push_checked_libraries(alloc, apps, &read, answer);
-    Ok(())
-}
-
-fn push_checked_libraries(
+/// Appends what is wrong with the files of a release's applications, or with the release.
+pub(crate) fn push_checked(
     alloc: Global,
     apps: &[RelApp],
     read: &ApplicationFiles,
@@ -70,23 +53,16 @@ fn push_checked_libraries(
 
 fn push_fault(fault: ReleaseFault<'_>, answer: &mut Answer) {
     match fault {
-        ReleaseFault::ModuleTwice(found) => push_named("module", found, answer),
-        ReleaseFault::IdTwice(found) => push_named("id", found, answer),
-        ReleaseFault::NoTable(name) => {
-            answer.push("NoTable ");
-            answer.push(name);
-        }
+        ReleaseFault::ModuleTwice(found) => push_named("module ", found, answer),
+        ReleaseFault::IdTwice(found) => push_named("id ", found, answer),
+        ReleaseFault::NoTable(name) => answer.push_after("NoTable ", name),
         ReleaseFault::TooMany => answer.push("TooMany"),
         ReleaseFault::NoMemory => answer.push("NoMemory"),
     }
 }
 
 fn push_named(kind: &str, found: Named<'_>, answer: &mut Answer) {
-    let app = found.app;
-    let done = write!(
-        answer.text,
-        "{kind} {} twice, {}-{}",
-        found.name, app.name, app.vsn
-    );
-    answer.note(done);
+    answer.push_after(kind, found.name);
+    answer.push_after(" twice, ", found.app.name.as_str());
+    answer.push_after("-", found.app.vsn.as_str());
 }

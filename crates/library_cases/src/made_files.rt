@@ -48,10 +48,12 @@ fn push_supervisor(level: usize, width: usize, depth: usize, files: &mut Answer)
     push_numbered("lib/a-1/ebin/s", level, files);
     push_numbered(".mod {supervisor,s", level, files);
     files.push(",\"1\",[");
+    let mut before = "{c";
     for child in 0..width {
-        push_numbered(if child > 0 { ",{c" } else { "{c" }, level, files);
+        push_numbered(before, level, files);
         push_numbered("_", child, files);
         push_module(level.saturating_add(1), depth, files);
+        before = ",{c";
     }
     files.push("]}.\n");
 }

@@ -1,58 +1,49 @@
 //! Lists of releases, as records of a store make them.
 ghost use Rattle.rel_records.specs.Lists.{HaveVersions};
 
-use crate::bundles::push_libraries;
 use crate::lists::{event, push_list};
 use rel_list::{Event, ReleaseList};
 use rel_records::laws::records_make_versions;
-use rel_records::{RecordsError, change_body, read_list};
+use rel_records::{change_body, read_list};
 use std::alloc::{AllocError, Global};
 use text_cases::Answer;
 
-/// The list that these bodies make, each on a line of its own, or which one is bad.
-pub(crate) fn push_list_of(alloc: Global, bodies: &[u8], answer: &mut Answer) {
-    match lines(alloc, bodies) {
-        Ok(bodies) => push_read(alloc, &read_list(alloc, bodies.as_slice()), answer),
-        Err(_) => answer.note_no_memory(),
+/// The list that these bodies make, each on a line of its own, or which one is bad. Where the words are those of an event, the
+/// body of the record that it writes behind this list.
+pub(crate) fn push_behind(alloc: Global, bodies: &str, words: &str, answer: &mut Answer) {
+    let mut lines = Vec::new(alloc);
+    for line in bodies.split('\n') {
+        answer.note(push_line(alloc, line, &mut lines));
+    }
+    push_behind_lines(alloc, lines.as_slice(), words, answer);
+}
+
+fn push_line(alloc: Global, line: &str, lines: &mut Vec<Vec<u8>>) -> Result<(), AllocError> {
+    Ok(lines.push(Vec::from_slice(alloc, line.as_bytes())?)?)
+}
+
+fn push_behind_lines(alloc: Global, bodies: &[Vec<u8>], words: &str, answer: &mut Answer) {
+    records_make_versions();
+    match read_list(alloc, bodies) {
+        Ok(list) => push_behind_list(alloc, &list, words, answer),
+        Err(error) => answer.push_shown(&error),
     }
 }
 
-fn push_read(alloc: Global, read: &Result<ReleaseList, RecordsError>, answer: &mut Answer) {
-    match read {
-        Ok(list) => {
-            push_list(list, answer);
-            push_libraries(alloc, list, answer);
-        }
-        Err(error) => answer.push_shown(error),
+fn push_behind_list(alloc: Global, list: &ReleaseList, words: &str, answer: &mut Answer)
+    requires { HaveVersions list.now }
+{
+    match event(alloc, list, words) {
+        Some(event) => push_body(alloc, list, &event, answer),
+        None => push_list(alloc, list, answer),
     }
 }
 
 /// The body of the record that the event on the first line writes behind the list that the other lines make.
 pub(crate) fn push_written(alloc: Global, text: &str, answer: &mut Answer) {
-    let Some((words, bodies)) = text.split_once('\n') else {
-        return answer.push("no list");
-    };
-    match lines(alloc, bodies.as_bytes()) {
-        Ok(bodies) => push_written_behind(alloc, bodies.as_slice(), words, answer),
-        Err(_) => answer.note_no_memory(),
-    }
-}
-
-fn push_written_behind(alloc: Global, bodies: &[Vec<u8>], words: &str, answer: &mut Answer) {
-    records_make_versions();
-    match read_list(alloc, bodies) {
-        Ok(list) => push_body_of_words(alloc, &list, words, answer),
-        Err(_) => answer.push("no list"),
-    }
-}
-
-fn push_body_of_words(alloc: Global, list: &ReleaseList, words: &str, answer: &mut Answer)
-    requires { HaveVersions list.now }
-{
-    match event(alloc, list, words) {
-        Ok(Some(event)) => push_body(alloc, list, &event, answer),
-        Ok(None) => answer.push("no such event"),
-        Err(_) => answer.note_no_memory(),
+    match text.split_once('\n') {
+        Some((words, bodies)) => push_behind(alloc, bodies, words, answer),
+        None => answer.push("no list"),
     }
 }
 
@@ -66,12 +57,4 @@ fn push_body(alloc: Global, list: &ReleaseList, event: &Event, answer: &mut Answ
         Event::Made(_) | Event::Unpacked(_) => answer.push("brings a release"),
         event => answer.push_made(&change_body(alloc, list, event)),
     }
-}
-
-fn lines(alloc: Global, text: &[u8]) -> Result<Vec<Vec<u8>>, AllocError> {
-    let mut lines = Vec::new(alloc);
-    for line in text.split(|byte| *byte == b'\n') {
-        lines.push(Vec::from_slice(alloc, line)?)?;
-    }
-    Ok(lines)
 }

@@ -32,26 +32,28 @@ pub(crate) fn push_read(read: Result<Rel, FileFault>, answer: &mut Answer) {
 
 /// Appends the fault of a file.
 pub(crate) fn push_fault(fault: &FileFault, answer: &mut Answer) {
-    let done = match fault {
-        FileFault::Duplicate(name) => write!(answer.text, "Duplicate {name}"),
-        other => write!(answer.text, "{other}"),
-    };
-    answer.note(done);
+    answer.push_shown(fault);
+    if let FileFault::Duplicate(name) = fault {
+        answer.push_after(" ", name.as_str());
+    }
 }
 
 // Appends the name and the versions of a release, and its applications.
-fn push_release(rel: &Rel, answer: &mut Answer) {
-    let done = write!(answer.text, "{} {} {}", rel.name, rel.vsn, rel.erts);
-    answer.note(done);
-    for app in &rel.apps {
+fn push_release(release: &Rel, answer: &mut Answer) {
+    answer.push_after(release.name.as_str(), " ");
+    answer.push_after(release.vsn.as_str(), " ");
+    answer.push(release.erts.as_str());
+    for app in &release.apps {
         push_app(app, answer);
     }
 }
 
 // Appends an application, and the included ones where the file lists them.
 fn push_app(app: &RelApp, answer: &mut Answer) {
-    let done = write!(answer.text, "; {} {} {:?}", app.name, app.vsn, app.start);
-    answer.note(done);
+    answer.push_after("; ", app.name.as_str());
+    answer.push_after(" ", app.vsn.as_str());
+    answer.push(" ");
+    answer.push_debug(&app.start);
     if let Some(names) = &app.included {
         push_names(names.as_slice(), answer);
     }
@@ -60,11 +62,10 @@ fn push_app(app: &RelApp, answer: &mut Answer) {
 /// Appends names in brackets.
 pub(crate) fn push_names(names: &[String], answer: &mut Answer) {
     answer.push(" [");
-    for (i, name) in names.iter().enumerate() {
-        if i > 0 {
-            answer.push(",");
-        }
-        answer.push(name.as_str());
+    let mut gap = "";
+    for name in names {
+        answer.push_after(gap, name.as_str());
+        gap = ",";
     }
     answer.push("]");
 }

@@ -1,42 +1,56 @@
 //! Terms, as `erl_term` reads and prints them.
-use erl_term::{Spanned, TermFault, print, read_record, read_terms};
+use erl_term::{Spanned, Term, TermFault, print, read_record, read_terms};
 use std::alloc::Global;
 use text_cases::Answer;
 
 /// Appends each term of a text with its places, or the fault.
 pub(crate) fn push_terms(alloc: Global, text: &[u8], answer: &mut Answer) {
-    match &read_terms(alloc, text) {
-        Ok(terms) if terms.is_empty() => answer.push("no term"),
-        Ok(terms) => push_spanned(terms, answer),
-        Err(fault) => answer.push_shown(fault),
+    match read_terms(alloc, text) {
+        Ok(terms) => push_spanned(terms.as_slice(), answer),
+        Err(fault) => answer.push_shown(&fault),
     }
 }
 
 fn push_spanned(terms: &[Spanned], answer: &mut Answer) {
-    for (i, spanned) in terms.iter().enumerate() {
-        let gap = if i == 0 { "" } else { "; " };
-        let (term, from, to) = (&spanned.term, spanned.from, spanned.to);
-        let done = write!(answer.text, "{gap}{term:?} {from}..{to}");
-        answer.note(done);
+    if terms.is_empty() {
+        return answer.push("no term");
     }
+    let mut gap = "";
+    for spanned in terms {
+        answer.push(gap);
+        answer.push_debug(&spanned.term);
+        answer.push(" ");
+        push_range(spanned.from, spanned.to, answer);
+        gap = "; ";
+    }
+}
+
+fn push_range(from: usize, to: usize, answer: &mut Answer) {
+    answer.push_number(from as u64);
+    answer.push("..");
+    answer.push_number(to as u64);
 }
 
 /// Appends the one term of a record's body, or the fault.
 pub(crate) fn push_record(alloc: Global, text: &[u8], answer: &mut Answer) {
-    match &read_record(alloc, text) {
-        Ok(term) => answer.push_debug(term),
-        Err(fault) => answer.push_shown(fault),
+    match read_record(alloc, text) {
+        Ok(term) => answer.push_debug(&term),
+        Err(fault) => answer.push_shown(&fault),
     }
 }
 
 /// Appends what a clone of the one term is printed as, or the fault.
 pub(crate) fn push_printed(alloc: Global, text: &[u8], answer: &mut Answer) {
-    match &read_record(alloc, text) {
-        Ok(term) => match term.clone() {
-            Ok(copy) => answer.push_made(&print(alloc, &copy)),
-            Err(_) => answer.note_no_memory(),
-        },
-        Err(fault) => answer.push_shown(fault),
+    match read_record(alloc, text) {
+        Ok(term) => push_clone(alloc, &term, answer),
+        Err(fault) => answer.push_shown(&fault),
+    }
+}
+
+fn push_clone(alloc: Global, term: &Term, answer: &mut Answer) {
+    match term.clone() {
+        Ok(copy) => answer.push_made(&print(alloc, &copy)),
+        Err(_) => answer.note_no_memory(),
     }
 }
 
@@ -64,9 +78,15 @@ fn count(alloc: Global, text: &[u8]) -> Result<usize, TermFault> {
 
 // Appends the answer of the prefixes of these lengths.
 fn push_entry(least: usize, greatest: usize, found: Result<usize, TermFault>, answer: &mut Answer) {
-    let done = match found {
-        Ok(count) => write!(answer.text, "{least}..{greatest} ok {count}"),
-        Err(fault) => write!(answer.text, "{least}..{greatest} {fault}"),
-    };
-    answer.note(done);
+    push_range(least, greatest, answer);
+    match found {
+        Ok(count) => {
+            answer.push(" ok ");
+            answer.push_number(count as u64);
+        }
+        Err(fault) => {
+            answer.push(" ");
+            answer.push_shown(&fault);
+        }
+    }
 }

@@ -2,7 +2,7 @@
 use crate::sessions::push_input;
 use std::alloc::Global;
 use std::io;
-use std::io::Read;
+use std::io::{ErrorKind, Read};
 use text_cases::Answer;
 
 /// Gives a text in pieces of at most so many bytes, and fails behind it.
@@ -10,7 +10,7 @@ use text_cases::Answer;
 pub(crate) struct Broken<'a> {
     pub(crate) text: &'a [u8],
     pub(crate) piece: usize,
-    pub(crate) kind: io::ErrorKind,
+    pub(crate) kind: ErrorKind,
 }
 
 impl Read for Broken<'_> {
@@ -18,16 +18,14 @@ impl Read for Broken<'_> {
         if self.text.is_empty() {
             return Err(io::Error::from(self.kind));
         }
-        let count = self.piece.min(self.text.len()).min(buf.len());
-        buf[..count].copy_from_slice(&self.text[..count]);
-        self.text = &self.text[count..];
-        Ok(count)
+        let count = self.piece.min(buf.len());
+        self.text.read(&mut buf[..count])
     }
 }
 
 /// The answer where a read fails behind a text, which comes in such pieces.
 pub(crate) fn push_broken(alloc: Global, text: &[u8], piece: usize, answer: &mut Answer) {
-    let kind = io::ErrorKind::Other;
+    let kind = ErrorKind::Other;
     push_input(alloc, Broken { text, piece, kind }, answer);
 }
 

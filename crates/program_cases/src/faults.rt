@@ -1,5 +1,5 @@
 //! What a disk over a file does once the file has failed.
-use crate::disks::{push_all, put, shorten};
+use crate::disks::{push_all, shorten};
 use rel_disk::{DeviceFault, Disk, MemDisk};
 use rel_host::FileDisk;
 use std::fs::{File, OpenOptions};
@@ -16,7 +16,7 @@ pub(crate) fn push_faults(host: &HostRuntime, words: &str, answer: &mut Answer) 
             push_steps(&mut disk, steps, answer);
             answer.push_number(disk.failures());
             answer.push(" failures, ");
-            push_all(host.alloc(), disk, answer);
+            push_all(host.alloc(), &mut disk, answer);
         }
         None => answer.push("not opened"),
     }
@@ -29,27 +29,24 @@ fn disk_over(host: &HostRuntime, how: &str, name: &str) -> Option<FileDisk> {
 }
 
 fn opened(host: &HostRuntime, how: &str, name: &str) -> io::Result<File> {
-    let reads = how != "fills";
-    let writes = how != "reads";
     OpenOptions::new()
-        .read(reads)
-        .write(writes)
+        .read(how != "fills")
+        .write(how != "reads")
         .open(host, name)
 }
 
-fn push_steps(disk: &mut FileDisk, steps: &str, answer: &mut Answer) {
+fn push_steps<D: Disk>(disk: &mut D, steps: &str, answer: &mut Answer) {
     for name in steps.split(' ') {
-        answer.push(name);
         let done = step(disk, name).is_ok();
-        answer.push(if done { " ok, " } else { " failed, " });
+        answer.push_after(name, if done { " ok, " } else { " failed, " });
     }
 }
 
 // `write` writes an X at 0, `long` five of them, `cut` cuts to one byte, and `sync` syncs.
-fn step(disk: &mut FileDisk, name: &str) -> Result<(), DeviceFault> {
+fn step<D: Disk>(disk: &mut D, name: &str) -> Result<(), DeviceFault> {
     match name {
-        "write" => put(disk, 0, b"X"),
-        "long" => put(disk, 0, b"XXXXX"),
+        "write" => disk.write_at(0, b"X"),
+        "long" => disk.write_at(0, b"XXXXX"),
         "cut" => shorten(disk, 1),
         _ => disk.sync(),
     }

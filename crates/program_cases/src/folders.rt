@@ -29,11 +29,10 @@ pub(crate) fn push_contents(host: &HostRuntime, name: &str, answer: &mut Answer)
 
 /// Appends what a read of `ROOT PATH` gives.
 pub(crate) fn push_read_below(host: &HostRuntime, words: &str, answer: &mut Answer) {
-    let (root, path) = first_word(words);
-    match String::from_str(host.alloc(), root) {
-        Ok(root) => push_read(host, Some(root), path, answer),
-        Err(_) => answer.note_no_memory(),
-    }
+    let (name, path) = first_word(words);
+    let mut root = String::new(host.alloc());
+    answer.note(root.push_str(name));
+    push_read(host, Some(root), path, answer);
 }
 
 /// Appends what a read below this folder gives.

@@ -1,39 +1,43 @@
 //! The files that many sessions give.
 
-/// The lines that give the files of a name.
-///
-/// `a.rel`, `b.rel` and `c.rel` are each the file of a release, of version 1 or 2 of `ch_app`. The
-/// other names are of two releases in folders, whose `ch_app` has modules: `A` are all files of the
-/// first, and each name that begins with `B.` is one of the second's.
-pub(crate) fn given(name: &str) -> &'static str {
-    match name {
-        "a.rel" => A_REL,
-        "b.rel" => B_REL,
-        "c.rel" => C_REL,
-        "A" => A,
-        "B.rel" => RELEASE_B,
-        "B.app" => APPLICATION_B,
-        "B.ch_sup" => CH_SUP_B,
-        "B.aux" => AUX_B,
-        "B.ch3" => CH3_B,
-        _ => "no such name\n",
+// The lines that give the files of a name.
+//
+// `a.rel`, `b.rel` and `c.rel` are each the file of a release, of version 1 or 2 of `ch_app`. The
+// other names are of two releases in folders, whose `ch_app` has modules: `A` are all files of the
+// first, and each name that begins with `B.` is one of the second's.
+const GIVEN: &[(&str, &str)] = &[
+    ("@a.rel", A_REL),
+    ("@b.rel", B_REL),
+    ("@c.rel", C_REL),
+    ("@A", A),
+    ("@B.rel", RELEASE_B),
+    ("@B.app", APPLICATION_B),
+    ("@B.ch_sup", CH_SUP_B),
+    ("@B.aux", AUX_B),
+    ("@B.ch3", CH3_B),
+];
+
+/// The lines for which a line stands: those of its name in [`GIVEN`], or the line alone.
+pub(crate) fn given(line: &str) -> &str {
+    for (name, lines) in GIVEN {
+        if *name == line {
+            return lines;
+        }
     }
+    line
 }
 
 const A_REL: &str = r#"file a.rel
 {release,{"ch_rel","A"},{erts,"14.2"},[{ch_app,"1"}]}.
-.end
-"#;
+.end"#;
 
 const B_REL: &str = r#"file b.rel
 {release,{"ch_rel","B"},{erts,"14.2"},[{ch_app,"2"}]}.
-.end
-"#;
+.end"#;
 
 const C_REL: &str = r#"file c.rel
 {release,{"ch_rel","C"},{erts,"14.2"},[{ch_app,"2"}]}.
-.end
-"#;
+.end"#;
 
 const A: &str = r#"file releases/A/ch_rel.rel
 {release,{"ch_rel","A"},{erts,"14.2"},[{ch_app,"1"}]}.
@@ -49,30 +53,24 @@ file lib/ch_app-1/ebin/aux.mod
 .end
 file lib/ch_app-1/ebin/ch3.mod
 {worker,ch3,"1",0,[{add,1,1},{on,4,7,40,400}]}.
-.end
-"#;
+.end"#;
 
 const RELEASE_B: &str = r#"file releases/B/ch_rel.rel
 {release,{"ch_rel","B"},{erts,"14.2"},[{ch_app,"2"}]}.
-.end
-"#;
+.end"#;
 
 const APPLICATION_B: &str = r#"file lib/ch_app-2/ebin/ch_app.app
 {application,ch_app,[{vsn,"2"},{modules,[ch_sup,ch3,aux]},{mod,{ch_sup,[]}}]}.
-.end
-"#;
+.end"#;
 
 const CH_SUP_B: &str = r#"file lib/ch_app-2/ebin/ch_sup.mod
 {supervisor,ch_sup,"1",[{ch3,{ch3,start_link,[]},permanent,2000,worker,[ch3]},{aux,{aux,start_link,[]},transient,brutal_kill,worker,[aux]}]}.
-.end
-"#;
+.end"#;
 
 const AUX_B: &str = r#"file lib/ch_app-2/ebin/aux.mod
 {worker,aux,"1",0,[{add,1,5},{stop,5,9,99}]}.
-.end
-"#;
+.end"#;
 
 const CH3_B: &str = r#"file lib/ch_app-2/ebin/ch3.mod
 {worker,ch3,"2",100,[{add,1,2},{change,"1",[],[{3,103}]},{change,{down,"1"},[],[{103,3}]}]}.
-.end
-"#;
+.end"#;

@@ -1,5 +1,5 @@
 //! What the host gives: arguments, paths, and files in the folder in which the program runs.
-use crate::disks::{push_edited, push_opening, push_openings, push_records, push_store};
+use crate::disks::{Use, push_disk, push_edited, push_openings};
 use crate::faults::push_faults;
 use crate::folders::{push_contents, push_made, push_read, push_read_below};
 use crate::options::push_options;
@@ -14,10 +14,7 @@ use text_cases::Answer;
 /// need store none. `contents NAME`: what stands in the file. `read ROOT PATH`: what a read below the folder ROOT gives, by its
 /// length from eight bytes on; `read_nowhere PATH`: where no folder is given.
 ///
-/// `open NAME`: whether it opens as a disk. `open_twice NAME`: the same, then while it is open, then once it is closed. `edit
-/// NAME`: the bytes of the disk, those behind three writes, a cut and an opening more, and those in the file. `store NAME`
-/// makes a store of two records, and `records NAME` shows them. `faults HOW NAME STEPS`: what the steps answer of a disk over
-/// the file, which is opened HOW: `reads` or `writes` or `fills`, for reads, for both, or for writes alone.
+/// The other modes are those of [`push_of_disks`].
 pub(crate) fn push_host(host: &HostRuntime, mode: &str, words: &str, answer: &mut Answer) {
     match mode {
         "options" => push_options(host.alloc(), words, answer),
@@ -30,14 +27,18 @@ pub(crate) fn push_host(host: &HostRuntime, mode: &str, words: &str, answer: &mu
     }
 }
 
-fn push_of_disks(host: &HostRuntime, mode: &str, words: &str, answer: &mut Answer) {
+// `open NAME`: whether it opens as a disk. `open_twice NAME`: the same, then while it is open, then once it is closed. `edit
+// NAME`: the bytes of the disk, those behind three writes, a cut and an opening more, and those in the file. `store NAME`
+// makes a store of two records, and `records NAME` shows them. `faults HOW NAME STEPS`: what the steps answer of a disk over the
+// file, which is opened HOW: `reads` or `writes` or `fills`, for reads, for both, or for writes alone.
+fn push_of_disks(host: &HostRuntime, mode: &str, name: &str, answer: &mut Answer) {
     match mode {
-        "open" => push_opening(host, words, answer),
-        "open_twice" => push_openings(host, words, answer),
-        "edit" => push_edited(host, words, answer),
-        "store" => push_store(host, words, answer),
-        "records" => push_records(host, words, answer),
-        "faults" => push_faults(host, words, answer),
+        "open" => push_disk(host, Use::Open, name, answer),
+        "open_twice" => push_openings(host, name, answer),
+        "edit" => push_edited(host, name, answer),
+        "store" => push_disk(host, Use::MakeStore, name, answer),
+        "records" => push_disk(host, Use::ShowRecords, name, answer),
+        "faults" => push_faults(host, name, answer),
         _ => answer.push("no such mode"),
     }
 }

@@ -1,20 +1,24 @@
 //! Which arguments are options.
-use rel_host::{OptionsError, read_options};
+use rel_host::{Options, OptionsError, read_options};
 use std::alloc::Global;
 use text_cases::Answer;
 
 /// Appends what these arguments give, with blanks between them.
 pub(crate) fn push_options(alloc: Global, words: &str, answer: &mut Answer) {
-    let Ok(words) = words.split_whitespace().collect::<Vec<&str>>(alloc) else {
-        return answer.note_no_memory();
-    };
-    match read_options(alloc, &words) {
+    match words.split_whitespace().collect::<Vec<&str>>(alloc) {
+        Ok(words) => push_read(&read_options(alloc, &words), answer),
+        Err(_) => answer.note_no_memory(),
+    }
+}
+
+fn push_read(read: &Result<Options, OptionsError>, answer: &mut Answer) {
+    match read {
         Ok(options) => {
             push_given("store", &options.store, answer);
             push_given(", root", &options.root, answer);
         }
         Err(OptionsError::BadArguments) => answer.push("bad"),
-        Err(OptionsError::NoMemory) => answer.push("no memory"),
+        Err(OptionsError::NoMemory) => answer.note_no_memory(),
     }
 }
 

@@ -1,7 +1,8 @@
 //! Sessions on a disk in memory, and what they write.
 use crate::given::given;
+use crate::narrow_writers::{Bounded, Room, WIDE};
 use counted_io::CountedWriter;
-use rel_disk::{Disk, MemDisk};
+use rel_disk::{Disk, FailDisk, MemDisk};
 use rel_session::session;
 use session_input::{Input, SessionError};
 use std::alloc::{AllocError, Global};
@@ -17,32 +18,62 @@ lib/ch_app-2/ebin/ch_app.app {application,ch_app,[{vsn,"2"}]}."#;
 // Room for the sessions of these cases, in bytes.
 const DISK: usize = 65_536;
 
-/// What each session of a case writes, with ` | ` for a newline, and behind it in parentheses how the session ended. Sessions of
-/// one case are parted by ` || `. They follow each other on one disk, which is empty at first.
+/// What befalls the first session of a case.
+#[derive(Clone, Copy)]
+pub(crate) struct Setting {
+    /// The disk's call of this number, counted from 1, fails. With 0 none does.
+    pub(crate) call: usize,
+    /// Whether that call has a part of its effect, in place of none.
+    pub(crate) in_part: bool,
+    /// The room for what it writes.
+    pub(crate) room: Room,
+}
+
+/// Nothing fails.
+pub(crate) const PLAIN: Setting = Setting {
+    call: 0,
+    in_part: false,
+    room: WIDE,
+};
+
+/// Appends what each session of a text writes, as in [`push_written`], and how it ended. They follow each other on one disk, which
+/// is empty at first.
 ///
 /// Where a text has sessions, their lines are parted by ` | `, and the sessions by ` || `. A line `@NAME` stands for the lines
 /// that give the files of this name (src/given.rt). A file that isn't given in its session comes from a source of these files,
 /// which have the form of [`APPLICATIONS`].
-pub(crate) fn push_over(alloc: Global, files: &str, text: &str, answer: &mut Answer) {
-    match empty_disk(alloc) {
-        Ok(disk) => follow_all(alloc, disk, files, Some(text), answer),
+pub(crate) fn push_sessions(
+    alloc: Global,
+    files: &str,
+    first: Setting,
+    text: &str,
+    answer: &mut Answer,
+) {
+    match MemDisk::new(alloc, DISK, 2 * DISK) {
+        Ok(disk) => {
+            let disk = FailDisk {
+                disk,
+                left: first.call as u64,
+                refused: 0,
+                in_part: first.in_part,
+            };
+            follow_all(alloc, disk, files, first.room, text, answer);
+        }
         Err(_) => answer.note_no_memory(),
     }
 }
 
-/// Sessions behind the files of their source.
+/// The same of sessions behind the files of their source.
 pub(crate) fn push_over_files(alloc: Global, text: &str, answer: &mut Answer) {
     let (files, text) = text.split_once(" || ").unwrap_or((text, ""));
-    match files.replace(alloc, " | ", "\n") {
-        Ok(files) => push_over(alloc, files.as_str(), text, answer),
-        Err(_) => answer.note_no_memory(),
-    }
+    let files = lines_of(alloc, files, answer);
+    push_sessions(alloc, files.as_str(), PLAIN, text, answer);
 }
 
 /// Appends what one session of this input writes.
 pub(crate) fn push_input<R: Read + Drop>(alloc: Global, reader: R, answer: &mut Answer) {
-    match empty_disk(alloc) {
-        Ok(disk) => drop(follow(alloc, disk, APPLICATIONS, reader, answer)),
+    match MemDisk::new(alloc, DISK, 2 * DISK) {
+        Ok(disk) => drop(follow(alloc, disk, APPLICATIONS, WIDE, reader, answer)),
         Err(_) => answer.note_no_memory(),
     }
 }
@@ -65,117 +96,84 @@ fn blanks(alloc: Global, bytes: usize) -> Result<String, AllocError> {
     input.finish()
 }
 
-/// A disk with nothing on it.
-pub(crate) fn empty_disk(alloc: Global) -> Result<MemDisk, AllocError> {
-    MemDisk::new(alloc, DISK, 2 * DISK)
-}
-
-/// The first session of a text, and those behind it, if there are any.
-pub(crate) fn first_of(text: &str) -> (&str, Option<&str>) {
-    match text.split_once(" || ") {
-        Some((first, next)) => (first, Some(next)),
-        None => (text, None),
-    }
-}
-
-/// The input of a session.
-pub(crate) fn input_of(alloc: Global, text: &str) -> Result<String, AllocError> {
-    let mut input = Answer::new(alloc);
-    for line in text.split(" | ") {
-        push_line(line, &mut input);
-    }
-    input.finish()
-}
-
-fn push_line(line: &str, input: &mut Answer) {
-    match line.strip_prefix('@') {
-        Some(name) => input.push(given(name)),
-        None => input.push_after(line, "\n"),
-    }
-}
-
-/// Appends what further sessions of a case write, one after another on this disk.
-pub(crate) fn follow_all(
+// Appends what the sessions of a text write, one after another on this disk. The room is that of the first, in which alone the
+// disk may fail.
+fn follow_all(
     alloc: Global,
-    disk: MemDisk,
+    disk: FailDisk<MemDisk>,
     files: &str,
-    text: Option<&str>,
-    answer: &mut Answer,
-) {
-    let Some(text) = text else {
-        return;
-    };
-    let mut disk = disk;
-    for part in text.split(" || ") {
-        disk = follow_text(alloc, disk, files, part, answer);
-    }
-}
-
-/// Appends what a session of this text writes. The disk comes back.
-pub(crate) fn follow_text<D: Disk + Drop>(
-    alloc: Global,
-    disk: D,
-    files: &str,
+    room: Room,
     text: &str,
     answer: &mut Answer,
-) -> D {
-    match input_of(alloc, text) {
-        Ok(input) => follow(alloc, disk, files, input.as_bytes(), answer),
-        Err(_) => {
-            answer.note_no_memory();
-            disk
-        }
+) {
+    let mut disk = disk;
+    let mut room = room;
+    for part in text.split(" || ") {
+        let lines = lines_of(alloc, part, answer);
+        disk = follow(alloc, disk, files, room, lines.as_bytes(), answer);
+        disk.left = 0;
+        room = WIDE;
     }
 }
 
-// Appends what a session of this input writes. The disk comes back.
+// The lines of a text, each with those that it stands for.
+fn lines_of(alloc: Global, text: &str, answer: &mut Answer) -> String {
+    let mut lines = String::new(alloc);
+    for line in text.split(" | ") {
+        answer.note(lines.push_str(given(line)));
+        answer.note(lines.push('\n'));
+    }
+    lines
+}
+
+// Appends what this room takes of a session of this input. The disk comes back.
 fn follow<D: Disk + Drop, R: Read + Drop>(
     alloc: Global,
     disk: D,
     files: &str,
+    room: Room,
     reader: R,
     answer: &mut Answer,
 ) -> D {
     let mut written = Vec::new(alloc);
-    let (disk, ended) = run(alloc, disk, files, reader, &mut written);
-    push_written(&written, answer);
+    let writer = Bounded {
+        room,
+        written: &mut written,
+    };
+    let (disk, ended) = run(alloc, disk, files, reader, writer);
+    push_written(alloc, &written, answer);
     push_end(&ended, answer);
     disk
 }
 
-/// Has a session of this input write to a writer. The disk comes back, and how the session ended.
-pub(crate) fn run<D: Disk + Drop, R: Read + Drop, W: Write + Drop>(
+// Has a session of this input write to a writer. The disk comes back, and how the session ended.
+fn run<D: Disk + Drop, R: Read + Drop, W: Write + Drop>(
     alloc: Global,
     disk: D,
     files: &str,
     reader: R,
     writer: W,
 ) -> (D, Result<(), SessionError>) {
-    let Ok(mut input) = Input::new(alloc, reader) else {
-        return (disk, Err(SessionError::NoMemory));
-    };
-    let mut output = CountedWriter::new(writer);
     let files = CaseFiles {
         lines: files.as_bytes(),
     };
-    session(alloc, disk, &files, &mut input, &mut output)
+    let mut output = CountedWriter::new(writer);
+    match Input::new(alloc, reader) {
+        Ok(mut input) => session(alloc, disk, &files, &mut input, &mut output),
+        Err(error) => (disk, Err(error)),
+    }
 }
 
-/// Appends what was written, with ` | ` for a newline.
-pub(crate) fn push_written(written: &[u8], answer: &mut Answer) {
+/// Appends what was written, with ` | ` for a newline. What several sessions of a case wrote is parted by ` || `.
+pub(crate) fn push_written(alloc: Global, written: &[u8], answer: &mut Answer) {
     if !answer.text.is_empty() {
         answer.push(" || ");
     }
     let written = str::from_utf8(written).unwrap_or("no text");
-    for (i, line) in written.split('\n').enumerate() {
-        if i > 0 {
-            answer.push(" | ");
-        }
-        answer.push(line);
-    }
+    answer.push_made(&written.replace(alloc, "\n", " | "));
 }
 
-/// Appends how a session or a listing ended.
+/// Appends in parentheses how a session or a listing ended.
 pub(crate) fn push_end<E: fmt::Debug>(ended: &Result<(), E>, answer: &mut Answer) {
     match ended {
         Ok(()) => answer.push("(end)"),

@@ -1,62 +1,70 @@
-//! Sessions whose disk, reader or writer fails.
+//! Sessions and listings, also such whose disk, reader or writer fails.
 use crate::failing_readers::{push_broken, push_letters};
 use crate::host::push_host;
-use crate::narrow_writers::{Room, push_in_room};
-use crate::sessions::{APPLICATIONS, empty_disk, first_of, follow_all, follow_text, push_blanks};
-use rel_disk::FailDisk;
+use crate::listings;
+use crate::listings::push_in_room;
+use crate::narrow_writers::Room;
+use crate::sessions::{APPLICATIONS, PLAIN, Setting, push_blanks, push_over_files, push_sessions};
 use std::alloc::Global;
 use text_cases::{Answer, first_word, number};
 
-/// The answer in one of seven modes, whose text begins with a number, or in one of [`push_host`].
+/// The answer in one of these modes, or in one of [`push_stream`] or of [`push_host`].
 ///
-/// - `blanks`: the input gives a file of so many bytes, a line of blanks, and makes a node of it.
-/// - `fail`: behind the number are sessions. The disk's call of this number, counted from 1, fails in the first session, and
-///   does nothing.
-/// - `part`: so, and the call that fails has a part of its effect.
-/// - `broken`: behind the number are the bytes of one input. A read gives at most so many of them, and fails behind the last.
-/// - `letters`: the input is so many letters, and a read fails behind them.
-/// - `bytes`: behind the number are sessions. What the first session writes is taken a byte at a write. So many are taken, and
-///   then a write fails.
-/// - `writes`: behind the number are another one and sessions. So many writes of the first session and so many flushes are
-///   taken. Then a write takes nothing, and a flush fails.
-pub(crate) fn push_stream(host: &HostRuntime, mode: &str, text: &str, answer: &mut Answer) {
+/// - `session`: the text has sessions, as in [`push_sessions`].
+/// - `bare`: so, and the source has no files.
+/// - `files`: the source has the files before the first ` || `, which are parted by ` | `: for each its path, a blank and its
+///   bytes. Behind that are sessions.
+/// - `list_broken`: as in [`listings::push_broken`].
+pub(crate) fn push_of_text(host: &HostRuntime, mode: &str, text: &str, answer: &mut Answer) {
+    let alloc = host.alloc();
+    match mode {
+        "session" => push_sessions(alloc, APPLICATIONS, PLAIN, text, answer),
+        "bare" => push_sessions(alloc, "", PLAIN, text, answer),
+        "files" => push_over_files(alloc, text, answer),
+        "list_broken" => listings::push_broken(alloc, text, answer),
+        _ => push_stream(host, mode, text, answer),
+    }
+}
+
+// The answer in one of eight modes, whose text begins with a number.
+//
+// - `blanks`: the input gives a file of so many bytes, a line of blanks, and makes a node of it.
+// - `letters`: the input is so many letters, and a read fails behind them.
+// - `broken`: behind the number are the bytes of one input. A read gives at most so many of them, and fails behind the last.
+// - `fail`: behind the number are sessions. The disk's call of this number, counted from 1, fails in the first session, and
+//   does nothing.
+// - `part`: so, and the call that fails has a part of its effect.
+// - `bytes`: behind the number are sessions. What the first session writes is taken a byte at a write. So many are taken, and
+//   then a write fails.
+// - `writes`: behind the number are another one and sessions. So many writes of the first session and so many flushes are
+//   taken. Then a write takes nothing, and a flush fails.
+// - `list_bytes`: behind the numbers is a text. Its listing is taken so, a byte at a write.
+fn push_stream(host: &HostRuntime, mode: &str, text: &str, answer: &mut Answer) {
     let alloc = host.alloc();
     let (word, rest) = first_word(text);
     let count = number(word);
     match mode {
         "blanks" => push_blanks(alloc, count, answer),
-        "broken" => push_broken(alloc, rest.as_bytes(), count, answer),
         "letters" => push_letters(alloc, count, answer),
-        "bytes" => push_in_room(alloc, Room::of_bytes(count as u64), rest, answer),
-        "writes" => push_writes(alloc, count as u64, rest, answer),
-        "fail" => push_failing(alloc, false, count as u64, rest, answer),
-        "part" => push_failing(alloc, true, count as u64, rest, answer),
+        "broken" => push_broken(alloc, rest.as_bytes(), count, answer),
+        "list_bytes" => push_in_room(alloc, text, answer),
+        "writes" => push_writes(alloc, text, answer),
+        "fail" | "part" | "bytes" => push_first(alloc, mode, count, rest, answer),
         _ => push_host(host, mode, text, answer),
     }
 }
 
-fn push_writes(alloc: Global, writes: u64, text: &str, answer: &mut Answer) {
-    let (word, text) = first_word(text);
-    let room = Room {
-        piece: 9_999,
-        writes,
-        flushes: number(word) as u64,
-        is_full: true,
-    };
-    push_in_room(alloc, room, text, answer);
+fn push_writes(alloc: Global, text: &str, answer: &mut Answer) {
+    let (room, text) = Room::of_words(9_999, text);
+    push_sessions(alloc, APPLICATIONS, Setting { room, ..PLAIN }, text, answer);
 }
 
-// The call of this number fails in the first session, in part or without effect.
-fn push_failing(alloc: Global, in_part: bool, call: u64, text: &str, answer: &mut Answer) {
-    let Ok(disk) = empty_disk(alloc) else {
-        return answer.note_no_memory();
-    };
-    let disk = if in_part {
-        FailDisk::failing_in_part(disk, call)
-    } else {
-        FailDisk::new(disk, call)
-    };
-    let (first, next) = first_of(text);
-    let disk = follow_text(alloc, disk, APPLICATIONS, first, answer);
-    follow_all(alloc, disk.disk, APPLICATIONS, next, answer);
+fn push_first(alloc: Global, mode: &str, count: usize, text: &str, answer: &mut Answer) {
+    let mut first = PLAIN;
+    match mode {
+        "bytes" => first.room = Room::of_bytes(count),
+        _ => first.call = count,
+    }
+    first.in_part = mode == "part";
+    push_sessions(alloc, APPLICATIONS, first, text, answer);
 }

@@ -13,14 +13,18 @@ use Rattle.start_record.specs.declared.error.StartError.TheVariants.{BadStart, D
 abbrev pub FailsNow : {D : Type 0} → (D → ℕ) → Store D → Store D → Type 0
 FailsNow failures old new = HasFailed (failures (disk_in old)) (failures (disk_in new)) × (has_failed old ≡ false) × (has_failed new ≡ true)
 
--- Why a start isn't read: the slot that counts spells none, or it spells one and memory was refused for it; the store works
--- on then. Or the device failed in this call, or in an earlier one, and nothing has changed.
+-- Why a slot gives no start: it spells none, or it spells one and memory was refused for it.
+abbrev pub SlotRefused : List ℕ → StartError → Type 0
+SlotRefused slot BadStart = SpellsNoStart slot
+SlotRefused slot NoMemory = (v : Versions) × SpellsStart slot v
+SlotRefused slot _ = ⊥
+
+-- Why a start isn't read: the slot that counts gives none, and the store works on then. Or the device failed in this call,
+-- or in an earlier one, and nothing has changed.
 abbrev pub ReadRefused : {D : Type 0} → (D → List ℕ) → (D → ℕ) → Store D → Store D → StartError → Type 0
-ReadRefused seen failures old new BadStart = SpellsNoStart (text_in seen old) × (has_failed old ≡ false) × (has_failed new ≡ false)
-ReadRefused seen failures old new NoMemory = ((v : Versions) × SpellsStart (text_in seen old) v) × (has_failed old ≡ false) × (has_failed new ≡ false)
 ReadRefused seen failures old new Device = FailsNow failures old new
 ReadRefused seen failures old new MustReopen = (has_failed old ≡ true) × IsSame old new
-ReadRefused seen failures old new TooLong = ⊥
+ReadRefused seen failures old new e = SlotRefused (text_in seen old) e × (has_failed old ≡ false) × (has_failed new ≡ false)
 
 -- Why a start isn't written: a version is too long, which is reported first, or the device failed in an earlier call, and
 -- nothing has changed; or it failed in this one.

@@ -6,7 +6,7 @@ ghost use Rattle.rel_store.specs.Contents.{HasOnlyRead};
 ghost use Rattle.rel_store.specs.Layout.{slot_with};
 ghost use Rattle.rel_store.specs.Records.{Stands, StandsWithEither};
 ghost use Rattle.rel_store.specs.State.{disk_in, records_in, text_in, end_in, has_failed, HasRoom, IsSettled, IsSoundStore};
-ghost use Rattle.start_record.specs.Refusals.{ReadRefused, WriteRefused};
+ghost use Rattle.start_record.specs.Refusals.{ReadRefused, SlotRefused, WriteRefused};
 ghost use Rattle.start_record.specs.Text.{Versions, versions_of, AreVersions, AreTooLong, start_text, SpellsStart, SpellsEither};
 
 use crate::StartError;
@@ -52,10 +52,18 @@ pub fn read_start<D: Disk>(alloc: Global, store: &mut Store<D>) -> Result<Start,
     ensures refused { IfErr result (ReadRefused D.seen D.failures store.old store.new) }
 {
     let mut slot = [0; 128];
-    if let Err(error) = store.read_slot(&mut slot) {
-        return Err(slot_error(error));
+    match store.read_slot(&mut slot) {
+        Ok(()) => start_in(alloc, &slot),
+        Err(error) => Err(slot_error(error)),
     }
-    let Some((erts, vsn)) = versions_in(&slot) else {
+}
+
+// The start that a slot spells.
+fn start_in(alloc: Global, slot: &[u8; 128]) -> Result<Start, StartError>
+    ensures read { IfOk result (λ start. SpellsStart slot.now (versions_of start)) }
+    ensures refused { IfErr result (SlotRefused slot.now) }
+{
+    let Some((erts, vsn)) = versions_in(slot) else {
         return Err(StartError::BadStart);
     };
     Ok(Start {

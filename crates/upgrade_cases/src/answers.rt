@@ -1,5 +1,11 @@
 //! The answer to a case.
-use crate::{appups, calls, made_relups, relups, relups_of_files, tables};
+use crate::steps::follow_steps;
+use crate::texts::push_relup;
+use crate::threads::push_clients;
+use crate::{appups, made_relups, relups, relups_of_files, tables};
+use appup_file::read_appup;
+use mod_table::read_mod;
+use relup_file::{Direction, read_relup};
 use std::alloc::{AllocError, Global};
 use std::sync::Wait;
 use std::thread::Threads;
@@ -19,10 +25,11 @@ use text_cases::Answer;
 /// is read of the instructions of a file's only upgrade. `up`, `down`: the instructions that are found; the text is a
 /// version and a file with a blank between.
 ///
-/// `steps`, `clients`: what clients see of processes, as in [`calls::push_answer`].
+/// `translate`, `translate_up`, `translate_down`: the relup that is made of releases, or of instructions, as in
+/// [`made_relups`]. The modes of files are those of [`relups_of_files::push_answer`].
 ///
-/// The others are those of relups that are made: of [`made_relups::push_answer`] and of
-/// [`relups_of_files::push_answer`].
+/// `steps`: what steps at a new table answer, as in [`follow_steps`]. `clients`: what two clients and the handler see in
+/// threads of their own, as in [`push_clients`].
 pub(crate) fn answer<R: Threads + Wait + Sync>(
     rt: &R,
     alloc: Global,
@@ -30,17 +37,39 @@ pub(crate) fn answer<R: Threads + Wait + Sync>(
     text: &[u8],
 ) -> Result<String, AllocError> {
     let mut answer = Answer::new(alloc);
+    let words = str::from_utf8(text).unwrap_or("");
     match mode {
-        "mod" | "term" | "step" | "change" => tables::push_answer(alloc, mode, text, &mut answer),
-        "relup" | "script" | "check" | "find" => {
-            relups::push_answer(alloc, mode, text, &mut answer)
-        }
-        "appup" | "instrs" | "up" | "down" => appups::push_answer(alloc, mode, text, &mut answer),
-        "translate" | "translate_up" | "translate_down" => {
-            made_relups::push_answer(alloc, mode, text, &mut answer)
-        }
-        "steps" | "clients" => calls::push_answer(rt, alloc, mode, text, &mut answer)?,
-        _ => relups_of_files::push_answer(alloc, mode, text, &mut answer),
+        "steps" => follow_steps(rt, alloc, words, &mut answer),
+        "clients" => push_clients(rt, alloc, words, &mut answer),
+        _ => push_read(alloc, mode, text, words, &mut answer),
     }
     answer.finish()
+}
+
+// The answer in the modes that read files, of which those in the next function have cases that are UTF-8.
+fn push_read(alloc: Global, mode: &str, text: &[u8], words: &str, answer: &mut Answer) {
+    match mode {
+        "mod" => tables::push_read(&read_mod(alloc, text), answer),
+        "term" => tables::push_read(&tables::of_the_term(alloc, text), answer),
+        "relup" => push_relup(alloc, &read_relup(alloc, text), answer),
+        "script" => push_relup(alloc, &relups::with_script(alloc, text), answer),
+        "check" => relups::push_checked(&relups::with_script(alloc, text), answer),
+        "appup" => appups::push_read(&read_appup(alloc, text), answer),
+        "instrs" => appups::push_with_instrs(alloc, text, answer),
+        "translate" => made_relups::push_made(alloc, text, answer),
+        "translate_up" => made_relups::push_with_instrs(alloc, Direction::Up, text, answer),
+        "translate_down" => made_relups::push_with_instrs(alloc, Direction::Down, text, answer),
+        _ => push_of_words(alloc, mode, words, answer),
+    }
+}
+
+fn push_of_words(alloc: Global, mode: &str, words: &str, answer: &mut Answer) {
+    match mode {
+        "step" => tables::push_step(alloc, words, answer),
+        "change" => tables::push_change(alloc, words, answer),
+        "find" => relups::push_search(alloc, words, answer),
+        "up" => appups::push_searched(alloc, Direction::Up, words, answer),
+        "down" => appups::push_searched(alloc, Direction::Down, words, answer),
+        _ => relups_of_files::push_answer(alloc, mode, words, answer),
+    }
 }

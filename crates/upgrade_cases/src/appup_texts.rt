@@ -1,4 +1,5 @@
 //! What is read of appups, as text.
+use crate::texts::push_counted;
 use appup_file::{
     Appup, AppupEntry, AppupInstr, Dependent, ModType, ModuleLoad, OtherVersion, StateChange,
     Update,
@@ -11,8 +12,7 @@ use text_cases::Answer;
 
 /// Appends the version and the entries.
 pub(crate) fn push_appup(appup: &Appup, answer: &mut Answer) {
-    answer.push(appup.vsn.as_str());
-    answer.push(", up from [");
+    answer.push_after(&appup.vsn, ", up from [");
     push_entries(&appup.ups, answer);
     answer.push("], down to [");
     push_entries(&appup.downs, answer);
@@ -20,13 +20,12 @@ pub(crate) fn push_appup(appup: &Appup, answer: &mut Answer) {
 }
 
 fn push_entries(entries: &[AppupEntry], answer: &mut Answer) {
-    for (i, entry) in entries.iter().enumerate() {
-        if i > 0 {
-            answer.push(", ");
-        }
+    let mut between = "";
+    for entry in entries {
+        answer.push(between);
         push_version(&entry.vsn, answer);
-        answer.push(": ");
-        answer.push_number(entry.instrs.len() as u64);
+        push_counted(": ", entry.instrs.len() as u64, answer);
+        between = ", ";
     }
 }
 
@@ -34,42 +33,39 @@ fn push_version(vsn: &OtherVersion, answer: &mut Answer) {
     match vsn {
         OtherVersion::Text(vsn) => answer.push(vsn.as_str()),
         OtherVersion::Pattern(bytes) => {
-            answer.push("pattern ");
-            answer.push(str::from_utf8(bytes).unwrap_or("of other bytes"));
+            answer.push_after(
+                "pattern ",
+                str::from_utf8(bytes).unwrap_or("of other bytes"),
+            );
         }
     }
 }
 
 /// Appends the instructions one after another.
 pub(crate) fn push_instrs(alloc: Global, instrs: &[AppupInstr], answer: &mut Answer) {
-    for (i, instr) in instrs.iter().enumerate() {
-        if i > 0 {
-            answer.push("; ");
-        }
+    let mut between = "";
+    for instr in instrs {
+        answer.push(between);
         push_instr(alloc, instr, answer);
+        between = "; ";
     }
 }
 
 fn push_instr(alloc: Global, instr: &AppupInstr, answer: &mut Answer) {
     match instr {
         AppupInstr::Update(update) => push_update(alloc, update, answer),
-        AppupInstr::UpdateSupervisor(name) => push_named("supervisor ", name, answer),
+        AppupInstr::UpdateSupervisor(name) => answer.push_after("supervisor ", name),
         AppupInstr::LoadModule(load) => push_load(load, answer),
         AppupInstr::AddModule(dependent) => push_dependent("add ", dependent, answer),
         AppupInstr::DeleteModule(dependent) => push_dependent("delete ", dependent, answer),
         AppupInstr::AddApplication(added) => {
-            push_named("add application ", &added.name, answer);
+            answer.push_after("add application ", &added.name);
             answer.push(start_word(added.start));
         }
-        AppupInstr::RemoveApplication(name) => push_named("remove application ", name, answer),
-        AppupInstr::RestartApplication(name) => push_named("restart application ", name, answer),
+        AppupInstr::RemoveApplication(name) => answer.push_after("remove application ", name),
+        AppupInstr::RestartApplication(name) => answer.push_after("restart application ", name),
         AppupInstr::LowLevel(instr) => push_low_level(alloc, instr, answer),
     }
-}
-
-fn push_named(before: &str, name: &String, answer: &mut Answer) {
-    answer.push(before);
-    answer.push(name.as_str());
 }
 
 fn push_low_level(alloc: Global, instr: &Instr, answer: &mut Answer) {
@@ -83,14 +79,15 @@ fn push_low_level(alloc: Global, instr: &Instr, answer: &mut Answer) {
 }
 
 fn push_update(alloc: Global, update: &Update, answer: &mut Answer) {
-    push_named("update ", &update.name, answer);
+    answer.push_after("update ", &update.name);
     answer.push(match update.mod_type {
         ModType::Static => " static ",
         ModType::Dynamic => " dynamic ",
     });
     push_timeout(update.timeout, answer);
     push_change(alloc, &update.change, answer);
-    push_purges(update.pre, update.post, answer);
+    push_purge(update.pre, answer);
+    push_purge(update.post, answer);
     push_names(&update.dep_mods, answer);
 }
 
@@ -112,27 +109,22 @@ fn push_change(alloc: Global, change: &StateChange, answer: &mut Answer) {
     }
 }
 
-// Appends what is purged before and behind.
-fn push_purges(pre: PurgeMode, post: PurgeMode, answer: &mut Answer) {
-    answer.push(purge_word(pre));
-    answer.push(purge_word(post));
-}
-
-fn purge_word(mode: PurgeMode) -> &'static str {
-    match mode {
+fn push_purge(mode: PurgeMode, answer: &mut Answer) {
+    answer.push(match mode {
         PurgeMode::Soft => " soft",
         PurgeMode::Brutal => " brutal",
-    }
+    });
 }
 
 fn push_load(load: &ModuleLoad, answer: &mut Answer) {
-    push_named("load ", &load.name, answer);
-    push_purges(load.pre, load.post, answer);
+    answer.push_after("load ", &load.name);
+    push_purge(load.pre, answer);
+    push_purge(load.post, answer);
     push_names(&load.dep_mods, answer);
 }
 
 fn push_dependent(word: &str, dependent: &Dependent, answer: &mut Answer) {
-    push_named(word, &dependent.name, answer);
+    answer.push_after(word, &dependent.name);
     push_names(&dependent.dep_mods, answer);
 }
 
@@ -149,11 +141,10 @@ fn start_word(start: StartType) -> &'static str {
 // Appends names in brackets.
 fn push_names(names: &[String], answer: &mut Answer) {
     answer.push(" [");
-    for (i, name) in names.iter().enumerate() {
-        if i > 0 {
-            answer.push(",");
-        }
-        answer.push(name.as_str());
+    let mut between = "";
+    for name in names {
+        answer.push_after(between, name);
+        between = ",";
     }
     answer.push("]");
 }

@@ -2,36 +2,28 @@
 ghost use Rattle.std.specs.Prelude.{◌≡◌};
 
 use crate::processes::{beginning, push_pid};
-use mod_table::Restart;
+use crate::texts::push_counted;
 use proc_history::Value;
 use proc_table::{HandlerSeat, Pass, Peeked, Pid, ProcTable, Tried};
 use std::alloc::Global;
 use std::sync::Wait;
 use text_cases::Answer;
 
-/// Appends what calls of a process answer to one client, and what it peeks then.
+/// Appends what calls of a process answer to a client, and what it peeks then.
 pub(crate) fn push_calls(
     table: &ProcTable,
-    seat: &mut HandlerSeat,
+    pass: &mut Pass,
     pid: Pid,
     inputs: &str,
     answer: &mut Answer,
 )
-    requires { seat.old.table ≡ table.now }
-    ensures { seat.new.table ≡ seat.old.table }
+    requires { pass.old.table ≡ table.now }
+    ensures { pass.new.table ≡ pass.old.table }
 {
-    let mut pass = table.new_pass(seat);
     for input in inputs.split(' ') {
-        push_call(
-            table,
-            &mut pass,
-            pid,
-            input.parse::<u32>().unwrap_or(0),
-            answer,
-        );
+        push_call(table, pass, pid, input.parse::<u32>().unwrap_or(0), answer);
     }
-    push_peek(table, &mut pass, pid, answer);
-    table.take_back(seat, pass);
+    push_peek(table, pass, pid, answer);
 }
 
 /// Appends what a call answers to a client, and what it peeks once another client met it that sat down before the call.
@@ -53,23 +45,22 @@ pub(crate) fn push_held<R: Wait>(
     rt: &R,
     table: &ProcTable,
     seat: &mut HandlerSeat,
+    pass: &mut Pass,
     pid: Pid,
     answer: &mut Answer,
 )
-    requires { seat.old.table ≡ table.now }
-    ensures { seat.new.table ≡ seat.old.table }
+    requires seat { seat.old.table ≡ table.now }
+    requires pass { pass.old.table ≡ table.now }
+    ensures seat { seat.new.table ≡ seat.old.table }
+    ensures pass { pass.new.table ≡ pass.old.table }
 {
-    let mut pass = table.new_pass(seat);
     let held = table.hold(rt, seat, pid);
-    push_call(table, &mut pass, pid, 1, answer);
-    push_peek(table, &mut pass, pid, answer);
+    push_calls(table, pass, pid, "1", answer);
     answer.push(", free ");
     push_pid(seat.lowest_free(), answer);
     table.release(seat, held, &[]);
     answer.push(", then ");
-    push_call(table, &mut pass, pid, 1, answer);
-    push_peek(table, &mut pass, pid, answer);
-    table.take_back(seat, pass);
+    push_calls(table, pass, pid, "1", answer);
 }
 
 /// Appends whether a process begins in a slot whose last round was used.
@@ -84,7 +75,7 @@ pub(crate) fn push_last_round<R: Wait>(
     requires { seat.old.table ≡ table.now }
     ensures { seat.new.table ≡ seat.old.table }
 {
-    let Some(begins) = beginning(alloc, Restart::Permanent) else {
+    let Some(begins) = beginning(alloc, "permanent") else {
         answer.note_no_memory();
         return;
     };
@@ -104,9 +95,9 @@ fn push_call(table: &ProcTable, pass: &mut Pass, pid: Pid, input: u32, answer: &
     ensures { pass.new.table ≡ pass.old.table }
 {
     match table.try_call(pass, pid, input) {
-        Tried::Done(reply) => push_counted("done ", reply, answer),
+        Tried::Done(reply) => push_counted("done ", reply as u64, answer),
         Tried::Crashed => answer.push("crashed"),
-        Tried::Ended(reply) => push_counted("ended ", reply, answer),
+        Tried::Ended(reply) => push_counted("ended ", reply as u64, answer),
         Tried::Busy => answer.push("busy"),
         Tried::Held => answer.push("held"),
         Tried::Down => answer.push("down"),
@@ -120,14 +111,9 @@ pub(crate) fn push_peek(table: &ProcTable, pass: &mut Pass, pid: Pid, answer: &m
     ensures { pass.new.table ≡ pass.old.table }
 {
     match table.try_peek(pass, pid) {
-        Peeked::Seen(state) => push_counted("seen ", state, answer),
+        Peeked::Seen(state) => push_counted("seen ", state as u64, answer),
         Peeked::Busy => answer.push("busy"),
         Peeked::Held => answer.push("held"),
         Peeked::Down => answer.push("down"),
     }
-}
-
-fn push_counted(what: &str, number: u32, answer: &mut Answer) {
-    answer.push(what);
-    answer.push_number(number as u64);
 }

@@ -7,7 +7,6 @@
 mod answers;
 mod appup_texts;
 mod appups;
-mod calls;
 mod clients;
 mod made_relups;
 mod processes;
@@ -16,6 +15,7 @@ mod relups;
 mod relups_of_files;
 mod steps;
 mod tables;
+mod texts;
 mod threads;
 
 use crate::answers::answer;

@@ -1,6 +1,7 @@
 //! Processes that begin.
 ghost use Rattle.std.specs.Prelude.{◌≡◌};
 
+use crate::texts::push_counted;
 use mod_table::{Restart, Table, read_mod};
 use proc_history::{Beginning, Name};
 use proc_table::{HandlerSeat, Pid, ProcTable};
@@ -15,54 +16,42 @@ fn name(alloc: Global, text: &str) -> Option<Name> {
     Some(Name::new(String::from_str(alloc, text).ok()?))
 }
 
-/// What a process begins with. Nothing where no memory is there.
-pub(crate) fn beginning(alloc: Global, restart: Restart) -> Option<Beginning> {
-    let Ok(Table::Worker(table)) = read_mod(alloc, CH3) else {
-        return None;
-    };
-    Some(Beginning {
-        app: name(alloc, "ch_app")?,
-        id: name(alloc, "ch3")?,
-        restart,
-        table,
-    })
-}
-
-/// A process begins in a slot, or in the lowest in which one can, where the word is no number of a slot. Appends its name.
-pub(crate) fn push_begun<R: Wait>(
-    rt: &R,
-    alloc: Global,
-    table: &ProcTable,
-    seat: &mut HandlerSeat,
-    slot: &str,
-    how: &str,
-    answer: &mut Answer,
-)
-    requires { seat.old.table ≡ table.now }
-    ensures { seat.new.table ≡ seat.old.table }
-{
+/// What a process begins with, which is permanent unless it is to be `temporary`. Nothing where no memory is there.
+pub(crate) fn beginning(alloc: Global, how: &str) -> Option<Beginning> {
     let restart = if how == "temporary" {
         Restart::Temporary
     } else {
         Restart::Permanent
     };
-    match beginning(alloc, restart) {
-        Some(begins) => push_pid(begin(rt, table, seat, slot, begins), answer),
-        None => answer.note_no_memory(),
+    match read_mod(alloc, CH3) {
+        Ok(Table::Worker(table)) => Some(Beginning {
+            app: name(alloc, "ch_app")?,
+            id: name(alloc, "ch3")?,
+            restart,
+            table,
+        }),
+        _ => None,
     }
 }
 
-fn begin<R: Wait>(
+/// A process begins in the slot of a Pid, or in the lowest in which one can, where there is no Pid.
+pub(crate) fn begin<R: Wait>(
     rt: &R,
+    alloc: Global,
     table: &ProcTable,
     seat: &mut HandlerSeat,
-    slot: &str,
-    begins: Beginning,
+    pid: Option<Pid>,
+    how: &str,
+    answer: &mut Answer,
 ) -> Option<Pid>
     requires { seat.old.table ≡ table.now }
     ensures { seat.new.table ≡ seat.old.table }
 {
-    match Pid::new(slot.parse::<usize>().unwrap_or(usize::MAX), 0) {
+    let Some(begins) = beginning(alloc, how) else {
+        answer.note_no_memory();
+        return None;
+    };
+    match pid {
         Some(pid) => table.begin(rt, seat, pid, begins).ok(),
         None => table.begin_lowest(rt, seat, begins).ok(),
     }
@@ -72,9 +61,8 @@ fn begin<R: Wait>(
 pub(crate) fn push_pid(pid: Option<Pid>, answer: &mut Answer) {
     match pid {
         Some(pid) => {
-            answer.push_number(pid.slot as u64);
-            answer.push(" ");
-            answer.push_number(pid.round as u64);
+            push_counted("", pid.slot as u64, answer);
+            push_counted(" ", pid.round as u64, answer);
         }
         None => answer.push("none"),
     }

@@ -1,6 +1,8 @@
 //! Relups of files.
-use relup_command::{RelupError, make_relup_of_files};
-use relup_file::{Relup, print_relup};
+ghost use Rattle.std.specs.Prelude.{◌≡◌, IfOk, length};
+
+use crate::texts::push_relup;
+use relup_command::make_relup_of_files;
 use std::alloc::{AllocError, Global};
 use text_cases::{Answer, CaseFiles};
 
@@ -8,42 +10,31 @@ use text_cases::{Answer, CaseFiles};
 ///
 /// `up_of_files`: up to it from that of `old.rel`. `down_of_files`: down from it to that one. `both_of_files`: both.
 /// `two_of_files`: up from `old.rel` and from `older.rel`.
-pub(crate) fn push_answer(alloc: Global, mode: &str, text: &[u8], answer: &mut Answer) {
-    let files = CaseFiles { lines: text };
-    match mode {
-        "up_of_files" => push_relup(alloc, &files, "old.rel", "", answer),
-        "down_of_files" => push_relup(alloc, &files, "", "old.rel", answer),
-        "both_of_files" => push_relup(alloc, &files, "old.rel", "old.rel", answer),
-        "two_of_files" => push_relup(alloc, &files, "old.rel older.rel", "", answer),
-        _ => answer.push("no such mode"),
-    }
+pub(crate) fn push_answer(alloc: Global, mode: &str, text: &str, answer: &mut Answer) {
+    // How many of the older releases there are upgrades from, and downgrades to.
+    let (ups, downs) = match mode {
+        "up_of_files" => (1, 0),
+        "down_of_files" => (0, 1),
+        "both_of_files" => (1, 1),
+        "two_of_files" => (2, 0),
+        _ => return answer.push("no such mode"),
+    };
+    let Ok(paths) = old_paths(alloc) else {
+        return answer.note_no_memory();
+    };
+    let files = CaseFiles {
+        lines: text.as_bytes(),
+    };
+    let made = make_relup_of_files(alloc, &files, "new.rel", &paths[..ups], &paths[..downs]);
+    push_relup(alloc, &made, answer);
 }
 
-fn push_relup(alloc: Global, files: &CaseFiles<'_>, ups: &str, downs: &str, answer: &mut Answer) {
-    match (paths(alloc, ups), paths(alloc, downs)) {
-        (Ok(ups), Ok(downs)) => {
-            push_made(
-                alloc,
-                &make_relup_of_files(alloc, files, "new.rel", &ups, &downs),
-                answer,
-            )
-        }
-        _ => answer.note_no_memory(),
-    }
-}
-
-// The paths between blanks.
-fn paths(alloc: Global, text: &str) -> Result<Vec<String>, AllocError> {
+// The paths of the older releases, that of the youngest first.
+fn old_paths(alloc: Global) -> Result<Vec<String>, AllocError>
+    ensures { IfOk result (λ paths. length paths.items ≡ 2) }
+{
     let mut paths = Vec::new(alloc);
-    for path in text.split_whitespace() {
-        paths.push(String::from_str(alloc, path)?)?;
-    }
+    paths.push(String::from_str(alloc, "old.rel")?)?;
+    paths.push(String::from_str(alloc, "older.rel")?)?;
     Ok(paths)
-}
-
-fn push_made(alloc: Global, made: &Result<Relup, RelupError>, answer: &mut Answer) {
-    match made {
-        Ok(relup) => answer.push_made(&print_relup(alloc, relup)),
-        Err(error) => answer.push_shown(error),
-    }
 }

@@ -2,13 +2,14 @@
 ghost use Rattle.std.specs.Prelude.{◌≡◌};
 
 use crate::clients::{push_calls, push_held, push_last_round, push_meeting};
-use crate::processes::{push_begun, push_pid};
+use crate::processes::{begin, push_pid};
 use proc_table::{HandlerSeat, Pid, ProcTable};
 use std::alloc::Global;
 use std::sync::Wait;
 use text_cases::{Answer, first_word};
 
-/// Appends what steps answer, with `; ` between them as between the steps. A process is named by its slot and its round.
+/// Appends what steps at a new table answer, with `; ` between them as between the steps. A process is named by its slot and its
+/// round.
 ///
 /// - `begin SLOT`, `begin SLOT temporary`: a process begins in the slot. `begin lowest`: in the lowest in which one can. Its name
 ///   is told, or `none` where none begins.
@@ -16,22 +17,15 @@ use text_cases::{Answer, first_word};
 /// - `last_round SLOT`: whether one begins in a slot whose last round was used.
 /// - `calls SLOT ROUND INPUT..`, `meet SLOT ROUND`, `held SLOT ROUND`: what clients see, as [`push_calls`], [`push_meeting`] and
 ///   [`push_held`] tell.
-pub(crate) fn follow_steps<R: Wait>(
-    rt: &R,
-    alloc: Global,
-    table: &ProcTable,
-    seat: HandlerSeat,
-    words: &str,
-    answer: &mut Answer,
-)
-    requires { seat.table ≡ table.now }
-{
-    let mut seat = seat;
-    for (i, step) in words.split("; ").enumerate() {
-        if i > 0 {
+pub(crate) fn follow_steps<R: Wait>(rt: &R, alloc: Global, words: &str, answer: &mut Answer) {
+    let Ok((table, mut seat)) = ProcTable::new(alloc) else {
+        return answer.note_no_memory();
+    };
+    for step in words.split("; ") {
+        if !answer.text.is_empty() {
             answer.push("; ");
         }
-        take_step(rt, alloc, table, &mut seat, step, answer);
+        take_step(rt, alloc, &table, &mut seat, step, answer);
     }
 }
 
@@ -49,17 +43,24 @@ fn take_step<R: Wait>(
     let (word, rest) = first_word(step);
     let (slot, rest) = first_word(rest);
     let (round, inputs) = first_word(rest);
+    let pid = Pid::new(
+        slot.parse::<usize>().unwrap_or(usize::MAX),
+        round.parse::<u32>().unwrap_or(0),
+    );
     match word {
-        "begin" => push_begun(rt, alloc, table, seat, slot, round, answer),
+        "begin" => {
+            let begun = begin(rt, alloc, table, seat, pid, round, answer);
+            push_pid(begun, answer);
+        }
         "free" => push_pid(seat.lowest_free(), answer),
-        _ => match pid_of(slot, round) {
+        _ => match pid {
             Some(pid) => step_of(rt, alloc, table, seat, word, pid, inputs, answer),
             None => answer.push("no such slot"),
         },
     }
 }
 
-// A step that names a slot.
+// A step that names a slot, with a client that sits down before it.
 fn step_of<R: Wait>(
     rt: &R,
     alloc: Global,
@@ -73,23 +74,17 @@ fn step_of<R: Wait>(
     requires { seat.old.table ≡ table.now }
     ensures { seat.new.table ≡ seat.old.table }
 {
+    let mut pass = table.new_pass(seat);
     match word {
         "give_up" => {
             table.give_up(rt, seat, pid);
             answer.push("ok");
         }
         "last_round" => push_last_round(rt, alloc, table, seat, pid, answer),
-        "calls" => push_calls(table, seat, pid, inputs, answer),
+        "calls" => push_calls(table, &mut pass, pid, inputs, answer),
         "meet" => push_meeting(table, seat, pid, answer),
-        "held" => push_held(rt, table, seat, pid, answer),
+        "held" => push_held(rt, table, seat, &mut pass, pid, answer),
         _ => answer.push("no such step"),
     }
-}
-
-// The process of a slot and a round, which is 0 where none is told.
-fn pid_of(slot: &str, round: &str) -> Option<Pid> {
-    Pid::new(
-        slot.parse::<usize>().ok()?,
-        round.parse::<u32>().unwrap_or(0),
-    )
+    table.take_back(seat, pass);
 }

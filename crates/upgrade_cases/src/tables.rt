@@ -1,29 +1,19 @@
 //! Tables of modules.
-use erl_term::{Term, read_record};
+use crate::texts::push_counted;
+use erl_term::{Term, TermFault, read_record};
 use mod_table::{Child, Old, Step, Super, Table, Worker, read_mod, read_mod_file, table_of_term};
 use rel_files::FileFault;
-use std::alloc::{AllocError, Global};
-use text_cases::{Answer, first_word};
+use std::alloc::Global;
+use text_cases::{Answer, enclosed, first_word};
 
-/// The answer in the modes of tables: the table of a file, or the same of the file's term, which is kept and read again, what
-/// comes of a call, or the state after a change of code.
-pub(crate) fn push_answer(alloc: Global, mode: &str, text: &[u8], answer: &mut Answer) {
-    match mode {
-        "mod" => push_read(&read_mod(alloc, text), answer),
-        "term" => push_read(&of_the_term(alloc, text), answer),
-        "step" => push_step(alloc, str::from_utf8(text).unwrap_or(""), answer),
-        _ => push_change(alloc, str::from_utf8(text).unwrap_or(""), answer),
-    }
-}
-
-// Reads the file's term again.
-fn of_the_term(alloc: Global, file: &[u8]) -> Result<Table, FileFault> {
+/// Reads the file's term again.
+pub(crate) fn of_the_term(alloc: Global, file: &[u8]) -> Result<Table, FileFault> {
     let read = read_mod_file(alloc, file)?;
     table_of_term(alloc, &read.term, 0)
 }
 
-// The table, or the fault.
-fn push_read(read: &Result<Table, FileFault>, answer: &mut Answer) {
+/// Appends the table, or the fault.
+pub(crate) fn push_read(read: &Result<Table, FileFault>, answer: &mut Answer) {
     match read {
         Ok(Table::Worker(worker)) => push_worker(worker, answer),
         Ok(Table::Super(supervisor)) => push_super(supervisor, answer),
@@ -32,35 +22,33 @@ fn push_read(read: &Result<Table, FileFault>, answer: &mut Answer) {
 }
 
 fn push_fault(fault: &FileFault, answer: &mut Answer) {
-    let done = match fault {
-        FileFault::Duplicate(id) => write!(answer.text, "Duplicate {id}"),
-        other => write!(answer.text, "{other}"),
-    };
-    answer.note(done);
+    answer.push_shown(fault);
+    if let FileFault::Duplicate(id) = fault {
+        answer.push_after(" ", id);
+    }
 }
 
 fn push_worker(worker: &Worker, answer: &mut Answer) {
-    let (name, vsn, first) = (worker.name(), worker.vsn(), worker.first());
-    let done = write!(answer.text, "worker {name} {vsn} {first}");
-    answer.note(done);
+    answer.push_after("worker ", worker.name());
+    answer.push_after(" ", worker.vsn());
+    push_counted(" ", worker.first() as u64, answer);
 }
 
 fn push_super(supervisor: &Super, answer: &mut Answer) {
-    let (name, vsn) = (supervisor.name(), supervisor.vsn());
-    let done = write!(answer.text, "supervisor {name} {vsn}");
-    answer.note(done);
+    answer.push_after("supervisor ", supervisor.name());
+    answer.push_after(" ", supervisor.vsn());
     for child in supervisor.children() {
         push_child(child, answer);
     }
 }
 
 fn push_child(child: &Child, answer: &mut Answer) {
-    let done = write!(
-        answer.text,
-        "; {} {} {:?} {:?}",
-        child.id, child.module, child.restart, child.kind
-    );
-    answer.note(done);
+    answer.push_after("; ", &child.id);
+    answer.push_after(" ", &child.module);
+    answer.push(" ");
+    answer.push_debug(&child.restart);
+    answer.push(" ");
+    answer.push_debug(&child.kind);
 }
 
 // The number of a word, and 0 of a word that is none.
@@ -68,30 +56,29 @@ fn state_of(word: &str) -> u32 {
     word.parse::<u32>().unwrap_or(0)
 }
 
-// The worker of a file, and a copy of it.
-fn workers(alloc: Global, file: &[u8]) -> Result<Option<(Worker, Worker)>, AllocError> {
-    match read_mod(alloc, file) {
-        Ok(Table::Worker(worker)) => {
+// The worker of a file, and a copy of it. A supervisor has another shape.
+fn workers(alloc: Global, file: &str) -> Result<(Worker, Worker), FileFault> {
+    match read_mod(alloc, file.as_bytes())? {
+        Table::Worker(worker) => {
             let copied = worker.copy(alloc)?;
-            Ok(Some((worker, copied)))
+            Ok((worker, copied))
         }
-        _ => Ok(None),
+        Table::Super(_) => Err(FileFault::BadShape(0)),
     }
 }
 
-// What comes of a call in this state, with this input.
-fn push_step(alloc: Global, text: &str, answer: &mut Answer) {
+/// Appends what comes of a call in this state, with this input.
+pub(crate) fn push_step(alloc: Global, text: &str, answer: &mut Answer) {
     let (state, rest) = first_word(text);
     let (input, file) = first_word(rest);
     let (state, input) = (state_of(state), state_of(input));
-    match workers(alloc, file.as_bytes()) {
-        Ok(Some((worker, copied))) => {
+    match workers(alloc, file) {
+        Ok((worker, copied)) => {
             let step = worker.step(state, input);
             push_agreed(copied.step(state, input) == step, answer);
             push_step_text(step, answer);
         }
-        Ok(None) => answer.push("no worker"),
-        Err(_) => answer.note_no_memory(),
+        Err(fault) => push_fault(&fault, answer),
     }
 }
 
@@ -103,67 +90,45 @@ fn push_agreed(is_same: bool, answer: &mut Answer) {
 }
 
 fn push_step_text(step: Step, answer: &mut Answer) {
-    let done = match step {
-        Step::Next(state, reply) => write!(answer.text, "Next {state} {reply}"),
-        Step::Ends(reply) => write!(answer.text, "Ends {reply}"),
-        Step::Crashes => return answer.push("Crashes"),
-    };
-    answer.note(done);
-}
-
-// A version, from a direction and its text.
-fn old_of(alloc: Global, direction: &str, vsn: &str) -> Result<Option<Old>, AllocError> {
-    match direction {
-        "up" => Ok(Some(Old::Up(String::from_str(alloc, vsn)?))),
-        "down" => Ok(Some(Old::Down(String::from_str(alloc, vsn)?))),
-        _ => Ok(None),
+    match step {
+        Step::Next(state, reply) => {
+            push_counted("Next ", state as u64, answer);
+            push_counted(" ", reply as u64, answer);
+        }
+        Step::Ends(reply) => push_counted("Ends ", reply as u64, answer),
+        Step::Crashes => answer.push("Crashes"),
     }
 }
 
 // The term of a word, to which the dot is added.
-fn term_of(alloc: Global, text: &str) -> Result<Option<Term>, AllocError> {
-    let mut bytes = Vec::from_slice(alloc, text.as_bytes())?;
-    bytes.push(b'.')?;
-    Ok(read_record(alloc, bytes.as_slice()).ok())
+fn term_of(alloc: Global, text: &str) -> Result<Term, TermFault> {
+    let bytes = enclosed(alloc, b"", text.as_bytes(), b".")?;
+    read_record(alloc, &bytes)
 }
 
-// The state after a change of code.
-fn push_change(alloc: Global, text: &str, answer: &mut Answer) {
+/// Appends the state after a change of code, or a fault.
+pub(crate) fn push_change(alloc: Global, text: &str, answer: &mut Answer) {
+    match changed(alloc, text, answer) {
+        Ok(Some(state)) => answer.push_number(state as u64),
+        Ok(None) => answer.push("no change"),
+        Err(fault) => push_fault(&fault, answer),
+    }
+}
+
+fn changed(alloc: Global, text: &str, answer: &mut Answer) -> Result<Option<u32>, FileFault> {
     let (direction, rest) = first_word(text);
     let (vsn, rest) = first_word(rest);
-    match old_of(alloc, direction, vsn) {
-        Ok(Some(old)) => push_changed_from(alloc, &old, rest, answer),
-        Ok(None) => answer.push("no version"),
-        Err(_) => answer.note_no_memory(),
-    }
-}
-
-fn push_changed_from(alloc: Global, old: &Old, text: &str, answer: &mut Answer) {
-    let (extra, rest) = first_word(text);
-    match term_of(alloc, extra) {
-        Ok(Some(extra)) => push_changed_with(alloc, old, &extra, rest, answer),
-        Ok(None) => answer.push("no extra term"),
-        Err(_) => answer.note_no_memory(),
-    }
-}
-
-fn push_changed_with(alloc: Global, old: &Old, extra: &Term, text: &str, answer: &mut Answer) {
-    let (state, file) = first_word(text);
-    let state = state_of(state);
-    match workers(alloc, file.as_bytes()) {
-        Ok(Some((worker, copied))) => {
-            let next = worker.change(old, extra, state);
-            push_agreed(copied.change(old, extra, state) == next, answer);
-            push_next(next, answer);
-        }
-        Ok(None) => answer.push("no worker"),
-        Err(_) => answer.note_no_memory(),
-    }
-}
-
-fn push_next(next: Option<u32>, answer: &mut Answer) {
-    match next {
-        Some(state) => answer.push_number(state as u64),
-        None => answer.push("no change"),
-    }
+    let (extra, rest) = first_word(rest);
+    let (state, file) = first_word(rest);
+    let vsn = String::from_str(alloc, vsn)?;
+    let old = if direction == "up" {
+        Old::Up(vsn)
+    } else {
+        Old::Down(vsn)
+    };
+    let extra = term_of(alloc, extra)?;
+    let (worker, copied) = workers(alloc, file)?;
+    let next = worker.change(&old, &extra, state_of(state));
+    push_agreed(copied.change(&old, &extra, state_of(state)) == next, answer);
+    Ok(next)
 }

@@ -2,30 +2,14 @@
 ghost use Rattle.std.specs.Prelude.{◌≡◌};
 
 use crate::clients::push_peek;
-use crate::processes::beginning;
-use mod_table::Restart;
+use crate::processes::begin;
+use crate::texts::push_counted;
 use proc_table::{HandlerSeat, Pass, Peeked, Pid, ProcTable, Tried};
 use std::alloc::Global;
 use std::sync::Wait;
 use std::thread;
 use std::thread::{Threads, join};
 use text_cases::{Answer, first_word};
-
-/// What a thread does at a table. It gives what it heard.
-trait Job {
-    fn run<R: Wait>(self, rt: &R) -> Heard;
-}
-
-/// A client that calls a process so many times, and then looks until clients have called it so often in all.
-#[derive(Drop)]
-struct Calls<'t> {
-    table: &'t ProcTable,
-    pass: Pass,
-    pid: Pid,
-    count: u32,
-    in_all: u32,
-    ghost sits: { pass.table ≡ table.now },
-}
 
 /// What a client was answered: how many of its calls were, the sum of the replies, and the last one.
 #[derive(Clone, Copy)]
@@ -41,24 +25,18 @@ const NOTHING_HEARD: Heard = Heard {
     last: 0,
 };
 
-impl Job for Calls<'_> {
-    fn run<R: Wait>(self, rt: &R) -> Heard {
-        let Calls {
-            table,
-            pass,
-            pid,
-            count,
-            in_all,
-        } = self;
-        let mut pass = pass;
-        let mut heard = NOTHING_HEARD;
-        for _ in 0..count {
-            let answer = table.call(rt, &mut pass, pid, 1);
-            heard.note(answer);
-        }
-        look_until(rt, table, pass, pid, in_all);
-        heard
+// A client calls a process so many times, and then looks until it was called twice as often in all.
+fn call_often<R: Wait>(rt: &R, table: &ProcTable, pass: Pass, pid: Pid, count: u32) -> Heard
+    requires { pass.table ≡ table.now }
+{
+    let mut pass = pass;
+    let mut heard = NOTHING_HEARD;
+    for _ in 0..count {
+        let answer = table.call(rt, &mut pass, pid, 1);
+        heard.note(answer);
     }
+    look_until(rt, table, pass, pid, count.saturating_mul(2));
+    heard
 }
 
 impl Heard {
@@ -89,48 +67,15 @@ fn look_until<R: Wait>(rt: &R, table: &ProcTable, pass: Pass, pid: Pid, in_all: 
     }
 }
 
-/// The handler, which holds a process and lets it go so many times. It hears nothing.
-#[derive(Drop)]
-struct Holds<'t> {
-    table: &'t ProcTable,
-    seat: HandlerSeat,
-    pid: Pid,
-    count: u32,
-    ghost sits: { seat.table ≡ table.now },
-}
-
-impl Job for Holds<'_> {
-    fn run<R: Wait>(self, rt: &R) -> Heard {
-        let Holds {
-            table,
-            seat,
-            pid,
-            count,
-        } = self;
-        let mut seat = seat;
-        for _ in 0..count {
-            let held = table.hold(rt, &mut seat, pid);
-            table.release(&mut seat, held, &[]);
-        }
-        NOTHING_HEARD
+// The handler holds a process and lets it go so many times.
+fn hold_often<R: Wait>(rt: &R, table: &ProcTable, seat: HandlerSeat, pid: Pid, count: u32)
+    requires { seat.table ≡ table.now }
+{
+    let mut seat = seat;
+    for _ in 0..count {
+        let held = table.hold(rt, &mut seat, pid);
+        table.release(&mut seat, held, &[]);
     }
-}
-
-fn two_at_once<R: Threads + Wait + Sync, A: Job + Drop + Send, B: Job + Drop + Send>(
-    rt: &R,
-    first: A,
-    second: B,
-) -> (Heard, Heard) {
-    join(rt, || first.run(rt), || second.run(rt))
-}
-
-fn three_at_once<
-    R: Threads + Wait + Sync,
-    A: Job + Drop + Send,
-    B: Job + Drop + Send,
-    C: Job + Drop + Send,
->(rt: &R, first: A, second: B, third: C) -> (Heard, (Heard, Heard)) {
-    join(rt, || first.run(rt), || two_at_once(rt, second, third))
 }
 
 /// Two clients call a process so many times each, while the handler holds it and lets it go so many times. Then each looks until
@@ -139,21 +84,15 @@ fn three_at_once<
 pub(crate) fn push_clients<R: Threads + Wait + Sync>(
     rt: &R,
     alloc: Global,
-    table: &ProcTable,
-    seat: HandlerSeat,
     words: &str,
     answer: &mut Answer,
-)
-    requires { seat.table ≡ table.now }
-{
-    let mut seat = seat;
-    let (Some(begins), Some(slot)) = (beginning(alloc, Restart::Permanent), Pid::new(0, 0)) else {
-        answer.note_no_memory();
-        return;
+) {
+    let Ok((table, mut seat)) = ProcTable::new(alloc) else {
+        return answer.note_no_memory();
     };
-    match table.begin(rt, &mut seat, slot, begins) {
-        Ok(pid) => push_calls_of(rt, table, seat, pid, words, answer),
-        Err(_) => answer.push("none"),
+    match begin(rt, alloc, &table, &mut seat, None, "permanent", answer) {
+        Some(pid) => push_calls_of(rt, &table, seat, pid, words, answer),
+        None => answer.push("none"),
     }
 }
 
@@ -168,44 +107,46 @@ fn push_calls_of<R: Threads + Wait + Sync>(
     requires { seat.table ≡ table.now }
 {
     let (calls, holds) = first_word(words);
-    let calls = calls.parse::<u16>().unwrap_or(0) as u32;
+    let calls = calls.parse::<u32>().unwrap_or(0);
     let holds = holds.parse::<u32>().unwrap_or(0);
     let mut seat = seat;
     let mut last = table.new_pass(&mut seat);
-    let one = client(table, &mut seat, pid, calls);
-    let two = client(table, &mut seat, pid, calls);
-    let handler = Holds {
-        table,
-        seat,
-        pid,
-        count: holds,
-    };
-    let heard = three_at_once(rt, handler, one, two);
-    push_heard(heard.1.0, heard.1.1, answer);
+    let one = table.new_pass(&mut seat);
+    let two = table.new_pass(&mut seat);
+    let (_, (one, two)) = join(
+        rt,
+        || hold_often(rt, table, seat, pid, holds),
+        ||
+            requires { (one.table ≡ table.now) × (two.table ≡ table.now) }
+        { both_heard(rt, table, one, two, pid, calls) },
+    );
+    push_heard(one, two, answer);
     push_peek(table, &mut last, pid, answer);
 }
 
-fn client<'t>(table: &'t ProcTable, seat: &mut HandlerSeat, pid: Pid, count: u32) -> Calls<'t>
-    requires { seat.old.table ≡ table.now }
-    ensures { seat.new.table ≡ seat.old.table }
+// What two clients hear, each in a thread of its own.
+fn both_heard<R: Threads + Wait + Sync>(
+    rt: &R,
+    table: &ProcTable,
+    one: Pass,
+    two: Pass,
+    pid: Pid,
+    calls: u32,
+) -> (Heard, Heard)
+    requires one { one.table ≡ table.now }
+    requires two { two.table ≡ table.now }
 {
-    Calls {
-        table,
-        pass: table.new_pass(seat),
-        pid,
-        count,
-        in_all: count.saturating_mul(2),
-    }
+    join(
+        rt,
+        || call_often(rt, table, one, pid, calls),
+        || call_often(rt, table, two, pid, calls),
+    )
 }
 
 fn push_heard(one: Heard, two: Heard, answer: &mut Answer) {
-    answer.push("answered ");
-    answer.push_number(one.answered as u64);
-    answer.push(" and ");
-    answer.push_number(two.answered as u64);
-    answer.push(", sum ");
-    answer.push_number(one.sum.saturating_add(two.sum));
-    answer.push(", greatest ");
-    answer.push_number(one.last.max(two.last) as u64);
+    push_counted("answered ", one.answered as u64, answer);
+    push_counted(" and ", two.answered as u64, answer);
+    push_counted(", sum ", one.sum.saturating_add(two.sum), answer);
+    push_counted(", greatest ", one.last.max(two.last) as u64, answer);
     answer.push(", ");
 }

@@ -1,0 +1,23 @@
+//! Parts of answers that several modules append.
+use relup_file::{Relup, print_relup};
+use std::alloc::Global;
+use std::fmt;
+use text_cases::Answer;
+
+/// Appends a number behind a text.
+pub(crate) fn push_counted(before: &str, number: u64, answer: &mut Answer) {
+    answer.push(before);
+    answer.push_number(number);
+}
+
+/// Appends the text that a relup is printed as, or why there is none.
+pub(crate) fn push_relup<E: fmt::Display>(
+    alloc: Global,
+    made: &Result<Relup, E>,
+    answer: &mut Answer,
+) {
+    match made {
+        Ok(relup) => answer.push_made(&print_relup(alloc, relup)),
+        Err(fault) => answer.push_shown(fault),
+    }
+}
