@@ -1,5 +1,5 @@
 -- What a `.app` file says, or which fault it has (OTP: app(4)); docs/RULES.md tells the format.
-use Rattle.std.specs.Prelude.{ℕ, List, Option}
+use Rattle.std.specs.Prelude.{ℕ, Bool, List, length, nat_le, Option}
 use Rattle.std.specs.Option.{option_map}
 use Rattle.erl_term.specs.Value.{Value}
 use Rattle.rel_files.specs.declared.fault.FileFault.{FileFault}
@@ -15,6 +15,10 @@ pub record Specification : Type 0 where
   pub modules : List (List ℕ)
   pub top : Option (List ℕ)
   pub whole : Value
+
+-- it has no more modules than an application may have
+abbrev pub has_few_modules : Specification → Bool
+has_few_modules s = nat_le (length s.modules) 1024
 
 abbrev pub with_term : Value → Contents → Specification
 with_term v c = record { name = c.name; vsn = c.vsn; modules = c.modules; top = c.top; whole = v }

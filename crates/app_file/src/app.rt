@@ -1,7 +1,12 @@
 //! An application, as its `.app` file has it.
 ghost use Rattle.std.specs.Prelude.{◌≡◌};
+ghost use Rattle.app_file.specs.File.{has_few_modules};
+ghost use Rattle.app_file.specs.InMemory.{specification_of};
 
 use erl_term::Term;
+
+/// How many modules an application has at most.
+pub const MOST_MODULES: usize = 1_024;
 
 /// An application: what a `.app` file says.
 pub struct App {
@@ -29,6 +34,13 @@ impl Drop for App {
 }
 
 impl App {
+    /// Whether it has no more modules than an application may have.
+    pub fn has_few_modules(&self) -> bool
+        ensures { result ≡ has_few_modules (specification_of self.now) }
+    {
+        self.modules.len() <= MOST_MODULES
+    }
+
     /// Its name, its version and its modules.
     pub fn into_names(self) -> (String, String, Vec<String>)
         ensures { result ≡ (self.name, self.vsn, self.modules) }

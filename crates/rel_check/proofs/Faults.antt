@@ -9,7 +9,7 @@ use Rattle.mod_table.specs.declared.table.Table.TheVariants.{Worker, Super}
 use Rattle.rel_check.specs.Modules.{Part, Module, Tables, table_of, modules_in}
 use Rattle.rel_check.specs.Names.{Named, first_again, module_names, first_id_again}
 use Rattle.rel_check.specs.Walk.{first_of, of_kind, missing_from, processes_from, is_within, top_of, part_missing, part_processes, part_is_within, first_missing, processes_in, are_within}
-use Rattle.rel_check.specs.Fault.{first_fault, keeps_limits, has_few_modules, has_few_rows}
+use Rattle.rel_check.specs.Fault.{first_fault, keeps_limits, few_modules_in, has_few_rows}
 use Rattle.rel_check.specs.Fault.Fault.{module_twice, id_twice, no_table, too_many}
 use Rattle.rel_check.specs.Summary.{Summary, summary, counted, known_at, top_summary, top_summary_at, nothing_started, release_summary, limits_kept}
 use Rattle.rel_check.proofs.Joins.{joined_missing, joined_processes, joined_within}
@@ -72,7 +72,7 @@ limits_are ps ms s modules is =
     let processes : nat_le s.processes 64 ≡ nat_le (processes_in ps) 64 =
     ap (λ (t : Summary). nat_le t.processes 64) all
     ∙ (ap (λ n. nat_le n 64) (processes_are (table_of (modules_in ps)) ps) ∙ few_counted (processes_in ps)) in
-    λ j. list_all has_few_modules ps && (list_all has_few_rows (modules j) && (within j && processes j))
+    λ j. list_all few_modules_in ps && (list_all has_few_rows (modules j) && (within j && processes j))
 
 -- the first fault, from what each test finds
 pub told : (all ps : List Part) (ms : List Module) (a b : Option Named) (s : Summary) → ps ≡ all → ms ≡ modules_in ps

@@ -2,6 +2,7 @@
 use Rattle.std.specs.Prelude.{◌≡◌, ◌≢◌, ℕ, Bool, true, ◌&&◌, List, length, nat_le, Option, None, Some, Result, Ok, Err, if◌then◌else◌}
 use Rattle.std.specs.List.{list_all}
 use Rattle.std.specs.Option.{option_map, option_or, option_map_or}
+use Rattle.app_file.specs.File.{has_few_modules}
 use Rattle.rel_files.specs.Release.{Application}
 use Rattle.mod_table.specs.declared.table.Table.{Table}
 use Rattle.mod_table.specs.declared.table.Table.TheVariants.{Worker, Super}
@@ -30,8 +31,9 @@ fault_of (NoTable m) = no_table m.now
 fault_of TooMany = too_many
 fault_of NoMemory = no_memory
 
-abbrev pub has_few_modules : Part → Bool
-has_few_modules p = nat_le (length p.library.app.modules) 1024
+-- the application has no more modules than it may have
+abbrev pub few_modules_in : Part → Bool
+few_modules_in p = has_few_modules p.library.app
 
 abbrev pub rows_are_few : Table → Bool
 rows_are_few (Worker w) = nat_le (length w.rows) 4096
@@ -42,7 +44,7 @@ has_few_rows m = option_map_or rows_are_few m.table true
 
 -- no limit is passed
 abbrev pub keeps_limits : List Part → Bool
-keeps_limits ps = list_all has_few_modules ps && (list_all has_few_rows (modules_in ps) && (are_within ps && nat_le (processes_in ps) 64))
+keeps_limits ps = list_all few_modules_in ps && (list_all has_few_rows (modules_in ps) && (are_within ps && nat_le (processes_in ps) 64))
 
 -- the first fault, in this order
 abbrev pub first_fault : List Part → Option Fault

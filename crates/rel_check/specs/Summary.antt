@@ -13,7 +13,7 @@ use Rattle.mod_table.specs.declared.table.Table.TheVariants.{Worker, Super}
 use Rattle.mod_table.specs.Table.{ChildSpec}
 use Rattle.rel_check.specs.declared.walk.Walk.{Walk}
 use Rattle.rel_check.specs.Modules.{Part, Module, Tables}
-use Rattle.rel_check.specs.Fault.{has_few_modules, has_few_rows}
+use Rattle.rel_check.specs.Fault.{few_modules_in, has_few_rows}
 use Rattle.rel_check.specs.Walk.{missing_below, processes_from, is_within, top_of}
 
 -- the kind of a table, and of the processes from it on: the first module without a table, their number, and whether the
@@ -129,4 +129,4 @@ release_summary known ps = parts_joined known nothing_started ps
 
 -- no limit is passed, where this is what the release starts
 abbrev pub limits_kept : List Part → List Module → Summary → Bool
-limits_kept ps ms s = list_all has_few_modules ps && (list_all has_few_rows ms && (s.within && nat_le s.processes 64))
+limits_kept ps ms s = list_all few_modules_in ps && (list_all has_few_rows ms && (s.within && nat_le s.processes 64))

@@ -6,7 +6,7 @@ ghost use Rattle.rel_files.specs.Release.{application_of};
 ghost use Rattle.library.specs.InMemory.{shared_of};
 ghost use Rattle.rel_check.specs.InMemory.{part_of, module_of};
 ghost use Rattle.rel_check.specs.Summary.{summary_of, limits_kept};
-ghost use Rattle.rel_check.specs.Fault.{has_few_modules, has_few_rows, rows_are_few, release_fault, Tells};
+ghost use Rattle.rel_check.specs.Fault.{few_modules_in, has_few_rows, rows_are_few, release_fault, Tells};
 
 use crate::fault::ReleaseFault;
 use crate::modules::{Module, Part, modules_of, parts_of};
@@ -17,9 +17,6 @@ use mod_table::Table;
 use rel_files::RelApp;
 use std::alloc::Global;
 use std::rc::Rc;
-
-// How many modules an application has at most.
-const MOST_MODULES: usize = 1_024;
 
 // How many rows the table of a worker has at most.
 const MOST_ROWS: usize = 4_096;
@@ -70,10 +67,10 @@ fn keeps_limits(parts: &[Part<'_>], modules: &[Module<'_>], walk: Walk<'_>) -> b
 }
 
 fn have_few_modules(parts: &[Part<'_>]) -> bool
-    ensures { result ≡ list_all has_few_modules (map part_of parts.now) }
+    ensures { result ≡ list_all few_modules_in (map part_of parts.now) }
 {
     for part in parts {
-        if part.library.app.modules.len() > MOST_MODULES {
+        if !part.library.app.has_few_modules() {
             return false;
         }
     }

@@ -7,7 +7,7 @@ use Rattle.std.specs.Str.{bytes_eq}
 use Rattle.erl_term.specs.Lines.{is_one_line}
 use Rattle.erl_term.specs.Value.{Value}
 use Rattle.rel_files.specs.Release.{Application}
-use Rattle.app_file.specs.File.{Specification}
+use Rattle.app_file.specs.File.{Specification, has_few_modules}
 use Rattle.relup_file.specs.declared.instruction.Direction.{Direction}
 use Rattle.relup_file.specs.declared.instruction.Direction.TheVariants.{Up, Down}
 use Rattle.relup_file.specs.Instruction.{Instruction, RelupForm}
@@ -31,7 +31,7 @@ use Rattle.relup_translate.specs.Fault.FaultForm.{no_appup, no_entry, unknown_mo
 use Rattle.relup_translate.specs.Translation.{known, instruction_fault, low_level_fault, first_fault, counting, counting_appup, searched, found, between_versions, if_other, row_fault, app_fault, way_fault, release_fault, fault_between, relup_between, unless_fault, translation}
 use Rattle.relup_command.specs.Answer.{AnswerAt, translation_lines, AreLinePaths}
 use Rattle.relup_command.specs.Appups.{AppupAt, WithAppup, appup_form, appup_path, with_appup}
-use Rattle.relup_command.specs.Releases.{Releases, RelupAppAt, RelupReleaseAt, ReleasesAt, WithAppups, has_few_modules, relup_app, relup_release}
+use Rattle.relup_command.specs.Releases.{Releases, RelupAppAt, RelupReleaseAt, ReleasesAt, WithAppups, relup_app, relup_release}
 
 -- what an appup and an application name is within a line
 abbrev IsLineAppup : AppupForm → Type 0

@@ -1,6 +1,6 @@
 -- The releases that a relup is made of, from their files.
-use Rattle.std.specs.Prelude.{◌≡◌, ℕ, Bool, List, length, map, nat_le, None, Ok, Err, if◌then◌else◌}
-use Rattle.app_file.specs.File.{Specification}
+use Rattle.std.specs.Prelude.{◌≡◌, ℕ, List, map, None, Ok, Err, if◌then◌else◌}
+use Rattle.app_file.specs.File.{Specification, has_few_modules}
 use Rattle.rel_files.specs.Release.{Application, Release}
 use Rattle.rel_files.specs.declared.release.StartType.{StartType}
 use Rattle.rel_unpack.specs.Applications.{AppAt}
@@ -11,10 +11,6 @@ use Rattle.rel_unpack.specs.Source.{Source}
 use Rattle.relup_row.specs.Release.{RelupAppForm, RelupReleaseForm, relup_release_of}
 use Rattle.relup_command.specs.Appups.{WithAppup}
 use Rattle.relup_command.specs.declared.releases.Releases.{Releases as ReleasesInMemory}
-
--- it has no more modules than it may have
-abbrev pub has_few_modules : Specification → Bool
-has_few_modules s = nat_le (length s.modules) 1024
 
 -- an application of a release with its modules, and without its appup
 abbrev pub relup_app : StartType → Specification → RelupAppForm

@@ -16,5 +16,4 @@ mod relup;
 
 pub use answer::relup_answer;
 pub use error::RelupError;
-pub use releases::MOST_MODULES;
 pub use relup::make_relup_of_files;

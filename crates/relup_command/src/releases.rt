@@ -4,7 +4,7 @@ ghost use Rattle.app_file.specs.InMemory.{specification_of};
 ghost use Rattle.rel_files.specs.Release.{application_of, release_of};
 ghost use Rattle.rel_unpack.specs.Order.{Answers, Each};
 ghost use Rattle.relup_row.specs.Release.{relup_app_of, relup_release_of};
-ghost use Rattle.relup_command.specs.Releases.{RelupAppAt, RelupReleaseAt, ReleasesAt, WithAppups, has_few_modules, releases_of, relup_app, relup_release};
+ghost use Rattle.relup_command.specs.Releases.{RelupAppAt, RelupReleaseAt, ReleasesAt, WithAppups, releases_of, relup_app, relup_release};
 
 use crate::appups::read_appups;
 use app_file::App;
@@ -13,9 +13,6 @@ use rel_files::{Rel, RelApp, StartType};
 use rel_unpack::{UnpackError, read_application, read_release};
 use relup_translate::{ModuleNames, RelupApp, RelupRelease};
 use std::alloc::{AllocError, Global};
-
-/// How many modules an application has at most.
-pub const MOST_MODULES: usize = 1_024;
 
 /// A release with its appups, those that it comes from, and those that it goes back to.
 pub(crate) struct Releases {
@@ -120,7 +117,7 @@ fn read_app<F: Files>(alloc: Global, files: &F, app: &RelApp) -> Result<RelupApp
         (RelupAppAt (F.gives files.now) (application_of app.now)) result }
 {
     let found = read_application(alloc, files, app)?;
-    if has_few_modules(&found) {
+    if found.has_few_modules() {
         Ok(relup_app(alloc, app.start, found)?)
     } else {
         Err(UnpackError::TooMany)
@@ -139,11 +136,4 @@ fn relup_app(alloc: Global, start: StartType, found: App) -> Result<RelupApp, Al
         modules: ModuleNames::new(alloc, modules)?,
         appup: None,
     })
-}
-
-// It has no more modules than it may have.
-fn has_few_modules(found: &App) -> bool
-    ensures { result ≡ has_few_modules (specification_of found.now) }
-{
-    found.modules.len() <= MOST_MODULES
 }
