@@ -7,9 +7,9 @@ use Rattle.erl_term.specs.Value.{Value, Values}
 use Rattle.erl_term.specs.Value.Value.{atom, tuple}
 use Rattle.erl_term.specs.Value.Values.{no_values, value}
 use Rattle.rel_files.specs.Sketch.{name_in}
-use Rattle.relup_file.specs.Form.{one, timeout_term}
-use Rattle.relup_file.specs.declared.instruction.Timeout.TheVariants.{Default}
-use Rattle.relup_file.specs.Parts.{one_in, modules_in, over_modules, single_in, tagged_in, instruction_in}
+use Rattle.relup_instruction.specs.Form.{one, timeout_term}
+use Rattle.relup_instruction.specs.declared.instruction.Timeout.TheVariants.{Default}
+use Rattle.relup_instruction.specs.Parts.{one_in, modules_in, over_modules, single_in, tagged_in, instruction_in}
 use Rattle.appup_file.specs.Instruction.{ChangeForm, UpdateForm, AppupInstruction}
 use Rattle.appup_file.specs.Instruction.AppupInstruction.{update, update_supervisor, load_module, add_module, delete_module, add_application, low_level}
 use Rattle.appup_file.specs.Form.{update_members, dynamic, brutal, nothing, full_change, full_update, full_load, full_dependent, full_added, full_members, in_full}

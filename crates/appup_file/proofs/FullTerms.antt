@@ -10,16 +10,16 @@ use Rattle.rel_files.specs.Name.{IsName}
 use Rattle.rel_files.specs.Form.{start_word}
 use Rattle.rel_files.specs.Sketch.{name_in}
 use Rattle.rel_files.proofs.Endings.{start_of-start_word}
-use Rattle.relup_file.specs.declared.instruction.Direction.{Direction}
-use Rattle.relup_file.specs.declared.instruction.Direction.TheVariants.{Up, Down}
-use Rattle.relup_file.specs.declared.instruction.Timeout.{Timeout}
-use Rattle.relup_file.specs.declared.instruction.PurgeMode.{PurgeMode}
-use Rattle.relup_file.specs.Instruction.{Instruction}
-use Rattle.relup_file.specs.Instruction.Instruction.{load_object_code, point_of_no_return, suspend, load, code_change, resume, remove, purge, stop, start, apply, sync_nodes, restart_new_emulator, restart_emulator}
-use Rattle.relup_file.specs.Form.{one, command, atoms_term, purge_word, timeout_term, mode_members, instruction_term, IsTimeout}
-use Rattle.relup_file.specs.Parts.{modules_in, purge_mode_in}
-use Rattle.relup_file.proofs.Pieces.{modules_in-atoms, purge_mode_of-word, timeout_in-term}
-use Rattle.relup_file.proofs.InstructionLemmas.{instruction_in-term}
+use Rattle.relup_instruction.specs.declared.instruction.Direction.{Direction}
+use Rattle.relup_instruction.specs.declared.instruction.Direction.TheVariants.{Up, Down}
+use Rattle.relup_instruction.specs.declared.instruction.Timeout.{Timeout}
+use Rattle.relup_instruction.specs.declared.instruction.PurgeMode.{PurgeMode}
+use Rattle.relup_instruction.specs.Instruction.{Instruction}
+use Rattle.relup_instruction.specs.Instruction.Instruction.{load_object_code, point_of_no_return, suspend, load, code_change, resume, remove, purge, stop, start, apply, sync_nodes, restart_new_emulator, restart_emulator}
+use Rattle.relup_instruction.specs.Form.{one, command, atoms_term, purge_word, timeout_term, mode_members, instruction_term, IsTimeout}
+use Rattle.relup_instruction.specs.Parts.{modules_in, purge_mode_in}
+use Rattle.relup_instruction.proofs.Pieces.{modules_in-atoms, purge_mode_of-word, timeout_in-term}
+use Rattle.relup_instruction.proofs.InstructionLemmas.{instruction_in-term}
 use Rattle.appup_file.specs.declared.instruction.ModType.{ModType}
 use Rattle.appup_file.specs.declared.instruction.ModType.TheVariants.{Static, Dynamic}
 use Rattle.appup_file.specs.Instruction.{ChangeForm, UpdateForm, LoadForm, DependentForm, AddedForm, AppupInstruction}

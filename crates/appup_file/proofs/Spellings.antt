@@ -14,13 +14,13 @@ use Rattle.rel_files.specs.Parts.{pair_in, is_word}
 use Rattle.rel_files.specs.Sketch.{name_in, start_of}
 use Rattle.rel_files.proofs.Endings.{from_start}
 use Rattle.rel_files.proofs.Options.{mapped, chained, passed}
-use Rattle.relup_file.specs.declared.instruction.Timeout.{Timeout}
-use Rattle.relup_file.specs.declared.instruction.Timeout.TheVariants.{Default}
-use Rattle.relup_file.specs.declared.instruction.PurgeMode.{PurgeMode}
-use Rattle.relup_file.specs.Form.{one, pair_term, atoms_term, purge_word, timeout_term, IsTimeout}
-use Rattle.relup_file.specs.Parts.{word_in, modules_in, purge_mode_in, timeout_in, instruction_in}
-use Rattle.relup_file.proofs.Pieces.{choose, from_pair, from_word, from_name, from_modules, from_purge_mode, from_timeout}
-use Rattle.relup_file.proofs.InstructionLemmas.{from_instruction}
+use Rattle.relup_instruction.specs.declared.instruction.Timeout.{Timeout}
+use Rattle.relup_instruction.specs.declared.instruction.Timeout.TheVariants.{Default}
+use Rattle.relup_instruction.specs.declared.instruction.PurgeMode.{PurgeMode}
+use Rattle.relup_instruction.specs.Form.{one, pair_term, atoms_term, purge_word, timeout_term, IsTimeout}
+use Rattle.relup_instruction.specs.Parts.{word_in, modules_in, purge_mode_in, timeout_in, instruction_in}
+use Rattle.relup_instruction.proofs.Pieces.{choose, from_pair, from_word, from_name, from_modules, from_purge_mode, from_timeout}
+use Rattle.relup_instruction.proofs.InstructionLemmas.{from_instruction}
 use Rattle.appup_file.specs.declared.instruction.ModType.{ModType}
 use Rattle.appup_file.specs.declared.instruction.ModType.TheVariants.{Static, Dynamic}
 use Rattle.appup_file.specs.Instruction.{ChangeForm, UpdateForm, LoadForm, DependentForm, AddedForm, AppupInstruction}

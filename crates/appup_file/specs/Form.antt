@@ -9,10 +9,11 @@ use Rattle.rel_files.specs.Form.{list_of, start_word}
 use Rattle.rel_files.specs.Name.{IsName, IsVersion}
 use Rattle.rel_files.specs.Parts.{is_word}
 use Rattle.rel_files.specs.declared.release.StartType.TheVariants.{Permanent}
-use Rattle.relup_file.specs.declared.instruction.PurgeMode.TheVariants.{Brutal}
-use Rattle.relup_file.specs.declared.instruction.Timeout.TheVariants.{Default}
-use Rattle.relup_file.specs.Form.{one, pair_term, command, text_term, atoms_term, purge_word, timeout_term, IsTimeout, IsInstruction, IsOuter}
-use Rattle.relup_file.specs.Form as relup
+use Rattle.relup_instruction.specs.declared.instruction.PurgeMode.TheVariants.{Brutal}
+use Rattle.relup_instruction.specs.declared.instruction.Timeout.TheVariants.{Default}
+use Rattle.relup_instruction.specs.Form.{one, pair_term, command, text_term, atoms_term, purge_word, timeout_term, IsTimeout, IsInstruction}
+use Rattle.relup_instruction.specs.Form as relup
+use Rattle.relup_file.specs.Form.{IsOuter}
 use Rattle.appup_file.specs.declared.instruction.ModType.{ModType}
 use Rattle.appup_file.specs.declared.instruction.ModType.TheVariants.{Static, Dynamic}
 use Rattle.appup_file.specs.Instruction.{ChangeForm, AppupInstruction, VersionForm, AppupEntryForm, AppupForm}

@@ -2,9 +2,9 @@
 use Rattle.std.specs.Prelude.{ℕ, List, map, string_bytes}
 use Rattle.erl_term.specs.Value.{Value, value_of}
 use Rattle.rel_files.specs.declared.release.StartType.{StartType}
-use Rattle.relup_file.specs.declared.instruction.Timeout.{Timeout}
-use Rattle.relup_file.specs.declared.instruction.PurgeMode.{PurgeMode}
-use Rattle.relup_file.specs.Instruction.{Instruction, instruction_of}
+use Rattle.relup_instruction.specs.declared.instruction.Timeout.{Timeout}
+use Rattle.relup_instruction.specs.declared.instruction.PurgeMode.{PurgeMode}
+use Rattle.relup_instruction.specs.Instruction.{Instruction, instruction_of}
 use Rattle.appup_file.specs.declared.instruction.ModType.{ModType}
 use Rattle.appup_file.specs.declared.instruction.StateChange.{StateChange}
 use Rattle.appup_file.specs.declared.instruction.StateChange.TheVariants.{Soft, Advanced}

@@ -9,9 +9,10 @@ use Rattle.rel_files.specs.declared.release.StartType.{StartType}
 use Rattle.rel_files.specs.declared.release.StartType.TheVariants.{Permanent}
 use Rattle.rel_files.specs.Parts.{list_in, pair_in, is_word}
 use Rattle.rel_files.specs.Sketch.{name_in, start_of}
-use Rattle.relup_file.specs.declared.instruction.Timeout.TheVariants.{Default}
-use Rattle.relup_file.specs.declared.instruction.PurgeMode.TheVariants.{Brutal}
-use Rattle.relup_file.specs.Parts.{all_in, word_in, version_in, modules_in, purge_mode_in, timeout_in, instruction_in, Outer, outer_in}
+use Rattle.relup_instruction.specs.declared.instruction.Timeout.TheVariants.{Default}
+use Rattle.relup_instruction.specs.declared.instruction.PurgeMode.TheVariants.{Brutal}
+use Rattle.relup_instruction.specs.Parts.{all_in, word_in, version_in, modules_in, purge_mode_in, timeout_in, instruction_in}
+use Rattle.relup_file.specs.Parts.{Outer, outer_in}
 use Rattle.appup_file.specs.declared.instruction.ModType.{ModType}
 use Rattle.appup_file.specs.declared.instruction.ModType.TheVariants.{Static, Dynamic}
 use Rattle.appup_file.specs.Instruction.{ChangeForm, UpdateForm, LoadForm, DependentForm, AddedForm, AppupInstruction, VersionForm, AppupEntryForm, AppupForm}

@@ -2,7 +2,7 @@
 ghost use Rattle.std.specs.Prelude.{◌≡◌, IfOk, map};
 ghost use Rattle.std.specs.Option.{option_map};
 ghost use Rattle.erl_term.specs.Value.{members_of, value_of};
-ghost use Rattle.relup_file.specs.Parts.{all_in};
+ghost use Rattle.relup_instruction.specs.Parts.{all_in};
 ghost use Rattle.appup_file.specs.Instruction.{version_of, entry_of, appup_of};
 ghost use Rattle.appup_file.specs.Parts.{other_version_in, entry_in, appup_in};
 
@@ -10,8 +10,8 @@ use crate::steps::row_in;
 use crate::{Appup, AppupEntry, OtherVersion};
 use erl_term::Term;
 use rel_files::parts::{list_in, pair_in};
-use relup_file::members::version_in;
 use relup_file::outline::outer_in;
+use relup_instruction::members::version_in;
 use std::alloc::{AllocError, Global};
 
 // The text of a version, or a binary.

@@ -2,7 +2,7 @@
 
 use erl_term::Term;
 use rel_files::StartType;
-use relup_file::{Instr, PurgeMode, Timeout};
+use relup_instruction::{Instr, PurgeMode, Timeout};
 
 /// Whether the processes of a module go over to new code of it by themselves.
 #[derive(Clone, Copy)]

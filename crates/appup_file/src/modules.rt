@@ -2,14 +2,14 @@
 ghost use Rattle.std.specs.Prelude.{◌≡◌, IfOk, map, string_bytes};
 ghost use Rattle.std.specs.Option.{option_map};
 ghost use Rattle.erl_term.specs.Value.{members_of, value_of};
-ghost use Rattle.relup_file.specs.Parts.{modules_in};
+ghost use Rattle.relup_instruction.specs.Parts.{modules_in};
 ghost use Rattle.appup_file.specs.Instruction.{load_of, dependent_of};
 ghost use Rattle.appup_file.specs.Parts.{dep_mods_in, plain_load, purged_load, load_in, dependent_in};
 
 use crate::{Dependent, ModuleLoad};
 use erl_term::Term;
-use relup_file::PurgeMode;
-use relup_file::members::{modules_in, purge_mode_in};
+use relup_instruction::PurgeMode;
+use relup_instruction::members::{modules_in, purge_mode_in};
 use std::alloc::{AllocError, Global};
 
 // The modules on which it depends, none where they are not written.

@@ -5,7 +5,7 @@ ghost use Rattle.appup_file.specs.Instruction.{row_of, version_of, entry_of, app
 ghost use Rattle.appup_file.specs.Search.{entries_of, ends_at, entry_for};
 
 use crate::{Appup, AppupEntry, AppupInstr, OtherVersion};
-use relup_file::Direction;
+use relup_instruction::Direction;
 use std::fmt::{self, Display, Formatter};
 
 /// Why an appup has no instructions for a version. It is shown by its name.

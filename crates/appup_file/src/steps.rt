@@ -2,7 +2,7 @@
 ghost use Rattle.std.specs.Prelude.{◌≡◌, IfOk};
 ghost use Rattle.std.specs.Option.{option_map};
 ghost use Rattle.erl_term.specs.Value.{members_of, value_of};
-ghost use Rattle.relup_file.specs.Parts.{all_in};
+ghost use Rattle.relup_instruction.specs.Parts.{all_in};
 ghost use Rattle.appup_file.specs.Instruction.{appup_instruction_of, row_of};
 ghost use Rattle.appup_file.specs.Parts.{named_in, other_named_in, headed_in, high_level_in, appup_instruction_in};
 
@@ -12,7 +12,7 @@ use crate::modules::{dependent_in, load_in};
 use crate::update::update_in;
 use erl_term::Term;
 use rel_files::text::name_in;
-use relup_file::instruction_in;
+use relup_instruction::instruction_in;
 use std::alloc::{AllocError, Global};
 
 // A word, the name of a module or an application, and terms.

@@ -8,8 +8,8 @@ ghost use Rattle.appup_file.specs.Parts.{advanced_in, change_in, mod_type_of, mo
 use crate::{AppupInstr, ModType, StateChange, Update};
 use erl_term::Term;
 use rel_files::parts::{is_word, pair_in};
-use relup_file::members::{modules_in, purge_mode_in, timeout_in, word_in};
-use relup_file::{PurgeMode, Timeout};
+use relup_instruction::members::{modules_in, purge_mode_in, timeout_in, word_in};
+use relup_instruction::{PurgeMode, Timeout};
 use std::alloc::{AllocError, Global};
 
 // `{advanced, Extra}`.

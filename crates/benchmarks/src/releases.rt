@@ -4,7 +4,7 @@ ghost use Rattle.std.specs.Prelude.{◌<◌};
 use crate::shape::Shape;
 use appup_file::{Appup, AppupEntry, AppupInstr, ModType, OtherVersion, StateChange, Update};
 use rel_files::StartType;
-use relup_file::{Direction, PurgeMode, Timeout};
+use relup_instruction::{Direction, PurgeMode, Timeout};
 use relup_translate::{ModuleNames, RelupApp, RelupRelease};
 use std::alloc::{AllocError, Global};
 

@@ -5,7 +5,8 @@
 //! which are loaded first and last, and on standard error the microseconds of processor time.
 use crate::releases::release;
 use crate::shape::Shape;
-use relup_file::{Direction, Instr, Relup, RelupEntry, Suspension};
+use relup_file::{Relup, RelupEntry};
+use relup_instruction::{Direction, Instr, Suspension};
 use relup_translate::{RelupRelease, make_relup};
 use std::alloc::Global;
 use std::io;

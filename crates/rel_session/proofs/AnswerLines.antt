@@ -16,8 +16,9 @@ use Rattle.erl_term.specs.Value.Values.{no_values, value}
 use Rattle.rel_files.specs.Form.{list_of}
 use Rattle.rel_files.specs.Fault.{Fault, file_fault_text}
 use Rattle.rel_files.specs.Fault.Fault.{bad_term, bad_shape, duplicate, bad_version, no_memory as out_of_memory}
-use Rattle.relup_file.specs.Form.{triple_term, text_term, entry_term}
-use Rattle.relup_file.specs.Instruction.{RelupForm}
+use Rattle.relup_instruction.specs.Form.{triple_term, text_term}
+use Rattle.relup_file.specs.Form.{entry_term}
+use Rattle.relup_file.specs.Relup.{RelupForm}
 use Rattle.relup_translate.specs.Fault.{FaultForm}
 use Rattle.relup_translate.specs.Fault.FaultForm.{no_appup, no_entry, unknown_module, regex_version, needs_new_emulator, unsupported}
 use Rattle.relup_command.proofs.RelupLines.{TellsLineFault, IsLineTranslation}

@@ -1,8 +1,8 @@
 -- Instructions written one after another.
 use Rattle.std.proofs.Common.{◌≡◌, ◌<◌, sym, ap, subst, ◌∙◌, List, [], ◌∷◌, ◌++◌, length, map, Result, OnOk, arith}
 use Rattle.std.proofs.lemmas.List.{append-nil, map-append}
-use Rattle.relup_file.specs.declared.instruction.Instr.{Instr}
-use Rattle.relup_file.specs.Instruction.{Instruction, instruction_of, script_of}
+use Rattle.relup_instruction.specs.declared.instruction.Instr.{Instr}
+use Rattle.relup_instruction.specs.Instruction.{Instruction, instruction_of, script_of}
 use Rattle.relup_block.specs.Block.{over}
 use Rattle.relup_block.specs.Memory.{Appends}
 

@@ -2,10 +2,10 @@
 use Rattle.std.proofs.Common.{◌≡◌, refl, ap, sym, subst, ◌∙◌, ℕ, Bool, true, false, List, [], ◌∷◌, ◌++◌, map, reverse, filter, filter_map, flat_map, Some, IsPermutation}
 use Rattle.std.proofs.lemmas.List.{append_assoc, append-nil, map-append}
 use Rattle.std.proofs.lemmas.List.Sorted.{IsPermutation-refl, IsPermutation-trans, IsPermutation-map, IsPermutation-filter_both}
-use Rattle.relup_file.specs.declared.instruction.Direction.{Direction}
-use Rattle.relup_file.specs.declared.instruction.Direction.TheVariants.{Up, Down}
-use Rattle.relup_file.specs.Instruction.{SuspensionForm, PurgingForm, ChangeForm, ConversionForm, Instruction}
-use Rattle.relup_file.specs.Instruction.Instruction.{suspend, load, code_change, resume}
+use Rattle.relup_instruction.specs.declared.instruction.Direction.{Direction}
+use Rattle.relup_instruction.specs.declared.instruction.Direction.TheVariants.{Up, Down}
+use Rattle.relup_instruction.specs.Instruction.{SuspensionForm, PurgingForm, ChangeForm, ConversionForm, Instruction}
+use Rattle.relup_instruction.specs.Instruction.Instruction.{suspend, load, code_change, resume}
 use Rattle.relup_block.specs.declared.order.ChoiceRule.TheVariants.{DependentsFirst, DependenciesFirst}
 use Rattle.relup_block.specs.Order.{BlockItemForm, order}
 use Rattle.relup_block.specs.Order.BlockItemForm.{updated, loaded}

@@ -1,12 +1,12 @@
 -- The instructions of a block: consecutive updates and loads of modules, which are made together (OTP: appup(4); their order is this project's own).
 use Rattle.std.specs.Prelude.{ℕ, Bool, true, false, not, List, [], ◌∷◌, ◌++◌, map, reverse, Option, None, Some, filter}
 use Rattle.std.specs.List.{filter_map}
-use Rattle.relup_file.specs.declared.instruction.Timeout.{Timeout}
-use Rattle.relup_file.specs.declared.instruction.Timeout.TheVariants.{Default}
-use Rattle.relup_file.specs.declared.instruction.Direction.{Direction}
-use Rattle.relup_file.specs.declared.instruction.Direction.TheVariants.{Up, Down}
-use Rattle.relup_file.specs.Instruction.{SuspensionForm, PurgingForm, ChangeForm, Instruction}
-use Rattle.relup_file.specs.Instruction.Instruction.{suspend, load, code_change, resume}
+use Rattle.relup_instruction.specs.declared.instruction.Timeout.{Timeout}
+use Rattle.relup_instruction.specs.declared.instruction.Timeout.TheVariants.{Default}
+use Rattle.relup_instruction.specs.declared.instruction.Direction.{Direction}
+use Rattle.relup_instruction.specs.declared.instruction.Direction.TheVariants.{Up, Down}
+use Rattle.relup_instruction.specs.Instruction.{SuspensionForm, PurgingForm, ChangeForm, Instruction}
+use Rattle.relup_instruction.specs.Instruction.Instruction.{suspend, load, code_change, resume}
 use Rattle.appup_file.specs.declared.instruction.ModType.{ModType}
 use Rattle.appup_file.specs.declared.instruction.ModType.TheVariants.{Static, Dynamic}
 use Rattle.appup_file.specs.Instruction.{ChangeForm as StateForm}

@@ -1,9 +1,9 @@
 -- Laws of blocks, above the definition of their instructions.
 use Rattle.std.specs.Prelude.{◌≡◌, ℕ, ◌<◌, true, false, List, [], ◌∷◌, ◌++◌, map, reverse, filter, IsPermutation}
-use Rattle.relup_file.specs.declared.instruction.Direction.{Direction}
-use Rattle.relup_file.specs.declared.instruction.Direction.TheVariants.{Up, Down}
-use Rattle.relup_file.specs.Instruction.{SuspensionForm, PurgingForm, ChangeForm, ConversionForm, Instruction}
-use Rattle.relup_file.specs.Instruction.Instruction.{suspend, load, code_change, resume}
+use Rattle.relup_instruction.specs.declared.instruction.Direction.{Direction}
+use Rattle.relup_instruction.specs.declared.instruction.Direction.TheVariants.{Up, Down}
+use Rattle.relup_instruction.specs.Instruction.{SuspensionForm, PurgingForm, ChangeForm, ConversionForm, Instruction}
+use Rattle.relup_instruction.specs.Instruction.Instruction.{suspend, load, code_change, resume}
 use Rattle.std.specs.List.{AllByRecursion, filter_map, flat_map}
 use Rattle.relup_block.specs.declared.order.ChoiceRule.{ChoiceRule}
 use Rattle.relup_block.specs.Order.{BlockItemForm, must_wait_for, is_free, order}

@@ -1,7 +1,7 @@
 -- What parts of a script in the making stand for.
 use Rattle.std.specs.Prelude.{◌≡◌, List, ◌++◌}
-use Rattle.relup_file.specs.declared.instruction.Instr.{Instr}
-use Rattle.relup_file.specs.Instruction.{Instruction, script_of}
+use Rattle.relup_instruction.specs.declared.instruction.Instr.{Instr}
+use Rattle.relup_instruction.specs.Instruction.{Instruction, script_of}
 
 -- These instructions were written behind what stood there.
 abbrev pub Appends : List Instr → List Instr → List Instruction → Type 0

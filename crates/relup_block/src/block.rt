@@ -2,14 +2,14 @@
 ghost use Rattle.std.specs.Prelude.{◌≡◌, ◌∷◌, [], List, IfOk, OnOk, map, string_bytes, filter, reverse};
 ghost use Rattle.std.specs.List.{filter_map};
 ghost use Rattle.std.specs.Option.{option_map};
-ghost use Rattle.relup_file.specs.Instruction.{suspension_of, change_of, purging_of, instruction_of};
+ghost use Rattle.relup_instruction.specs.Instruction.{suspension_of, change_of, purging_of, instruction_of};
 ghost use Rattle.relup_block.specs.Order.{BlockItemForm, block_item_of, block_items_of, order};
 ghost use Rattle.relup_block.specs.Block.{written_timeout, suspension, resumption, change, purging, is_static, is_of_kind, loading, suspending, changing, resuming, updating, in_orders, block};
 ghost use Rattle.relup_block.specs.Memory.{Appends};
 
 use crate::order::{BlockItem, ChoiceRule, order};
 use appup_file::{ModType, StateChange};
-use relup_file::{Change, Conversion, Direction, Instr, Purging, Suspension, Timeout};
+use relup_instruction::{Change, Conversion, Direction, Instr, Purging, Suspension, Timeout};
 use std::alloc::{AllocError, Global};
 
 /// Writes an instruction behind those that stand in `out`.

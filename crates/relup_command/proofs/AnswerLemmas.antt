@@ -1,7 +1,7 @@
 -- An answer is that of what the files say.
 use Rattle.std.proofs.Common.{◌≡◌, ◌≢◌, ℕ, List, Result, Ok, Err, ap, refl, sym, ◌∙◌}
 use Rattle.rel_unpack.specs.Source.{Source}
-use Rattle.relup_file.specs.Instruction.{RelupForm}
+use Rattle.relup_file.specs.Relup.{RelupForm}
 use Rattle.relup_translate.specs.declared.error.TranslateError.{TranslateError}
 use Rattle.relup_translate.specs.declared.error.TranslateError.TheVariants.{NoAppup, NoEntry, UnknownModule, RegexVersion, NeedsNewEmulator, Unsupported, NoMemory}
 use Rattle.relup_translate.specs.Fault.{FaultForm, Says}

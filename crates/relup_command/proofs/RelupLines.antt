@@ -8,9 +8,10 @@ use Rattle.erl_term.specs.Lines.{is_one_line}
 use Rattle.erl_term.specs.Value.{Value}
 use Rattle.rel_files.specs.Release.{Application}
 use Rattle.app_file.specs.File.{Specification, has_few_modules}
-use Rattle.relup_file.specs.declared.instruction.Direction.{Direction}
-use Rattle.relup_file.specs.declared.instruction.Direction.TheVariants.{Up, Down}
-use Rattle.relup_file.specs.Instruction.{Instruction, RelupForm}
+use Rattle.relup_instruction.specs.declared.instruction.Direction.{Direction}
+use Rattle.relup_instruction.specs.declared.instruction.Direction.TheVariants.{Up, Down}
+use Rattle.relup_instruction.specs.Instruction.{Instruction}
+use Rattle.relup_file.specs.Relup.{RelupForm}
 use Rattle.appup_file.proofs.TermLemmas.{says_its_term}
 use Rattle.appup_file.specs.Form.{IsAppupInstruction, IsEntryTerm, Spells}
 use Rattle.appup_file.specs.Instruction.{AppupInstruction, AppupEntryForm, AppupForm, VersionForm}

@@ -6,7 +6,7 @@ use Rattle.erl_term.specs.Printing.{text_of}
 use Rattle.rel_unpack.specs.Order.{Outcome, Then}
 use Rattle.rel_unpack.specs.Source.{Source}
 use Rattle.relup_file.specs.Form.{relup_term}
-use Rattle.relup_file.specs.Instruction.{RelupForm}
+use Rattle.relup_file.specs.Relup.{RelupForm}
 use Rattle.relup_translate.specs.Fault.{FaultForm}
 use Rattle.relup_translate.specs.Fault.FaultForm.{no_appup, no_entry, unknown_module, regex_version, needs_new_emulator, unsupported}
 use Rattle.relup_translate.specs.Translation.{translation}

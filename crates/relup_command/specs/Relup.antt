@@ -3,7 +3,7 @@ use Rattle.std.specs.Prelude.{◌≡◌, ◌≢◌, ℕ, List, Ok, Err}
 use Rattle.rel_unpack.specs.Refusal.{refusal_of}
 use Rattle.rel_unpack.specs.Source.{Source}
 use Rattle.rel_unpack.specs.declared.error.UnpackError.TheVariants.{NoMemory}
-use Rattle.relup_file.specs.Instruction.{RelupForm}
+use Rattle.relup_file.specs.Relup.{RelupForm}
 use Rattle.relup_translate.specs.Translation.{translation, Refuses}
 use Rattle.relup_command.specs.Releases.{Releases, ReleasesAt}
 use Rattle.relup_command.specs.declared.error.RelupError.{RelupError}

@@ -1,6 +1,6 @@
 //! The answer to the request of a relup.
 ghost use Rattle.std.specs.Prelude.{◌≡◌, IfOk, IsErr, map, string_bytes};
-ghost use Rattle.relup_file.specs.Instruction.{relup_of};
+ghost use Rattle.relup_file.specs.Relup.{relup_of};
 ghost use Rattle.relup_translate.specs.Fault.{FaultForm, Says};
 ghost use Rattle.rel_unpack.specs.Order.{Answers};
 ghost use Rattle.relup_command.specs.Answer.{AnswerAt, fault_line, relup_lines};

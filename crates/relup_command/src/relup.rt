@@ -1,6 +1,6 @@
 //! The relup of a release, from files.
 ghost use Rattle.std.specs.Prelude.{IfOk, IfErr, map, string_bytes};
-ghost use Rattle.relup_file.specs.Instruction.{relup_of};
+ghost use Rattle.relup_file.specs.Relup.{relup_of};
 ghost use Rattle.relup_command.specs.Relup.{IsMadeOf, IsRefusalOf};
 
 use crate::error::RelupError;

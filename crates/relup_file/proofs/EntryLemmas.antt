@@ -5,11 +5,14 @@ use Rattle.erl_term.specs.Value.{Value, Values, values_of}
 use Rattle.erl_term.specs.Value.Value.{list}
 use Rattle.rel_files.specs.Parts.{list_in}
 use Rattle.rel_files.proofs.Options.{mapped, chained}
-use Rattle.relup_file.specs.Instruction.{Instruction, EntryForm}
-use Rattle.relup_file.specs.Form.{triple_term, IsEntryTerm, AreEntryTerms}
-use Rattle.relup_file.specs.Parts.{triple_in, version_in, script_in, entry_in, put_entry, entries_in}
-use Rattle.relup_file.proofs.Pieces.{from_list, from_triple, version_in-text, from_version}
-use Rattle.relup_file.proofs.InstructionLemmas.{script_in-terms, from_script}
+use Rattle.relup_instruction.specs.Instruction.{Instruction}
+use Rattle.relup_instruction.specs.Form.{triple_term}
+use Rattle.relup_instruction.specs.Parts.{triple_in, version_in, script_in}
+use Rattle.relup_instruction.proofs.Pieces.{from_list, from_triple, version_in-text, from_version}
+use Rattle.relup_instruction.proofs.InstructionLemmas.{script_in-terms, from_script}
+use Rattle.relup_file.specs.Relup.{EntryForm}
+use Rattle.relup_file.specs.Form.{IsEntryTerm, AreEntryTerms}
+use Rattle.relup_file.specs.Parts.{entry_in, put_entry, entries_in}
 
 abbrev entered : Value → List ℕ → List Instruction → EntryForm
 entered descr vsn script = record { vsn = vsn; descr = descr; script = script }

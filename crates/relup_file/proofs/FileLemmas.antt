@@ -15,7 +15,7 @@ use Rattle.rel_files.specs.Kind.{HasNoTerm, IsCountFault}
 use Rattle.relup_file.specs.declared.fault.RelupFault.{RelupFault}
 use Rattle.relup_file.specs.declared.fault.RelupFault.TheVariants.{BadTerm, BadShape, NoMemory}
 use Rattle.relup_file.specs.Fault.{relup_fault_of, relup_fault_of_file}
-use Rattle.relup_file.specs.Instruction.{RelupForm}
+use Rattle.relup_file.specs.Relup.{RelupForm}
 use Rattle.relup_file.specs.Form.{IsRelupTerm}
 use Rattle.relup_file.specs.Parts.{relup_in}
 use Rattle.relup_file.specs.File.{HasFileTerm, SaysRelup, HasTermFault, IsTermFault, HaveFault, IsRelupFault}

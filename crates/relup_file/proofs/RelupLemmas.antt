@@ -7,15 +7,18 @@ use Rattle.erl_term.specs.Value.Value.{list}
 use Rattle.rel_files.specs.Parts.{list_in}
 use Rattle.rel_files.specs.Sketch.{count}
 use Rattle.rel_files.proofs.Options.{mapped, chained}
+use Rattle.relup_instruction.specs.Instruction.{Instruction}
+use Rattle.relup_instruction.specs.Form.{triple_term, instruction_term, SpellsScript}
+use Rattle.relup_instruction.specs.Parts.{triple_in, version_in}
+use Rattle.relup_instruction.proofs.Pieces.{from_list, from_triple, version_in-text, from_version}
+use Rattle.relup_instruction.proofs.InstructionLemmas.{list_of_values}
 use Rattle.relup_file.specs.declared.fault.RelupFault.{RelupFault}
 use Rattle.relup_file.specs.declared.fault.RelupFault.TheVariants.{BadTerm, BadShape, NoMemory}
 use Rattle.relup_file.specs.declared.relup.Relup.{Relup}
-use Rattle.relup_file.specs.Instruction.{Instruction, EntryForm, RelupForm, relup_of}
-use Rattle.relup_file.specs.Form.{triple_term, instruction_term, entry_term, relup_term, SpellsScript, IsEntryTerm, AreEntryTerms, IsOuter, IsRelupTerm, IsScript, IsEntry, IsRelup}
-use Rattle.relup_file.specs.Parts.{triple_in, version_in, entry_in, put_entry, entries_in, Outer, outer_in, join, from_outer, relup_in, TellsBad}
+use Rattle.relup_file.specs.Relup.{EntryForm, RelupForm, relup_of}
+use Rattle.relup_file.specs.Form.{entry_term, relup_term, IsEntryTerm, AreEntryTerms, IsOuter, IsRelupTerm, IsScript, IsEntry, IsRelup}
+use Rattle.relup_file.specs.Parts.{entry_in, put_entry, entries_in, Outer, outer_in, join, from_outer, relup_in, TellsBad}
 use Rattle.relup_file.specs.File.{HasBadEntry, HasTermFault, IsTermFault}
-use Rattle.relup_file.proofs.Pieces.{from_list, from_triple, version_in-text, from_version}
-use Rattle.relup_file.proofs.InstructionLemmas.{list_of_values}
 use Rattle.relup_file.proofs.EntryLemmas.{entries_in-terms, from_entries, IsFirstBad, from_bad, entries_in-bad}
 
 abbrev pub lined : List ℕ → Values → Values → Outer

@@ -6,7 +6,7 @@ use Rattle.erl_term.specs.Faults.{IsFault}
 use Rattle.erl_term.specs.OneTerm
 use Rattle.relup_file.specs.declared.fault.RelupFault.{RelupFault}
 use Rattle.relup_file.specs.declared.fault.RelupFault.TheVariants.{BadTerm, BadShape, NoMemory}
-use Rattle.relup_file.specs.Instruction.{EntryForm, RelupForm}
+use Rattle.relup_file.specs.Relup.{EntryForm, RelupForm}
 use Rattle.relup_file.specs.Form.{IsEntryTerm, AreEntryTerms, IsOuter, IsRelupTerm}
 
 -- The file has one term, and it is this.

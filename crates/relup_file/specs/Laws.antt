@@ -1,7 +1,7 @@
 -- Laws of relup files, whatever reads them.
 use Rattle.std.specs.Prelude.{◌≡◌, ◌⊎◌, ℕ, List}
 use Rattle.relup_file.specs.declared.fault.RelupFault.{RelupFault}
-use Rattle.relup_file.specs.Instruction.{RelupForm}
+use Rattle.relup_file.specs.Relup.{RelupForm}
 use Rattle.relup_file.specs.File.{SaysRelup, IsRelupFault}
 
 -- No file says two relups.

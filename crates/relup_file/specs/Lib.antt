@@ -1,5 +1,5 @@
 pub mod Fault
-pub mod Instruction
+pub mod Relup
 pub mod Form
 pub mod Parts
 pub mod Outline

@@ -2,15 +2,15 @@
 ghost use Rattle.std.specs.Prelude.{◌≡◌, ◌+◌, ◌<◌, ◌^◌, length, IfOk, MatchResult, Ok, map};
 ghost use Rattle.std.specs.Option.{option_map};
 ghost use Rattle.erl_term.specs.Value.{members_of, value_of};
-ghost use Rattle.relup_file.specs.Instruction.{entry_of, relup_of};
+ghost use Rattle.relup_file.specs.Relup.{entry_of, relup_of};
 ghost use Rattle.relup_file.specs.Parts.{entry_in, entries_in, relup_in, TellsBad};
 
-use crate::members::{triple_in, version_in};
 use crate::outline::outer_in;
-use crate::steps::script_in;
 use crate::{Relup, RelupEntry, RelupFault};
 use erl_term::Term;
 use rel_files::parts::list_in;
+use relup_instruction::members::{triple_in, version_in};
+use relup_instruction::script_in;
 use std::alloc::{AllocError, Global};
 
 // `{Vsn, Descr, [Instr]}`.

@@ -5,9 +5,9 @@ ghost use Rattle.erl_term.specs.Value.{value_of};
 ghost use Rattle.relup_file.specs.Parts.{outer_in};
 ghost use Rattle.relup_file.specs.Outline.{outer_of};
 
-use crate::members::{triple_in, version_in};
 use erl_term::Term;
 use rel_files::parts::list_in;
+use relup_instruction::members::{triple_in, version_in};
 use std::alloc::{AllocError, Global};
 
 /// `{Vsn, [Entry], [Entry]}`, whatever the entries are.

@@ -4,14 +4,16 @@ ghost use Rattle.erl_term.specs.Printing.{text_of};
 ghost use Rattle.erl_term.specs.Value.{value_of};
 ghost use Rattle.erl_term.specs.Within.{IsWithin};
 ghost use Rattle.rel_files.specs.Form.{list_of};
-ghost use Rattle.relup_file.specs.Instruction.{script_of, entry_of, relup_of};
-ghost use Rattle.relup_file.specs.Form.{instruction_term, entry_term, relup_term, IsRelup};
+ghost use Rattle.relup_instruction.specs.Instruction.{script_of};
+ghost use Rattle.relup_instruction.specs.Form.{instruction_term};
+ghost use Rattle.relup_file.specs.Relup.{entry_of, relup_of};
+ghost use Rattle.relup_file.specs.Form.{entry_term, relup_term, IsRelup};
 ghost use Rattle.relup_file.specs.File.{SaysRelup};
 
-use crate::spelling::instruction_term;
-use crate::terms::{text_term, triple_term};
-use crate::{Instr, Relup, RelupEntry};
+use crate::{Relup, RelupEntry};
 use erl_term::{Term, print};
+use relup_instruction::terms::{text_term, triple_term};
+use relup_instruction::{Instr, instruction_term};
 use std::alloc::{AllocError, Global};
 
 /// The text of a relup's file: its term, with a dot and no blanks.

@@ -2,7 +2,7 @@
 ghost use Rattle.std.specs.Prelude.{◌≡◌, ◌≢◌, IfOk, IfErr, MatchResult};
 ghost use Rattle.erl_term.specs.Value.{value_of};
 ghost use Rattle.erl_term.specs.Within.{IsWithin};
-ghost use Rattle.relup_file.specs.Instruction.{RelupForm, relup_of};
+ghost use Rattle.relup_file.specs.Relup.{RelupForm, relup_of};
 ghost use Rattle.relup_file.specs.Form.{IsRelupTerm, IsRelup};
 ghost use Rattle.relup_file.specs.File.{HasFileTerm, SaysRelup, IsTermFault, IsRelupFault};
 

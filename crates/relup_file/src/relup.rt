@@ -1,6 +1,6 @@
 //! A relup, as its file has it.
-use crate::Instr;
 use erl_term::Term;
+use relup_instruction::Instr;
 
 /// The script between a release and another one.
 pub struct RelupEntry {

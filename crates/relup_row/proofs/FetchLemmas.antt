@@ -1,7 +1,7 @@
 -- The fetches of a script, one after another.
 use Rattle.std.proofs.Common.{List, map}
-use Rattle.relup_file.specs.Instruction.{Instruction}
-use Rattle.relup_file.specs.Instruction.Instruction.{load_object_code}
+use Rattle.relup_instruction.specs.Instruction.{Instruction}
+use Rattle.relup_instruction.specs.Instruction.Instruction.{load_object_code}
 use Rattle.relup_row.specs.Fetches.{MentionForm, fetch}
 
 -- those of these modules, from the applications of some mentions

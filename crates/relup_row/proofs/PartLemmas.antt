@@ -2,9 +2,9 @@
 use Rattle.std.proofs.Common.{◌≡◌, refl, ap, sym, ◌∙◌, List, [], ◌∷◌, ◌++◌, None, Some}
 use Rattle.std.proofs.lemmas.List.{append_assoc, append-nil}
 use Rattle.std.specs.List.{flat_map}
-use Rattle.relup_file.specs.declared.instruction.Direction.{Direction}
-use Rattle.relup_file.specs.declared.instruction.Direction.TheVariants.{Up, Down}
-use Rattle.relup_file.specs.Instruction.{Instruction}
+use Rattle.relup_instruction.specs.declared.instruction.Direction.{Direction}
+use Rattle.relup_instruction.specs.declared.instruction.Direction.TheVariants.{Up, Down}
+use Rattle.relup_instruction.specs.Instruction.{Instruction}
 use Rattle.appup_file.specs.Instruction.{AppupInstruction}
 use Rattle.relup_row.specs.Release.{WayForm}
 use Rattle.relup_block.specs.Order.{BlockItemForm}

@@ -2,8 +2,8 @@
 use Rattle.std.specs.Prelude.{ℕ, Bool, not, List, [], ◌∷◌, map, Option, option_map}
 use Rattle.std.specs.List.{filter}
 use Rattle.std.specs.Str.{bytes_eq}
-use Rattle.relup_file.specs.Instruction.{FetchForm, Instruction}
-use Rattle.relup_file.specs.Instruction.Instruction.{load_object_code}
+use Rattle.relup_instruction.specs.Instruction.{FetchForm, Instruction}
+use Rattle.relup_instruction.specs.Instruction.Instruction.{load_object_code}
 use Rattle.relup_row.specs.declared.fetches.Mention.{Mention}
 use Rattle.relup_row.specs.Release.{RelupAppForm, RelupReleaseForm, relup_app_of, owner}
 

@@ -4,8 +4,8 @@ use Rattle.std.specs.Option.{option_map}
 use Rattle.std.specs.List.{find}
 use Rattle.std.specs.Str.{bytes_eq}
 use Rattle.rel_files.specs.declared.release.StartType.{StartType}
-use Rattle.relup_file.specs.declared.instruction.Direction.{Direction}
-use Rattle.relup_file.specs.declared.instruction.Direction.TheVariants.{Up, Down}
+use Rattle.relup_instruction.specs.declared.instruction.Direction.{Direction}
+use Rattle.relup_instruction.specs.declared.instruction.Direction.TheVariants.{Up, Down}
 use Rattle.appup_file.specs.Instruction.{AppupForm, appup_of}
 use Rattle.relup_block.specs.Order.{is_among}
 use Rattle.relup_row.specs.declared.release.RelupApp.{RelupApp}

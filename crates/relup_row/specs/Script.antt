@@ -7,9 +7,9 @@ use Rattle.erl_term.specs.Value.Values.{no_values, value}
 use Rattle.rel_files.specs.declared.release.StartType.{StartType}
 use Rattle.rel_files.specs.declared.release.StartType.TheVariants.{Load, Unloaded}
 use Rattle.rel_files.specs.Form.{start_word}
-use Rattle.relup_file.specs.declared.instruction.PurgeMode.TheVariants.{Brutal}
-use Rattle.relup_file.specs.Instruction.{PurgingForm, Instruction}
-use Rattle.relup_file.specs.Instruction.Instruction.{load_object_code, point_of_no_return, load, remove, purge, apply}
+use Rattle.relup_instruction.specs.declared.instruction.PurgeMode.TheVariants.{Brutal}
+use Rattle.relup_instruction.specs.Instruction.{PurgingForm, Instruction}
+use Rattle.relup_instruction.specs.Instruction.Instruction.{load_object_code, point_of_no_return, load, remove, purge, apply}
 use Rattle.appup_file.specs.Instruction.{AppupInstruction}
 use Rattle.appup_file.specs.Instruction.AppupInstruction.{update, update_supervisor, load_module, add_module, delete_module, add_application, remove_application, restart_application, low_level}
 use Rattle.relup_row.specs.Release.{RelupAppForm, RelupReleaseForm, WayForm, app_named}

@@ -3,14 +3,14 @@ ghost use Rattle.std.specs.Prelude.{◌≡◌, ◌∷◌, [], IfOk, OnOk, codes,
 ghost use Rattle.erl_term.specs.Value.{value_of, values_of};
 ghost use Rattle.erl_term.specs.Value.Value.{atom};
 ghost use Rattle.rel_files.specs.Form.{start_word};
-ghost use Rattle.relup_file.specs.Instruction.{instruction_of};
+ghost use Rattle.relup_instruction.specs.Instruction.{instruction_of};
 ghost use Rattle.relup_row.specs.Script.{application_call, call_with, start_call, starting};
 ghost use Rattle.relup_block.specs.Memory.{Appends};
 
 use erl_term::Term;
 use rel_files::StartType;
 use relup_block::push_instr;
-use relup_file::{Call, Instr};
+use relup_instruction::{Call, Instr};
 use std::alloc::{AllocError, Global};
 
 // Of any lifetime, so that it may stand in one slice with other words.

@@ -1,9 +1,9 @@
 //! Copies of the instructions that an appup shares with a script.
 ghost use Rattle.std.specs.Prelude.{◌≡◌, IfOk, map, string_bytes};
-ghost use Rattle.relup_file.specs.Instruction.{fetch_of, suspension_of, purging_of, change_of, conversion_of, call_of, instruction_of};
+ghost use Rattle.relup_instruction.specs.Instruction.{fetch_of, suspension_of, purging_of, change_of, conversion_of, call_of, instruction_of};
 
 use erl_term::copy_terms;
-use relup_file::{Call, Change, Conversion, Fetch, Instr, Purging, Suspension};
+use relup_instruction::{Call, Change, Conversion, Fetch, Instr, Purging, Suspension};
 use std::alloc::{AllocError, Global};
 
 fn copy_names(names: &Vec<String>) -> Result<Vec<String>, AllocError>

@@ -1,14 +1,14 @@
 //! Which modules a script fetches, and from which applications.
 ghost use Rattle.std.specs.Prelude.{◌≡◌, ◌∷◌, [], ℕ, List, IfOk, OnOk, map, string_bytes};
-ghost use Rattle.relup_file.specs.Instruction.{fetch_of};
-ghost use Rattle.relup_file.specs.Instruction.Instruction.{load_object_code};
+ghost use Rattle.relup_instruction.specs.Instruction.{fetch_of};
+ghost use Rattle.relup_instruction.specs.Instruction.Instruction.{load_object_code};
 ghost use Rattle.relup_row.specs.Release.{relup_app_of};
 ghost use Rattle.relup_row.specs.Fetches.{MentionForm, mention_of, module_of, app_of, firsts, modules_in, fetch, fetching};
 ghost use Rattle.relup_block.specs.Memory.{Appends};
 
 use crate::release::RelupApp;
 use relup_block::push_instr;
-use relup_file::{Fetch, Instr};
+use relup_instruction::{Fetch, Instr};
 use std::alloc::{AllocError, Global};
 use std::collections::BTreeSet;
 

@@ -6,7 +6,7 @@ ghost use Rattle.relup_row.specs.Release.{relup_app_of, relup_release_of, way_of
 use crate::modules::ModuleNames;
 use appup_file::Appup;
 use rel_files::StartType;
-use relup_file::Direction;
+use relup_instruction::Direction;
 
 /// An application of a release.
 pub struct RelupApp {

@@ -15,7 +15,7 @@ use crate::release::{RelupRelease, Way};
 use crate::single::push_single;
 use appup_file::AppupInstr;
 use relup_block::{BlockItem, push_block, push_instr};
-use relup_file::Instr;
+use relup_instruction::Instr;
 use std::alloc::{AllocError, Global};
 
 // Those of these modules that the target has.

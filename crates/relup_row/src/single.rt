@@ -1,6 +1,6 @@
 //! What the instructions outside a block become, behind the point of no return.
 ghost use Rattle.std.specs.Prelude.{◌≡◌, ◌∷◌, [], IfOk, OnOk, map, string_bytes};
-ghost use Rattle.relup_file.specs.Instruction.{purging_of, instruction_of};
+ghost use Rattle.relup_instruction.specs.Instruction.{purging_of, instruction_of};
 ghost use Rattle.appup_file.specs.Instruction.{appup_instruction_of};
 ghost use Rattle.relup_row.specs.Release.{relup_app_of, relup_release_of, way_of, app_named};
 ghost use Rattle.relup_row.specs.Script.{plain_purging, load_plainly, remove_plainly, leaving, coming, stopping, going, of_app, restarting, in_place, single};
@@ -12,7 +12,7 @@ use crate::release::{RelupApp, Way};
 use appup_file::AppupInstr;
 use rel_files::StartType;
 use relup_block::push_instr;
-use relup_file::{Instr, PurgeMode, Purging};
+use relup_instruction::{Instr, PurgeMode, Purging};
 use std::alloc::{AllocError, Global};
 use std::slice;
 

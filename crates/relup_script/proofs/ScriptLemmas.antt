@@ -8,8 +8,8 @@ use Rattle.relup_script.specs.declared.fault.ScriptFault.{ScriptFault}
 use Rattle.relup_script.specs.declared.fault.ScriptFault.TheVariants.{NoPoint, TwoPoints, Misplaced, Unsupported}
 use Rattle.relup_script.specs.declared.script.Side.{Side}
 use Rattle.relup_script.specs.declared.script.Side.TheVariants.{Early, Late}
-use Rattle.relup_file.specs.Instruction.{Instruction}
-use Rattle.relup_file.specs.Instruction.Instruction.{point_of_no_return}
+use Rattle.relup_instruction.specs.Instruction.{Instruction}
+use Rattle.relup_instruction.specs.Instruction.Instruction.{point_of_no_return}
 use Rattle.relup_script.specs.Script.{is_point, is_supported, may_precede, may_follow, may_stand, IsRight, points, IsRunnable, fault_at, IsFirstFault, HasWrong, IsScriptFault, split_point, first_fault, part_fault, split_fault, script_fault}
 
 -- The faults of one side.

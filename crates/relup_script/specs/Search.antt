@@ -4,10 +4,11 @@ use Rattle.std.specs.Option.{option_map, option_and_then}
 use Rattle.std.specs.List.{find}
 use Rattle.std.specs.Str.{bytes_eq}
 use Rattle.erl_term.specs.Value.{Value, value_of}
-use Rattle.relup_file.specs.declared.instruction.Direction.{Direction}
-use Rattle.relup_file.specs.declared.instruction.Direction.TheVariants.{Up, Down}
+use Rattle.relup_instruction.specs.declared.instruction.Direction.{Direction}
+use Rattle.relup_instruction.specs.declared.instruction.Direction.TheVariants.{Up, Down}
 use Rattle.relup_script.specs.declared.search.Found.{Found}
-use Rattle.relup_file.specs.Instruction.{Instruction, EntryForm, RelupForm, script_of}
+use Rattle.relup_instruction.specs.Instruction.{Instruction, script_of}
+use Rattle.relup_file.specs.Relup.{EntryForm, RelupForm}
 
 -- a script, with the version and the description of its entry
 pub record FoundForm : Type 0 where

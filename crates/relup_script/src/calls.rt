@@ -1,11 +1,11 @@
 //! The calls that a script can make.
 ghost use Rattle.std.specs.Prelude.{◌≡◌};
 ghost use Rattle.erl_term.specs.Value.{members_of};
-ghost use Rattle.relup_file.specs.Instruction.{call_of};
+ghost use Rattle.relup_instruction.specs.Instruction.{call_of};
 ghost use Rattle.relup_script.specs.Script.{is_app, is_start_word, is_typed_app, has_one, is_error, is_one_app_word, is_application};
 
 use erl_term::Term;
-use relup_file::Call;
+use relup_instruction::Call;
 
 fn is_app(args: &[Term]) -> bool
     ensures { result ≡ is_app (members_of args.now) }

@@ -1,12 +1,12 @@
 //! Whether a script can be run.
 ghost use Rattle.std.specs.Prelude.{◌≡◌, ◌+◌, ◌<◌, ◌^◌, ◌↔◌, length, IsOk, None, Ok, Err};
 ghost use Rattle.std.specs.Option.{option_map};
-ghost use Rattle.relup_file.specs.Instruction.{instruction_of, script_of};
+ghost use Rattle.relup_instruction.specs.Instruction.{instruction_of, script_of};
 ghost use Rattle.relup_script.specs.Script.{is_point, is_supported, may_precede, may_follow, may_stand, fault_at, part_fault, split_point, script_fault, IsRunnable, IsScriptFault};
 
 use crate::ScriptFault;
 use crate::calls::{is_application, is_error};
-use relup_file::Instr;
+use relup_instruction::Instr;
 
 // A side of the point of no return.
 #[derive(Clone, Copy, PartialEq, Eq)]

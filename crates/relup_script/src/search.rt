@@ -2,11 +2,12 @@
 ghost use Rattle.std.specs.Prelude.{◌≡◌, map};
 ghost use Rattle.std.specs.Option.{option_map};
 ghost use Rattle.std.specs.Result.{result_ok};
-ghost use Rattle.relup_file.specs.Instruction.{entry_of, relup_of};
+ghost use Rattle.relup_file.specs.Relup.{entry_of, relup_of};
 ghost use Rattle.relup_script.specs.Search.{found_of, entry_for, of_entry, upgrade, downgrade, script_between};
 
 use erl_term::Term;
-use relup_file::{Direction, Instr, Relup, RelupEntry};
+use relup_file::{Relup, RelupEntry};
+use relup_instruction::{Direction, Instr};
 use std::fmt::{self, Display, Formatter};
 
 /// No relup has a script between two releases. It is shown by its name.

@@ -7,9 +7,9 @@ use Rattle.std.specs.Option.{option_and_then, option_or}
 use Rattle.std.specs.Result.{result_ok}
 use Rattle.erl_term.specs.Value.Value.{list}
 use Rattle.erl_term.specs.Value.Values.{no_values}
-use Rattle.relup_file.specs.declared.instruction.Direction.{Direction}
-use Rattle.relup_file.specs.declared.instruction.Direction.TheVariants.{Up, Down}
-use Rattle.relup_file.specs.Instruction.Instruction.{point_of_no_return}
+use Rattle.relup_instruction.specs.declared.instruction.Direction.{Direction}
+use Rattle.relup_instruction.specs.declared.instruction.Direction.TheVariants.{Up, Down}
+use Rattle.relup_instruction.specs.Instruction.Instruction.{point_of_no_return}
 use Rattle.appup_file.specs.Instruction.AppupInstruction.{add_application, remove_application}
 use Rattle.relup_row.specs.Release.{RelupAppForm, RelupReleaseForm, WayForm, app_named}
 use Rattle.relup_row.specs.Script.{script}

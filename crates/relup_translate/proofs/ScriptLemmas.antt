@@ -4,10 +4,11 @@ use Rattle.std.proofs.lemmas.List.{append_assoc, reverse-append}
 use Rattle.std.specs.List.{AllByRecursion, cons_option}
 use Rattle.std.specs.Option.{option_and_then}
 use Rattle.std.specs.Result.{result_ok}
-use Rattle.relup_file.specs.declared.instruction.Direction.{Direction}
-use Rattle.relup_file.specs.declared.instruction.Direction.TheVariants.{Up, Down}
-use Rattle.relup_file.specs.Instruction.{ChangeForm, Instruction, EntryForm, RelupForm}
-use Rattle.relup_file.specs.Instruction.Instruction.{load_object_code, point_of_no_return, suspend, load, code_change, resume, restart_new_emulator}
+use Rattle.relup_instruction.specs.declared.instruction.Direction.{Direction}
+use Rattle.relup_instruction.specs.declared.instruction.Direction.TheVariants.{Up, Down}
+use Rattle.relup_instruction.specs.Instruction.{ChangeForm, Instruction}
+use Rattle.relup_instruction.specs.Instruction.Instruction.{load_object_code, point_of_no_return, suspend, load, code_change, resume, restart_new_emulator}
+use Rattle.relup_file.specs.Relup.{EntryForm, RelupForm}
 use Rattle.rel_files.specs.declared.release.StartType.{StartType}
 use Rattle.rel_files.specs.declared.release.StartType.TheVariants.{Load, Unloaded}
 use Rattle.relup_script.specs.Script.{is_point, is_supported, may_precede, may_follow}

@@ -6,10 +6,11 @@ use Rattle.std.specs.Result.{result_ok}
 use Rattle.std.specs.Str.{bytes_eq}
 use Rattle.erl_term.specs.Value.Value.{list}
 use Rattle.erl_term.specs.Value.Values.{no_values}
-use Rattle.relup_file.specs.declared.instruction.Direction.{Direction}
-use Rattle.relup_file.specs.declared.instruction.Direction.TheVariants.{Up, Down}
-use Rattle.relup_file.specs.Instruction.{Instruction, EntryForm, RelupForm}
-use Rattle.relup_file.specs.Instruction.Instruction.{point_of_no_return, restart_new_emulator}
+use Rattle.relup_instruction.specs.declared.instruction.Direction.{Direction}
+use Rattle.relup_instruction.specs.declared.instruction.Direction.TheVariants.{Up, Down}
+use Rattle.relup_instruction.specs.Instruction.{Instruction}
+use Rattle.relup_instruction.specs.Instruction.Instruction.{point_of_no_return, restart_new_emulator}
+use Rattle.relup_file.specs.Relup.{EntryForm, RelupForm}
 use Rattle.appup_file.specs.declared.search.EntryFault.{EntryFault}
 use Rattle.appup_file.specs.declared.search.EntryFault.TheVariants.{NoEntry, RegexVersion}
 use Rattle.appup_file.specs.Instruction.{AppupInstruction, AppupForm}

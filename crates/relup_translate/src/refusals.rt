@@ -2,7 +2,7 @@
 ghost use Rattle.std.specs.Prelude.{◌≡◌, map};
 ghost use Rattle.std.specs.Option.{option_map};
 ghost use Rattle.std.specs.Result.{result_map_both};
-ghost use Rattle.relup_file.specs.Instruction.{instruction_of};
+ghost use Rattle.relup_instruction.specs.Instruction.{instruction_of};
 ghost use Rattle.appup_file.specs.Instruction.{appup_of, appup_instruction_of, row_of};
 ghost use Rattle.relup_row.specs.Release.{relup_app_of, relup_release_of, way_of};
 ghost use Rattle.relup_translate.specs.Fault.{fault_of};
@@ -10,7 +10,7 @@ ghost use Rattle.relup_translate.specs.Translation.{known, target_has_module, ta
 
 use crate::fault::TranslationFault;
 use appup_file::{Appup, AppupInstr, EntryFault};
-use relup_file::{Direction, Instr};
+use relup_instruction::{Direction, Instr};
 use relup_row::{RelupApp, RelupRelease, Way};
 
 fn known(holds: bool, fault: TranslationFault<'_>) -> Option<TranslationFault<'_>>

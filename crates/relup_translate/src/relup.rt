@@ -1,6 +1,6 @@
 //! The relup between releases.
 ghost use Rattle.std.specs.Prelude.{◌≡◌, IfOk, IfErr, Ok, map};
-ghost use Rattle.relup_file.specs.Instruction.{entry_of, relup_of};
+ghost use Rattle.relup_file.specs.Relup.{entry_of, relup_of};
 ghost use Rattle.relup_row.specs.Release.{relup_release_of};
 ghost use Rattle.relup_translate.specs.Translation.{entry, relup_between, translation, Refuses};
 
@@ -8,7 +8,8 @@ use crate::TranslateError;
 use crate::refusals::fault_between;
 use crate::script::way_script;
 use erl_term::Term;
-use relup_file::{Direction, Relup, RelupEntry};
+use relup_file::{Relup, RelupEntry};
+use relup_instruction::Direction;
 use relup_row::{RelupRelease, Way};
 use std::alloc::{AllocError, Global};
 

@@ -1,7 +1,7 @@
 //! The script of a way.
 ghost use Rattle.std.specs.Prelude.{◌≡◌, ◌++◌, IfOk, OnOk, map};
 ghost use Rattle.std.specs.List.{flat_map};
-ghost use Rattle.relup_file.specs.Instruction.{script_of};
+ghost use Rattle.relup_instruction.specs.Instruction.{script_of};
 ghost use Rattle.relup_row.specs.Release.{way_of};
 ghost use Rattle.relup_row.specs.Fetches.{mention_of};
 ghost use Rattle.relup_row.specs.Script.{mentions, written_fetches, row_script, script};
@@ -11,7 +11,7 @@ ghost use Rattle.relup_translate.specs.Memory.{row_of_change, rows_of};
 
 use crate::changes::{AppChange, changes};
 use relup_block::push_instr;
-use relup_file::Instr;
+use relup_instruction::Instr;
 use relup_row::{
     Mention, Way, push_added, push_app_modules, push_fetches, push_mentions, push_removed,
     push_row, push_written_fetches,

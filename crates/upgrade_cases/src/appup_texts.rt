@@ -6,7 +6,7 @@ use appup_file::{
 };
 use erl_term::print;
 use rel_files::StartType;
-use relup_file::{Instr, PurgeMode, Timeout, instruction_term};
+use relup_instruction::{Instr, PurgeMode, Timeout, instruction_term};
 use std::alloc::Global;
 use text_cases::Answer;
 

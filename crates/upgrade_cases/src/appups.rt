@@ -1,7 +1,7 @@
 //! Appups.
 use crate::appup_texts::{push_appup, push_instrs};
 use appup_file::{Appup, AppupFault, read_appup};
-use relup_file::Direction;
+use relup_instruction::Direction;
 use std::alloc::Global;
 use text_cases::{Answer, enclosed, first_word};
 

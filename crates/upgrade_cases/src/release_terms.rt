@@ -4,7 +4,7 @@ use appup_file::{AppupFault, appup_of_term};
 use erl_term::Term;
 use rel_files::parts::{four_in, list_in, pair_in};
 use rel_files::{StartType, start_of};
-use relup_file::members::{modules_in, triple_in, version_in, word_in};
+use relup_instruction::members::{modules_in, triple_in, version_in, word_in};
 use relup_translate::{ModuleNames, RelupApp, RelupRelease};
 use std::alloc::{AllocError, Global};
 

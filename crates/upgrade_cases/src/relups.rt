@@ -1,7 +1,8 @@
 //! Relups, and the scripts in them.
 use crate::texts::push_counted;
 use erl_term::print;
-use relup_file::{Direction, Relup, RelupFault, read_relup};
+use relup_file::{Relup, RelupFault, read_relup};
+use relup_instruction::Direction;
 use relup_script::{Found, ScriptFault, check, find_script};
 use std::alloc::Global;
 use text_cases::{Answer, enclosed, first_word};

@@ -1,7 +1,7 @@
 use Rattle.std.proofs.Common.{◌≡◌, ◌++◌, map, drop}
 use Rattle.std.specs.Option.{option_map}
 use Rattle.erl_term.specs.Value.{members_of}
-use Rattle.relup_file.specs.Parts.{all_in}
+use Rattle.relup_instruction.specs.Parts.{all_in}
 use Rattle.appup_file.specs.Instruction.{entry_of}
 use Rattle.appup_file.specs.Parts.{entry_in}
 use Rattle.appup_file.proofs.entries.entries_in.Given as goal

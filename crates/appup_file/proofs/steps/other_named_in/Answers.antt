@@ -2,7 +2,7 @@ use Rattle.std.proofs.Common.{refl}
 use Rattle.appup_file.specs.declared.instruction.AppupInstr.TheVariants.{DeleteModule, AddApplication}
 use Rattle.appup_file.specs.Instruction.{dependent_of, added_of, appup_instruction_of}
 use Rattle.appup_file.specs.Instruction.AppupInstruction.{delete_module, add_application}
-use Rattle.relup_file.proofs.Wrapped.{wrapped}
+use Rattle.relup_instruction.proofs.Wrapped.{wrapped}
 use Rattle.appup_file.proofs.steps.other_named_in.Goals as goal
 
 pub returns-in_ok-dependent_in : goal.returns-in_ok-dependent_in

@@ -1,4 +1,4 @@
-use Rattle.relup_file.proofs.Rows.{row_more, row_none, row_all}
+use Rattle.relup_instruction.proofs.Rows.{row_more, row_none, row_all}
 use Rattle.appup_file.specs.Instruction.{appup_instruction_of}
 use Rattle.appup_file.specs.Parts.{appup_instruction_in}
 use Rattle.appup_file.proofs.steps.row_in.Goals as goal

@@ -2,7 +2,7 @@ use Rattle.std.proofs.Common.{◌+◌, [], ◌∷◌, map, drop, refl, sym, ap, 
 use Rattle.std.specs.List.{cons_option, filter_map}
 use Rattle.std.specs.Option.{option_map}
 use Rattle.std.proofs.lemmas.List.{append-nil}
-use Rattle.relup_file.specs.Instruction.{change_of}
+use Rattle.relup_instruction.specs.Instruction.{change_of}
 use Rattle.relup_block.specs.Order.{block_item_of, block_items_of}
 use Rattle.relup_block.specs.Block.{change}
 use Rattle.relup_block.proofs.WalkLemmas.{one_pushed, one_further, none_left}

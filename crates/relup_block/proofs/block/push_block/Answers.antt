@@ -1,5 +1,5 @@
 use Rattle.std.proofs.Common.{List, OnOk, sym, ap, ap₂, subst, ◌∙◌}
-use Rattle.relup_file.specs.Instruction.{Instruction}
+use Rattle.relup_instruction.specs.Instruction.{Instruction}
 use Rattle.relup_block.specs.Order.{block_items_of}
 use Rattle.relup_block.specs.Block.{in_orders}
 use Rattle.relup_block.specs.Memory.{Appends}

@@ -1,6 +1,6 @@
 use Rattle.std.proofs.Common.{◌≡◌, ◌<◌, Some, List, length, rules}
-use Rattle.relup_file.specs.Instruction.{ChangeForm, change_of}
-use Rattle.relup_file.specs.Instruction.Instruction.{code_change}
+use Rattle.relup_instruction.specs.Instruction.{ChangeForm, change_of}
+use Rattle.relup_instruction.specs.Instruction.Instruction.{code_change}
 use Rattle.relup_block.proofs.AppendLemmas.{none_over, one_over}
 use Rattle.relup_block.proofs.block.push_changes.Goals as goal
 

@@ -1,6 +1,6 @@
 use Rattle.std.proofs.Common.{[], ◌∷◌, refl}
-use Rattle.relup_file.specs.Instruction.{instruction_of}
-use Rattle.relup_file.specs.Instruction.Instruction.{load}
+use Rattle.relup_instruction.specs.Instruction.{instruction_of}
+use Rattle.relup_instruction.specs.Instruction.Instruction.{load}
 use Rattle.relup_block.specs.Order.{block_item_of}
 use Rattle.relup_block.specs.Block.{loading, purging}
 use Rattle.relup_block.proofs.WalkLemmas.{one_further, none_left}

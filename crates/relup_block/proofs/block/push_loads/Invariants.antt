@@ -1,5 +1,5 @@
 use Rattle.std.proofs.Common.{◌≡◌, ◌++◌, drop}
-use Rattle.relup_file.specs.Instruction.{script_of}
+use Rattle.relup_instruction.specs.Instruction.{script_of}
 use Rattle.relup_block.specs.Order.{block_items_of}
 use Rattle.relup_block.specs.Block.{loading}
 use Rattle.relup_block.proofs.block.push_loads.Given as goal

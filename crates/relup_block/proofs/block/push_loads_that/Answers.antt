@@ -1,8 +1,8 @@
 use Rattle.std.proofs.Common.{◌≡◌, ◌+◌, List, [], ◌∷◌, true, false, cond, filter, drop, refl, sym, ap, ◌∙◌, rules, arith}
 use Rattle.std.proofs.lemmas.List.{append-nil}
 use Rattle.std.proofs.lemmas.Grind.{common_steps}
-use Rattle.relup_file.specs.Instruction.{instruction_of, script_of}
-use Rattle.relup_file.specs.Instruction.Instruction.{load}
+use Rattle.relup_instruction.specs.Instruction.{instruction_of, script_of}
+use Rattle.relup_instruction.specs.Instruction.Instruction.{load}
 use Rattle.relup_block.specs.Order.{BlockItemForm, block_item_of, block_items_of}
 use Rattle.relup_block.specs.Block.{is_of_kind, loading, purging}
 use Rattle.relup_block.proofs.WalkLemmas.{one_further, none_left}

@@ -1,5 +1,5 @@
 use Rattle.std.proofs.Common.{◌≡◌, ◌++◌, filter, drop}
-use Rattle.relup_file.specs.Instruction.{script_of}
+use Rattle.relup_instruction.specs.Instruction.{script_of}
 use Rattle.relup_block.specs.Order.{block_items_of}
 use Rattle.relup_block.specs.Block.{is_of_kind, loading}
 use Rattle.relup_block.proofs.block.push_loads_that.Given as goal

@@ -1,5 +1,5 @@
 use Rattle.std.proofs.Common.{◌≡◌, ◌<◌, length, string_bytes, rules}
-use Rattle.relup_file.specs.Instruction.Instruction.{resume}
+use Rattle.relup_instruction.specs.Instruction.Instruction.{resume}
 use Rattle.relup_block.proofs.AppendLemmas.{none_over, one_over}
 use Rattle.relup_block.proofs.block.push_resume.Goals as goal
 

@@ -1,6 +1,6 @@
 use Rattle.std.proofs.Common.{◌≡◌, ◌<◌, length, rules}
-use Rattle.relup_file.specs.Instruction.{suspension_of}
-use Rattle.relup_file.specs.Instruction.Instruction.{suspend}
+use Rattle.relup_instruction.specs.Instruction.{suspension_of}
+use Rattle.relup_instruction.specs.Instruction.Instruction.{suspend}
 use Rattle.relup_block.proofs.AppendLemmas.{none_over, one_over}
 use Rattle.relup_block.proofs.block.push_suspend.Goals as goal
 

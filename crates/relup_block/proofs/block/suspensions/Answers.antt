@@ -2,7 +2,7 @@ use Rattle.std.proofs.Common.{◌≡◌, ◌+◌, [], ◌∷◌, None, map, drop
 use Rattle.std.specs.List.{cons_option, filter_map}
 use Rattle.std.proofs.lemmas.List.{append-nil}
 use Rattle.std.proofs.lemmas.Grind.{common_steps}
-use Rattle.relup_file.specs.Instruction.{SuspensionForm, suspension_of}
+use Rattle.relup_instruction.specs.Instruction.{SuspensionForm, suspension_of}
 use Rattle.relup_block.specs.Order.{block_item_of, block_items_of}
 use Rattle.relup_block.specs.Block.{suspension, written_timeout}
 use Rattle.relup_block.proofs.WalkLemmas.{one_pushed, one_further, none_left}

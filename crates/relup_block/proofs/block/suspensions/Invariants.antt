@@ -2,7 +2,7 @@ use Rattle.std.proofs.Common.{◌≡◌, ◌++◌, map, drop}
 use Rattle.std.specs.List.{filter_map}
 use Rattle.relup_block.specs.Order.{block_items_of}
 use Rattle.relup_block.specs.Block.{suspension}
-use Rattle.relup_file.specs.Instruction.{suspension_of}
+use Rattle.relup_instruction.specs.Instruction.{suspension_of}
 use Rattle.relup_block.proofs.block.suspensions.Given as goal
 
 abbrev pub invariant-loop-item : goal.invariant-loop-item

@@ -1,5 +1,5 @@
 use Rattle.std.proofs.Common.{map}
-use Rattle.relup_file.specs.Instruction.{entry_of}
+use Rattle.relup_file.specs.Relup.{entry_of}
 use Rattle.relup_file.proofs.Rows.{entries_more, entries_all, entries_bad}
 use Rattle.relup_file.proofs.entries.entries_in.Goals as goal
 

@@ -1,6 +1,6 @@
 use Rattle.std.proofs.Common.{◌≡◌, ◌+◌, map, drop}
 use Rattle.erl_term.specs.Value.{members_of}
-use Rattle.relup_file.specs.Instruction.{entry_of}
+use Rattle.relup_file.specs.Relup.{entry_of}
 use Rattle.relup_file.specs.Parts.{entries_in}
 use Rattle.relup_file.proofs.Rows.{behind}
 use Rattle.relup_file.proofs.entries.entries_in.Given as goal

@@ -1,6 +1,6 @@
-use Rattle.relup_file.specs.Instruction.{entry_of}
+use Rattle.relup_instruction.proofs.Rows.{terms_more, terms_all}
+use Rattle.relup_file.specs.Relup.{entry_of}
 use Rattle.relup_file.specs.Form.{entry_term}
-use Rattle.relup_file.proofs.Rows.{terms_more, terms_all}
 use Rattle.relup_file.proofs.printer.entries_term.Goals as goal
 
 pub loop-entry-preserved : goal.loop-entry-preserved

@@ -1,6 +1,6 @@
 use Rattle.std.proofs.Common.{◌≡◌, map, take}
 use Rattle.erl_term.specs.Value.{value_of}
-use Rattle.relup_file.specs.Instruction.{entry_of}
+use Rattle.relup_file.specs.Relup.{entry_of}
 use Rattle.relup_file.specs.Form.{entry_term}
 use Rattle.relup_file.proofs.printer.entries_term.Given as goal
 

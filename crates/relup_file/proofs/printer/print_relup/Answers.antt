@@ -1,5 +1,5 @@
 use Rattle.std.proofs.Common.{string_bytes}
-use Rattle.relup_file.specs.Instruction.{relup_of}
+use Rattle.relup_file.specs.Relup.{relup_of}
 use Rattle.relup_file.specs.Form.{relup_term}
 use Rattle.relup_file.proofs.Printed.{read_back}
 use Rattle.relup_file.proofs.RelupLemmas.{is_said}

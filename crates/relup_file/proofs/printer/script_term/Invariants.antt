@@ -1,7 +1,7 @@
 use Rattle.std.proofs.Common.{◌≡◌, map, take}
 use Rattle.erl_term.specs.Value.{value_of}
-use Rattle.relup_file.specs.Instruction.{instruction_of}
-use Rattle.relup_file.specs.Form.{instruction_term}
+use Rattle.relup_instruction.specs.Instruction.{instruction_of}
+use Rattle.relup_instruction.specs.Form.{instruction_term}
 use Rattle.relup_file.proofs.printer.script_term.Given as goal
 
 abbrev pub invariant-loop-instr : goal.invariant-loop-instr

@@ -1,7 +1,7 @@
 use Rattle.std.proofs.Common.{OnOk, codes, [], ◌∷◌, ap, subst, ◌∙◌}
 use Rattle.erl_term.specs.Value.Value.{atom}
 use Rattle.erl_term.specs.Value.Values.{no_values, value}
-use Rattle.relup_file.specs.Instruction.{Instruction}
+use Rattle.relup_instruction.specs.Instruction.{Instruction}
 use Rattle.relup_row.specs.Script.{application_call}
 use Rattle.relup_block.specs.Memory.{Appends}
 use Rattle.relup_row.proofs.calls.push_start_call.Goals as goal

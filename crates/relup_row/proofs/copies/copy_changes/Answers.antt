@@ -1,4 +1,4 @@
-use Rattle.relup_file.specs.Instruction.{change_of}
+use Rattle.relup_instruction.specs.Instruction.{change_of}
 use Rattle.relup_row.proofs.WalkLemmas.{one_made, all_made}
 use Rattle.relup_row.proofs.copies.copy_changes.Goals as goal
 

@@ -1,5 +1,5 @@
 use Rattle.std.proofs.Common.{◌≡◌, map, take}
-use Rattle.relup_file.specs.Instruction.{change_of}
+use Rattle.relup_instruction.specs.Instruction.{change_of}
 use Rattle.relup_row.proofs.copies.copy_changes.Given as goal
 
 abbrev pub invariant-loop-change : goal.invariant-loop-change

@@ -1,5 +1,5 @@
 use Rattle.std.proofs.Common.{map, ap, ◌∙◌}
-use Rattle.relup_file.specs.Instruction.{change_of}
+use Rattle.relup_instruction.specs.Instruction.{change_of}
 use Rattle.relup_row.proofs.copies.copy_conversion.Goals as goal
 
 pub returns : goal.returns

@@ -1,4 +1,4 @@
-use Rattle.relup_file.specs.Instruction.{suspension_of}
+use Rattle.relup_instruction.specs.Instruction.{suspension_of}
 use Rattle.relup_row.proofs.WalkLemmas.{one_made, all_made}
 use Rattle.relup_row.proofs.copies.copy_suspensions.Goals as goal
 

@@ -1,5 +1,5 @@
 use Rattle.std.proofs.Common.{◌≡◌, map, take}
-use Rattle.relup_file.specs.Instruction.{suspension_of}
+use Rattle.relup_instruction.specs.Instruction.{suspension_of}
 use Rattle.relup_row.proofs.copies.copy_suspensions.Given as goal
 
 abbrev pub invariant-loop-suspension : goal.invariant-loop-suspension

@@ -1,6 +1,6 @@
 use Rattle.std.proofs.Common.{[], ◌∷◌, ◌++◌, map, refl, ap, ◌∙◌}
-use Rattle.relup_file.specs.Instruction.{instruction_of, script_of}
-use Rattle.relup_file.specs.Instruction.Instruction.{load_object_code}
+use Rattle.relup_instruction.specs.Instruction.{instruction_of, script_of}
+use Rattle.relup_instruction.specs.Instruction.Instruction.{load_object_code}
 use Rattle.relup_row.specs.Release.{relup_app_of}
 use Rattle.relup_row.specs.Fetches.{module_of, mention_of, fetch, firsts}
 use Rattle.relup_block.proofs.WalkLemmas.{one_further, none_left}

@@ -1,5 +1,5 @@
 use Rattle.std.proofs.Common.{◌≡◌, ◌++◌, map, drop}
-use Rattle.relup_file.specs.Instruction.{script_of}
+use Rattle.relup_instruction.specs.Instruction.{script_of}
 use Rattle.relup_row.specs.Fetches.{mention_of, module_of, firsts}
 use Rattle.relup_row.proofs.FetchLemmas.{fetches_of}
 use Rattle.relup_row.proofs.fetches.push_fetches.Given as goal

@@ -3,7 +3,7 @@ use Rattle.std.specs.List.{flat_map}
 use Rattle.std.specs.Option.{option_map}
 use Rattle.std.proofs.lemmas.List.{map_push, drop_more, drop_all}
 use Rattle.std.proofs.lemmas.Result.{on_ok_weaker}
-use Rattle.relup_file.specs.Instruction.{script_of}
+use Rattle.relup_instruction.specs.Instruction.{script_of}
 use Rattle.appup_file.specs.Instruction.{appup_instruction_of, row_of}
 use Rattle.relup_block.specs.Order.{block_item_of, block_items_of}
 use Rattle.relup_block.specs.Block.{block}

@@ -1,7 +1,7 @@
 use Rattle.std.proofs.Common.{◌≡◌, ◌++◌, drop}
 use Rattle.std.specs.List.{flat_map}
 use Rattle.appup_file.specs.Instruction.{row_of}
-use Rattle.relup_file.specs.Instruction.{script_of}
+use Rattle.relup_instruction.specs.Instruction.{script_of}
 use Rattle.relup_row.specs.Release.{way_of}
 use Rattle.relup_block.specs.Order.{block_items_of}
 use Rattle.relup_row.specs.Script.{part_script, parts, row_script}

@@ -1,5 +1,5 @@
 use Rattle.std.proofs.Common.{refl}
-use Rattle.relup_file.specs.Instruction.{instruction_of}
+use Rattle.relup_instruction.specs.Instruction.{instruction_of}
 use Rattle.appup_file.specs.Instruction.{appup_instruction_of}
 use Rattle.relup_row.specs.Script.{written_fetch, written_fetches}
 use Rattle.relup_block.proofs.WalkLemmas.{one_further, none_left}

@@ -1,6 +1,6 @@
 use Rattle.std.proofs.Common.{◌≡◌, ◌++◌, drop}
 use Rattle.appup_file.specs.Instruction.{row_of}
-use Rattle.relup_file.specs.Instruction.{script_of}
+use Rattle.relup_instruction.specs.Instruction.{script_of}
 use Rattle.relup_row.specs.Script.{written_fetches}
 use Rattle.relup_row.proofs.rows.push_written_fetches.Given as goal
 

@@ -1,5 +1,5 @@
 use Rattle.std.proofs.Common.{OnOk, [], ◌∷◌, string_bytes, subst}
-use Rattle.relup_file.specs.Instruction.Instruction.{purge}
+use Rattle.relup_instruction.specs.Instruction.Instruction.{purge}
 use Rattle.relup_block.specs.Memory.{Appends}
 use Rattle.relup_row.proofs.AppendLemmas.{both_appended}
 use Rattle.relup_row.proofs.WalkLemmas.{all_cloned}

@@ -1,6 +1,6 @@
 use Rattle.std.proofs.Common.{OnOk, [], ◌∷◌, subst}
-use Rattle.relup_file.specs.Instruction.{PurgingForm}
-use Rattle.relup_file.specs.Instruction.Instruction.{load}
+use Rattle.relup_instruction.specs.Instruction.{PurgingForm}
+use Rattle.relup_instruction.specs.Instruction.Instruction.{load}
 use Rattle.relup_block.specs.Memory.{Appends}
 use Rattle.relup_row.proofs.single.push_load.Goals as goal
 

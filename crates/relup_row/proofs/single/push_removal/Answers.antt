@@ -1,6 +1,6 @@
 use Rattle.std.proofs.Common.{OnOk, [], ◌∷◌, subst}
-use Rattle.relup_file.specs.Instruction.{PurgingForm}
-use Rattle.relup_file.specs.Instruction.Instruction.{remove}
+use Rattle.relup_instruction.specs.Instruction.{PurgingForm}
+use Rattle.relup_instruction.specs.Instruction.Instruction.{remove}
 use Rattle.relup_block.specs.Memory.{Appends}
 use Rattle.relup_row.proofs.single.push_removal.Goals as goal
 

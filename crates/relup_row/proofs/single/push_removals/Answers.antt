@@ -1,5 +1,5 @@
 use Rattle.std.proofs.Common.{[], ◌∷◌, ◌++◌, map, string_bytes, refl, ap, ◌∙◌}
-use Rattle.relup_file.specs.Instruction.{instruction_of, script_of}
+use Rattle.relup_instruction.specs.Instruction.{instruction_of, script_of}
 use Rattle.relup_row.specs.Script.{remove_plainly}
 use Rattle.relup_block.proofs.WalkLemmas.{one_further, none_left}
 use Rattle.relup_row.proofs.single.push_removals.Goals as goal

@@ -1,5 +1,5 @@
 use Rattle.std.proofs.Common.{OnOk, [], ◌∷◌, ◌++◌, codes, ap, subst, ◌∙◌}
-use Rattle.relup_file.specs.Instruction.{script_of}
+use Rattle.relup_instruction.specs.Instruction.{script_of}
 use Rattle.relup_row.specs.Script.{call_with, leaving}
 use Rattle.relup_block.specs.Memory.{Appends}
 use Rattle.relup_row.proofs.AppendLemmas.{both_appended}

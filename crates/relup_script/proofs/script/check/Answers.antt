@@ -1,5 +1,5 @@
 use Rattle.std.proofs.Common.{Err, ap, refl, sym}
-use Rattle.relup_file.specs.Instruction.{script_of}
+use Rattle.relup_instruction.specs.Instruction.{script_of}
 use Rattle.relup_script.proofs.ScriptLemmas.{runnable, not_runnable, tells_one, tells_none}
 use Rattle.relup_script.proofs.script.check.Goals as goal
 

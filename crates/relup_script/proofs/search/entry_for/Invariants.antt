@@ -1,5 +1,5 @@
 use Rattle.std.proofs.Common.{◌≡◌, map, drop}
-use Rattle.relup_file.specs.Instruction.{entry_of}
+use Rattle.relup_file.specs.Relup.{entry_of}
 use Rattle.relup_script.specs.Search.{entry_for}
 use Rattle.relup_script.proofs.search.entry_for.Given as goal
 

@@ -1,6 +1,6 @@
 use Rattle.std.proofs.Common.{◌<◌, ◌∷◌, [], ◌++◌, length, map, take, sym, ap, ap₂, ◌∙◌, arith}
 use Rattle.std.proofs.lemmas.List.{map_push, take_more, take_all}
-use Rattle.relup_file.specs.Instruction.{entry_of}
+use Rattle.relup_file.specs.Relup.{entry_of}
 use Rattle.relup_row.specs.Release.{relup_release_of}
 use Rattle.relup_translate.specs.Translation.{entry}
 use Rattle.relup_translate.proofs.relup.entries.Goals as goal

@@ -1,5 +1,5 @@
 use Rattle.std.proofs.Common.{◌≡◌, map, take}
-use Rattle.relup_file.specs.Instruction.{entry_of}
+use Rattle.relup_file.specs.Relup.{entry_of}
 use Rattle.relup_row.specs.Release.{relup_release_of}
 use Rattle.relup_translate.specs.Translation.{entry}
 use Rattle.relup_translate.proofs.relup.entries.Given as goal

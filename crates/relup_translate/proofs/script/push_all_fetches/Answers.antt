@@ -1,6 +1,6 @@
 use Rattle.std.proofs.Common.{refl}
 use Rattle.std.specs.List.{flat_map}
-use Rattle.relup_file.specs.Instruction.{instruction_of}
+use Rattle.relup_instruction.specs.Instruction.{instruction_of}
 use Rattle.relup_row.specs.Script.{written_fetches}
 use Rattle.relup_translate.specs.Memory.{row_of_change}
 use Rattle.relup_block.proofs.WalkLemmas.{one_further, none_left}

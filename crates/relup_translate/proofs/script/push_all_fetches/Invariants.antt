@@ -1,6 +1,6 @@
 use Rattle.std.proofs.Common.{◌≡◌, ◌++◌, drop}
 use Rattle.std.specs.List.{flat_map}
-use Rattle.relup_file.specs.Instruction.{script_of}
+use Rattle.relup_instruction.specs.Instruction.{script_of}
 use Rattle.relup_row.specs.Script.{written_fetches}
 use Rattle.relup_translate.specs.Memory.{rows_of}
 use Rattle.relup_translate.proofs.script.push_all_fetches.Given as goal

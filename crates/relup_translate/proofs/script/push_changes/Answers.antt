@@ -1,6 +1,6 @@
 use Rattle.std.proofs.Common.{refl}
 use Rattle.std.specs.List.{flat_map}
-use Rattle.relup_file.specs.Instruction.{instruction_of}
+use Rattle.relup_instruction.specs.Instruction.{instruction_of}
 use Rattle.relup_row.specs.Release.{way_of}
 use Rattle.relup_row.specs.Script.{row_script}
 use Rattle.relup_translate.specs.Memory.{row_of_change}

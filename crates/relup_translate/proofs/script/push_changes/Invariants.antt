@@ -1,6 +1,6 @@
 use Rattle.std.proofs.Common.{◌≡◌, ◌++◌, drop}
 use Rattle.std.specs.List.{flat_map}
-use Rattle.relup_file.specs.Instruction.{script_of}
+use Rattle.relup_instruction.specs.Instruction.{script_of}
 use Rattle.relup_row.specs.Release.{way_of}
 use Rattle.relup_row.specs.Script.{row_script}
 use Rattle.relup_translate.specs.Memory.{rows_of}

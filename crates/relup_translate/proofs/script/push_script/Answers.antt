@@ -1,8 +1,8 @@
 use Rattle.std.proofs.Common.{[], ◌∷◌, ◌++◌, List, map, ap, ◌∙◌}
 use Rattle.std.proofs.lemmas.List.{append_assoc}
 use Rattle.std.proofs.lemmas.Result.{on_ok_weaker}
-use Rattle.relup_file.specs.declared.instruction.Instr.{Instr}
-use Rattle.relup_file.specs.Instruction.{Instruction, script_of}
+use Rattle.relup_instruction.specs.declared.instruction.Instr.{Instr}
+use Rattle.relup_instruction.specs.Instruction.{Instruction, script_of}
 use Rattle.relup_row.specs.Fetches.{mention_of, fetching}
 use Rattle.relup_block.specs.Memory.{Appends}
 use Rattle.relup_translate.proofs.script.push_script.Goals as goal

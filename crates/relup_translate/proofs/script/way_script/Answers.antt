@@ -1,5 +1,5 @@
 use Rattle.std.proofs.Common.{◌++◌, ap, ◌∙◌}
-use Rattle.relup_file.specs.Instruction.{script_of}
+use Rattle.relup_instruction.specs.Instruction.{script_of}
 use Rattle.relup_row.specs.Release.{way_of}
 use Rattle.relup_row.specs.Script.{script}
 use Rattle.relup_translate.specs.Memory.{rows_of}

@@ -1,6 +1,6 @@
 use Rattle.std.proofs.Common.{ap}
 use Rattle.std.specs.Option.{option_map}
-use Rattle.relup_file.specs.declared.instruction.PurgeMode.{PurgeMode}
+use Rattle.relup_instruction.specs.declared.instruction.PurgeMode.{PurgeMode}
 use Rattle.appup_file.specs.Instruction.{UpdateForm, update_of}
 use Rattle.appup_file.proofs.instruction.Update.with_pre.Goals as goal
 

@@ -1,0 +1,5 @@
+pub mod Rows
+pub mod Pieces
+pub mod PayloadLemmas
+pub mod InstructionLemmas
+pub mod Wrapped

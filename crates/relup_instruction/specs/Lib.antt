@@ -1,0 +1,3 @@
+pub mod Instruction
+pub mod Form
+pub mod Parts
