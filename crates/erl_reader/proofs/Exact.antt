@@ -1,8 +1,8 @@
 -- The machine reads exactly what the text reads as, and tells exactly its fault.
 use Rattle.std.proofs.Common.{◌≡◌, ◌≢◌, ℕ, ◌⊎◌, inl, inr, List, [], ◌∷◌, ◌++◌, length, Option, Some, None, Result, Ok, Err, is_some, if◌then◌else◌, refl, sym, ◌∙◌, ap, subst, append_assoc}
 use Rattle.std.proofs.lemmas.List.{map-append}
-use Rattle.erl_token.specs.declared.fault.TermFault.{TermFault}
-use Rattle.erl_token.specs.declared.fault.TermFault.TheVariants.{Unclosed, NoMemory}
+use Rattle.erl_number.specs.declared.fault.TermFault.{TermFault}
+use Rattle.erl_number.specs.declared.fault.TermFault.TheVariants.{Unclosed, NoMemory}
 use Rattle.erl_token.specs.Lexing.{Token, Item, items_of}
 use Rattle.erl_token.specs.Lexing.Token.{dot, broken, cut}
 use Rattle.std.specs.Prelude.{IfOk, IfErr, Vec}

@@ -1,8 +1,8 @@
 -- A text has one fault.
 use Rattle.std.proofs.Common.{◌≡◌, ℕ, ◌⊎◌, inl, inr, List, [], ◌∷◌, ◌++◌, length, Ok, refl, sym, ◌∙◌, ap, subst, append_assoc}
 use Rattle.std.proofs.lemmas.List.{map-append}
-use Rattle.erl_token.specs.declared.fault.TermFault.{TermFault}
-use Rattle.erl_token.specs.declared.fault.TermFault.TheVariants.{Unclosed}
+use Rattle.erl_number.specs.declared.fault.TermFault.{TermFault}
+use Rattle.erl_number.specs.declared.fault.TermFault.TheVariants.{Unclosed}
 use Rattle.erl_token.specs.Lexing.{Token, Item, items_of}
 use Rattle.erl_token.specs.Lexing.Token.{dot, broken, cut}
 use Rattle.erl_reader.specs.Grammar.{tokens, Reading}

@@ -1,7 +1,7 @@
 -- A text that has one term, or the fault of one that hasn't, from what the machine reads in it.
 use Rattle.std.proofs.Common.{◌≡◌, ℕ, ◌<◌, ◌≤◌, inl, inr, List, [], ◌∷◌, ◌++◌, length, map, get_or, Result, Ok, Err, IsErr, IsErrAnd, IfErr, MatchResult, refl, sym, ◌∙◌, ap, subst, arith, length-append}
-use Rattle.erl_token.specs.declared.fault.TermFault.{TermFault}
-use Rattle.erl_token.specs.declared.fault.TermFault.TheVariants.{MissingDot, NoMemory}
+use Rattle.erl_number.specs.declared.fault.TermFault.{TermFault}
+use Rattle.erl_number.specs.declared.fault.TermFault.TheVariants.{MissingDot, NoMemory}
 use Rattle.erl_reader.specs.declared.term.Spanned.{Spanned}
 use Rattle.erl_reader.specs.declared.term.Term.{Term}
 use Rattle.erl_reader.specs.Value.{Value, value_of}

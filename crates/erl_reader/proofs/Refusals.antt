@@ -3,8 +3,8 @@ use Rattle.std.proofs.Common.{◌≡◌, ℕ, pos, ◌⊎◌, inl, inr, Bool, tr
 use Rattle.std.proofs.lemmas.List.{map-append}
 use Rattle.std.proofs.lemmas.Bool.Decides.{nat_tests}
 use Rattle.std.specs.Option.{option_map}
-use Rattle.erl_token.specs.declared.fault.TermFault.{TermFault}
-use Rattle.erl_token.specs.declared.fault.TermFault.TheVariants.{Unsupported}
+use Rattle.erl_number.specs.declared.fault.TermFault.{TermFault}
+use Rattle.erl_number.specs.declared.fault.TermFault.TheVariants.{Unsupported}
 use Rattle.erl_token.specs.declared.token.Bracket.{Bracket}
 use Rattle.erl_token.specs.declared.token.Bracket.TheVariants.{Tuple, List as Square, Binary}
 use Rattle.erl_reader.specs.declared.parser.Slot.{Slot}

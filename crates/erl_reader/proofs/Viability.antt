@@ -1,7 +1,7 @@
 -- A row of tokens can be completed exactly where the machine takes it.
 use Rattle.std.proofs.Common.{◌≡◌, ℕ, pos, Bool, true, false, if◌then◌else◌, List, [], ◌∷◌, ◌++◌, map, Some, None, Result, Ok, Err, refl, sym, ◌∙◌, ap, subst, append_assoc, append-nil}
 use Rattle.std.proofs.lemmas.List.{map-append}
-use Rattle.erl_token.specs.declared.fault.TermFault.{TermFault}
+use Rattle.erl_number.specs.declared.fault.TermFault.{TermFault}
 use Rattle.erl_reader.specs.declared.parser.Slot.TheVariants.{First, Next, Later}
 use Rattle.erl_token.specs.Lexing.{Token, Item, some_number}
 use Rattle.erl_token.specs.Lexing.Token.{dot}

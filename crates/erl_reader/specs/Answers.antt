@@ -1,8 +1,8 @@
 -- What a reader answers.
 use Rattle.std.specs.Prelude.{◌≡◌, ℕ, List, map, Result, Ok, Err, Vec}
 use Rattle.std.specs.declared.alloc.Global.{Global}
-use Rattle.erl_token.specs.declared.fault.TermFault.{TermFault}
-use Rattle.erl_token.specs.declared.fault.TermFault.TheVariants.{NoMemory}
+use Rattle.erl_number.specs.declared.fault.TermFault.{TermFault}
+use Rattle.erl_number.specs.declared.fault.TermFault.TheVariants.{NoMemory}
 use Rattle.erl_reader.specs.declared.term.Spanned.{Spanned}
 use Rattle.erl_reader.specs.Value.{value_of}
 use Rattle.erl_reader.specs.Grammar.{Reading}

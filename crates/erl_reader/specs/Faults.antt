@@ -1,8 +1,8 @@
 -- Which fault of a text is told: that of the first token, or of the end, that can't follow what stands before it.
 use Rattle.std.specs.Prelude.{◌≡◌, ◌≢◌, ℕ, ◌⊎◌, List, [], ◌∷◌, ◌++◌, length, ◌==◌, if◌then◌else◌}
 use Rattle.std.specs.List.{AllByRecursion}
-use Rattle.erl_token.specs.declared.fault.TermFault.{TermFault}
-use Rattle.erl_token.specs.declared.fault.TermFault.TheVariants.{BadToken, BadNumber, Unclosed, MissingDot, Unsupported, Deep}
+use Rattle.erl_number.specs.declared.fault.TermFault.{TermFault}
+use Rattle.erl_number.specs.declared.fault.TermFault.TheVariants.{BadToken, BadNumber, Unclosed, MissingDot, Unsupported, Deep}
 use Rattle.erl_token.specs.Lexing.{Token, Item, items_of, some_name, some_number}
 use Rattle.erl_token.specs.Lexing.Token.{open_tuple, open_list, open_binary, close_list, close_binary, comma, dot, number, text, stray, broken, cut}
 use Rattle.erl_reader.specs.Grammar.{Phrase, Phrases, tokens_of, members_tokens, Fits, tokens}

@@ -1,6 +1,6 @@
 -- Laws of texts, whatever reads them.
 use Rattle.std.specs.Prelude.{◌≡◌, ℕ, ◌-◌, ◌⊎◌, List, [], ◌∷◌, ◌++◌, slice_range}
-use Rattle.erl_token.specs.declared.fault.TermFault.{TermFault}
+use Rattle.erl_number.specs.declared.fault.TermFault.{TermFault}
 use Rattle.erl_reader.specs.Grammar.{Reading, Reads}
 use Rattle.erl_reader.specs.Faults.{IsFault}
 

@@ -1,5 +1,5 @@
-pub use Rattle.erl_token.specs.declared.fault.TermFault
-pub use Rattle.erl_token.specs.Escapes
+pub use Rattle.erl_number.specs.declared.fault.TermFault
+pub use Rattle.erl_number.specs.Escapes
 pub use Rattle.erl_token.specs.Lexing
 pub mod Value
 pub mod Grammar

@@ -3,8 +3,8 @@ use Rattle.std.specs.Prelude.{ℕ, ℤ, pos, negsuc, Bool, true, false, ◌||◌
 use Rattle.std.specs.Option.{option_map, option_and_then}
 use Rattle.std.specs.List.{list_all}
 use Rattle.std.specs.Str.{chars}
-use Rattle.erl_token.specs.declared.fault.TermFault.{TermFault}
-use Rattle.erl_token.specs.declared.fault.TermFault.TheVariants.{BadToken, MissingDot, Unclosed, Unsupported}
+use Rattle.erl_number.specs.declared.fault.TermFault.{TermFault}
+use Rattle.erl_number.specs.declared.fault.TermFault.TheVariants.{BadToken, MissingDot, Unclosed, Unsupported}
 use Rattle.erl_token.specs.declared.token.Bracket.{Bracket}
 use Rattle.erl_token.specs.declared.token.Bracket.TheVariants.{Tuple, List as Square, Binary}
 use Rattle.erl_reader.specs.declared.parser.Slot.{Slot}

@@ -1,7 +1,7 @@
 -- A text that is to have one term, as the body of a record has.
 use Rattle.std.specs.Prelude.{◌≡◌, ℕ, ◌⊎◌, List, [], ◌∷◌, length}
-use Rattle.erl_token.specs.declared.fault.TermFault.{TermFault}
-use Rattle.erl_token.specs.declared.fault.TermFault.TheVariants.{MissingDot, NoMemory}
+use Rattle.erl_number.specs.declared.fault.TermFault.{TermFault}
+use Rattle.erl_number.specs.declared.fault.TermFault.TheVariants.{MissingDot, NoMemory}
 use Rattle.erl_reader.specs.Value.{Value}
 use Rattle.erl_reader.specs.Grammar.{Reading, Reads}
 use Rattle.erl_reader.specs.Faults.{IsFault}

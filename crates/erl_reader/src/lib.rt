@@ -22,7 +22,7 @@ mod record;
 mod term;
 
 pub use clone::copy_terms;
-pub use erl_token::TermFault;
+pub use erl_number::TermFault;
 pub use reader::{MAX_DEPTH, read_terms};
 pub use record::{RECORD_DEPTH, read_record};
 pub use term::{Spanned, Term};

@@ -7,13 +7,14 @@ ghost use Rattle.erl_reader.specs.Faults.{for_a_term, for_a_segment};
 ghost use Rattle.erl_token.specs.Views.{token_value, like_value, item_value};
 ghost use Rattle.erl_reader.specs.Views.{members_are, level_of, state_of, progress_of, all_levels, Gives, GivesTerms, IsName};
 ghost use Rattle.erl_reader.specs.Answers.{reading_of_spanned};
-ghost use Rattle.erl_token.specs.declared.fault.TermFault.TheVariants.{NoMemory};
+ghost use Rattle.erl_number.specs.declared.fault.TermFault.TheVariants.{NoMemory};
 ghost use Rattle.erl_token.specs.declared.token.Token.TheVariants.{Open, Close, Comma, Dot, Number, Broken, Cut};
 ghost use Rattle.erl_token.specs.Lexing.Token.{text as text_token};
 
 use crate::character::{characters, push_characters};
 use crate::term::{Spanned, Term};
-use erl_token::{Bracket, Content, Item, Like, TermFault, Token};
+use erl_number::TermFault;
+use erl_token::{Bracket, Content, Item, Like, Token};
 use std::alloc::{AllocError, Global};
 use std::mem;
 

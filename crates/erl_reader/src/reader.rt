@@ -7,7 +7,8 @@ ghost use Rattle.erl_reader.specs.Views.{GivesTerms};
 
 use crate::parser::Parser;
 use crate::term::Spanned;
-use erl_token::{TermFault, Text, next_item};
+use erl_number::{TermFault, Text};
+use erl_token::next_item;
 use std::alloc::Global;
 
 /// How many brackets may be open at once in a term.

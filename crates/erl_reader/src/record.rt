@@ -5,7 +5,7 @@ ghost use Rattle.erl_reader.specs.OneTerm.{HasTerm, TellsRecordFault};
 
 use crate::reader::read;
 use crate::term::Term;
-use erl_token::TermFault;
+use erl_number::TermFault;
 use std::alloc::Global;
 
 /// How many brackets may be open at once in a record: more than in a file, since records hold what files say.

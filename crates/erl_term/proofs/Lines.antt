@@ -11,7 +11,8 @@ use Rattle.std.proofs.lemmas.List.Folds.{list_all-append}
 use Rattle.erl_reader.specs.Value.{Value, Values}
 use Rattle.erl_reader.specs.Value.Value.{int, atom, list, tuple, bin}
 use Rattle.erl_reader.specs.Value.Values.{no_values, value}
-use Rattle.erl_token.specs.Lexing.{is_in, is_bare_name_byte}
+use Rattle.erl_number.specs.Escapes.{is_in}
+use Rattle.erl_number.specs.Texts.{is_bare_name_byte}
 use Rattle.erl_term.specs.Lines.{is_one_line}
 use Rattle.erl_term.specs.Printing.{text_of, texts_of, atom_text, atom_character, characters_of, string_character, list_text, with_commas, is_bare, has_bare_form}
 

@@ -11,8 +11,8 @@ use Rattle.std.proofs.lemmas.Bool.{and_parts, and_from}
 use Rattle.std.proofs.lemmas.Bool.Decides.{nat_tests}
 use Rattle.std.proofs.lemmas.Fmt.{digits_is_IsNumeral}
 use Rattle.std.proofs.lemmas.Str.{chars-encodes, encodes-chars, scalars-chars}
-use Rattle.erl_token.specs.Escapes.{front, with_next, scalar, escape}
-use Rattle.erl_token.specs.Escapes.Character.{means, senseless}
+use Rattle.erl_number.specs.Escapes.{front, with_next, scalar, escape}
+use Rattle.erl_number.specs.Escapes.Character.{means, senseless}
 use Rattle.erl_token.specs.Quotes.{Quoted, behind, quoted}
 use Rattle.erl_token.specs.Quotes.Quoted.{closed, faulty}
 use Rattle.erl_token.specs.Lexing.{name_spelling, name_in_quotes, text_in_quotes, lex}

@@ -12,8 +12,9 @@ use Rattle.std.proofs.lemmas.Str.Ascii.{IsAscii-nil, IsAscii-cons}
 use Rattle.erl_reader.specs.Value.{Value, Values, FitsTerm, FitTerms}
 use Rattle.erl_reader.specs.Value.Value.{int, atom, list, tuple, bin}
 use Rattle.erl_reader.specs.Value.Values.{no_values, value}
-use Rattle.erl_token.specs.Numbers.{goes_on_as_float}
-use Rattle.erl_token.specs.Lexing.{Token, Item, class_of, is_int, ends_a_term, lex, join, sealed, items_of}
+use Rattle.erl_number.specs.Numbers.{goes_on_as_float, is_int}
+use Rattle.erl_number.specs.Texts.{sealed}
+use Rattle.erl_token.specs.Lexing.{Token, Item, class_of, ends_a_term, lex, join, items_of}
 use Rattle.erl_token.specs.declared.class.Class.TheVariants.{Blank}
 use Rattle.erl_token.specs.Lexing.Token.{open_tuple, close_tuple, open_list, close_list, open_binary, close_binary, comma, dot, name, number, text}
 use Rattle.erl_reader.specs.Grammar.{Phrase, Phrases, IsTerm, numbers, segments, meaning, meanings, tokens_of, members_tokens, rest_tokens, depth, depths, AreSegments, HasSegments, HaveSegments, tokens, first_from, last_to, Reads}
@@ -21,7 +22,7 @@ use Rattle.erl_reader.specs.Grammar.Phrase.{a_name, a_number, a_text, a_tuple, a
 use Rattle.erl_reader.specs.Grammar.Phrases.{no_phrases, phrase}
 use Rattle.erl_term.specs.Printing.{is_bare, atom_character, atom_text, characters_of, is_string, string_character, string_text, with_commas, binary_text, list_text, text_of, texts_of}
 use Rattle.erl_term.specs.Within.{IsShortName, HasShortNames, HaveShortNames, IsWithin, ReadsAs, brackets, most_brackets}
-use Rattle.erl_token.proofs.Runs.{sealed-IsUtf8}
+use Rattle.erl_number.proofs.Runs.{sealed-IsUtf8}
 use Rattle.erl_term.proofs.Characters.{values-characters_of}
 use Rattle.erl_term.proofs.Joins.{AreApart, join-apart, term_apart}
 use Rattle.erl_term.proofs.QuotedTexts.{stand-atom, stand-string, chars-string, lex_quoted_name, lex_string}

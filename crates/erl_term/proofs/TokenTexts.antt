@@ -11,10 +11,11 @@ use Rattle.std.proofs.lemmas.Fmt.{decimal_is_IsNumeral}
 use Rattle.std.proofs.Math.Seq.{drop-append_seam}
 use Rattle.std.proofs.lemmas.Str.Parse.{digit_from_value}
 use Rattle.erl_token.specs.declared.class.Class.TheVariants.{Letter, Digit}
-use Rattle.erl_token.specs.Escapes.{is_in, front}
-use Rattle.erl_token.specs.Numbers.{Numeral, more_digits, digit_row, spelled_by, goes_on_as_float, behind_digits, digits_numeral, numeral}
-use Rattle.erl_token.specs.Numbers.Numeral.{whole}
-use Rattle.erl_token.specs.Lexing.{class_of, Token, start_of, goes_on, is_bare_name_byte, bare, is_int, signed, lex}
+use Rattle.erl_number.specs.Escapes.{is_in, front}
+use Rattle.erl_number.specs.Numbers.{Numeral, more_digits, digit_row, spelled_by, goes_on_as_float, behind_digits, digits_numeral, numeral, is_int}
+use Rattle.erl_number.specs.Numbers.Numeral.{whole}
+use Rattle.erl_number.specs.Texts.{is_bare_name_byte}
+use Rattle.erl_token.specs.Lexing.{class_of, Token, start_of, goes_on, bare, signed, lex}
 use Rattle.erl_token.specs.Lexing.Token.{name, number}
 use Rattle.erl_token.specs.Lexing.Start.{token_of}
 use Rattle.erl_term.specs.Printing.{has_bare_form, is_bare, reserved_words}

@@ -1,5 +1,5 @@
-pub use Rattle.erl_token.specs.declared.fault.TermFault
-pub use Rattle.erl_token.specs.FaultTexts
+pub use Rattle.erl_number.specs.declared.fault.TermFault
+pub use Rattle.erl_number.specs.FaultTexts
 pub use Rattle.erl_token.specs.Lexing
 pub use Rattle.erl_reader.specs.declared.term.Spanned
 pub use Rattle.erl_reader.specs.declared.term.Term

@@ -6,7 +6,8 @@ use Rattle.std.specs.Fmt.{decimal, signed_decimal, digits}
 use Rattle.erl_reader.specs.Value.{Value, Values}
 use Rattle.erl_reader.specs.Value.Value.{int, atom, list, tuple, bin}
 use Rattle.erl_reader.specs.Value.Values.{no_values, value}
-use Rattle.erl_token.specs.Lexing.{is_in, is_bare_name_byte}
+use Rattle.erl_number.specs.Escapes.{is_in}
+use Rattle.erl_number.specs.Texts.{is_bare_name_byte}
 
 -- the words that are no atoms without quotes (Erlang Reference Manual, Introduction, Reserved Words)
 abbrev pub reserved_words : List (List ℕ)

@@ -4,8 +4,8 @@ use Rattle.std.specs.Char.{is_digit}
 use Rattle.std.specs.Str.{chars, continuation_len}
 use Rattle.std.specs.Str.Parse.{digits_value}
 use Rattle.std.proofs.lemmas.List.{take-append-le, drop-append-le, length-drop}
-use Rattle.erl_token.specs.Escapes.{Character, is_in, front, with_next, first_of, itself, scalar, octal, braced, paired, hexadecimal, caret, letter_character, by_name, escape}
-use Rattle.erl_token.specs.Escapes.Character.{means, senseless, unfinished}
+use Rattle.erl_number.specs.Escapes.{Character, is_in, front, with_next, first_of, itself, scalar, octal, braced, paired, hexadecimal, caret, letter_character, by_name, escape}
+use Rattle.erl_number.specs.Escapes.Character.{means, senseless, unfinished}
 use Rattle.erl_token.proofs.Sizes.{CharacterHolds, escape_holds}
 
 -- a dot, and the end

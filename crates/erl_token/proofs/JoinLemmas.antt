@@ -2,25 +2,27 @@
 use Rattle.std.proofs.Common.{◌≡◌, ◌≢◌, ℕ, ℤ, ◌+◌, ◌-◌, ◌<◌, pos, Bool, true, false, eqb, if◌then◌else◌, nat_le, List, [], ◌∷◌, ◌++◌, length, drop, slice_get, Option, Some, None, IfSome, refl, sym, ◌∙◌, ap, subst, append_assoc, arith}
 use Rattle.std.specs.Str.{bytes_eq, chars}
 use Rattle.std.specs.Prelude.{codes}
-use Rattle.erl_token.specs.declared.fault.TermFault.{TermFault}
-use Rattle.erl_token.specs.declared.fault.TermFault.TheVariants.{BadToken, BadNumber, Unsupported}
+use Rattle.erl_number.specs.declared.fault.TermFault.{TermFault}
+use Rattle.erl_number.specs.declared.fault.TermFault.TheVariants.{BadToken, BadNumber, Unsupported}
 use Rattle.erl_token.specs.declared.class.Class.{Class}
 use Rattle.erl_token.specs.declared.class.Class.TheVariants.{Blank, Percent, Dot, Less, Greater, Quote, Apostrophe, Dollar, Sign, Letter, Digit}
-use Rattle.erl_token.specs.Numbers.{Numeral, numeral}
-use Rattle.erl_token.specs.Numbers.Numeral.{whole, faulty as faulty_number, cut_off}
+use Rattle.erl_number.specs.Numbers.{Numeral, numeral, is_int}
+use Rattle.erl_number.specs.Numbers.Numeral.{whole, faulty as faulty_number, cut_off}
 use Rattle.erl_token.specs.Quotes.{Quoted, quoted}
 use Rattle.erl_token.specs.Quotes.Quoted.{closed, faulty}
-use Rattle.erl_token.specs.Escapes.{front}
+use Rattle.erl_number.specs.Escapes.{front}
 use Rattle.erl_token.specs.declared.token.Token.{Token as CodeToken}
 use Rattle.erl_token.specs.declared.token.Token.TheVariants.{Open, Close, Text as CodeText}
 use Rattle.erl_token.specs.declared.token.Bracket.TheVariants.{Tuple, List as Square, Binary}
 use Rattle.erl_token.specs.declared.content.Content.{Content}
 use Rattle.erl_token.specs.declared.token.Item.{Item as CodeItem}
 use Rattle.erl_token.specs.Views.{token_value, item_value, lexed, items_from}
-use Rattle.erl_token.specs.Scanned.{IsSpelled, byte_in}
+use Rattle.erl_number.specs.Scanned.{byte_in}
+use Rattle.erl_token.specs.Scanned.{IsSpelled}
 use Rattle.erl_token.proofs.ClassLemmas.{class_quote}
 use Rattle.erl_token.proofs.Lexemes.{takes_spelling, takes_item, begins_token, no_item}
-use Rattle.erl_token.specs.Lexing.{Token, Item, alone, some_name, some_number, some_text, text_in_quotes, class_of, is_bare_name_byte, name_spelling, bare, name_in_quotes, is_int, numbered, sign_of, doubled, ends_a_term, spelling, joined, in_front, put_item, join}
+use Rattle.erl_number.specs.Texts.{is_bare_name_byte}
+use Rattle.erl_token.specs.Lexing.{Token, Item, alone, some_name, some_number, some_text, text_in_quotes, class_of, name_spelling, bare, name_in_quotes, numbered, sign_of, doubled, ends_a_term, spelling, joined, in_front, put_item, join}
 use Rattle.erl_token.specs.Lexing.Token.{open_binary, close_binary, dot, name, number, text, stray, broken}
 
 -- a text, whole or faulty

@@ -1,16 +1,34 @@
 -- The tokens of a text one after another, with what stands between them.
-use Rattle.std.proofs.Common.{◌≡◌, ◌≢◌, ℕ, ◌+◌, ◌-◌, ◌<◌, List, [], ◌∷◌, length, drop, slice_get, Some, None, refl, sym, ◌∙◌, ap, arith}
+use Rattle.std.proofs.Common.{◌≡◌, ◌≢◌, ℕ, zero, suc, ◌+◌, ◌-◌, ◌<◌, Bool, true, false, ◌||◌, not, if◌then◌else◌, nat_lt, nat_le, eqb, List, [], ◌∷◌, length, drop, slice_get, Some, None, refl, sym, ◌∙◌, ap, arith}
 use Rattle.std.proofs.lemmas.List.{drop-drop}
 use Rattle.erl_token.specs.declared.class.Class.{Class}
 use Rattle.erl_token.specs.declared.class.Class.TheVariants.{Blank, Percent}
 use Rattle.erl_token.specs.declared.token.Item.{Item as CodeItem}
-use Rattle.erl_token.specs.declared.run.Run.TheVariants.{InComment}
-use Rattle.erl_token.specs.Lexing.{class_of, spelling, comment_size, lex, start_of, goes_on, Spelling}
+use Rattle.erl_number.specs.declared.run.Run.TheVariants.{InComment}
+use Rattle.erl_token.specs.Lexing.{class_of, spelling, comment_size, lex, start_of, goes_on, Spelling, ends_a_term}
 use Rattle.erl_token.specs.Lexing.Start.{token_of}
-use Rattle.erl_token.specs.Escapes.{front}
+use Rattle.erl_number.specs.Escapes.{front}
 use Rattle.erl_token.specs.Views.{item_value, lexed}
-use Rattle.erl_token.specs.Scanned.{goes_on_with, IsSpelled}
-use Rattle.erl_token.proofs.Runs.{drop_some, drop_none, comment_size-front, lex-past}
+use Rattle.erl_number.specs.Scanned.{goes_on_with}
+use Rattle.erl_token.specs.Scanned.{IsSpelled}
+use Rattle.erl_number.proofs.Runs.{drop_some, drop_none}
+
+-- the token's own words for its run
+pub comment_size-front : (xs : List ℕ) → comment_size xs ≡ length (front (goes_on_with InComment) xs)
+comment_size-front [] = refl
+comment_size-front (x ∷ xs) = go (eqb x 10 || nat_lt 255 x) (comment_size-front xs)
+  where
+    go : (b : Bool) → comment_size xs ≡ length (front (goes_on_with InComment) xs)
+        → (if b then 0 else comment_size xs + 1) ≡ length (if not b then x ∷ front (goes_on_with InComment) xs else [])
+    go true e = refl
+    go false e = rw e (omega arith)
+
+-- bytes that belong to what began before them
+pub lex-past : (at n : ℕ) (xs : List ℕ) → lex at n xs ≡ lex (at + n) 0 (drop n xs)
+lex-past at zero [] = refl
+lex-past at zero (x ∷ xs) = let same : at ≡ at + 0 = omega arith in ap (λ a. lex a 0 (x ∷ xs)) same
+lex-past at (suc n) [] = refl
+lex-past at (suc n) (x ∷ xs) = let same : (at + 1) + n ≡ at + suc n = omega arith in lex-past (at + 1) n xs ∙ ap (λ a. lex a 0 (drop n xs)) same
 
 -- what the byte at a place begins
 begins_at : (bytes : List ℕ) (at b : ℕ) → slice_get bytes at ≡ Some b
@@ -67,3 +85,10 @@ takes_item bytes at b k i e is not_blank not_percent (spelled, some) =
 
 pub no_item : (bytes : List ℕ) (at : ℕ) → slice_get bytes at ≡ None → lex at 0 (drop at bytes) ≡ []
 no_item bytes at e = ap (lex at 0) (drop_none bytes at e)
+
+-- the byte in front of which a term may end
+pub ends_some : (xs : List ℕ) (i b : ℕ) → slice_get xs i ≡ Some b → ends_a_term (drop i xs) ≡ (nat_le b 32 || eqb b 37)
+ends_some xs i b e = rw (drop_some xs i b e) refl
+
+pub ends_none : (xs : List ℕ) (i : ℕ) → slice_get xs i ≡ None → ends_a_term (drop i xs) ≡ true
+ends_none xs i e = rw (drop_none xs i e) refl

@@ -1,10 +1,5 @@
 pub mod ClassLemmas
-pub mod Runs
 pub mod Parts
-pub mod TextPlaces
-pub mod DigitRows
-pub mod EscapeLemmas
-pub mod Numerals
 pub mod QuoteLemmas
 pub mod JoinLemmas
 pub mod NameLemmas

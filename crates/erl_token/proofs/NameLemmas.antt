@@ -4,7 +4,7 @@ use Rattle.std.proofs.lemmas.Bool.Decides.{nat_tests}
 use Rattle.std.proofs.lemmas.Str.{encodes-chars, length-le-encodes}
 use Rattle.std.specs.Str.{bytes_eq, chars, IsUtf8}
 use Rattle.std.specs.Prelude.{codes}
-use Rattle.erl_token.specs.declared.fault.TermFault.TheVariants.{BadToken, Unsupported}
+use Rattle.erl_number.specs.declared.fault.TermFault.TheVariants.{BadToken, Unsupported}
 use Rattle.erl_token.specs.Lexing.{name_spelling, bare, some_name}
 use Rattle.erl_token.specs.Lexing.Token.{name, broken}
 use Rattle.erl_token.proofs.Parts.{item, spelled_item}

@@ -7,11 +7,11 @@ use Rattle.std.proofs.lemmas.Bool.{and_parts}
 use Rattle.std.proofs.lemmas.Bool.Decides.{nat_tests}
 use Rattle.std.proofs.lemmas.Slice.Eq.{bytes_eq-Decides}
 use Rattle.std.proofs.lemmas.List.{length-drop}
-use Rattle.erl_token.specs.declared.fault.TermFault.TheVariants.{BadToken, BadNumber, Unsupported}
-use Rattle.erl_token.specs.Escapes.{Character, is_in, front, itself, escape}
-use Rattle.erl_token.specs.Escapes.Character.{means, senseless, unfinished}
-use Rattle.erl_token.specs.Numbers.{Numeral, more_digits, digit_row, begins, spelled_by, unless_float, goes_on_as_float, is_alphanumeric, in_base, behind_base, behind_digits, digits_numeral, character_number, ended, character_numeral, numeral}
-use Rattle.erl_token.specs.Numbers.Numeral.{whole, faulty as faulty_number}
+use Rattle.erl_number.specs.declared.fault.TermFault.TheVariants.{BadToken, BadNumber, Unsupported}
+use Rattle.erl_number.specs.Escapes.{Character, is_in, front, itself, escape}
+use Rattle.erl_number.specs.Escapes.Character.{means, senseless, unfinished}
+use Rattle.erl_number.specs.Numbers.{Numeral, more_digits, digit_row, begins, spelled_by, unless_float, goes_on_as_float, is_alphanumeric, in_base, behind_base, behind_digits, digits_numeral, character_number, ended, character_numeral, numeral}
+use Rattle.erl_number.specs.Numbers.Numeral.{whole, faulty as faulty_number}
 use Rattle.erl_token.specs.Quotes.{Quoted, quoted, behind, escaped}
 use Rattle.erl_token.specs.Quotes.Quoted.{closed, faulty}
 use Rattle.erl_token.proofs.Sizes.{CharacterHolds, itself_holds, NumeralHolds, numeral_holds}

@@ -6,17 +6,17 @@ use Rattle.std.specs.Prelude.{encode_utf8, slice_range, EachIndex}
 use Rattle.std.specs.Str.{IsUtf8, IsCharBoundary}
 use Rattle.std.proofs.lemmas.Str.{IsCharBoundary-after_ascii}
 use Rattle.std.proofs.lemmas.Option.{slice_get_within, get_or_from_slice_get}
-use Rattle.erl_token.specs.declared.run.Run.TheVariants.{InQuotes}
-use Rattle.erl_token.specs.declared.fault.TermFault.{TermFault}
-use Rattle.erl_token.specs.declared.fault.TermFault.TheVariants.{BadToken, Unclosed}
-use Rattle.erl_token.specs.Escapes.{Character, front, escape}
-use Rattle.erl_token.specs.Escapes.Character.{means, senseless, unfinished}
+use Rattle.erl_number.specs.declared.run.Run.TheVariants.{InQuotes}
+use Rattle.erl_number.specs.declared.fault.TermFault.{TermFault}
+use Rattle.erl_number.specs.declared.fault.TermFault.TheVariants.{BadToken, Unclosed}
+use Rattle.erl_number.specs.Escapes.{Character, front, escape}
+use Rattle.erl_number.specs.Escapes.Character.{means, senseless, unfinished}
 use Rattle.erl_token.specs.Quotes.{Quoted, behind, unclosed, escaped, quoted}
 use Rattle.erl_token.specs.Quotes.Quoted.{closed, faulty}
 use Rattle.erl_token.specs.Contents.{IsQuote}
-use Rattle.erl_token.specs.Views.{seal}
-use Rattle.erl_token.proofs.Runs.{drop_some, drop_none, run_more}
-use Rattle.erl_token.proofs.Parts.{byte_valid, run_valid, run_within, run_part}
+use Rattle.erl_number.specs.Views.{seal}
+use Rattle.erl_number.proofs.Runs.{drop_some, drop_none, run_more}
+use Rattle.erl_number.proofs.Parts.{byte_valid, run_valid, run_within, run_part}
 
 -- a byte that stands for itself between such quotes
 abbrev pub is_plain : ℕ → ℕ → Bool

@@ -12,9 +12,10 @@ use Rattle.std.proofs.lemmas.Str.{IsUtf8-from_is_utf8, IsUtf8-nil, IsUtf8-take, 
 use Rattle.std.proofs.lemmas.Str.Ascii.{IsAscii-nil, IsAscii-cons}
 use Rattle.erl_token.specs.declared.class.Class.{Class}
 use Rattle.erl_token.specs.declared.class.Class.TheVariants.{Blank, Percent, Other}
-use Rattle.erl_token.specs.Lexing.{Token, Item, Spelling, class_of, spelling, comment_size, start_of, goes_on, lex, joined, in_front, put_item, join, items_of, sealed}
+use Rattle.erl_number.specs.Texts.{sealed}
+use Rattle.erl_token.specs.Lexing.{Token, Item, Spelling, class_of, spelling, comment_size, start_of, goes_on, lex, joined, in_front, put_item, join, items_of}
 use Rattle.erl_token.specs.Lexing.Token.{dot, stray, broken, text}
-use Rattle.erl_token.specs.Views.{seal}
+use Rattle.erl_number.specs.Views.{seal}
 use Rattle.erl_token.specs.Tiling.{is_gap, Tile}
 use Rattle.erl_token.specs.Rows.{is_of_term, first_from, last_to, moved_item, moved, RowsStandAlone}
 use Rattle.erl_token.proofs.ClassLemmas.{class_large}
@@ -23,8 +24,8 @@ use Rattle.erl_token.proofs.TilingLemmas.{lex_tiles}
 use Rattle.erl_token.proofs.CutLemmas.{stop}
 use Rattle.erl_token.proofs.TokenCuts.{spelling_stays}
 use Rattle.erl_token.proofs.JoinLemmas.{joined-no_text}
-use Rattle.erl_token.proofs.Parts.{byte_valid}
-use Rattle.erl_token.proofs.Runs.{sealed-IsUtf8}
+use Rattle.erl_number.proofs.Parts.{byte_valid}
+use Rattle.erl_number.proofs.Runs.{sealed-IsUtf8}
 
 abbrev Goods : List Item → Type 0
 Goods is = list_all (λ i. is_of_term i.token) is ≡ true

@@ -8,15 +8,16 @@ use Rattle.std.proofs.lemmas.Bool.Decides.{nat_tests}
 use Rattle.std.proofs.lemmas.List.{length-take, length-drop}
 use Rattle.erl_token.specs.declared.class.Class.{Class}
 use Rattle.erl_token.specs.declared.class.Class.TheVariants.{Less, Greater, Quote, Apostrophe, Dollar, Sign, Letter, Digit}
-use Rattle.erl_token.specs.Escapes.{Character, is_in, front, with_next, first_of, itself, scalar, octal, braced, paired, hexadecimal, caret, letter_character, by_name, escape}
-use Rattle.erl_token.specs.Escapes.Character.{means, senseless, unfinished}
-use Rattle.erl_token.specs.Numbers.{Numeral, more_digits, digit_row, begins, spelled_by, unless_float, goes_on_as_float, is_alphanumeric, in_base, behind_base, behind_digits, digits_numeral, character_number, ended, character_numeral, numeral}
-use Rattle.erl_token.specs.Numbers.Numeral.{whole, faulty as faulty_number, cut_off}
+use Rattle.erl_number.specs.Escapes.{Character, is_in, front, with_next, first_of, itself, scalar, octal, braced, paired, hexadecimal, caret, letter_character, by_name, escape}
+use Rattle.erl_number.specs.Escapes.Character.{means, senseless, unfinished}
+use Rattle.erl_number.specs.Numbers.{Numeral, more_digits, digit_row, begins, spelled_by, unless_float, goes_on_as_float, is_alphanumeric, in_base, behind_base, behind_digits, digits_numeral, character_number, ended, character_numeral, numeral, is_int}
+use Rattle.erl_number.specs.Numbers.Numeral.{whole, faulty as faulty_number, cut_off}
 use Rattle.erl_token.specs.Quotes.{Quoted, quoted, behind, escaped}
 use Rattle.erl_token.specs.Quotes.Quoted.{closed, faulty}
-use Rattle.erl_token.specs.declared.fault.TermFault.TheVariants.{BadToken, BadNumber, Unsupported}
+use Rattle.erl_number.specs.declared.fault.TermFault.TheVariants.{BadToken, BadNumber, Unsupported}
 use Rattle.erl_token.specs.Lexing.Token.{open_binary, close_binary, name, number, stray, broken}
-use Rattle.erl_token.specs.Lexing.{Token, Spelling, alone, some_name, some_number, is_bare_name_byte, name_spelling, bare, name_in_quotes, text_in_quotes, is_int, numbered, sign_of, signed, doubled, spelling, comment_size}
+use Rattle.erl_number.specs.Texts.{is_bare_name_byte}
+use Rattle.erl_token.specs.Lexing.{Token, Spelling, alone, some_name, some_number, name_spelling, bare, name_in_quotes, text_in_quotes, numbered, sign_of, signed, doubled, spelling, comment_size}
 
 -- at least one byte, and at most so many
 abbrev pub Holds : ℕ → ℕ → Type 0

@@ -3,10 +3,11 @@ use Rattle.std.proofs.Common.{◌≡◌, ◌⊎◌, inl, inr, ℕ, pos, ◌+◌,
 use Rattle.std.proofs.lemmas.List.{drop_more}
 use Rattle.erl_token.specs.declared.class.Class.{Class}
 use Rattle.erl_token.specs.declared.class.Class.TheVariants.{Blank, Percent, Dollar, Letter, Digit, Other}
-use Rattle.erl_token.specs.Escapes.{front}
-use Rattle.erl_token.specs.Lexing.{class_of, is_bare_name_byte, alone, bare, numbered, spelling}
+use Rattle.erl_number.specs.Escapes.{front}
+use Rattle.erl_number.specs.Texts.{is_bare_name_byte}
+use Rattle.erl_token.specs.Lexing.{class_of, alone, bare, numbered, spelling}
 use Rattle.erl_token.specs.Lexing.Token.{stray}
-use Rattle.erl_token.specs.Numbers.{numeral}
+use Rattle.erl_number.specs.Numbers.{numeral}
 use Rattle.erl_token.proofs.Parts.{letter_in_name}
 
 -- what stands from a place on, by its first byte

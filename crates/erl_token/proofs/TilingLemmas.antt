@@ -4,7 +4,8 @@ use Rattle.std.proofs.lemmas.Bool.Decides.{nat_tests}
 use Rattle.std.proofs.lemmas.List.{length-append, length-take, take-append-drop}
 use Rattle.erl_token.specs.declared.class.Class.{Class}
 use Rattle.erl_token.specs.declared.class.Class.TheVariants.{Blank, Percent}
-use Rattle.erl_token.specs.Lexing.{Token, Item, Spelling, class_of, spelling, comment_size, start_of, goes_on, lex, joined, in_front, put_item, join, sealed}
+use Rattle.erl_number.specs.Texts.{sealed}
+use Rattle.erl_token.specs.Lexing.{Token, Item, Spelling, class_of, spelling, comment_size, start_of, goes_on, lex, joined, in_front, put_item, join}
 use Rattle.erl_token.specs.Tiling.{ends_comment, is_gap, Tile, ItemsTile}
 use Rattle.erl_token.proofs.Sizes.{comment_fits, spelling_holds}
 

@@ -3,15 +3,16 @@ use Rattle.std.proofs.Common.{◌≡◌, ℕ, ℤ, pos, ◌+◌, ◌≤◌, Bool
 use Rattle.std.specs.Prelude.{codes}
 use Rattle.std.specs.Str.{chars, bytes_eq}
 use Rattle.std.proofs.lemmas.List.{length-drop}
-use Rattle.erl_token.specs.declared.fault.TermFault.TheVariants.{BadToken, BadNumber, Unsupported}
+use Rattle.erl_number.specs.declared.fault.TermFault.TheVariants.{BadToken, BadNumber, Unsupported}
 use Rattle.erl_token.specs.declared.class.Class.{Class}
 use Rattle.erl_token.specs.declared.class.Class.TheVariants.{Blank, Percent, Dot, Less, Greater, Quote, Apostrophe, Dollar, Sign, Letter, Digit, Other}
-use Rattle.erl_token.specs.Escapes.{front}
-use Rattle.erl_token.specs.Numbers.{Numeral, numeral}
-use Rattle.erl_token.specs.Numbers.Numeral.{whole, faulty as faulty_number, cut_off}
+use Rattle.erl_number.specs.Escapes.{front}
+use Rattle.erl_number.specs.Numbers.{Numeral, numeral, is_int}
+use Rattle.erl_number.specs.Numbers.Numeral.{whole, faulty as faulty_number, cut_off}
 use Rattle.erl_token.specs.Quotes.{Quoted, quoted}
 use Rattle.erl_token.specs.Quotes.Quoted.{closed, faulty}
-use Rattle.erl_token.specs.Lexing.{Token, Spelling, alone, some_name, some_number, is_bare_name_byte, name_spelling, bare, name_in_quotes, text_in_quotes, is_int, in_range, numbered, sign_of, signed, doubled, ends_a_term, spelling}
+use Rattle.erl_number.specs.Texts.{is_bare_name_byte}
+use Rattle.erl_token.specs.Lexing.{Token, Spelling, alone, some_name, some_number, name_spelling, bare, name_in_quotes, text_in_quotes, in_range, numbered, sign_of, signed, doubled, ends_a_term, spelling}
 use Rattle.erl_token.specs.Lexing.Token.{open_binary, close_binary, name, number, dot, stray, broken}
 use Rattle.erl_token.specs.Rows.{is_of_term}
 use Rattle.erl_token.proofs.CutLemmas.{stop, front_stays, drop_stays}

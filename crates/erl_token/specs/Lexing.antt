@@ -1,15 +1,15 @@
 -- The tokens of a text, with their places (Erlang Reference Manual, Data Types; `erl_scan`).
-use Rattle.std.specs.Prelude.{ℕ, ℤ, zero, suc, pos, negsuc, neg_ℤ, ◌+◌, ◌-◌, ◌^◌, Bool, true, ◌||◌, List, [], ◌∷◌, ◌++◌, length, take, drop, codes, chars, nat_lt, nat_le, ◌==◌, if◌then◌else◌, Option, Some, None}
+use Rattle.std.specs.Prelude.{ℕ, ℤ, zero, suc, pos, neg_ℤ, ◌+◌, ◌-◌, Bool, true, ◌||◌, List, [], ◌∷◌, ◌++◌, length, drop, codes, chars, nat_lt, nat_le, ◌==◌, if◌then◌else◌, Option, Some, None}
 use Rattle.std.specs.Str.{bytes_eq}
-use Rattle.std.specs.Str.Lossy.{utf8_valid_len}
-pub use Rattle.erl_token.specs.Escapes.{is_in}
-use Rattle.erl_token.specs.Escapes.{front}
-use Rattle.erl_token.specs.Numbers.{Numeral, numeral}
-use Rattle.erl_token.specs.Numbers.Numeral.{whole, faulty as faulty_number, cut_off}
+pub use Rattle.erl_number.specs.Escapes.{is_in}
+use Rattle.erl_number.specs.Escapes.{front}
+use Rattle.erl_number.specs.Texts.{sealed, is_bare_name_byte}
+use Rattle.erl_number.specs.Numbers.{Numeral, numeral, is_int}
+use Rattle.erl_number.specs.Numbers.Numeral.{whole, faulty as faulty_number, cut_off}
 use Rattle.erl_token.specs.Quotes.{Quoted, quoted}
 use Rattle.erl_token.specs.Quotes.Quoted.{closed, faulty}
-use Rattle.erl_token.specs.declared.fault.TermFault.{TermFault}
-use Rattle.erl_token.specs.declared.fault.TermFault.TheVariants.{BadToken, BadNumber, Unsupported}
+use Rattle.erl_number.specs.declared.fault.TermFault.{TermFault}
+use Rattle.erl_number.specs.declared.fault.TermFault.TheVariants.{BadToken, BadNumber, Unsupported}
 use Rattle.erl_token.specs.declared.class.Class.{Class}
 use Rattle.erl_token.specs.declared.class.Class.TheVariants.{Blank, Percent, Comma, Dot, OpenTuple, CloseTuple, OpenList, CloseList, Less, Greater, Quote, Apostrophe, Dollar, Sign, Letter, Digit, Other}
 
@@ -58,10 +58,6 @@ pub record Spelling : Type 0 where
 abbrev pub alone : Token → Spelling
 alone t = record { token = t; size = 1 }
 
--- what a bare name goes on with
-abbrev pub is_bare_name_byte : ℕ → Bool
-is_bare_name_byte x = is_in 97 122 x || is_in 65 90 x || is_in 48 57 x || x == 95 || x == 64
-
 -- a name of at most 255 characters
 abbrev pub name_spelling : ℕ → List ℕ → ℕ → Spelling
 name_spelling at s size = if nat_le (length (chars s)) 255 then record { token = name s; size = size } else alone (broken some_name (BadToken at))
@@ -78,11 +74,6 @@ name_in_quotes at (faulty f) = alone (broken some_name f)
 abbrev pub text_in_quotes : Quoted → Spelling
 text_in_quotes (closed s size) = record { token = text s; size = size + 1 }
 text_in_quotes (faulty f) = alone (broken some_text f)
-
--- within 64 bits signed: `negsuc n` is below zero by n + 1
-abbrev pub is_int : ℤ → Bool
-is_int (pos n) = nat_lt n (2 ^ 63)
-is_int (negsuc n) = nat_lt n (2 ^ 63)
 
 abbrev pub in_range : ℕ → ℤ → ℕ → Spelling
 in_range at z size = if is_int z then record { token = number z; size = size } else alone (broken some_number (BadNumber at))
@@ -180,10 +171,6 @@ put_item i (j ∷ js) = in_front i (joined i.token j.token) j js
 abbrev pub join : List Item → List Item
 join [] = []
 join (i ∷ is) = put_item i (join is)
-
--- the bytes as far as they are UTF-8, and behind them, where there are more, a number that is no byte
-abbrev pub sealed : List ℕ → List ℕ
-sealed bytes = take (utf8_valid_len bytes) bytes ++ (if utf8_valid_len bytes == length bytes then [] else 256 ∷ [])
 
 -- the tokens of a text
 abbrev pub items_of : List ℕ → List Item

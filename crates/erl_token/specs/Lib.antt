@@ -1,5 +1,3 @@
-pub mod Escapes
-pub mod Numbers
 pub mod Quotes
 pub mod Lexing
 pub mod Contents
@@ -7,4 +5,3 @@ pub mod Views
 pub mod Scanned
 pub mod Tiling
 pub mod Rows
-pub mod FaultTexts

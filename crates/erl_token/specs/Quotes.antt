@@ -1,9 +1,9 @@
 -- What stands between quotes (Erlang Reference Manual, Data Types, Atom and String).
 use Rattle.std.specs.Prelude.{ℕ, zero, suc, ◌+◌, List, [], ◌∷◌, ◌++◌, nat_lt, ◌==◌, if◌then◌else◌, encode_utf8}
-use Rattle.erl_token.specs.declared.fault.TermFault.{TermFault}
-use Rattle.erl_token.specs.declared.fault.TermFault.TheVariants.{BadToken, Unclosed}
-use Rattle.erl_token.specs.Escapes.{Character, escape}
-use Rattle.erl_token.specs.Escapes.Character.{means, senseless, unfinished}
+use Rattle.erl_number.specs.declared.fault.TermFault.{TermFault}
+use Rattle.erl_number.specs.declared.fault.TermFault.TheVariants.{BadToken, Unclosed}
+use Rattle.erl_number.specs.Escapes.{Character, escape}
+use Rattle.erl_number.specs.Escapes.Character.{means, senseless, unfinished}
 
 -- The text up to the next quote, and how many bytes it takes with that quote, or a fault.
 pub data Quoted : Type 0 where

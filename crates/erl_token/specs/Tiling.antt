@@ -1,6 +1,7 @@
 -- How the items of a text lie in it: one behind another, with gaps between them.
 use Rattle.std.specs.Prelude.{◌≡◌, ℕ, ◌+◌, ◌<◌, Bool, true, false, ◌&&◌, ◌||◌, List, [], ◌∷◌, ◌++◌, length, nat_lt, nat_le, ◌==◌, if◌then◌else◌}
-use Rattle.erl_token.specs.Lexing.{Item, items_of, sealed}
+use Rattle.erl_number.specs.Texts.{sealed}
+use Rattle.erl_token.specs.Lexing.{Item, items_of}
 
 -- a comment ends in front of a new line, of what isn't UTF-8, and at the end
 abbrev pub ends_comment : List ℕ → Bool

@@ -1,6 +1,5 @@
--- What contracts read of a text, of its tokens and of their places.
-use Rattle.std.specs.Prelude.{◌≡◌, ℕ, ◌<◌, Bool, true, false, List, [], ◌∷◌, ◌++◌, drop, Option, Some, None}
-use Rattle.erl_token.specs.declared.text.Text.{Text}
+-- What contracts read of the tokens of a text and of their places.
+use Rattle.std.specs.Prelude.{◌≡◌, ℕ, ◌<◌, List, [], ◌∷◌, drop, Option, Some, None}
 use Rattle.erl_token.specs.declared.token.Token.{Token as CodeToken}
 use Rattle.erl_token.specs.declared.token.Token.TheVariants.{Open, Close, Comma, Dot, Name, Number, Text as Quoted, Stray, NotUtf8, Broken, Cut}
 use Rattle.erl_token.specs.declared.token.Bracket.TheVariants.{Tuple, List as Square, Binary}
@@ -10,15 +9,6 @@ use Rattle.erl_token.specs.declared.token.Item.{Item as CodeItem}
 use Rattle.erl_token.specs.Contents.{content_bytes}
 use Rattle.erl_token.specs.Lexing.{Token, Item, some_name, some_number, some_text, lex, join}
 use Rattle.erl_token.specs.Lexing.Token.{open_tuple, close_tuple, open_list, close_list, open_binary, close_binary, comma, dot, name, number, text, stray, broken, cut}
-
--- behind bytes that are UTF-8: a number that is no byte, if more follow
-abbrev pub seal : Bool → List ℕ
-seal true = 256 ∷ []
-seal false = []
-
--- the bytes of a text, sealed off where they are no longer UTF-8
-abbrev pub text_bytes : Text → List ℕ
-text_bytes t = t.valid.now ++ seal t.is_spoilt
 
 -- what a faulty or cut token begins as
 abbrev pub like_value : Like → Token

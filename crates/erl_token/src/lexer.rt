@@ -1,13 +1,15 @@
 //! Bytes into tokens.
 ghost use Rattle.std.specs.Prelude.{◌≡◌, ◌≢◌, ◌⊎◌, ℕ, pos, ◌+◌, ◌-◌, ◌<◌, ◌≤◌, ◌^◌, length, drop, slice_index, slice_get, nat_lt, Some, IfSome, IfOk};
 ghost use Rattle.std.specs.Str.{IsUtf8, chars};
-ghost use Rattle.erl_token.specs.Lexing.{class_of, spelling, is_bare_name_byte, alone as alone_spelling, doubled as doubled_spelling, bare, name_spelling, name_in_quotes, text_in_quotes, numbered as numbered_spelling, signed as signed_spelling, put_item, ends_a_term};
+ghost use Rattle.erl_number.specs.Texts.{is_bare_name_byte};
+ghost use Rattle.erl_token.specs.Lexing.{class_of, spelling, alone as alone_spelling, doubled as doubled_spelling, bare, name_spelling, name_in_quotes, text_in_quotes, numbered as numbered_spelling, signed as signed_spelling, put_item, ends_a_term};
 ghost use Rattle.erl_token.specs.Lexing.Token.{text as text_token};
-ghost use Rattle.erl_token.specs.Numbers.{Numeral as NumeralSpelling, numeral as numeral_spelling};
+ghost use Rattle.erl_number.specs.Numbers.{Numeral as NumeralSpelling, numeral as numeral_spelling};
 ghost use Rattle.erl_token.specs.Quotes.{quoted};
-ghost use Rattle.erl_token.specs.Scanned.{capped_numeral, numeral_value, signed_number, EndsAfter};
-ghost use Rattle.erl_token.specs.Escapes.{front};
-ghost use Rattle.erl_token.specs.Views.{text_bytes, token_value, like_value, item_value, lexed, items_from, IsFirst, Yields};
+ghost use Rattle.erl_number.specs.Scanned.{capped_numeral, numeral_value, signed_number, EndsAfter};
+ghost use Rattle.erl_number.specs.Escapes.{front};
+ghost use Rattle.erl_number.specs.Views.{text_bytes};
+ghost use Rattle.erl_token.specs.Views.{token_value, like_value, item_value, lexed, items_from, IsFirst, Yields};
 ghost use Rattle.erl_token.specs.Scanned.{IsSpelled};
 ghost use Rattle.erl_token.specs.Contents.{content_bytes};
 ghost use Rattle.erl_token.specs.declared.class.Class.TheVariants.{Blank, Percent, Dot as DotClass, Letter};
@@ -15,12 +17,9 @@ ghost use Rattle.erl_token.specs.declared.token.Like.TheVariants.{OpenBinary, Cl
 
 use crate::class::Class;
 use crate::content::Content;
-use crate::fault::TermFault;
-use crate::number::{Numeral, in_range, numeral_at};
 use crate::quote::{Quoted, quoted_from};
-use crate::run::{Run, run_end};
-use crate::text::{At, Text};
 use crate::token::{Bracket, Item, Like, Token};
+use erl_number::{At, Numeral, Run, TermFault, Text, in_range, numeral_at, run_end};
 use std::alloc::{AllocError, Global};
 
 /// The longest name, in characters.

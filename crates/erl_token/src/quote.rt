@@ -2,14 +2,11 @@
 ghost use Rattle.std.specs.Prelude.{◌≡◌, ◌+◌, ◌≤◌, length, drop, slice_get, Some, IfOk};
 ghost use Rattle.std.specs.Str.{IsUtf8};
 ghost use Rattle.erl_token.specs.Quotes.{quoted, unclosed as unclosed_fault};
-ghost use Rattle.erl_token.specs.Views.{text_bytes};
+ghost use Rattle.erl_number.specs.Views.{text_bytes};
 ghost use Rattle.erl_token.specs.Contents.{IsQuote, IsQuoted};
 
 use crate::content::Content;
-use crate::escape::{Escaped, escape_at};
-use crate::fault::TermFault;
-use crate::run::{Run, run_end};
-use crate::text::{At, Text};
+use erl_number::{At, Escaped, Run, TermFault, Text, escape_at, run_end};
 use std::alloc::{AllocError, Global};
 
 /// What follows a quote.

@@ -1,7 +1,7 @@
 //! The tokens of a text.
 
 use crate::content::Content;
-use crate::fault::TermFault;
+use erl_number::TermFault;
 
 /// A pair of brackets.
 #[derive(Clone, Copy, PartialEq, Eq)]

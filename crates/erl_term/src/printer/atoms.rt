@@ -2,7 +2,7 @@
 ghost use Rattle.std.specs.Prelude.{◌≡◌, ◌++◌, drop, take, OnOk, string_bytes};
 ghost use Rattle.std.specs.List.{list_all, list_any};
 ghost use Rattle.std.specs.Str.{bytes_eq};
-ghost use Rattle.erl_token.specs.Lexing.{is_bare_name_byte};
+ghost use Rattle.erl_number.specs.Texts.{is_bare_name_byte};
 ghost use Rattle.erl_term.specs.Printing.{atom_character, atom_text, has_bare_form, is_bare, reserved_words};
 
 use std::alloc::AllocError;

@@ -1,7 +1,8 @@
 use Rattle.std.proofs.Common.{◌≡◌, ◌-◌, length}
 use Rattle.erl_token.specs.Lexing.{items_of}
 use Rattle.erl_reader.specs.Machine.{run, nothing_read}
-use Rattle.erl_token.specs.Views.{text_bytes, items_from}
+use Rattle.erl_number.specs.Views.{text_bytes}
+use Rattle.erl_token.specs.Views.{items_from}
 use Rattle.erl_reader.specs.Views.{progress_of}
 use Rattle.erl_reader.proofs.reader.read.Given as goal
 

@@ -1,5 +1,6 @@
 use Rattle.std.proofs.Common.{◌+◌, ◌∙◌, sym, ap, subst, arith}
-use Rattle.erl_token.specs.Views.{text_bytes, like_value}
+use Rattle.erl_number.specs.Views.{text_bytes}
+use Rattle.erl_token.specs.Views.{like_value}
 use Rattle.erl_token.specs.Scanned.{IsSpelled}
 use Rattle.erl_token.proofs.Parts.{doubled_cut, doubled_same, doubled_other, spelled_item}
 use Rattle.erl_token.proofs.lexer.doubled.Goals as goal

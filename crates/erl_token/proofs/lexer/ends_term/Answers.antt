@@ -1,7 +1,7 @@
 use Rattle.std.proofs.Common.{sym, arith, rules}
 use Rattle.std.proofs.lemmas.Bool.Decides.{nat_tests}
-use Rattle.erl_token.specs.Views.{text_bytes}
-use Rattle.erl_token.proofs.Runs.{ends_some, ends_none}
+use Rattle.erl_number.specs.Views.{text_bytes}
+use Rattle.erl_token.proofs.Lexemes.{ends_some, ends_none}
 use Rattle.erl_token.proofs.lexer.ends_term.Goals as goal
 
 pub returns-then-byte-le32 : goal.returns-then-byte-le32

@@ -1,6 +1,6 @@
 use Rattle.std.proofs.Common.{◌<◌, length, sym, ◌∙◌, arith, rules}
 use Rattle.std.proofs.lemmas.Option.{slice_get_within}
-use Rattle.erl_token.specs.Views.{text_bytes}
+use Rattle.erl_number.specs.Views.{text_bytes}
 use Rattle.erl_token.proofs.Lexemes.{skips_blank, skips_comment}
 use Rattle.erl_token.proofs.lexer.gap_end.Goals as goal
 

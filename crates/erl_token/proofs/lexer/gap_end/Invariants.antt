@@ -1,5 +1,6 @@
 use Rattle.std.proofs.Common.{◌≡◌, ◌-◌, ◌≤◌, length}
-use Rattle.erl_token.specs.Views.{text_bytes, lexed}
+use Rattle.erl_number.specs.Views.{text_bytes}
+use Rattle.erl_token.specs.Views.{lexed}
 use Rattle.erl_token.proofs.lexer.gap_end.Given as goal
 
 abbrev pub invariant-loop-at : goal.invariant-loop-at

@@ -1,5 +1,5 @@
 use Rattle.std.proofs.Common.{◌+◌, inl, inr, drop, refl, sym, ◌∙◌, ap, subst}
-use Rattle.erl_token.specs.Views.{text_bytes}
+use Rattle.erl_number.specs.Views.{text_bytes}
 use Rattle.erl_token.specs.Lexing.{class_of}
 use Rattle.erl_token.specs.Scanned.{IsSpelled}
 use Rattle.erl_token.proofs.ClassLemmas.{quote_stands, apostrophe_stands}

@@ -1,7 +1,8 @@
 use Rattle.std.proofs.Common.{◌≡◌, slice_get, Some, refl, sym, ◌∙◌, ap, subst, arith}
 use Rattle.std.proofs.lemmas.Option.{slice_get_within, get_or_from_slice_get}
 use Rattle.erl_token.specs.Lexing.{join, put_item}
-use Rattle.erl_token.specs.Views.{text_bytes, items_from, item_value, token_value, IsFirst}
+use Rattle.erl_number.specs.Views.{text_bytes}
+use Rattle.erl_token.specs.Views.{items_from, item_value, token_value, IsFirst}
 use Rattle.erl_token.specs.declared.token.Token.{Token}
 use Rattle.erl_token.specs.declared.class.Class.TheVariants.{Other}
 use Rattle.erl_token.proofs.Lexemes.{no_item}

@@ -1,7 +1,7 @@
 use Rattle.std.proofs.Common.{◌≡◌, pos, ◌-◌, drop, subst, arith}
 use Rattle.erl_token.specs.Lexing.{numbered}
-use Rattle.erl_token.specs.Numbers.{numeral}
-use Rattle.erl_token.specs.Views.{text_bytes}
+use Rattle.erl_number.specs.Numbers.{numeral}
+use Rattle.erl_number.specs.Views.{text_bytes}
 use Rattle.erl_token.specs.Scanned.{IsSpelled}
 use Rattle.erl_token.proofs.lexer.number.Goals as goal
 

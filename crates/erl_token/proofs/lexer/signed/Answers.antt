@@ -1,9 +1,9 @@
 use Rattle.std.proofs.Common.{◌≡◌, ◌+◌, ◌-◌, length, drop, subst, nat_le, sym, ap, ◌∙◌, arith}
 use Rattle.std.proofs.lemmas.List.{drop-drop}
-use Rattle.erl_token.specs.Escapes.{front}
+use Rattle.erl_number.specs.Escapes.{front}
 use Rattle.erl_token.specs.Lexing.{numbered, signed, sign_of}
-use Rattle.erl_token.specs.Numbers.{numeral}
-use Rattle.erl_token.specs.Views.{text_bytes}
+use Rattle.erl_number.specs.Numbers.{numeral}
+use Rattle.erl_number.specs.Views.{text_bytes}
 use Rattle.erl_token.specs.Scanned.{IsSpelled}
 use Rattle.erl_token.proofs.lexer.signed.Goals as goal
 

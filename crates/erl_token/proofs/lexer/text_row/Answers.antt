@@ -1,9 +1,10 @@
 use Rattle.std.proofs.Common.{◌≡◌, slice_get, ◌∷◌, Some, sym, ◌∙◌, ap, arith}
 use Rattle.erl_token.specs.Lexing.{join, put_item}
-use Rattle.erl_token.specs.Views.{text_bytes, items_from}
+use Rattle.erl_number.specs.Views.{text_bytes}
+use Rattle.erl_token.specs.Views.{items_from}
 use Rattle.erl_token.specs.Contents.{content_bytes}
 use Rattle.erl_token.proofs.JoinLemmas.{text_item, row_goes_on, row_breaks, row_ends, row_ends_there}
-use Rattle.erl_token.proofs.DigitRows.{slice_get_byte}
+use Rattle.erl_number.proofs.DigitRows.{slice_get_byte}
 use Rattle.erl_token.proofs.lexer.text_row.Goals as goal
 use Rattle.erl_token.proofs.lexer.text_row.Goals.{in_default, in_default-2}
 

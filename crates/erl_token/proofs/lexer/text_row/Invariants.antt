@@ -3,7 +3,8 @@ use Rattle.std.specs.Prelude.{IfSome}
 use Rattle.erl_token.specs.declared.class.Class.TheVariants.{Blank, Percent}
 use Rattle.erl_token.specs.Lexing.{class_of, put_item}
 use Rattle.erl_token.specs.Lexing.Token.{text}
-use Rattle.erl_token.specs.Views.{text_bytes, items_from}
+use Rattle.erl_number.specs.Views.{text_bytes}
+use Rattle.erl_token.specs.Views.{items_from}
 use Rattle.erl_token.specs.Contents.{content_bytes}
 use Rattle.erl_token.proofs.lexer.text_row.Given as goal
 

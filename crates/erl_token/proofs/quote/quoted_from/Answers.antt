@@ -1,7 +1,7 @@
 use Rattle.std.proofs.Common.{◌≡◌, ℕ, ◌+◌, ◌-◌, ◌<◌, slice_get, length, List, Some, sym, ◌∙◌, ap, subst, arith}
 use Rattle.std.proofs.lemmas.Option.{slice_get_within}
 use Rattle.erl_token.specs.Quotes.Quoted.{faulty}
-use Rattle.erl_token.specs.Views.{text_bytes}
+use Rattle.erl_number.specs.Views.{text_bytes}
 use Rattle.erl_token.specs.Contents.{content_bytes}
 use Rattle.erl_token.proofs.QuoteLemmas.{IsRead, nothing_read, quote_byte, reads_run, reads_escape, closes_quote, bad_in_quotes, open_quote, senseless_escape, unfinished_escape, cut_behind, inside, run_cut, run_between, run_goes_on}
 use Rattle.erl_token.proofs.quote.quoted_from.Goals as goal

@@ -1,6 +1,6 @@
 use Rattle.std.proofs.Common.{◌-◌, length}
 use Rattle.std.specs.Str.{IsCharBoundary}
-use Rattle.erl_token.specs.Views.{text_bytes}
+use Rattle.erl_number.specs.Views.{text_bytes}
 use Rattle.erl_token.specs.Contents.{content_bytes}
 use Rattle.erl_token.proofs.QuoteLemmas.{IsRead}
 use Rattle.erl_token.proofs.quote.quoted_from.Given as goal

@@ -1,0 +1,6 @@
+pub mod Runs
+pub mod Parts
+pub mod TextPlaces
+pub mod DigitRows
+pub mod EscapeLemmas
+pub mod Numerals
