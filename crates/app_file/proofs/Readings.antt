@@ -25,7 +25,7 @@ of_its_keys e name vsn modules top name_is vsn_is modules_is top_is =
 pub read : (v : Value) (c : Contents) → Some c ≡ contents_in v → specification_in v ≡ Some (with_term v c)
 read v c some = sym (ap (option_map (with_term v)) some)
 
--- a term that says an application has no fault: want of memory is none
+-- a term that says an application has no fault: out of memory is none
 pub only_memory : (v : Value) (at : ℕ) (a : Specification) (f : FileFault) → IsAppTerm v a → (f ≢ NoMemory → IsTermFault v at f) → f ≡ NoMemory
 only_memory v at a NoMemory is fault = λ i. NoMemory
 only_memory v at a f is fault = absurd (never_of_term app_files v at a (fault_of f) is (fault (λ same. cc)))

@@ -8,7 +8,7 @@ use Rattle.appup_file.specs.declared.fault.AppupFault.TheVariants.{BadTerm, BadS
 use Rattle.appup_file.specs.declared.search.EntryFault.{EntryFault}
 use Rattle.appup_file.specs.declared.search.EntryFault.TheVariants.{NoEntry, RegexVersion}
 
--- the fault of a file that hasn't one term; want of memory says nothing of the file
+-- the fault of a file that hasn't one term; out of memory says nothing of the file
 abbrev pub appup_fault_of : FileFault → AppupFault
 appup_fault_of (file.BadTerm e) = BadTerm e
 appup_fault_of file.NoMemory = NoMemory

@@ -9,7 +9,7 @@
 //! a comment goes on with.
 //! The first fault of a text is a `TermFault`: it is shown by its name and its place (specs/FaultTexts).
 //!
-//! Only tested: texts against Erlang/OTP (docs/PROOFS.md). Trusted: the toolchain alone.
+//! Only tested: texts against Erlang/OTP (docs/MEASUREMENTS.md). Trusted: the toolchain alone.
 #![tactic(auto)]
 
 mod digits;

@@ -15,12 +15,12 @@ reading_of_spanned s = record { term = value_of s.term; from = s.from; to = s.to
 abbrev pub readings : Vec Spanned Global → List Reading
 readings v = map reading_of_spanned v.items
 
--- these terms, or want of memory
+-- these terms, or out of memory
 abbrev pub IsOnly : List Reading → Result (Vec Spanned Global) TermFault → Type 0
 IsOnly rs (Ok v) = readings v ≡ rs
 IsOnly rs (Err f) = f ≡ NoMemory
 
--- the fault of the text, or want of memory
+-- the fault of the text, or out of memory
 abbrev pub TellsFault : ℕ → List ℕ → TermFault → Type 0
 TellsFault limit bytes NoMemory = Unit {0}
 TellsFault limit bytes f = IsFault limit bytes f

@@ -20,7 +20,7 @@ TellsCount size (r ∷ s ∷ rs) f = f ≡ MissingDot s.from
 abbrev pub IsRecordFault : ℕ → List ℕ → TermFault → Type 0
 IsRecordFault limit bytes f = IsFault limit bytes f ⊎ ((rs : List Reading) × Reads limit bytes rs × TellsCount (length bytes) rs f)
 
--- that fault, or want of memory
+-- that fault, or out of memory
 abbrev pub TellsRecordFault : ℕ → List ℕ → TermFault → Type 0
 TellsRecordFault limit bytes NoMemory = Unit {0}
 TellsRecordFault limit bytes f = IsRecordFault limit bytes f

@@ -58,13 +58,13 @@ all_levels begun = []
 all_levels (whole r) = []
 all_levels (inside slot l ls) = l ∷ ls
 
--- The step of the machine, want of memory aside.
+-- The step of the machine, out of memory aside.
 abbrev pub Gives : {A : Type 0} → Result A TermFault → Progress → Result Progress TermFault → Type 0
 Gives (Ok u) new step = step ≡ Ok new
 Gives (Err NoMemory) new step = Unit {0}
 Gives (Err f) new step = step ≡ Err f
 
--- what the machine reads, want of memory aside
+-- what the machine reads, out of memory aside
 abbrev pub GivesTerms : Result (Vec Spanned Global) TermFault → Result (List Reading) TermFault → Type 0
 GivesTerms (Ok v) read = read ≡ Ok (readings v)
 GivesTerms (Err NoMemory) read = Unit {0}

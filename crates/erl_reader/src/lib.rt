@@ -10,7 +10,7 @@
 //! Read are atoms, integers of 64 bits, strings, tuples, lists and binaries.
 //!
 //! Only tested: that a text is read where memory is there, small texts with their answers, and texts against Erlang/OTP
-//! (docs/PROOFS.md). Trusted: the toolchain alone.
+//! (docs/MEASUREMENTS.md). Trusted: the toolchain alone.
 #![tactic(auto)]
 
 mod character;

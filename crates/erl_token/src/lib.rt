@@ -10,7 +10,7 @@
 //! The functions of `laws` say of the definitions that the items of a text tile it, and that a row of tokens that is cut
 //! out of its text, with a dot behind it, has the same tokens.
 //!
-//! Only tested: texts against Erlang/OTP (docs/PROOFS.md). Trusted: the toolchain alone.
+//! Only tested: texts against Erlang/OTP (docs/MEASUREMENTS.md). Trusted: the toolchain alone.
 #![tactic(auto)]
 
 mod class;

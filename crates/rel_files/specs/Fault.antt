@@ -6,7 +6,7 @@ use Rattle.erl_term.specs.FaultTexts.{term_fault_text}
 use Rattle.rel_files.specs.declared.fault.FileFault.{FileFault}
 use Rattle.rel_files.specs.declared.fault.FileFault.TheVariants.{BadTerm, BadShape, Duplicate, BadVersion, NoMemory}
 
--- the fault of a file that is no row of terms; want of memory says nothing of the terms
+-- the fault of a file that is no row of terms; out of memory says nothing of the terms
 abbrev pub file_fault_of : TermFault → FileFault
 file_fault_of term.NoMemory = NoMemory
 file_fault_of e = BadTerm e

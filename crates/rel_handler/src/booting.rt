@@ -25,7 +25,7 @@ use std::alloc::Global;
 /// start record, which it writes where it isn't that of the permanent release; nothing else is written.
 ///
 /// Refusals: `Device`, `NoMemory`, `NotAStore`, `Damaged`, and `BadRecord` with the number of the first record that no
-/// command could have written where it stands. A disk that stands for a list is refused for want of memory or the device
+/// command could have written where it stands. A disk that stands for a list is refused for memory or the device
 /// alone.
 pub fn boot<D: Disk>(alloc: Global, disk: D) -> Result<Handler<D>, (BootError, D)>
     ensures sound { IfOk result (IsSound D.seen D.may_leave) }

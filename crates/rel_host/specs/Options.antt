@@ -26,7 +26,7 @@ pub record IsGiven (words : List (List ℕ)) (given : Options) : Type 0 where
   pub store : option_map string_bytes given.store ≡ first_of (codes "store") (matches_of relnode words)
   pub root : option_map string_bytes given.root ≡ first_of (codes "root") (matches_of relnode words)
 
--- only want of memory is no fault of the arguments
+-- only out of memory is no fault of the arguments
 abbrev pub refusal_of : ErrorKind → OptionsError
 refusal_of OutOfMemory = refusal.NoMemory
 refusal_of _ = refusal.BadArguments

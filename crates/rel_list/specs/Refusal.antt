@@ -34,7 +34,7 @@ brings_release (made p) = true
 brings_release (unpacked p) = true
 brings_release e = false
 
--- What an event is refused with: its refusal by the list, or want of memory for a release that the list would take.
+-- What an event is refused with: its refusal by the list, or out of memory for a release that the list would take.
 abbrev pub IsRefusedWith : Event → Releases → ListError → Type 0
 IsRefusedWith e es NoMemory = (refusal e es ≡ None) × IsTrue (brings_release e)
 IsRefusedWith e es error = refusal e es ≡ Some error

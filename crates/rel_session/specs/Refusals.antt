@@ -85,7 +85,7 @@ refusal_for of_files.no_memory = no_memory
 abbrev pub IsFilesRefusal : Source → List ℕ → Refusal → Type 0
 IsFilesRefusal source path why = (r : of_files.Refusal) × Brings source path (Err r) × (why ≡ refusal_for r)
 
--- the line that tells why a boot is refused: its number and its name; that of want of memory is never told
+-- the line that tells why a boot is refused: its number and its name; out of memory is never reported
 abbrev pub boot_line : BootError → List ℕ
 boot_line boot.NotAStore = codes "error boot 1 NotAStore\n"
 boot_line (boot.Damaged at) = codes "error boot 2 Damaged\n"

@@ -42,7 +42,7 @@ pub fn session<D: Disk, F: Files, R: Read + Drop, W: Write + Drop>(
         (left_in R.remaining input.old) disk result.0
         (held_by W.contents output.old) (held_by W.contents output.new)) }
 
-    // Each error but want of memory has its cause in this call.
+    // Each error but out of memory has its cause in this call.
     ensures read { IsErrOf result.1 SessionError.Read
         → HasRisen (failed_reads input.old) (failed_reads input.new) }
     ensures write { IsErrOf result.1 SessionError.Write

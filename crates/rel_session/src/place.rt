@@ -146,7 +146,7 @@ pub(crate) fn ok_line(alloc: Global, vsn: &str) -> Result<String, AllocError>
     format!(in alloc; "ok {vsn}\n")
 }
 
-/// The line that tells why a boot is refused. Want of memory is no answer.
+/// The line that tells why a boot is refused. Out of memory is no answer.
 fn refused_line(alloc: Global, error: BootError) -> Result<String, AllocError>
     ensures told { IfOk result (λ text. string_bytes text ≡ boot_line error) }
     ensures memory { error ≡ BootError.NoMemory → IsErr result }

@@ -14,7 +14,7 @@ pub record AreContentsOf (bytes : List ℕ) (contents : Contents) : Type 0 where
   pub end : contents.gate ≡ base_of bytes + space (map (λ v. v.items) contents.records.items)
   pub start : contents.second_start ≡ (slice_index bytes 9 == 1)
 
--- Why an opening of these bytes refuses them: what they tell, or a failure of the device, or want of memory.
+-- Why an opening of these bytes refuses them: what they tell, or a failure of the device, or out of memory.
 abbrev pub OpenRefused : List ℕ → ℕ → ℕ → StoreError → Type 0
 OpenRefused bytes before now NotAStore = records_of bytes ≡ Err NotAStore
 OpenRefused bytes before now (Damaged at) = records_of bytes ≡ Err (Damaged at)
@@ -41,7 +41,7 @@ pub record HasOnlyRead {D : Type 0} (seen : D → List ℕ) (may_leave : D → L
   pub crash : Within (may_leave old) (may_leave new)
   pub any_moment : LeavesOnly moment left_since old new (may_leave old)
 
--- Why a call that reads the disk refuses: a failure of the device, or want of memory.
+-- Why a call that reads the disk refuses: a failure of the device, or out of memory.
 abbrev pub DeviceRefused : ℕ → ℕ → StoreError → Type 0
 DeviceRefused before now Device = HasFailed before now
 DeviceRefused before now NoMemory = Unit {0}
@@ -53,7 +53,7 @@ RecordRefused bytes gate before now (Damaged at) = (at ≡ gate) × (slice_index
 RecordRefused bytes gate before now Device = HasFailed before now
 RecordRefused bytes gate before now _ = ⊥
 
--- Why records aren't read, where the bytes tell these or a damage: that damage, a failure of the device, or want of memory.
+-- Why records aren't read, where the bytes tell these or a damage: that damage, a failure of the device, or out of memory.
 abbrev pub RecordsRefused : Result (List (List ℕ)) StoreError → ℕ → ℕ → StoreError → Type 0
 RecordsRefused told before now (Damaged at) = told ≡ Err (Damaged at)
 RecordsRefused told before now Device = HasFailed before now

@@ -28,7 +28,7 @@ pub passed_on : {X Y : Type 0} (view : X → Y) (P : Outcome Y) (e : UnpackError
 passed_on view P e (Ok x) err and told = cc err
 passed_on view P e (Err f) err and told = λ ne. subst (λ (y : UnpackError). P (Err (refusal_of y))) (sym and) (told (λ same. ne (and ∙ same)))
 
--- and so is want of memory,
+-- and so is out of memory,
 pub no_memory_left : {X Y : Type 0} (view : X → Y) (P : Outcome Y) (r : Result X UnpackError) → IsErr r → IsErrAnd r (λ f. f ≡ NoMemory) → Answers view P r
 no_memory_left view P (Ok x) err none = cc err
 no_memory_left view P (Err e) err none = λ ne. absurd (ne none)

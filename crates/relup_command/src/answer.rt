@@ -40,7 +40,7 @@ fn relup_lines(alloc: Global, relup: &Relup) -> Result<String, AllocError>
     Ok(text)
 }
 
-// The line of a fault. Want of memory has none.
+// The line of a fault. Out of memory has none.
 fn fault_line(alloc: Global, why: &TranslateError) -> Result<String, AllocError>
     ensures told { IfOk result (λ text.
         (f : FaultForm) → Says why.now f → string_bytes text ≡ fault_line f) }

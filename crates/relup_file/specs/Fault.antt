@@ -8,7 +8,7 @@ use Rattle.rel_files.specs.declared.fault.FileFault.TheVariants as file
 use Rattle.relup_file.specs.declared.fault.RelupFault.{RelupFault}
 use Rattle.relup_file.specs.declared.fault.RelupFault.TheVariants.{BadTerm, BadShape, NoMemory}
 
--- the fault of a file that is no row of terms; want of memory says nothing of the terms
+-- the fault of a file that is no row of terms; out of memory says nothing of the terms
 abbrev pub relup_fault_of : TermFault → RelupFault
 relup_fault_of term.NoMemory = NoMemory
 relup_fault_of e = BadTerm e

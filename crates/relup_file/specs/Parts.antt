@@ -46,7 +46,7 @@ from_outer (Some o) = join o.vsn (entries_in 0 o.ups) (entries_in (count o.ups) 
 abbrev pub relup_in : Value → Result RelupForm ℕ
 relup_in v = from_outer (outer_in v)
 
--- told of this number, or want of memory
+-- told of this number, or out of memory
 abbrev pub TellsBad : {A : Type 0} → Result A ℕ → RelupFault → Type 0
 TellsBad o (BadTerm e) = ⊥
 TellsBad (Ok r) (BadShape n) = ⊥

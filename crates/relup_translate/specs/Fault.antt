@@ -22,7 +22,7 @@ fault_of (fault.RegexVersion app) = regex_version app.now
 fault_of fault.NeedsNewEmulator = needs_new_emulator
 fault_of (fault.Unsupported app) = unsupported app.now
 
--- The error says this fault, or want of memory.
+-- The error says this fault, or out of memory.
 abbrev pub Says : TranslateError → FaultForm → Type 0
 Says (NoAppup app) f = f ≡ no_appup (string_bytes app)
 Says (NoEntry app vsn) f = f ≡ no_entry (string_bytes app) (string_bytes vsn)

@@ -164,7 +164,7 @@ unless_fault a (Some f) = Err f
 abbrev pub translation : RelupReleaseForm → List RelupReleaseForm → List RelupReleaseForm → Result RelupForm FaultForm
 translation new ups downs = unless_fault (relup_between new ups downs) (fault_between new ups downs)
 
--- The error is the fault that the translation is, or want of memory.
+-- The error is the fault that the translation is, or out of memory.
 abbrev pub Refuses : Result RelupForm FaultForm → TranslateError → Type 0
 Refuses t NoMemory = Unit {0}
 Refuses (Ok r) e = ⊥

@@ -2,7 +2,7 @@
 //!
 //! [`make_relup`] gives the relup between a release and others, or the first reason why there is none; both equal the
 //! definition `translation` (clauses `made` and `refused`), which goes by cases on the instruction and the direction. Only
-//! want of memory may come in their place.
+//! out of memory may come in their place.
 //!
 //! The functions of `laws` say of the definition that a relup is made exactly where no way between the releases has a fault,
 //! and that a refusal is the first fault; that each script that is made has one point of no return, and that `check` of

@@ -25,7 +25,7 @@ pub fn make_relup(
     ensures made { IfOk result (λ r. translation (relup_release_of new.now)
         (map relup_release_of ups.now) (map relup_release_of downs.now) ≡ Ok (relup_of r)) }
 
-    // A refusal is its first fault. Want of memory alone can come in place of either.
+    // A refusal is its first fault. Out of memory alone can come in place of either.
     ensures refused { IfErr result (Refuses (translation (relup_release_of new.now)
         (map relup_release_of ups.now) (map relup_release_of downs.now))) }
 {

@@ -39,7 +39,7 @@ pub counts_failure : {V E : Type 0} (r : Result V E) (old new : ℕ) → IsErr r
 counts_failure (Ok v) old new is rose = absurd cc
 counts_failure (Err e) old new is rose = rose
 
--- want of memory has no cause in the input, and says nothing of what comes
+-- out of memory has no cause in the input, and says nothing of what comes
 pub cause_of_memory : {R V : Type 0} (r : Result V SessionError) (old new : Input R) → IsErrAnd r (λ f. f ≡ NoMemory) → HasCause r old new
 cause_of_memory (Ok v) old new is = absurd is
 cause_of_memory {R} {V} (Err f) old new is = subst (λ x. HasCause {V = V} (Err x) old new) (sym is) tt

@@ -6,7 +6,7 @@
 //! is kept.
 //!
 //! [`SessionError`] says why a session ends early, with its exit status and text. A failed read, an input that is too long
-//! and want of memory are reported only where they were.
+//! and out of memory are reported only where they were.
 //!
 //! Only tested: that no byte is read before it is needed. Trusted: the toolchain and `thiserror`.
 #![tactic(auto)]
