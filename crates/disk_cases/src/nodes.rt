@@ -3,8 +3,9 @@ ghost use Rattle.rel_handler.specs.State.{IsSound};
 
 use crate::files::ReleaseFiles;
 use crate::steps::push_start;
+use node_command::HandlerError;
 use rel_disk::Disk;
-use rel_handler::{BootError, Handler, HandlerError, boot};
+use rel_handler::{BootError, Handler, boot};
 use std::alloc::Global;
 use text_cases::{Answer, first_word};
 

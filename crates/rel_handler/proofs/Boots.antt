@@ -26,7 +26,7 @@ use Rattle.rel_store.specs.declared.error.StoreError.{StoreError}
 use Rattle.rel_store.specs.declared.error.StoreError.TheVariants as store_fault
 use Rattle.rel_store.specs.declared.store.Store.{Store}
 use Rattle.rel_handler.specs.Events.{Known, doubted, IsNoneOrOfPrefix}
-use Rattle.rel_handler.specs.Files.{start_text}
+use Rattle.rel_handler.specs.Start.{start_text}
 use Rattle.rel_handler.specs.Image.{IsImageOf, IsStarted}
 use Rattle.rel_handler.specs.Moments.{Begins, BeginsAt, SettlesAt}
 use Rattle.rel_handler.specs.Refusals.{told_records, told_create, IsCreateError, MakingRefused}

@@ -1,7 +1,7 @@
 -- A handler at rest, and one that commits an event.
 use Rattle.std.proofs.Common.{◌≡◌, ◌⊎◌, inl, inr, ⊎_elim, ℕ, ◌+◌, ◌≤◌, true, false, List, [], ◌∷◌, ◌++◌, length, Some, Result, Ok, Err, true≢false, refl, sym, ap, ◌∙◌, subst, arith}
 use Rattle.std.proofs.lemmas.Bool.{cases_lt}
-use Rattle.std.specs.Prelude.{is_err, IfErr, IsErr, IsErrAnd, OnErr, OnOk}
+use Rattle.std.specs.Prelude.{is_err, IfErr, IsErr, OnErr, OnOk}
 use Rattle.std.specs.List.{AllByRecursion}
 use Rattle.rel_disk.specs.declared.disk.Disk.{Ghosts}
 use Rattle.rel_disk.specs.Moments.{LeavesOnly, HasFailed}
@@ -31,14 +31,14 @@ use Rattle.rel_handler.specs.Events.{Events, uncertain, IsStoredAs}
 use Rattle.rel_handler.specs.Image.{IsImageAt, IsStarted, start_slot, HasSpace}
 use Rattle.rel_handler.specs.Refusals.{CommandRefused}
 use Rattle.rel_handler.specs.State.{disk_in, list_in, is_dead, end_in, start_in, HasStarted, IsReady, IsSound, IsSame}
-use Rattle.rel_handler.specs.Taking.{commanded}
+use Rattle.node_command.specs.Taking.{commanded}
 use Rattle.start_record.specs.Text.{Versions, AreVersions, start_text as text_of_start}
 use Rattle.rel_list.specs.Laws.{leaves_permanent}
 use Rattle.rel_list.proofs.PermanentLaws.{permanent_stays}
-use Rattle.rel_handler.specs.Files.{started as start_versions}
-use Rattle.rel_handler.specs.declared.error.HandlerError.TheVariants.{Device}
+use Rattle.rel_handler.specs.Start.{started as start_versions}
+use Rattle.node_command.specs.declared.error.HandlerError.TheVariants.{Device}
 use Rattle.rel_handler.specs.declared.handler.Handler.{Handler}
-use Rattle.rel_handler.proofs.CommandLemmas.{commanded_step, small_and_few}
+use Rattle.node_command.proofs.CommandLemmas.{commanded_step, small_and_few}
 use Rattle.rel_handler.proofs.Images.{ends_so, each_image, stored_before, stored_after, started_by, started_by_text, while_committing, with_record}
 
 -- what holds of a call that didn't fail
@@ -285,8 +285,3 @@ module _ {D : Type 0} (v : Ghosts D) (h : Handler D) (s : IsSound v.seen v.may_l
       -- the device failed when the event was committed already
       pub fails_then : HasFailed (v.failures (disk_in mid)) (v.failures (disk_in new)) → CommandRefused v.failures e size h new Device
       fails_then failed = ((alive, (list_in mid, is_done.accepted), is_done.fits), failed_behind _ _ _ commits.counted keeps.counted failed, keeps.dead)
-
--- an error that became this refusal
-pub refuses_with : {T E : Type 0} (P : E → Type 0) (r : Result T E) (why : E) → IsErr r × IsErrAnd r (λ e. e ≡ why) → P why → IfErr r P
-refuses_with P (Ok x) why is p = tt
-refuses_with P (Err e) why (err, is) p = subst P (sym is) p

@@ -8,11 +8,11 @@ use Rattle.rel_store.specs.Moments.{IsTornFrom}
 use Rattle.rel_unpack.specs.Source.{Source}
 use Rattle.rel_unpack.specs.Unpacking.{Brought}
 use Rattle.rel_handler.specs.Events.{Known, doubted}
-use Rattle.rel_handler.specs.Files.{bundle_brought, made_size}
+use Rattle.node_command.specs.Files.{bundle_brought, made_size, Brings, IsToldAs}
 use Rattle.rel_handler.specs.Moments.{Begins, WritesNothing}
 use Rattle.rel_handler.specs.Refusals.{MakingRefused}
-use Rattle.rel_handler.specs.Unpacking.{Brings, IsExistingOr, IsToldAs, CreationRefused}
-use Rattle.rel_handler.specs.declared.error.HandlerError.{HandlerError}
+use Rattle.rel_handler.specs.Unpacking.{IsExistingOr, CreationRefused}
+use Rattle.node_command.specs.declared.error.HandlerError.{HandlerError}
 
 module _ {D : Type 0} (v : Ghosts D) (old now : D) (read : HasOnlyRead v.seen v.may_leave v.moment v.left_since old now) where
   -- nothing was written

@@ -23,7 +23,7 @@ use Rattle.rel_store.specs.State.{records_in, end_in, IsSettled}
 use Rattle.rel_store.specs.declared.store.Store.{Store}
 use Rattle.rel_handler.specs.Commits.{IsRecordFor}
 use Rattle.rel_handler.specs.Events.{Known, doubted, IsPrefix, IsOfPrefix, IsNoneOrOfPrefix, uncertain, IsStoredAs}
-use Rattle.rel_handler.specs.Files.{started, start_text}
+use Rattle.rel_handler.specs.Start.{started, start_text}
 use Rattle.rel_handler.specs.Image.{IsImageOf, IsImageAt, IsStarted, start_slot, holds_a_store}
 use Rattle.start_record.specs.Text.{Versions, AreVersions, SpellsStart, start_text as text_of_start}
 use Rattle.start_record.proofs.StartMoments.{reads_back}

@@ -10,15 +10,16 @@ use Rattle.rel_store.specs.Layout.{slot_with}
 use Rattle.rel_store.specs.State.{records_in}
 use Rattle.start_record.specs.Text.{Versions, AreVersions, start_text}
 use Rattle.rel_handler.specs.Commits.{Commits, IsDone, Keeps, MakesPermanent}
-use Rattle.rel_handler.specs.Files.{started}
+use Rattle.rel_handler.specs.Start.{started}
 use Rattle.rel_handler.specs.Image.{IsImageAt, start_slot}
 use Rattle.rel_handler.specs.Refusals.{CommandRefused, IsStartRefusal}
 use Rattle.rel_handler.specs.State.{disk_in, list_in, is_dead, end_in, start_in, HasStarted, IsReady, IsSound}
-use Rattle.rel_handler.specs.Taking.{change_size}
-use Rattle.rel_handler.specs.declared.error.HandlerError.{HandlerError}
-use Rattle.rel_handler.specs.declared.error.HandlerError.TheVariants.{Device, NoMemory}
+use Rattle.node_command.specs.Taking.{change_size}
+use Rattle.node_command.specs.declared.error.HandlerError.{HandlerError}
+use Rattle.node_command.specs.declared.error.HandlerError.TheVariants.{Device, NoMemory}
 use Rattle.rel_handler.specs.declared.handler.Handler.{Handler}
-use Rattle.rel_handler.proofs.CommandLemmas.{commanded_step, permanent_behind, listed_versions, unlisted}
+use Rattle.node_command.proofs.CommandLemmas.{commanded_step}
+use Rattle.rel_handler.proofs.CommandLemmas.{permanent_behind, listed_versions, unlisted}
 use Rattle.rel_handler.proofs.Commits.{all_same, have_versions, commits_then, is_started_then, is_done_then, fails_then}
 
 -- it brings no release

@@ -6,14 +6,17 @@ use Rattle.rel_records.specs.Limits.{is_small}
 use Rattle.rel_unpack.specs.Source.{Source}
 use Rattle.rel_unpack.specs.Unpacking.{Brought}
 use Rattle.rel_handler.specs.Commits.{Commits}
-use Rattle.rel_handler.specs.Files.{bundle_brought, unpacked_size}
+use Rattle.node_command.specs.Files.{bundle_brought, unpacked_size, Brings}
 use Rattle.rel_handler.specs.State.{is_dead, list_in}
-use Rattle.rel_handler.specs.Unpacking.{Brings, HasNoPlace, UnpackingRefused}
-use Rattle.rel_handler.specs.declared.error.HandlerError.{HandlerError}
-use Rattle.rel_handler.specs.declared.error.HandlerError.TheVariants.{ExistingRelease}
+use Rattle.node_command.specs.Place.{HasNoPlace}
+use Rattle.rel_handler.specs.Unpacking.{UnpackingRefused}
+use Rattle.node_command.specs.declared.error.HandlerError.{HandlerError}
+use Rattle.node_command.specs.declared.error.HandlerError.TheVariants.{ExistingRelease}
 use Rattle.rel_handler.specs.declared.handler.Handler.{Handler}
-use Rattle.rel_handler.proofs.CommandLemmas.{refused_by_list, there_already}
-use Rattle.rel_handler.proofs.ReleaseLemmas.{listed_free, no_memory, unchanged_handler}
+use Rattle.rel_handler.proofs.CommandLemmas.{refused_by_list}
+use Rattle.node_command.proofs.CommandLemmas.{there_already}
+use Rattle.node_command.proofs.ReleaseLemmas.{listed_free, no_memory}
+use Rattle.rel_handler.proofs.ReleaseLemmas.{unchanged_handler}
 
 -- It isn't taken in, and nothing has changed.
 pub no_place : {D : Type 0} (v : Ghosts D) (source : Source) (path : List ℕ) (h : Handler D) (b : Brought) (e : HandlerError) → is_dead h ≡ false → is_small b.found.release ≡ true → Brings source path (Ok b)

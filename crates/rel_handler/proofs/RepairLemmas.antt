@@ -24,7 +24,7 @@ use Rattle.rel_handler.specs.declared.error.BootError.TheVariants as boot
 use Rattle.rel_handler.proofs.Boots.{IsLack}
 use Rattle.rel_handler.proofs.Commits.{failed_behind}
 use Rattle.rel_handler.specs.Commits.{HasOldStartOr, HasRead, Keeps}
-use Rattle.rel_handler.specs.Files.{started as start_versions}
+use Rattle.rel_handler.specs.Start.{started as start_versions}
 use Rattle.rel_handler.specs.Events.{HasStart, Stored, MayHave, IsStoredAs}
 use Rattle.rel_handler.specs.Image.{IsImageOf, IsImageAt, IsStarted, IsRepairOf, start_slot}
 use Rattle.rel_handler.specs.Moments.{SettlesAt}

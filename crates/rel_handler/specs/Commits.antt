@@ -12,7 +12,7 @@ use Rattle.rel_store.specs.Contents.{HasOnlyRead}
 use Rattle.rel_store.specs.Layout.{slot_with}
 use Rattle.rel_handler.specs.Image.{IsImageAt, start_slot, end_behind, HasSpace}
 use Rattle.rel_handler.specs.State.{disk_in, list_in, is_dead, end_in, start_in, IsSound}
-use Rattle.rel_handler.specs.Taking.{commanded}
+use Rattle.node_command.specs.Taking.{commanded}
 use Rattle.rel_handler.specs.declared.handler.Handler.{Handler}
 
 -- This body is that of the event's record, of which a boot makes what the event makes of the list.

@@ -6,7 +6,7 @@ use Rattle.rel_list.specs.Event.{booted}
 use Rattle.rel_store.specs.Layout.{has_magic, text_of}
 use Rattle.rel_store.specs.Records.{records_of, end_of}
 use Rattle.rel_records.specs.Lists.{Makes}
-use Rattle.rel_handler.specs.Files.{started}
+use Rattle.rel_handler.specs.Start.{started}
 use Rattle.start_record.specs.Text.{SpellsStart}
 
 -- These bytes stand for the list: they are a whole store, whose records make the list as it is behind a boot.

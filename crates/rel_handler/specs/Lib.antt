@@ -1,5 +1,4 @@
-pub mod Taking
-pub mod Files
+pub mod Start
 pub mod Image
 pub mod Events
 pub mod State

@@ -11,9 +11,9 @@ use Rattle.rel_records.specs.Lists.{IsBadRecord}
 use Rattle.rel_records.specs.declared.fault.RecordsError.{RecordsError}
 use Rattle.rel_records.specs.declared.fault.RecordsError.TheVariants as records
 use Rattle.rel_handler.specs.State.{disk_in, list_in, is_dead, end_in, IsSame}
-use Rattle.rel_handler.specs.Taking.{commanded}
-use Rattle.rel_handler.specs.declared.error.HandlerError.{HandlerError}
-use Rattle.rel_handler.specs.declared.error.HandlerError.TheVariants.{Device, Full, Dead, NoMemory, Exists, NoSuchRelease}
+use Rattle.node_command.specs.Taking.{commanded}
+use Rattle.node_command.specs.declared.error.HandlerError.{HandlerError}
+use Rattle.node_command.specs.declared.error.HandlerError.TheVariants.{Device, Full, Dead, NoMemory, Exists, NoSuchRelease}
 use Rattle.rel_handler.specs.declared.error.BootError.{BootError}
 use Rattle.rel_handler.specs.declared.error.BootError.TheVariants as boot
 use Rattle.rel_handler.specs.declared.handler.Handler.{Handler}

@@ -1,65 +1,25 @@
 -- A release is taken from the file of a path: into a node, or as the first one of a new node.
-use Rattle.std.specs.Prelude.{◌≡◌, ◌≢◌, ◌⊎◌, ℕ, List, [], ◌∷◌, true, false, is_some, if◌then◌else◌, Option, None, Some, Result, Ok, Err}
-use Rattle.std.specs.Option.{option_map, option_or}
+use Rattle.std.specs.Prelude.{◌≡◌, ◌≢◌, ◌⊎◌, ℕ, List, [], ◌∷◌, true, false, None, Ok}
 use Rattle.rel_disk.specs.declared.disk.Disk.{Ghosts}
 use Rattle.rel_disk.specs.Moments.{HasFailed}
 use Rattle.rel_list.specs.declared.status.Status.TheVariants.{Permanent}
-use Rattle.library.specs.Library.{Library}
-use Rattle.rel_list.specs.Releases.{Releases, entry, first_different, status_of}
+use Rattle.rel_list.specs.Releases.{entry, status_of}
 use Rattle.rel_list.specs.Event.Event.{made, unpacked}
 use Rattle.rel_store.specs.Layout.{slot_with}
-use Rattle.rel_unpack.specs.declared.error.UnpackError.{UnpackError}
-use Rattle.rel_unpack.specs.declared.error.UnpackError.TheVariants as files
-use Rattle.rel_unpack.specs.Refusal.{Refusal, refusal_of}
-use Rattle.rel_unpack.specs.Refusal.Refusal.{lib_differs}
 use Rattle.rel_unpack.specs.Source.{Source}
-use Rattle.rel_unpack.specs.Unpacking.{Brought, BroughtAt}
+use Rattle.rel_unpack.specs.Unpacking.{Brought}
 use Rattle.rel_handler.specs.Commits.{Commits, IsDone}
 use Rattle.rel_handler.specs.Events.{doubted}
-use Rattle.rel_handler.specs.Files.{bundle_brought, made_size, start_text, unpacked_size}
+use Rattle.node_command.specs.Files.{Brings, IsOfFiles, IsToldAs, bundle_brought, made_size, unpacked_size}
+use Rattle.node_command.specs.Place.{files_refusal}
+use Rattle.rel_handler.specs.Start.{start_text}
 use Rattle.rel_handler.specs.Image.{IsImageAt, end_behind, first_end, holds_a_store, HasSpace}
 use Rattle.rel_handler.specs.Moments.{Begins, BeginsAt, WritesNothing}
 use Rattle.rel_handler.specs.Refusals.{CommandRefused, MakingRefused}
 use Rattle.rel_handler.specs.State.{disk_in, list_in, is_dead, end_in, start_in, IsSame}
-use Rattle.rel_handler.specs.declared.error.HandlerError.{HandlerError}
-use Rattle.rel_handler.specs.declared.error.HandlerError.TheVariants.{ExistingRelease, MissingFile, BadFile, VsnMismatch, LibDiffers, NoTable, TooMany, NoMemory, Dead, Device, Exists}
+use Rattle.node_command.specs.declared.error.HandlerError.{HandlerError}
+use Rattle.node_command.specs.declared.error.HandlerError.TheVariants.{Dead, Device, Exists}
 use Rattle.rel_handler.specs.declared.handler.Handler.{Handler}
-
--- what is told of a release that isn't taken for its files
-abbrev pub told_files : UnpackError → HandlerError
-told_files (files.MissingFile path) = MissingFile path
-told_files (files.BadFile path trouble) = BadFile path trouble
-told_files (files.VsnMismatch path) = VsnMismatch path
-told_files (files.LibDiffers app) = LibDiffers app
-told_files (files.NoTable name) = NoTable name
-told_files files.TooMany = TooMany
-told_files files.NoMemory = NoMemory
-
--- what the path of a release brings to a node
-abbrev pub Brings : Source → List ℕ → Result Brought Refusal → Type 0
-Brings source path = BroughtAt source path
-
--- The release's file is why: of this path it gives that refusal and no release, or memory was refused in reading.
-pub record IsOfFiles (source : Source) (path : List ℕ) (e : HandlerError) : Type 0 where
-  pub error : UnpackError
-  pub told : e ≡ told_files error
-  pub read : error ≢ files.NoMemory → Brings source path (Err (refusal_of error))
-
--- This refusal of a release for its applications is told so.
-pub record IsToldAs (refusal : Option Refusal) (e : HandlerError) : Type 0 where
-  pub error : UnpackError
-  pub told : e ≡ told_files error
-  pub refused : refusal ≡ Some (refusal_of error)
-
--- the first of these libraries that differs from the list's
-abbrev pub difference : List Library → Releases → Option Refusal
-difference ls es = option_map (λ (l : Library). lib_differs l.app.name) (first_different es ls)
-
--- Why a node with this list doesn't take what is brought, for its applications: a library that was read differs from the
--- list's, or the refusal behind it. A version that is listed is refused before.
-abbrev pub files_refusal : Brought → Releases → Option Refusal
-files_refusal b es =
-    if is_some (status_of b.found.release.vsn es) then None else option_or (difference b.libraries es) b.refusal
 
 -- What the path brings was taken in, and this is its version.
 pub record IsUnpacked {D : Type 0} (v : Ghosts D) (source : Source) (path : List ℕ) (old new : Handler D) (vsn : List ℕ) : Type 0 where
@@ -80,14 +40,6 @@ pub record IsBarred {D : Type 0} (source : Source) (path : List ℕ) (old new : 
   pub fresh : status_of brought.found.release.vsn (list_in old) ≡ None
   pub barred : IsToldAs (files_refusal brought (list_in old)) e
   pub same : IsSame old new
-
--- Why a list has no place for what was brought: its version is listed, or one of its libraries differs from the list's. Out of
--- memory comes in place of either.
-abbrev pub HasNoPlace : Brought → Releases → HandlerError → Type 0
-HasNoPlace b es e =
-    (e ≡ NoMemory)
-    ⊎ (((e ≡ ExistingRelease) × (is_some (status_of b.found.release.vsn es) ≡ true))
-    ⊎ ((status_of b.found.release.vsn es ≡ None) × IsToldAs (files_refusal b es) e))
 
 -- Its files are not why, and its event was not acknowledged.
 pub record IsNotUnpacked {D : Type 0} (v : Ghosts D) (source : Source) (path : List ℕ) (old new : Handler D) (e : HandlerError) : Type 0 where

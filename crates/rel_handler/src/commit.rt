@@ -6,9 +6,10 @@ ghost use Rattle.rel_records.specs.Writing.{IsOfListed};
 ghost use Rattle.rel_handler.specs.Commits.{Commits, IsDone, IsRecordFor};
 ghost use Rattle.rel_handler.specs.Refusals.{CommandRefused, IsAllowed};
 ghost use Rattle.rel_handler.specs.State.{list_in, is_dead, start_in, IsReady, IsSound};
-ghost use Rattle.rel_handler.specs.Taking.{change_size};
+ghost use Rattle.node_command.specs.Taking.{change_size};
 
-use crate::{Handler, HandlerError};
+use crate::Handler;
+use node_command::HandlerError;
 use rel_disk::Disk;
 use rel_list::Event;
 use rel_records::change_body;

@@ -10,7 +10,8 @@ ghost use Rattle.rel_records.specs.Writing.{record_of};
 ghost use Rattle.rel_store.specs.Contents.{HasOnlyRead};
 ghost use Rattle.rel_store.specs.Layout.{slot_with};
 ghost use Rattle.rel_handler.specs.Events.{doubted};
-ghost use Rattle.rel_handler.specs.Files.{IsRelFile, IsWhole, bundle_brought, start_text, made_size};
+ghost use Rattle.node_command.specs.Files.{IsRelFile, IsWhole, bundle_brought, made_size};
+ghost use Rattle.rel_handler.specs.Start.{start_text};
 ghost use Rattle.rel_handler.specs.Image.{IsImageOf, IsImageAt, holds_a_store, end_behind, first_end, HasSpace};
 ghost use Rattle.rel_handler.specs.Moments.{Begins, BeginsAt, WritesNothing};
 ghost use Rattle.rel_handler.specs.Refusals.{MakingRefused, told_create, IsCreateError};
@@ -19,9 +20,9 @@ ghost use Rattle.rel_handler.specs.Unpacking.{IsExistingOr, IsMade, CreationRefu
 ghost use Rattle.rel_unpack.specs.Unpacking.{brought_of};
 ghost use Rattle.rel_list.specs.declared.status.Status.TheVariants.{Permanent};
 
-use crate::unpacking::{bring_release, unless_refused};
-use crate::{Handler, HandlerError};
+use crate::Handler;
 use file_source::Files;
+use node_command::{HandlerError, bring_release, unless_refused};
 use rel_disk::{DeviceFault, Disk};
 use rel_files::Rel;
 use rel_list::{Bundle, Event, ReleaseList};

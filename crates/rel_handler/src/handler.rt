@@ -5,9 +5,9 @@ ghost use Rattle.rel_list.specs.Releases.{running};
 ghost use Rattle.rel_handler.specs.Commits.{Commits, IsDone};
 ghost use Rattle.rel_handler.specs.Refusals.{CommandRefused};
 ghost use Rattle.rel_handler.specs.State.{disk_in, list_in, is_dead, start_in, version_of, HasStarted, IsSound};
-ghost use Rattle.rel_handler.specs.Taking.{change_size};
+ghost use Rattle.node_command.specs.Taking.{change_size};
 
-use crate::HandlerError;
+use node_command::HandlerError;
 use rel_disk::Disk;
 use rel_list::{Event, ReleaseList};
 use rel_store::Store;

@@ -4,16 +4,14 @@
 //! makes a node, `set_unpacked` brings a further release, `install_release`, `make_permanent`, `remove_release` and
 //! `reboot_old_release` change the list, `boot` reads the node from its disk again, `start` tells what the start record says.
 //!
-//! Each command is an event of the list (`step`). Stopped at any moment of a call (of `create` from its first sync on, and
-//! then it may also be no store), the disk stands for the list of a prefix of the accepted events that holds every
-//! acknowledged one (`IsOfPrefix`), and a boot of it answers that list, as it is behind a boot, or refuses for memory or
-//! the device alone. After an `Ok` the disk stands for the list with the command's event (`IsDone`). A refusal changes
-//! nothing, but after `Device` the handler is dead until the next boot.
+//! Stopped at any moment of a call (of `create` from its first sync on, and then it may also be no store), the disk stands for
+//! the list of a prefix of the accepted events that holds every acknowledged one (`IsOfPrefix`), and a boot of it answers that
+//! list, as it is behind a boot, or refuses for memory or the device alone. After an `Ok` the disk stands for the list with
+//! the command's event (`IsDone`). A refusal changes nothing, but after `Device` the handler is dead until the next boot.
 //!
-//! A release comes from the file of a path and the files of its applications, in a source of files: `create` and
-//! `set_unpacked` take what `rel_unpack` says that the path brings (`IsMade`, `IsUnpacked`). They are refused for the
-//! release's own file first (`IsOfFiles`), for its applications where the node would take it (`IsNotBegun`, `IsBarred`). The
-//! list keeps the libraries of each release. Its record carries those that are new, and a boot gives the list its libraries back
+//! `create` and `set_unpacked` take what `node_command` says that a path brings (`IsMade`, `IsUnpacked`). They are refused
+//! for the release's own file first, for its applications where the node would take it (`IsNotBegun`, `IsBarred`). The list
+//! keeps the libraries of each release. Its record carries those that are new, and a boot gives the list its libraries back
 //! from the records.
 //!
 //! The start record is that of the permanent release between two calls of a handler that isn't dead (`HasStarted`), and at
@@ -38,6 +36,5 @@ mod start;
 mod unpacking;
 
 pub use booting::boot;
-pub use error::{BootError, HandlerError};
+pub use error::BootError;
 pub use handler::{Handler, Installed};
-pub use unpacking::bring_release;

@@ -6,8 +6,8 @@ use Rattle.std.specs.Option.{option_map, option_or}
 use Rattle.erl_term.specs.Lines.{is_one_line}
 use Rattle.rel_files.specs.File.{HasVersions}
 use Rattle.library.specs.Library.{Library}
-use Rattle.rel_handler.specs.Unpacking.{difference}
-use Rattle.rel_handler.proofs.ReleaseLemmas.{told_library}
+use Rattle.node_command.specs.Place.{difference}
+use Rattle.node_command.proofs.ReleaseLemmas.{told_library}
 use Rattle.rel_list.specs.Releases.{Releases, differs, first_different, running as running_release, status_of}
 use Rattle.rel_list.specs.Event.{Event}
 use Rattle.rel_list.specs.Event.Event.{made, unpacked}

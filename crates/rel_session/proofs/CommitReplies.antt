@@ -5,15 +5,15 @@ use Rattle.std.specs.declared.alloc.AllocError.{AllocError}
 use Rattle.std.specs.declared.alloc.Global.{Global}
 use Rattle.rel_list.specs.Releases.{Releases}
 use Rattle.rel_list.specs.Event.{Event, list_after}
-use Rattle.rel_handler.specs.declared.error.HandlerError.{HandlerError}
-use Rattle.rel_handler.specs.declared.error.HandlerError.TheVariants as handler_error
+use Rattle.node_command.specs.declared.error.HandlerError.{HandlerError}
+use Rattle.node_command.specs.declared.error.HandlerError.TheVariants as handler_error
 use Rattle.rel_handler.specs.declared.handler.Handler.{Handler}
 use Rattle.rel_handler.specs.Commits.{Commits, IsDone}
 use Rattle.rel_handler.specs.Events.{Events, uncertain, IsStoredAs, settled}
 use Rattle.rel_handler.specs.Image.{end_behind, HasSpace}
 use Rattle.rel_handler.specs.Refusals.{CommandRefused}
 use Rattle.rel_handler.specs.State.{disk_in, list_in, is_dead, end_in, IsSame}
-use Rattle.rel_handler.specs.Taking.{commanded}
+use Rattle.node_command.specs.Taking.{commanded}
 use Rattle.rel_session.specs.declared.place.Place.TheVariants as memory
 use Rattle.rel_session.specs.Device.{Device, LeavesOnly, HasFailed}
 use Rattle.rel_session.specs.InMemory.{IsAt, Replied, Answers}
@@ -25,7 +25,7 @@ use Rattle.rel_session.specs.Refusals.Refusal.{full, device}
 use Rattle.rel_session.specs.Run.{IsReached, Holds}
 use Rattle.rel_session.specs.Transition
 use Rattle.rel_session.specs.Transition.Action.{changes_node}
-use Rattle.rel_handler.proofs.CommandLemmas.{commanded_step}
+use Rattle.node_command.proofs.CommandLemmas.{commanded_step}
 use Rattle.rel_session.proofs.DeviceLemmas.{IsDevice, weakened}
 use Rattle.rel_session.proofs.ListLemmas.{list_after-push}
 use Rattle.rel_session.proofs.Prefixes.{reached_with}

@@ -5,16 +5,16 @@ use Rattle.std.specs.declared.alloc.Global.{Global}
 use Rattle.std.specs.declared.alloc.AllocError.{AllocError}
 use Rattle.rel_list.specs.Releases.{Releases, running as running_release}
 use Rattle.rel_list.specs.Event.Event.{made, boot as booting}
-use Rattle.rel_handler.specs.declared.error.HandlerError.{HandlerError}
-use Rattle.rel_handler.specs.declared.error.HandlerError.TheVariants as handler_error
+use Rattle.node_command.specs.declared.error.HandlerError.{HandlerError}
+use Rattle.node_command.specs.declared.error.HandlerError.TheVariants as handler_error
 use Rattle.rel_handler.specs.declared.handler.Handler.{Handler}
 use Rattle.rel_handler.specs.Events.{IsStoredAs, Stored}
-use Rattle.rel_handler.specs.Files.{bundle_brought, made_size}
+use Rattle.node_command.specs.Files.{bundle_brought, made_size, Brings, IsOfFiles}
 use Rattle.rel_handler.specs.Image.{IsImageOf, holds_a_store, first_end, end_behind, HasSpace}
 use Rattle.rel_handler.specs.Moments.{WritesNothing}
 use Rattle.rel_handler.specs.Refusals.{MakingRefused}
 use Rattle.rel_handler.specs.State.{disk_in, list_in, is_dead, HasStarted}
-use Rattle.rel_handler.specs.Unpacking.{Brings, IsOfFiles, IsMade, IsNotBegun, IsNotMade, CreationRefused}
+use Rattle.rel_handler.specs.Unpacking.{IsMade, IsNotBegun, IsNotMade, CreationRefused}
 use Rattle.rel_unpack.specs.Refusal as of_files
 use Rattle.rel_unpack.specs.Unpacking.{Brought}
 use Rattle.rel_unpack.specs.Source.{Source}

@@ -8,12 +8,12 @@ use Rattle.rel_list.specs.Event.Event.{made, reboot_old as rebooting, boot as bo
 use Rattle.rel_list.specs.Event.{entry}
 use Rattle.rel_list.specs.declared.status.Status.TheVariants.{Permanent}
 use Rattle.rel_handler.specs.declared.error.BootError.{BootError}
-use Rattle.rel_handler.specs.declared.error.HandlerError.{HandlerError}
+use Rattle.node_command.specs.declared.error.HandlerError.{HandlerError}
 use Rattle.rel_handler.specs.Events.{Events, certain}
 use Rattle.rel_handler.specs.Image.{IsImageOf, holds_a_store, store_end, first_end, end_behind, HasSpace}
-use Rattle.rel_handler.specs.Files.{bundle_brought, made_size}
+use Rattle.node_command.specs.Files.{bundle_brought, made_size}
 use Rattle.rel_handler.specs.Refusals.{IsBootRefusal}
-use Rattle.rel_handler.specs.Taking.{commanded}
+use Rattle.node_command.specs.Taking.{commanded}
 use Rattle.session_input.specs.Commands.{Command}
 use Rattle.session_input.specs.Commands.Command.{quit}
 use Rattle.session_input.specs.Feed.{Feed}
@@ -30,7 +30,7 @@ use Rattle.rel_session.specs.Run.Ending.{ended, cut_off}
 use Rattle.rel_session.specs.AnswerLaws.{IsCertain, HasList, HasAnswer, EachHasAnAnswer}
 use Rattle.rel_session.specs.Transition
 use Rattle.rel_session.specs.Transition.Action.{answers, makes_node, changes_node, reboots_node, boots_node, tells_start}
-use Rattle.rel_handler.proofs.CommandLemmas.{commanded_step}
+use Rattle.node_command.proofs.CommandLemmas.{commanded_step}
 use Rattle.rel_session.proofs.SourceLemmas.{gives_each}
 use Rattle.rel_session.proofs.ActionLemmas.{some_action}
 use Rattle.rel_session.proofs.Histories.{events_of_image}

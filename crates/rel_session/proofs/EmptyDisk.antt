@@ -5,7 +5,7 @@ use Rattle.rel_list.specs.Event.Event.{made, boot as booting}
 use Rattle.session_input.specs.Commands.{Command}
 use Rattle.rel_session.specs.Device.{Device}
 use Rattle.session_input.specs.Feed.{Feed}
-use Rattle.rel_handler.specs.Files.{bundle_brought, made_size}
+use Rattle.node_command.specs.Files.{bundle_brought, made_size}
 use Rattle.rel_unpack.specs.Refusal.{Refusal}
 use Rattle.rel_unpack.specs.Unpacking.{Brought}
 use Rattle.rel_unpack.specs.Source.{Source}

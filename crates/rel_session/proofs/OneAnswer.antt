@@ -7,12 +7,12 @@ use Rattle.rel_list.specs.Event.{Event}
 use Rattle.rel_list.specs.Event.Event.{made, reboot_old as rebooting, boot as booting}
 use Rattle.rel_handler.specs.declared.error.BootError.{BootError}
 use Rattle.rel_handler.specs.declared.error.BootError.TheVariants as boot_error
-use Rattle.rel_handler.specs.declared.error.HandlerError.{HandlerError}
+use Rattle.node_command.specs.declared.error.HandlerError.{HandlerError}
 use Rattle.rel_handler.specs.Events.{Events, MayHave, certain}
 use Rattle.rel_handler.specs.Image.{holds_a_store, first_end, end_behind}
-use Rattle.rel_handler.specs.Files.{bundle_brought, made_size}
+use Rattle.node_command.specs.Files.{bundle_brought, made_size}
 use Rattle.rel_handler.specs.Refusals.{IsBootRefusal}
-use Rattle.rel_handler.specs.Taking.{commanded}
+use Rattle.node_command.specs.Taking.{commanded}
 use Rattle.session_input.specs.Commands.{Command}
 use Rattle.session_input.specs.Commands.Command.{quit}
 use Rattle.session_input.specs.Feed.{Feed}

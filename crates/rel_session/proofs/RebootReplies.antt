@@ -11,11 +11,11 @@ use Rattle.rel_handler.specs.Commits.{Commits, IsDone}
 use Rattle.rel_handler.specs.Events.{Events, settled, with_doubt}
 use Rattle.rel_handler.specs.Image.{IsImageAt, end_behind, HasSpace}
 use Rattle.rel_handler.specs.State.{disk_in, list_in, is_dead, HasStarted}
-use Rattle.rel_handler.specs.Taking.{change_size, commanded}
+use Rattle.node_command.specs.Taking.{change_size, commanded}
 use Rattle.rel_session.specs.declared.place.Place.{Place as PlaceInMemory}
 use Rattle.rel_session.specs.declared.place.Place.TheVariants as memory
-use Rattle.rel_handler.specs.declared.error.HandlerError.{HandlerError}
-use Rattle.rel_handler.specs.declared.error.HandlerError.TheVariants as handler_error
+use Rattle.node_command.specs.declared.error.HandlerError.{HandlerError}
+use Rattle.node_command.specs.declared.error.HandlerError.TheVariants as handler_error
 use Rattle.session_input.specs.Commands.Command.{reboot_old}
 use Rattle.rel_session.specs.Device.{Device, LeavesOnly}
 use Rattle.rel_session.specs.InMemory.{disk_at, IsAt, Replied, Leads, NothingDone, Answers, TellsReply, AnswersOrStops}
@@ -24,7 +24,7 @@ use Rattle.rel_session.specs.Node.Place.{raw, closed, running, dead}
 use Rattle.rel_session.specs.Run.{Holds, Happens, IsReached, events_of}
 use Rattle.rel_session.specs.Transition.{Acts, IsStopped, Boots, BootsStore, rebooted}
 use Rattle.rel_session.specs.Transition.Action.{reboots_node}
-use Rattle.rel_handler.proofs.CommandLemmas.{commanded_step}
+use Rattle.node_command.proofs.CommandLemmas.{commanded_step}
 use Rattle.rel_session.proofs.CommitReplies.{right_for, moments_at}
 use Rattle.rel_session.proofs.DeviceLemmas.{IsDevice, weakened, joined, failed_behind}
 use Rattle.rel_session.proofs.ListLemmas.{list_after-push}

@@ -1,9 +1,9 @@
 -- The refusal of a release for its files.
 use Rattle.std.proofs.Common.{◌≡◌, ◌≢◌, ℕ, List, Err, refl, ap, ◌∙◌}
 use Rattle.rel_handler.specs.Events.{Events}
-use Rattle.rel_handler.specs.Unpacking.{IsOfFiles, told_files}
-use Rattle.rel_handler.specs.declared.error.HandlerError.{HandlerError}
-use Rattle.rel_handler.specs.declared.error.HandlerError.TheVariants.{NoMemory}
+use Rattle.node_command.specs.Files.{IsOfFiles, told_files}
+use Rattle.node_command.specs.declared.error.HandlerError.{HandlerError}
+use Rattle.node_command.specs.declared.error.HandlerError.TheVariants.{NoMemory}
 use Rattle.rel_unpack.specs.Refusal as of_files
 use Rattle.rel_unpack.specs.Source.{Source}
 use Rattle.rel_unpack.specs.declared.error.UnpackError.{UnpackError}

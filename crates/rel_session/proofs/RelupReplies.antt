@@ -2,8 +2,8 @@
 use Rattle.std.proofs.Common.{◌≡◌, ◌≢◌, inl, inr, ℕ, List, Result, Ok, Err, refl, sym, subst}
 use Rattle.std.specs.Prelude.{String, string_bytes, MatchResult}
 use Rattle.std.specs.declared.alloc.Global.{Global}
-use Rattle.rel_handler.specs.declared.error.HandlerError.{HandlerError}
-use Rattle.rel_handler.specs.Unpacking.{told_files}
+use Rattle.node_command.specs.declared.error.HandlerError.{HandlerError}
+use Rattle.node_command.specs.Files.{told_files}
 use Rattle.rel_unpack.specs.Order as files
 use Rattle.rel_unpack.specs.Refusal.{refusal_of as files_refusal}
 use Rattle.rel_unpack.specs.Source.{Source}

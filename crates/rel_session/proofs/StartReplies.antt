@@ -9,8 +9,8 @@ use Rattle.rel_handler.specs.Commits.{HasRead}
 use Rattle.rel_handler.specs.Events.{Events, certain, IsStoredAs}
 use Rattle.rel_handler.specs.Refusals.{StartRefused}
 use Rattle.rel_handler.specs.State.{disk_in, list_in, is_dead}
-use Rattle.rel_handler.specs.declared.error.HandlerError.{HandlerError}
-use Rattle.rel_handler.specs.declared.error.HandlerError.TheVariants as handler_error
+use Rattle.node_command.specs.declared.error.HandlerError.{HandlerError}
+use Rattle.node_command.specs.declared.error.HandlerError.TheVariants as handler_error
 use Rattle.rel_handler.specs.declared.handler.Handler.{Handler}
 use Rattle.rel_session.specs.Device.{Device, HasFailed}
 use Rattle.rel_session.specs.InMemory.{IsAt, Replied, NothingDone, Answers}

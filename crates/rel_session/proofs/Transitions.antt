@@ -3,11 +3,11 @@ use Rattle.std.proofs.Common.{◌≡◌, ◌≢◌, ◌⊎◌, inl, inr, ⊎_eli
 use Rattle.rel_list.specs.Releases.{Releases}
 use Rattle.rel_list.specs.Event.{Event}
 use Rattle.rel_list.specs.Event.Event.{reboot_old as rebooting}
-use Rattle.rel_handler.specs.declared.error.HandlerError.{HandlerError}
+use Rattle.node_command.specs.declared.error.HandlerError.{HandlerError}
 use Rattle.rel_handler.specs.Events.{Events, Stored, MayHave, certain}
 use Rattle.rel_handler.specs.Image.{holds_a_store}
-use Rattle.rel_handler.specs.Files.{bundle_brought, made_size}
-use Rattle.rel_handler.specs.Taking.{commanded}
+use Rattle.node_command.specs.Files.{bundle_brought, made_size}
+use Rattle.node_command.specs.Taking.{commanded}
 use Rattle.session_input.specs.Commands.{Command}
 use Rattle.rel_list.specs.Releases.{Bundle}
 use Rattle.rel_unpack.specs.Refusal.{Refusal}

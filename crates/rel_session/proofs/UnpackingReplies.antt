@@ -3,12 +3,13 @@ use Rattle.std.proofs.Common.{◌≡◌, inl, inr, ℕ, true, false, List, Resul
 use Rattle.std.specs.Prelude.{IfOk, MatchResult, String, string_bytes}
 use Rattle.std.specs.declared.alloc.AllocError.{AllocError}
 use Rattle.std.specs.declared.alloc.Global.{Global}
-use Rattle.rel_handler.specs.declared.error.HandlerError.{HandlerError}
-use Rattle.rel_handler.specs.declared.error.HandlerError.TheVariants as handler_error
+use Rattle.node_command.specs.declared.error.HandlerError.{HandlerError}
+use Rattle.node_command.specs.declared.error.HandlerError.TheVariants as handler_error
 use Rattle.rel_handler.specs.declared.handler.Handler.{Handler}
 use Rattle.rel_handler.specs.Events.{Events}
 use Rattle.rel_handler.specs.State.{is_dead}
-use Rattle.rel_handler.specs.Unpacking.{Brings, IsBarred, IsUnpacked, UnpackingRefused}
+use Rattle.node_command.specs.Files.{Brings}
+use Rattle.rel_handler.specs.Unpacking.{IsBarred, IsUnpacked, UnpackingRefused}
 use Rattle.rel_unpack.specs.Refusal as of_files
 use Rattle.rel_unpack.specs.Unpacking.{Brought}
 use Rattle.rel_unpack.specs.Source.{Source}

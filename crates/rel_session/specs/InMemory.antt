@@ -9,8 +9,8 @@ use Rattle.session_input.specs.declared.error.SessionError.{SessionError}
 use Rattle.rel_session.specs.declared.node.Node.{Node}
 use Rattle.rel_session.specs.declared.place.Place.{Place as PlaceInMemory}
 use Rattle.rel_session.specs.declared.place.Place.TheVariants as memory
-use Rattle.rel_handler.specs.declared.error.HandlerError.{HandlerError}
-use Rattle.rel_handler.specs.declared.error.HandlerError.TheVariants as handler_error
+use Rattle.node_command.specs.declared.error.HandlerError.{HandlerError}
+use Rattle.node_command.specs.declared.error.HandlerError.TheVariants as handler_error
 use Rattle.session_input.specs.Commands.{Command}
 use Rattle.session_input.specs.Commands.Command.{set_unpacked, install, permanent, remove, start, quit}
 use Rattle.session_input.specs.declared.command.Command.{Command as CommandInMemory}

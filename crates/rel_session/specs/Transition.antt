@@ -7,13 +7,13 @@ use Rattle.rel_list.specs.Event.{Event, list_after}
 use Rattle.rel_list.specs.Event.Event.{made, unpacked, installed, made_permanent, removed, reboot_old as rebooting, boot as booting}
 use Rattle.rel_handler.specs.declared.error.BootError.{BootError}
 use Rattle.rel_handler.specs.declared.error.BootError.TheVariants as boot_error
-use Rattle.rel_handler.specs.declared.error.HandlerError.{HandlerError}
-use Rattle.rel_handler.specs.Files.{bundle_brought, made_size, unpacked_size}
+use Rattle.node_command.specs.declared.error.HandlerError.{HandlerError}
+use Rattle.node_command.specs.Files.{bundle_brought, made_size, unpacked_size, Brings}
 use Rattle.rel_handler.specs.Events.{Events, Stored, MayHave, certain, uncertain}
 use Rattle.rel_handler.specs.Image.{IsImageAt, holds_a_store, first_end, end_behind, HasSpace}
 use Rattle.rel_handler.specs.Refusals.{IsBootRefusal}
-use Rattle.rel_handler.specs.Taking.{commanded, change_size}
-use Rattle.rel_handler.specs.Unpacking.{Brings, files_refusal}
+use Rattle.node_command.specs.Taking.{commanded, change_size}
+use Rattle.node_command.specs.Place.{files_refusal}
 pub use Rattle.rel_handler.specs.State.{version_of}
 use Rattle.rel_unpack.specs.Refusal.{Refusal as FilesRefusal}
 use Rattle.rel_unpack.specs.Source.{Source}

@@ -1,6 +1,6 @@
 //! What a node answers.
 ghost use Rattle.std.specs.Prelude.{◌≡◌, map, string_bytes, Ok, Err, MatchResult};
-ghost use Rattle.rel_handler.specs.Unpacking.{told_files};
+ghost use Rattle.node_command.specs.Files.{told_files};
 ghost use Rattle.rel_handler.specs.State.{IsSound};
 ghost use Rattle.session_input.specs.Commands.{command_of};
 ghost use Rattle.session_input.specs.Commands.Command.{relup};
@@ -12,8 +12,9 @@ use crate::change::{install, make_permanent, remove, set_unpacked};
 use crate::place::{Place, answer_of};
 use crate::start::start;
 use file_source::Files;
+use node_command::HandlerError;
 use rel_disk::Disk;
-use rel_handler::{Handler, HandlerError};
+use rel_handler::Handler;
 use rel_unpack::UnpackError;
 use relup_command::relup_answer;
 use session_input::Command;

@@ -11,8 +11,9 @@ use crate::listing::text_term;
 use crate::place::{answer_of, ok_line};
 use erl_term::print;
 use file_source::Files;
+use node_command::HandlerError;
 use rel_disk::Disk;
-use rel_handler::{Handler, HandlerError};
+use rel_handler::Handler;
 use std::alloc::{AllocError, Global};
 
 /// Takes in the release in the file of this path as unpacked. The answer tells its version.

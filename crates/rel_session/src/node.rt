@@ -9,8 +9,8 @@ use crate::given_files::{GivenFiles, SessionFiles};
 use crate::place::Place;
 use crate::refusal::refusal_line;
 use file_source::Files;
+use node_command::HandlerError;
 use rel_disk::Disk;
-use rel_handler::HandlerError;
 use session_input::{Command, GivenFile, SessionError};
 use std::alloc::{AllocError, Global};
 

@@ -1,7 +1,7 @@
 //! Where the node of a session lives.
 ghost use Rattle.std.specs.Prelude.{◌≡◌, ◌⊎◌, false, Ok, Err, string_bytes, IfOk, IsErr, MatchResult};
 ghost use Rattle.rel_handler.specs.State.{is_dead, list_in};
-ghost use Rattle.rel_handler.specs.Unpacking.{Brings, IsOfFiles};
+ghost use Rattle.node_command.specs.Files.{Brings, IsOfFiles};
 ghost use Rattle.rel_list.specs.Releases.{running};
 ghost use Rattle.rel_unpack.specs.Unpacking.{Brought};
 ghost use Rattle.session_input.specs.Commands.Command.{create};
@@ -12,8 +12,9 @@ ghost use Rattle.rel_session.specs.Transition.{Transition, Boots, listed, ok_lin
 use crate::listing::listing;
 use crate::refusal::refusal_line;
 use file_source::Files;
+use node_command::{HandlerError, bring_release};
 use rel_disk::Disk;
-use rel_handler::{BootError, Handler, HandlerError, bring_release};
+use rel_handler::{BootError, Handler};
 use rel_list::ReleaseList;
 use std::alloc::{AllocError, Global};
 

@@ -5,8 +5,8 @@ ghost use Rattle.rel_session.specs.Transition.{Acts, IsStopped};
 ghost use Rattle.rel_session.specs.Transition.Action.{reboots_node};
 
 use crate::place::{Place, answer_of};
+use node_command::HandlerError;
 use rel_disk::Disk;
-use rel_handler::HandlerError;
 use std::alloc::Global;
 
 impl<D: Disk> Place<D> {

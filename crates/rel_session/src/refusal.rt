@@ -2,7 +2,7 @@
 ghost use Rattle.std.specs.Prelude.{◌≡◌, ◌++◌, codes, string_bytes, IfOk};
 ghost use Rattle.rel_session.specs.Refusals.{refusal_line, refusal_of};
 
-use rel_handler::HandlerError;
+use node_command::HandlerError;
 use std::alloc::{AllocError, Global};
 
 /// The line that tells a refusal: its number, its name and its detail.

@@ -7,8 +7,9 @@ ghost use Rattle.rel_session.specs.Transition.Action.{tells_start};
 ghost use Rattle.rel_session.specs.declared.place.Place.TheVariants.{Made};
 
 use crate::place::answer_of;
+use node_command::HandlerError;
 use rel_disk::Disk;
-use rel_handler::{Handler, HandlerError};
+use rel_handler::Handler;
 use start_record::Start;
 use std::alloc::{AllocError, Global};
 

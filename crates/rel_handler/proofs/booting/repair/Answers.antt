@@ -7,7 +7,8 @@ use Rattle.start_record.specs.Text.{AreVersions, versions_of}
 use Rattle.rel_handler.specs.Booting.{RepairRefused}
 use Rattle.rel_handler.specs.State.{list_in}
 use Rattle.rel_handler.specs.declared.error.BootError.TheVariants.{Device, NoMemory}
-use Rattle.rel_handler.proofs.Commits.{have_versions, image_now, read_nothing, refuses_with, failed_behind}
+use Rattle.rel_handler.proofs.Commits.{have_versions, image_now, read_nothing, failed_behind}
+use Rattle.node_command.proofs.Refusals.{refuses_with}
 use Rattle.rel_handler.proofs.RepairLemmas.{one_is_permanent, repairs_nothing, permanent_versions, reads_alone, right_already, another_start, written_over, started_now}
 use Rattle.rel_handler.proofs.booting.repair.Goals as goal
 

@@ -4,7 +4,7 @@ use Rattle.rel_list.specs.Event.{event_of}
 use Rattle.rel_store.specs.Layout.{text_of}
 use Rattle.rel_store.specs.State as store
 use Rattle.rel_handler.specs.Commits.{Commits}
-use Rattle.rel_handler.proofs.CommandLemmas.{commanded_then}
+use Rattle.node_command.proofs.CommandLemmas.{commanded_then}
 use Rattle.rel_handler.proofs.Commits.{all_same, opened, left_so, rested, unchanged, failed_so, reserved_works, commits, ready_next, is_done}
 use Rattle.rel_handler.proofs.handler.Handler.append.Goals as goal
 

@@ -7,10 +7,12 @@ use Rattle.rel_store.specs.State.{records_in}
 use Rattle.rel_handler.specs.Commits.{Commits, IsDone}
 use Rattle.rel_handler.specs.Refusals.{CommandRefused}
 use Rattle.rel_handler.specs.State.{list_in}
-use Rattle.rel_handler.specs.Taking.{change_size}
-use Rattle.rel_handler.specs.declared.error.HandlerError.TheVariants.{NoMemory}
-use Rattle.rel_handler.proofs.Commits.{all_same, refuses_with, unchanged, have_versions}
-use Rattle.rel_handler.proofs.CommandLemmas.{list_allows, list_refuses, refused_by_list}
+use Rattle.node_command.specs.Taking.{change_size}
+use Rattle.node_command.specs.declared.error.HandlerError.TheVariants.{NoMemory}
+use Rattle.rel_handler.proofs.Commits.{all_same, unchanged, have_versions}
+use Rattle.node_command.proofs.Refusals.{refuses_with}
+use Rattle.node_command.proofs.CommandLemmas.{list_allows, list_refuses}
+use Rattle.rel_handler.proofs.CommandLemmas.{refused_by_list}
 use Rattle.rel_handler.proofs.handler.Handler.append_change.Goals as goal
 
 pub change_body-requires-clause-versions : goal.change_body-requires-clause-versions

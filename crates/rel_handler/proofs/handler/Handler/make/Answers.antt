@@ -1,7 +1,7 @@
 use Rattle.std.proofs.Common.{◌≡◌, refl, sym, ap, ◌∙◌, subst, length, ◌≤◌}
 use Rattle.rel_unpack.specs.Unpacking.{brought_of}
 use Rattle.rel_store.specs.Layout.{slot_with}
-use Rattle.rel_handler.specs.Files.{bundle_brought, made_size}
+use Rattle.node_command.specs.Files.{bundle_brought, made_size}
 use Rattle.rel_handler.specs.Moments.{WritesNothing}
 use Rattle.rel_handler.specs.Refusals.{MakingRefused, told_create}
 use Rattle.rel_handler.proofs.Boots.{unwritten, nothing_begun, sound_so, begins_at, begins, made_new, fits_in_a_slot, is_create_error, making_refused}

@@ -2,10 +2,11 @@ use Rattle.std.proofs.Common.{inl, ap, subst}
 use Rattle.rel_list.specs.Event.Event.{made_permanent}
 use Rattle.rel_handler.specs.Commits.{Commits, IsDone}
 use Rattle.rel_handler.specs.State.{list_in}
-use Rattle.rel_handler.specs.Taking.{change_size}
+use Rattle.node_command.specs.Taking.{change_size}
 use Rattle.rel_handler.specs.Refusals.{CommandRefused}
-use Rattle.rel_handler.specs.declared.error.HandlerError.TheVariants.{NoMemory}
-use Rattle.rel_handler.proofs.Commits.{all_same, refuses_with, unchanged, revived_is_sound}
+use Rattle.node_command.specs.declared.error.HandlerError.TheVariants.{NoMemory}
+use Rattle.rel_handler.proofs.Commits.{all_same, unchanged, revived_is_sound}
+use Rattle.node_command.proofs.Refusals.{refuses_with}
 use Rattle.rel_handler.proofs.handler.Handler.make_permanent.Goals as goal
 
 -- nothing was done yet

@@ -1,10 +1,11 @@
 use Rattle.rel_list.specs.Event.{event_of}
 use Rattle.start_record.specs.Text.{versions_of}
 use Rattle.rel_handler.specs.Refusals.{CommandRefused}
-use Rattle.rel_handler.specs.Taking.{change_size}
+use Rattle.node_command.specs.Taking.{change_size}
 use Rattle.rel_handler.specs.State.{list_in}
-use Rattle.rel_handler.specs.declared.error.HandlerError.TheVariants.{Device}
-use Rattle.rel_handler.proofs.Commits.{refuses_with, unchanged}
+use Rattle.node_command.specs.declared.error.HandlerError.TheVariants.{Device}
+use Rattle.node_command.proofs.Refusals.{refuses_with}
+use Rattle.rel_handler.proofs.Commits.{unchanged}
 use Rattle.rel_handler.proofs.PermanenceLemmas.{brings_none, no_start, are_versions, moving, not_moved, moved_start, is_moved}
 use Rattle.rel_handler.proofs.handler.Handler.move_permanent.Goals as goal
 

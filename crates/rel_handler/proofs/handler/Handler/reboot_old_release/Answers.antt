@@ -4,9 +4,10 @@ use Rattle.rel_list.specs.Event.Event.{reboot_old}
 use Rattle.rel_handler.specs.Commits.{Commits, IsDone}
 use Rattle.rel_handler.specs.Refusals.{CommandRefused}
 use Rattle.rel_handler.specs.State.{list_in}
-use Rattle.rel_handler.specs.Taking.{change_size}
-use Rattle.rel_handler.specs.declared.error.HandlerError.TheVariants.{NoMemory}
-use Rattle.rel_handler.proofs.Commits.{all_same, refuses_with, unchanged}
+use Rattle.node_command.specs.Taking.{change_size}
+use Rattle.node_command.specs.declared.error.HandlerError.TheVariants.{NoMemory}
+use Rattle.rel_handler.proofs.Commits.{all_same, unchanged}
+use Rattle.node_command.proofs.Refusals.{refuses_with}
 use Rattle.rel_handler.proofs.handler.Handler.reboot_old_release.Goals as goal
 
 -- nothing was done yet

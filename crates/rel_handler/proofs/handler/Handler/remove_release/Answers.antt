@@ -4,7 +4,7 @@ use Rattle.rel_list.specs.Event.Event.{removed}
 use Rattle.rel_handler.specs.Commits.{Commits, IsDone}
 use Rattle.rel_handler.specs.Refusals.{CommandRefused}
 use Rattle.rel_handler.specs.State.{list_in}
-use Rattle.rel_handler.specs.Taking.{change_size}
+use Rattle.node_command.specs.Taking.{change_size}
 use Rattle.rel_handler.proofs.Commits.{unchanged}
 use Rattle.rel_handler.proofs.handler.Handler.remove_release.Goals as goal
 

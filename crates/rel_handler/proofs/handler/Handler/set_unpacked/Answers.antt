@@ -1,11 +1,13 @@
 use Rattle.std.proofs.Common.{inl, inr, refl, sym, subst, rules}
 use Rattle.rel_list.specs.Event.Event.{unpacked}
-use Rattle.rel_handler.specs.Files.{bundle_brought, unpacked_size}
-use Rattle.rel_handler.specs.Unpacking.{IsToldAs, UnpackingRefused}
+use Rattle.node_command.specs.Files.{bundle_brought, unpacked_size, IsToldAs}
+use Rattle.rel_handler.specs.Unpacking.{UnpackingRefused}
 use Rattle.rel_unpack.specs.Unpacking.{brought_of}
 use Rattle.rel_handler.proofs.PlaceLemmas.{no_place}
-use Rattle.rel_handler.proofs.Commits.{refuses_with, unchanged}
-use Rattle.rel_handler.proofs.ReleaseLemmas.{brings_same, still_agree, still_free, still_whole, brought_free, agrees_so, unchanged_handler}
+use Rattle.node_command.proofs.Refusals.{refuses_with}
+use Rattle.rel_handler.proofs.Commits.{unchanged}
+use Rattle.node_command.proofs.ReleaseLemmas.{brings_same, still_agree, still_free, still_whole, brought_free, agrees_so}
+use Rattle.rel_handler.proofs.ReleaseLemmas.{unchanged_handler}
 use Rattle.rel_handler.proofs.handler.Handler.set_unpacked.Goals as goal
 
 -- a dead handler takes nothing in

@@ -9,12 +9,12 @@ use Rattle.rel_store.specs.State.{records_in}
 use Rattle.rel_unpack.specs.Unpacking.{brought_of}
 use Rattle.rel_handler.specs.Commits.{Commits, IsDone, IsRecordFor}
 use Rattle.rel_handler.specs.Refusals.{CommandRefused}
-use Rattle.rel_handler.specs.Files.{bundle_brought, unpacked_size}
+use Rattle.node_command.specs.Files.{bundle_brought, unpacked_size}
 use Rattle.rel_handler.specs.State.{list_in}
-use Rattle.rel_handler.specs.Taking.{commanded}
+use Rattle.node_command.specs.Taking.{commanded}
 use Rattle.rel_handler.proofs.CommandLemmas.{refused_by_list}
 use Rattle.rel_handler.proofs.Commits.{have_libraries, unchanged, unpacked_told}
-use Rattle.rel_handler.proofs.ReleaseLemmas.{shared_so}
+use Rattle.node_command.proofs.ReleaseLemmas.{shared_so}
 use Rattle.rel_handler.proofs.handler.Handler.take_in.Goals as goal
 
 -- the list doesn't allow it

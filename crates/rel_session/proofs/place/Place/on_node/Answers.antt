@@ -1,6 +1,6 @@
 use Rattle.std.proofs.Common.{Err}
 use Rattle.session_input.specs.Commands.{command_of}
-use Rattle.rel_handler.specs.declared.error.HandlerError.TheVariants as handler_error
+use Rattle.node_command.specs.declared.error.HandlerError.TheVariants as handler_error
 use Rattle.rel_session.specs.Node.{Place, Reply}
 use Rattle.rel_session.specs.Transition.{Transition}
 use Rattle.rel_session.specs.declared.place.Place.TheVariants as memory

@@ -5,8 +5,8 @@ use Rattle.rel_session.specs.Node.{Place, Reply}
 use Rattle.rel_session.specs.Transition.{Acts, IsStopped}
 use Rattle.rel_session.specs.Transition.Action.{reboots_node}
 use Rattle.rel_session.specs.declared.place.Place.TheVariants as memory
-use Rattle.rel_handler.specs.declared.error.HandlerError.TheVariants as handler_error
-use Rattle.rel_handler.specs.Taking.{change_size}
+use Rattle.node_command.specs.declared.error.HandlerError.TheVariants as handler_error
+use Rattle.node_command.specs.Taking.{change_size}
 use Rattle.rel_list.specs.Event.Event.{reboot_old as rebooting}
 use Rattle.rel_session.proofs.CommitReplies.{commits_none}
 use Rattle.rel_session.proofs.DeviceLemmas.{IsDevice}

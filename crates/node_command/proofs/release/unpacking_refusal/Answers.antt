@@ -2,9 +2,9 @@ use Rattle.std.proofs.Common.{◌≡◌, ◌<◌, false, length, string_bytes, a
 use Rattle.std.specs.Prelude.{is_some}
 use Rattle.rel_list.specs.Releases.{first_different, status_of}
 use Rattle.rel_unpack.specs.Unpacking.{brought_of, libraries_of}
-use Rattle.rel_handler.specs.Files.{bundle_brought}
-use Rattle.rel_handler.proofs.CommandLemmas.{with_it, comes_in}
-use Rattle.rel_handler.proofs.unpacking.unpacking_refusal.Goals as goal
+use Rattle.node_command.specs.Files.{bundle_brought}
+use Rattle.node_command.proofs.CommandLemmas.{with_it, comes_in}
+use Rattle.node_command.proofs.release.unpacking_refusal.Goals as goal
 
 pub returns : goal.returns
 returns c =

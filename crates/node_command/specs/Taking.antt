@@ -10,8 +10,8 @@ use Rattle.rel_list.specs.Refusal.{refusal}
 use Rattle.rel_records.specs.Limits.{most_releases, is_small}
 use Rattle.rel_records.specs.Record.{body_of}
 use Rattle.rel_records.specs.Writing.{record_of}
-use Rattle.rel_handler.specs.declared.error.HandlerError.{HandlerError}
-use Rattle.rel_handler.specs.declared.error.HandlerError.TheVariants.{NoSuchRelease, ExistingRelease, AlreadyInstalled, BadStatus, Permanent, Running, TooMany, NoMemory}
+use Rattle.node_command.specs.declared.error.HandlerError.{HandlerError}
+use Rattle.node_command.specs.declared.error.HandlerError.TheVariants.{NoSuchRelease, ExistingRelease, AlreadyInstalled, BadStatus, Permanent, Running, TooMany, NoMemory}
 
 -- What a node answers for a refusal of its list. Libraries that differ are told before, with the files of the release
 -- (`files_refusal`), so NoMemory stands for nothing there.

@@ -1,6 +1,6 @@
 use Rattle.rel_unpack.specs.Unpacking.{brought_of}
-use Rattle.rel_handler.proofs.ReleaseLemmas.{brought_file, brought_whole, refused_as}
-use Rattle.rel_handler.proofs.unpacking.bring_release.Goals as goal
+use Rattle.node_command.proofs.ReleaseLemmas.{brought_file, brought_whole, refused_as}
+use Rattle.node_command.proofs.release.bring_release.Goals as goal
 
 pub returns-in_err-unpack_release-clause-refused : goal.returns-in_err-unpack_release-clause-refused
 returns-in_err-unpack_release-clause-refused g c =

@@ -2,14 +2,14 @@ use Rattle.std.proofs.Common.{◌≡◌, inl, inr, true, false, Some, refl, ap, 
 use Rattle.std.specs.Prelude.{is_some}
 use Rattle.library.specs.InMemory.{library_of}
 use Rattle.rel_list.specs.Releases.{first_different, status_of}
-use Rattle.rel_handler.specs.declared.error.HandlerError.TheVariants.{NoMemory}
-use Rattle.rel_handler.specs.Unpacking.{HasNoPlace}
+use Rattle.node_command.specs.declared.error.HandlerError.TheVariants.{NoMemory}
+use Rattle.node_command.specs.Place.{HasNoPlace}
 use Rattle.rel_unpack.specs.Refusal.Refusal.{lib_differs}
 use Rattle.rel_unpack.specs.declared.error.UnpackError.TheVariants as files
 use Rattle.rel_unpack.specs.Unpacking.{brought_of}
-use Rattle.rel_handler.proofs.Commits.{refuses_with}
-use Rattle.rel_handler.proofs.ReleaseLemmas.{none_listed, differs_so}
-use Rattle.rel_handler.proofs.unpacking.new_version.Goals as goal
+use Rattle.node_command.proofs.Refusals.{refuses_with}
+use Rattle.node_command.proofs.ReleaseLemmas.{none_listed, differs_so}
+use Rattle.node_command.proofs.release.new_version.Goals as goal
 
 -- its version is listed
 pub returns-then-is_some-clause-refused : goal.returns-then-is_some-clause-refused

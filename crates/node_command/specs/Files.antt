@@ -1,0 +1,64 @@
+-- What a command is given of a release, and what is told of its files.
+use Rattle.std.specs.Prelude.{◌≡◌, ◌≢◌, ℕ, List, length, Option, Some, Result, Err}
+use Rattle.erl_term.specs.Value.{value_of}
+use Rattle.erl_term.specs.Within.{IsWithin}
+use Rattle.rel_files.specs.File.{IsReleaseTerm}
+use Rattle.rel_files.specs.Release.{release_of}
+use Rattle.rel_files.specs.declared.reader.RelFile.{RelFile}
+use Rattle.rel_list.specs.Releases.{Bundle, Releases}
+use Rattle.rel_records.specs.Record.{makes, adds, body_of}
+use Rattle.rel_records.specs.Writing.{new_libraries, CanBeCarried, IsComplete}
+use Rattle.rel_unpack.specs.declared.error.UnpackError.{UnpackError}
+use Rattle.rel_unpack.specs.declared.error.UnpackError.TheVariants as files
+use Rattle.rel_unpack.specs.Refusal.{Refusal, refusal_of}
+use Rattle.rel_unpack.specs.Source.{Source}
+use Rattle.rel_unpack.specs.Unpacking.{Brought, BroughtAt}
+use Rattle.node_command.specs.declared.error.HandlerError.{HandlerError}
+use Rattle.node_command.specs.declared.error.HandlerError.TheVariants.{MissingFile, BadFile, VsnMismatch, LibDiffers, NoTable, TooMany, NoMemory}
+
+-- The file's term says its release, and is no deeper than what a file may hold.
+pub record IsRelFile (file : RelFile) : Type 0 where
+  pub says : IsReleaseTerm (value_of file.term) (release_of file.release)
+  pub within : IsWithin 65 (value_of file.term)
+
+-- the release that was brought, with its libraries
+abbrev pub bundle_brought : Brought → Bundle
+bundle_brought b = record { release = b.found.release; libraries = b.libraries }
+
+-- A node may have it: it is complete, and a record can carry its libraries.
+pub record IsWhole (b : Brought) : Type 0 where
+  pub complete : IsComplete (bundle_brought b)
+  pub carried : CanBeCarried b.libraries
+
+-- how many bytes the body of the record has by which a node is made with what was brought, or takes it in
+abbrev pub made_size : Brought → ℕ
+made_size b = length (body_of b.found.term (makes b.found.release b.libraries))
+
+abbrev pub unpacked_size : Brought → Releases → ℕ
+unpacked_size b es = length (body_of b.found.term (adds b.found.release (new_libraries es b.libraries)))
+
+-- what is told of a release that isn't taken for its files
+abbrev pub told_files : UnpackError → HandlerError
+told_files (files.MissingFile path) = MissingFile path
+told_files (files.BadFile path trouble) = BadFile path trouble
+told_files (files.VsnMismatch path) = VsnMismatch path
+told_files (files.LibDiffers app) = LibDiffers app
+told_files (files.NoTable name) = NoTable name
+told_files files.TooMany = TooMany
+told_files files.NoMemory = NoMemory
+
+-- what the path of a release brings to a node
+abbrev pub Brings : Source → List ℕ → Result Brought Refusal → Type 0
+Brings source path = BroughtAt source path
+
+-- The release's file is why: of this path it gives that refusal and no release, or memory was refused in reading.
+pub record IsOfFiles (source : Source) (path : List ℕ) (e : HandlerError) : Type 0 where
+  pub error : UnpackError
+  pub told : e ≡ told_files error
+  pub read : error ≢ files.NoMemory → Brings source path (Err (refusal_of error))
+
+-- This refusal of a release for its applications is told so.
+pub record IsToldAs (refusal : Option Refusal) (e : HandlerError) : Type 0 where
+  pub error : UnpackError
+  pub told : e ≡ told_files error
+  pub refused : refusal ≡ Some (refusal_of error)

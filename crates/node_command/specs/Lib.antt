@@ -1,0 +1,3 @@
+pub mod Files
+pub mod Place
+pub mod Taking

@@ -1,0 +1,29 @@
+-- Whether a node's list has a place for a release that was brought.
+use Rattle.std.specs.Prelude.{◌≡◌, ◌⊎◌, List, true, is_some, if◌then◌else◌, Option, None}
+use Rattle.std.specs.Option.{option_map, option_or}
+use Rattle.library.specs.Library.{Library}
+use Rattle.rel_list.specs.Releases.{Releases, first_different, status_of}
+use Rattle.rel_unpack.specs.Refusal.{Refusal}
+use Rattle.rel_unpack.specs.Refusal.Refusal.{lib_differs}
+use Rattle.rel_unpack.specs.Unpacking.{Brought}
+use Rattle.node_command.specs.Files.{IsToldAs}
+use Rattle.node_command.specs.declared.error.HandlerError.{HandlerError}
+use Rattle.node_command.specs.declared.error.HandlerError.TheVariants.{ExistingRelease, NoMemory}
+
+-- the first of these libraries that differs from the list's
+abbrev pub difference : List Library → Releases → Option Refusal
+difference ls es = option_map (λ (l : Library). lib_differs l.app.name) (first_different es ls)
+
+-- Why a node with this list doesn't take what is brought, for its applications: a library that was read differs from the
+-- list's, or the refusal behind it. A version that is listed is refused before.
+abbrev pub files_refusal : Brought → Releases → Option Refusal
+files_refusal b es =
+    if is_some (status_of b.found.release.vsn es) then None else option_or (difference b.libraries es) b.refusal
+
+-- Why a list has no place for what was brought: its version is listed, or one of its libraries differs from the list's. Out of
+-- memory comes in place of either.
+abbrev pub HasNoPlace : Brought → Releases → HandlerError → Type 0
+HasNoPlace b es e =
+    (e ≡ NoMemory)
+    ⊎ (((e ≡ ExistingRelease) × (is_some (status_of b.found.release.vsn es) ≡ true))
+    ⊎ ((status_of b.found.release.vsn es ≡ None) × IsToldAs (files_refusal b es) e))

@@ -1,0 +1,20 @@
+//! What a command of a node asks of the files and of the list, and why it is refused.
+//!
+//! A release comes from the file of a path and the files of its applications, in a source of files: [`bring_release`] takes
+//! what `rel_unpack` says that the path brings (`Brings`), or is refused for the release's own file (`IsOfFiles`). For its
+//! applications it is refused where the node would take it: [`new_version`] asks a list for its version and its libraries
+//! (`HasNoPlace`), [`unless_refused`] tells what is wrong with their files (`IsToldAs`), [`unpacking_refusal`] says whether
+//! the node has too many releases.
+//!
+//! Each command is an event of the list (`step`). `commanded` says what the event makes of a node's list, or why the command
+//! is refused for the list and its limits; `change_size`, `made_size` and `unpacked_size` say how many bytes the body of its
+//! record has. A [`HandlerError`] is why a command is refused, by the files, the list, or the disk below.
+//!
+//! Only tested: that a call succeeds where memory is there. Trusted: the toolchain and `thiserror`.
+#![tactic(auto)]
+
+mod error;
+mod release;
+
+pub use error::HandlerError;
+pub use release::{bring_release, new_version, unless_refused, unpacking_refusal};
