@@ -23,7 +23,7 @@ use Rattle.rel_unpack.specs.declared.error.UnpackError.TheVariants.{NoMemory}
 use Rattle.rel_list.specs.declared.status.Status.{Status}
 use Rattle.rel_list.specs.Releases.{Releases, first_different, shared, status_of}
 use Rattle.library.specs.Library.{Library, AreLibrariesOf, IsLibrary, library_term}
-use Rattle.node_command.specs.Files.{IsRelFile, IsWhole, Brings, IsOfFiles, told_files}
+use Rattle.node_command.specs.Files.{IsRelFile, IsWhole, Brings, IsOfFiles, IsToldAs, told_files}
 use Rattle.node_command.specs.Place.{difference, files_refusal}
 use Rattle.node_command.specs.declared.error.HandlerError.{HandlerError}
 use Rattle.node_command.specs.declared.error.HandlerError.TheVariants as command
@@ -115,8 +115,16 @@ brought_free b es agree free = either (is_some (status_of b.found.release.vsn es
 pub fresh_refusal : (b : Brought) (es : Releases) → is_some (status_of b.found.release.vsn es) ≡ false → files_refusal b es ≡ option_or (difference b.libraries es) b.refusal
 fresh_refusal b es fresh = ap (λ (there : Bool). if there then None else option_or (difference b.libraries es) b.refusal) fresh
 
-pub differs_so : (b : Brought) (es : Releases) (l : Library) → is_some (status_of b.found.release.vsn es) ≡ false → first_different es b.libraries ≡ Some l → files_refusal b es ≡ Some (told_library l)
-differs_so b es l fresh found = fresh_refusal b es fresh ∙ ap (λ o. option_or (option_map told_library o) b.refusal) found
+pub differs_so : (ls : List Library) (es : Releases) (l : Library) → first_different es ls ≡ Some l → difference ls es ≡ Some (told_library l)
+differs_so ls es l found = ap (option_map told_library) found
+
+-- a library that differs bars a release whose version isn't listed, whatever is wrong behind it
+pub barred_so : (b : Brought) (es : Releases) (e : HandlerError) → status_of b.found.release.vsn es ≡ None → IsToldAs (difference b.libraries es) e → IsToldAs (files_refusal b es) e
+barred_so b es e fresh barred = record {
+  error = barred.error;
+  told = barred.told;
+  refused = fresh_refusal b es (ap is_some fresh) ∙ ap (λ d. option_or d b.refusal) barred.refused;
+}
 
 pub agrees_so : (b : Brought) (es : Releases) → status_of b.found.release.vsn es ≡ None → first_different es b.libraries ≡ None → files_refusal b es ≡ b.refusal
 agrees_so b es fresh agree = fresh_refusal b es (ap is_some fresh) ∙ ap (λ o. option_or (option_map told_library o) b.refusal) agree

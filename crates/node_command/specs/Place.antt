@@ -20,10 +20,10 @@ abbrev pub files_refusal : Brought → Releases → Option Refusal
 files_refusal b es =
     if is_some (status_of b.found.release.vsn es) then None else option_or (difference b.libraries es) b.refusal
 
--- Why a list has no place for what was brought: its version is listed, or one of its libraries differs from the list's. Out of
--- memory comes in place of either.
+-- Why a list has no place for what was brought: its version is listed, or one of its libraries differs from the list's,
+-- whatever else is wrong with its applications. Out of memory comes in place of either.
 abbrev pub HasNoPlace : Brought → Releases → HandlerError → Type 0
 HasNoPlace b es e =
     (e ≡ NoMemory)
     ⊎ (((e ≡ ExistingRelease) × (is_some (status_of b.found.release.vsn es) ≡ true))
-    ⊎ ((status_of b.found.release.vsn es ≡ None) × IsToldAs (files_refusal b es) e))
+    ⊎ ((status_of b.found.release.vsn es ≡ None) × IsToldAs (difference b.libraries es) e))

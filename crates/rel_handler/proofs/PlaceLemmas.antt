@@ -15,7 +15,7 @@ use Rattle.node_command.specs.declared.error.HandlerError.TheVariants.{ExistingR
 use Rattle.rel_handler.specs.declared.handler.Handler.{Handler}
 use Rattle.rel_handler.proofs.CommandLemmas.{refused_by_list}
 use Rattle.node_command.proofs.CommandLemmas.{there_already}
-use Rattle.node_command.proofs.ReleaseLemmas.{listed_free, no_memory}
+use Rattle.node_command.proofs.ReleaseLemmas.{barred_so, listed_free, no_memory}
 use Rattle.rel_handler.proofs.ReleaseLemmas.{unchanged_handler}
 
 -- It isn't taken in, and nothing has changed.
@@ -32,4 +32,4 @@ no_place v source path h b e alive small read still (inr (inl (is, listed))) =
       refused = refused_by_list v.failures h (unpacked (bundle_brought b)) (unpacked_size b (list_in h)) ExistingRelease alive (there_already (bundle_brought b) (list_in h) small listed);
     }))))
 no_place v source path h b e alive small read still (inr (inr (fresh, barred))) =
-    inr (inr (inl (record { brought = b; read = read; alive = alive; fresh = fresh; barred = barred; same = unchanged_handler h })))
+    inr (inr (inl (record { brought = b; read = read; alive = alive; fresh = fresh; barred = barred_so b (list_in h) e fresh barred; same = unchanged_handler h })))

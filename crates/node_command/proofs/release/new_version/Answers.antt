@@ -34,7 +34,7 @@ returns-in-Some-clause-refused c =
       record {
         error = files.LibDiffers c.in_ok-name.name;
         told = c.from.ensures;
-        refused = differs_so b es (library_of c.in-Some.library.now) fresh found ∙ ap (λ n. Some (lib_differs n)) (sym name);
+        refused = differs_so b.libraries es (library_of c.in-Some.library.now) found ∙ ap (λ n. Some (lib_differs n)) (sym name);
       },
     ))
 
