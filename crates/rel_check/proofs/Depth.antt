@@ -64,10 +64,9 @@ processes_same tables zero (Worker w) fits = refl
 processes_same tables zero (Super s) fits = absurd cc
 processes_same tables (suc n) (Worker w) fits = refl
 processes_same tables (suc n) (Super s) fits =
-    ap (λ p. 1 + p)
-    (same_sum (λ (c : ChildSpec). option_map_or (processes_from (suc n) tables) (child_table tables c) 0) (λ (c : ChildSpec). option_map_or (processes_from n tables) (child_table tables c) 0)
+    same_sum (λ (c : ChildSpec). option_map_or (processes_from (suc n) tables) (child_table tables c) 0) (λ (c : ChildSpec). option_map_or (processes_from n tables) (child_table tables c) 0)
     (λ (c : ChildSpec). option_map_or (is_within n tables) (child_table tables c) true)
-    (λ c here. processes_child tables n (processes_same tables n) (child_table tables c) here) s.children (both (nat_le (length s.children) 64) _ fits).1)
+    (λ c here. processes_child tables n (processes_same tables n) (child_table tables c) here) s.children (both (nat_le (length s.children) 64) _ fits).1
 
 within_child : (tables : Tables) (n : ℕ) → ((t : Table) → is_within n tables t ≡ true → is_within (suc n) tables t ≡ true)
     → (o : Option Table) → option_map_or (is_within n tables) o true ≡ true → option_map_or (is_within (suc n) tables) o true ≡ true

@@ -1,5 +1,6 @@
 -- What is found from each table on, level by level.
-use Rattle.std.proofs.Common.{◌≡◌, ℕ, suc, Bool, true, false, cond, List, ◌∷◌, map, Option, None, Some, if◌then◌else◌, refl, sym, ap, ◌∙◌}
+use Rattle.std.proofs.Common.{◌≡◌, ℕ, suc, Bool, true, false, cond, List, ◌∷◌, map, Option, None, Some, if◌then◌else◌, refl, sym, ap, ◌∙◌, zero-add}
+use Rattle.std.specs.List.{sum_by}
 use Rattle.std.specs.Option.{option_map, option_or, option_and_then, option_map_or}
 use Rattle.std.specs.Str.{bytes_eq}
 use Rattle.mod_table.specs.declared.child.ChildKind.{ChildKind}
@@ -56,7 +57,7 @@ at_next n tables known is (Super s) =
     (supervisor_alone s.children) s.children in
     let processes = joined_processes (child_summary known) (λ (c : ChildSpec). option_map_or (processes_from n tables) (child_table tables c) 0)
     (λ c. ap (λ (o : Option Summary). (child_summary_at c.kind c.start o).processes) (is c.start) ∙ child_processes n tables c.kind c.start (tables c.start))
-    (supervisor_alone s.children) 1 s.children refl in
+    (supervisor_alone s.children) 0 s.children refl ∙ ap counted (zero-add (sum_by (λ (c : ChildSpec). option_map_or (processes_from n tables) (child_table tables c) 0) s.children)) in
     let within = joined_within (child_summary known) (λ (c : ChildSpec). option_map_or (is_within n tables) (child_table tables c) true)
     (λ c. ap (λ (o : Option Summary). (child_summary_at c.kind c.start o).within) (is c.start) ∙ child_within n tables c.kind c.start (tables c.start))
     (supervisor_alone s.children) s.children in

@@ -90,7 +90,7 @@ child_summary known c = child_summary_at c.kind c.start (known c.start)
 
 -- that of a supervisor, before its children
 abbrev pub supervisor_alone : List ChildSpec → Summary
-supervisor_alone cs = record { kind = kind.Supervisor; missing = None; processes = 1; within = nat_le (length cs) 64 }
+supervisor_alone cs = record { kind = kind.Supervisor; missing = None; processes = 0; within = nat_le (length cs) 64 }
 
 -- that of children, joined to this
 abbrev pub children_joined : Known → Summary → List ChildSpec → Summary
@@ -102,7 +102,7 @@ supervisor_summary known cs = children_joined known (supervisor_alone cs) cs
 
 -- that of a supervisor deeper than the walk goes
 abbrev pub too_deep : Summary
-too_deep = record { kind = kind.Supervisor; missing = None; processes = 1; within = false }
+too_deep = record { kind = kind.Supervisor; missing = None; processes = 0; within = false }
 
 -- that of a table, from what is known one level below it
 abbrev pub next_summary : Option Known → Table → Summary

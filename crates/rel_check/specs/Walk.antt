@@ -1,6 +1,6 @@
 -- The walk through the processes that a release starts: from the top modules of its applications down through the children
 -- of supervisors. A number says how many supervisors in each other the walk goes through at most.
-use Rattle.std.specs.Prelude.{ℕ, zero, suc, ◌+◌, Bool, true, false, ◌&&◌, List, [], ◌∷◌, length, nat_le, Option, None, Some, if◌then◌else◌}
+use Rattle.std.specs.Prelude.{ℕ, zero, suc, Bool, true, false, ◌&&◌, List, [], ◌∷◌, length, nat_le, Option, None, Some, if◌then◌else◌}
 use Rattle.std.specs.List.{list_all, sum_by}
 use Rattle.std.specs.Option.{option_or, option_and_then, option_map_or}
 use Rattle.rel_files.specs.declared.release.StartType.{StartType}
@@ -38,11 +38,11 @@ missing_below n tables (Worker w) = None
 missing_below zero tables (Super s) = None
 missing_below (suc n) tables (Super s) = first_of (λ (c : ChildSpec). missing_at (missing_below n tables) c.start (child_table tables c)) s.children
 
--- how many processes there are with the one of this table: itself, and those of its children
+-- how many processes there are from this table on: that of a worker, or those of a supervisor's children
 unfoldable pub processes_from : ℕ → Tables → Table → ℕ
 processes_from n tables (Worker w) = 1
-processes_from zero tables (Super s) = 1
-processes_from (suc n) tables (Super s) = 1 + sum_by (λ (c : ChildSpec). option_map_or (processes_from n tables) (child_table tables c) 0) s.children
+processes_from zero tables (Super s) = 0
+processes_from (suc n) tables (Super s) = sum_by (λ (c : ChildSpec). option_map_or (processes_from n tables) (child_table tables c) 0) s.children
 
 -- no supervisor has more than 64 children, and none is deeper than so many in each other
 unfoldable pub is_within : ℕ → Tables → Table → Bool

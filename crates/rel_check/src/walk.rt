@@ -80,7 +80,7 @@ impl<'a> Walk<'a> {
         Walk {
             kind: ChildKind::Supervisor,
             missing: None,
-            processes: 1,
+            processes: 0,
             within: children.len() <= MOST_CHILDREN,
         }
     }
@@ -92,7 +92,7 @@ impl<'a> Walk<'a> {
         Walk {
             kind: ChildKind::Supervisor,
             missing: None,
-            processes: 1,
+            processes: 0,
             within: false,
         }
     }
