@@ -12,6 +12,8 @@ pub mod PassLemmas
 pub mod HoldLemmas
 pub mod FreeLemmas
 pub mod WaitLemmas
+pub mod BeginLemmas
+pub mod CountLemmas
 pub mod TwoClients
 pub mod ApartLemmas
 pub mod MeetLemmas

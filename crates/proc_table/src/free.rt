@@ -2,7 +2,7 @@
 //! word.
 ghost use Rattle.std.specs.Prelude.{◌≡◌, ◌<◌, slice_set, MatchOption};
 ghost use Rattle.proc_table.specs.Agrees.{slots};
-ghost use Rattle.proc_table.specs.Free.{LowestFree, NoneFree};
+ghost use Rattle.proc_table.specs.Free.{LowestFree, NoneFree, free_count};
 
 use crate::{HandlerSeat, Pid, SLOTS};
 
@@ -21,6 +21,19 @@ impl HandlerSeat {
             }
         }
         None
+    }
+
+    /// In how many slots a process can begin. It takes no memory and waits for nobody.
+    pub fn free_count(&self) -> usize
+        ensures { result ≡ free_count self.now.view }
+    {
+        let mut count = 0;
+        for round in self.next.as_slice() {
+            if round.is_some() {
+                count += 1;
+            }
+        }
+        count
     }
 }
 

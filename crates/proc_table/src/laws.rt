@@ -1,5 +1,5 @@
 //! Laws of the definitions themselves. Each function does nothing: its contract is the law.
-ghost use Rattle.proc_table.specs.Free.{HandlerKnows};
+ghost use Rattle.proc_table.specs.Free.{BeginsTakeOne, HandlerKnows};
 ghost use Rattle.proc_table.specs.Moves.{RunsAgree, ReachedAgrees, HeldAlone};
 ghost use Rattle.proc_table.specs.Together.{TwoClients, CallsStandApart};
 ghost use Rattle.proc_table.specs.Waits.{HoldsAndReleases};
@@ -40,4 +40,9 @@ pub fn holds_and_releases_leave_other_slots()
 /// where it can by what the handler has seen, and with the same round.
 pub fn the_handler_knows_where_a_process_can_begin()
     ensures { HandlerKnows }
+{}
+
+/// A process that begins takes one of the slots in which one can, and where there is none, none is counted.
+pub fn a_begin_takes_one_free_slot()
+    ensures { BeginsTakeOne }
 {}

@@ -2,6 +2,7 @@
 use crate::steps::follow_steps;
 use crate::texts::push_relup;
 use crate::threads::push_clients;
+use crate::trees::follow_tree;
 use crate::{appups, made_relups, relups, relups_of_files, tables};
 use appup_file::read_appup;
 use mod_table::read_mod;
@@ -12,7 +13,7 @@ use std::sync::Wait;
 use std::thread::Threads;
 use text_cases::Answer;
 
-/// The answer in one of 21 modes. A text that can't be read is answered by its fault.
+/// The answer in one of 22 modes. A text that can't be read is answered by its fault.
 ///
 /// `mod`: the table of a file. `term`: the same, read again from the file's term. `step`: what comes of a call; the text is a
 /// state, an input and a file. `change`: the state after a change of code; the text is a direction, a version, an extra
@@ -29,7 +30,8 @@ use text_cases::Answer;
 /// `translate`, `translate_up`, `translate_down`: the relup that is made of releases, or of instructions, as in
 /// [`made_relups`]. The modes of files are those of [`relups_of_files::push_answer`].
 ///
-/// `steps`: what steps at a new table answer, as in [`follow_steps`]. `clients`: what two clients and the handler see in
+/// `steps`: what steps at a new table answer, as in [`follow_steps`]. `tree`: the same with applications that are started and
+/// stopped, as in [`follow_tree`]. `clients`: what two clients and the handler see in
 /// threads of their own, as in [`push_clients`].
 pub(crate) fn answer<R: Threads + Wait + Sync>(
     rt: &R,
@@ -41,6 +43,7 @@ pub(crate) fn answer<R: Threads + Wait + Sync>(
     let words = str::from_utf8(text).unwrap_or("");
     match mode {
         "steps" => follow_steps(rt, alloc, words, &mut answer),
+        "tree" => follow_tree(rt, alloc, words, &mut answer),
         "clients" => push_clients(rt, alloc, words, &mut answer),
         _ => push_read(alloc, mode, text, words, &mut answer),
     }

@@ -1,6 +1,6 @@
 //! The program `upgrade_cases`: what the libraries of upgrades make of the texts on its input, a case a line. [`answer`] has the
 //! modes: tables of modules that `mod_table` reads, what clients see of the processes of `proc_table` that others call and hold,
-//! in one thread and in threads of their own, relups that `relup_file` reads and `relup_script` searches, appups that
+//! in one thread and in threads of their own, applications that `sup_tree` starts and stops, relups that `relup_file` reads and `relup_script` searches, appups that
 //! `appup_file` reads, and relups that `relup_translate` makes of releases, and `relup_command` of files.
 #![tactic(auto)]
 
@@ -17,6 +17,7 @@ mod steps;
 mod tables;
 mod texts;
 mod threads;
+mod trees;
 
 use crate::answers::answer;
 use std::alloc::Global;

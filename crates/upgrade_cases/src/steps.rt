@@ -29,7 +29,8 @@ pub(crate) fn follow_steps<R: Wait>(rt: &R, alloc: Global, words: &str, answer: 
     }
 }
 
-fn take_step<R: Wait>(
+/// A step of those that [`follow_steps`] tells.
+pub(crate) fn take_step<R: Wait>(
     rt: &R,
     alloc: Global,
     table: &ProcTable,

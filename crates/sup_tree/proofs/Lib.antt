@@ -1,0 +1,5 @@
+pub mod WalkLemmas
+pub mod AppLemmas
+pub mod CheckLemmas
+pub mod BeginLemmas
+pub mod LoadedLemmas

@@ -1,0 +1,9 @@
+use Rattle.std.proofs.Common.{◌≡◌, ℕ, List, map, drop}
+use Rattle.std.specs.Option.{option_or}
+use Rattle.library.specs.InMemory.{shared_of}
+use Rattle.sup_tree.specs.Loaded.{modules_of, modules_in_map}
+use Rattle.sup_tree.proofs.loaded.Loaded.of.Given as goal
+
+abbrev pub invariant-loop-library : goal.invariant-loop-library
+invariant-loop-library l =
+    (name : List ℕ) → option_or (modules_of (map shared_of (drop l.library-index l.libraries)) name) (modules_in_map l.modules name) ≡ modules_of (map shared_of l.libraries) name

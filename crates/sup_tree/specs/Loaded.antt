@@ -1,0 +1,59 @@
+-- The modules that are loaded.
+use Rattle.std.specs.Prelude.{ℕ, List, [], ◌∷◌, String, slice_index_or, Option, Some, None, if◌then◌else◌}
+use Rattle.std.specs.declared.alloc.Global.{Global}
+use Rattle.std.specs.BTreeMap.{BTreeMap, get_by_text}
+use Rattle.std.specs.Option.{option_map, option_or, option_and_then}
+use Rattle.std.specs.Str.{bytes_eq}
+use Rattle.app_file.specs.File.{Specification}
+use Rattle.mod_table.specs.declared.table.Table.{Table}
+use Rattle.mod_table.specs.File.{vsn_of}
+use Rattle.library.specs.Library.{Library, TableTerm}
+use Rattle.library.specs.InMemory.{shared_of}
+use Rattle.rel_check.specs.Modules.{Tables}
+use Rattle.sup_tree.specs.declared.loaded.LoadedModule.{LoadedModule}
+use Rattle.sup_tree.specs.declared.loaded.Loaded.{Loaded}
+
+-- a module that is loaded: its version, and its table, where it has one
+pub record Module : Type 0 where
+  pub vsn : List ℕ
+  pub table : Option Table
+
+-- what is loaded, by the names of modules
+abbrev pub Modules : Type 0
+Modules = List ℕ → Option Module
+
+-- a module without a table has the version of its application
+abbrev pub module_of : Specification → Option TableTerm → Module
+module_of app None = record { vsn = app.vsn; table = None }
+module_of app (Some t) = record { vsn = vsn_of t.table; table = Some t.table }
+
+-- each name with what is in its place; of several of one name the last
+abbrev pub modules_with : Specification → List (List ℕ) → List (Option TableTerm) → Modules
+modules_with app (m ∷ ms) (t ∷ ts) name = option_or (modules_with app ms ts name) (if bytes_eq m name then Some (module_of app t) else None)
+modules_with app ms ts name = None
+
+-- those of a library
+abbrev pub library_modules : Library → Modules
+library_modules l name = modules_with l.app l.app.modules l.tables name
+
+-- those of all libraries: of two of one name that of the later library
+abbrev pub modules_of : List Library → Modules
+modules_of [] name = None
+modules_of (l ∷ ls) name = option_or (modules_of ls name) (library_modules l name)
+
+-- the tables of what is loaded
+abbrev pub tables_of : Modules → Tables
+tables_of ms name = option_and_then (λ (m : Module). m.table) (ms name)
+
+-- what a library has at a place
+abbrev pub module_at : Library → ℕ → Module
+module_at l place = module_of l.app (slice_index_or l.tables place None)
+
+abbrev pub module_in : LoadedModule → Module
+module_in m = module_at (shared_of m.library) m.place
+
+abbrev pub modules_in_map : BTreeMap (String Global) LoadedModule → Modules
+modules_in_map ms name = option_map module_in (get_by_text ms name)
+
+abbrev pub modules_in : Loaded → Modules
+modules_in l name = modules_in_map l.modules name

@@ -1,0 +1,93 @@
+//! The tree of started applications.
+ghost use Rattle.std.specs.Prelude.{◌≡◌, ◌++◌, IfOk, OnOk, is_some, []};
+ghost use Rattle.std.specs.Option.{option_map};
+ghost use Rattle.sup_tree.specs.Tree.{app_of, app_named, app_using, find_process, processes_using};
+
+use crate::process::{StartedApp, StartedProcess};
+use proc_table::Pid;
+use std::alloc::{AllocError, Global};
+use std::marker::Model;
+
+/// The applications that are started, with their processes. Contracts see them in the order of their starts.
+#[derive(Drop)]
+pub struct Tree {
+    pub(crate) apps: Vec<StartedApp>,
+}
+
+impl Model for Tree {
+    ghost use Rattle.std.specs.Prelude.{List, map};
+    ghost use Rattle.sup_tree.specs.contracts.process.StartedProcess as stored;
+    ghost use Rattle.sup_tree.specs.Tree.{App, app_of, apps_code};
+
+    ghost Value = { List App };
+
+    ghost coded = { apps_code stored.the_row.coded };
+
+    ghost view = { λ t. map app_of t.apps.items };
+}
+
+impl Tree {
+    /// A tree in which nothing is started.
+    pub fn new(alloc: Global) -> Tree
+        ensures { result ≡ [] }
+    {
+        Tree {
+            apps: Vec::new(alloc),
+        }
+    }
+
+    /// Whether the application is started.
+    pub fn is_started(&self, app: &str) -> bool
+        ensures { result ≡ is_some (app_named app.now self.now) }
+    {
+        self.app(app).is_some()
+    }
+
+    /// The process of this application with this id, where there is one.
+    pub fn find(&self, app: &str, id: &str) -> Option<Pid>
+        ensures { result ≡ find_process app.now id.now self.now }
+    {
+        let app = self.app(app)?;
+        for process in app.processes.as_slice() {
+            if process.id.as_str() == id {
+                return Some(process.pid);
+            }
+        }
+        None
+    }
+
+    /// The processes that run this module, in the order in which they began.
+    pub fn processes_using(&self, alloc: Global, module: &str) -> Result<Vec<Pid>, AllocError>
+        ensures { IfOk result (λ pids. pids.items ≡ processes_using «module».now self.now) }
+    {
+        let mut pids = Vec::new(alloc);
+        for app in self.apps.as_slice() {
+            add_using(&mut pids, app, module)?;
+        }
+        Ok(pids)
+    }
+
+    fn app(&self, name: &str) -> Option<&StartedApp>
+        ensures { option_map (λ a. app_of a.now) result ≡ app_named name.now self.now }
+    {
+        for app in self.apps.as_slice() {
+            if app.name.as_str() == name {
+                return Some(app);
+            }
+        }
+        None
+    }
+}
+
+// Those of one application that run this module, behind those that are there.
+fn add_using(pids: &mut Vec<Pid>, app: &StartedApp, module: &str) -> Result<(), AllocError>
+    ensures { OnOk result
+        (pids.new.items ≡ pids.old.items ++ app_using «module».now (app_of app.now)) }
+{
+    for process in app.processes.as_slice() {
+        if process.module.as_str() == module {
+            pids.push(process.pid)?;
+        }
+    }
+    Ok(())
+}

@@ -1,0 +1,126 @@
+//! Applications that are started and stopped.
+ghost use Rattle.std.specs.Prelude.{◌≡◌};
+
+use crate::processes::push_pid;
+use crate::steps::take_step;
+use erl_term::read_record;
+use library::{Library, libraries_of_terms};
+use proc_table::{HandlerSeat, ProcTable};
+use rel_files::parts::list_in;
+use std::alloc::Global;
+use std::rc::Rc;
+use std::sync::Wait;
+use sup_tree::{Loaded, StartError, Tree};
+use text_cases::{Answer, first_word};
+
+/// Appends what steps at a new table and a new tree answer, with `; ` between them as between the steps. The text is the list of
+/// the terms of libraries, whose modules are loaded, and behind ` | ` the steps.
+///
+/// - `start APP`, `stop APP`: `ok`, or why not.
+/// - `find APP ID`: the name of the process, or `none`. `using MODULE`: the names of the processes that run it.
+/// - `vsn MODULE`: its version that is loaded, or `none`.
+/// - Any other step is one of a table, as [`crate::steps::follow_steps`] has them.
+pub(crate) fn follow_tree<R: Wait>(rt: &R, alloc: Global, words: &str, answer: &mut Answer) {
+    let Some((terms, steps)) = words.split_once(" | ") else {
+        return answer.push("no steps");
+    };
+    match libraries_in(alloc, terms) {
+        Some(libraries) => follow_with(rt, alloc, libraries.as_slice(), steps, answer),
+        None => answer.push("no libraries"),
+    }
+}
+
+fn libraries_in(alloc: Global, terms: &str) -> Option<Vec<Rc<Library>>> {
+    let term = read_record(alloc, terms.as_bytes()).ok()?;
+    libraries_of_terms(alloc, list_in(&term)?).ok()?
+}
+
+fn follow_with<R: Wait>(
+    rt: &R,
+    alloc: Global,
+    libraries: &[Rc<Library>],
+    steps: &str,
+    answer: &mut Answer,
+) {
+    let (Ok(loaded), Ok((table, mut seat))) = (Loaded::of(alloc, libraries), ProcTable::new(alloc))
+    else {
+        return answer.note_no_memory();
+    };
+    let mut tree = Tree::new(alloc);
+    for step in steps.split("; ") {
+        if !answer.text.is_empty() {
+            answer.push("; ");
+        }
+        let (word, rest) = first_word(step);
+        match word {
+            "start" => {
+                push_start(
+                    rt, alloc, libraries, &loaded, &table, &mut seat, &mut tree, rest, answer,
+                );
+            }
+            "stop" => match tree.stop_app(rt, &table, &mut seat, rest) {
+                Ok(()) => answer.push("ok"),
+                Err(error) => answer.push_shown(&error),
+            },
+            "find" | "using" | "vsn" => push_found(alloc, &loaded, &tree, word, rest, answer),
+            _ => take_step(rt, alloc, &table, &mut seat, step, answer),
+        }
+    }
+}
+
+fn push_start<R: Wait>(
+    rt: &R,
+    alloc: Global,
+    libraries: &[Rc<Library>],
+    loaded: &Loaded,
+    table: &ProcTable,
+    seat: &mut HandlerSeat,
+    tree: &mut Tree,
+    name: &str,
+    answer: &mut Answer,
+)
+    requires { seat.old.table ≡ table.now }
+    ensures { seat.new.table ≡ seat.old.table }
+{
+    for library in libraries {
+        if library.app.name.as_str() == name {
+            match tree.start_app(rt, alloc, table, seat, &library.app, loaded) {
+                Ok(()) => answer.push("ok"),
+                Err(StartError::NoTable(module)) => answer.push_after("NoTable ", module),
+                Err(error) => answer.push_shown(&error),
+            }
+            return;
+        }
+    }
+    answer.push("no such application");
+}
+
+fn push_found(
+    alloc: Global,
+    loaded: &Loaded,
+    tree: &Tree,
+    word: &str,
+    name: &str,
+    answer: &mut Answer,
+) {
+    match word {
+        "find" => {
+            let (app, id) = first_word(name);
+            push_pid(tree.find(app, id), answer);
+        }
+        "using" => push_using(alloc, tree, name, answer),
+        _ => answer.push(loaded.vsn(name).unwrap_or("none")),
+    }
+}
+
+fn push_using(alloc: Global, tree: &Tree, module: &str, answer: &mut Answer) {
+    let Ok(pids) = tree.processes_using(alloc, module) else {
+        return answer.note_no_memory();
+    };
+    let mut between = "";
+    for pid in pids.as_slice() {
+        answer.push(between);
+        push_pid(Some(*pid), answer);
+        between = ", ";
+    }
+}
