@@ -1,5 +1,5 @@
 -- What a begin leaves of the slots.
-use Rattle.std.proofs.Common.{◌≡◌, ◌≢◌, ℕ, Bool, if◌then◌else◌, [], ◌∷◌, Some, None, Ok, ap, ◌∙◌}
+use Rattle.std.proofs.Common.{◌≡◌, ◌≢◌, ℕ, Bool, if◌then◌else◌, [], ◌∷◌, Some, None, Result, Ok, Err, ap, ◌∙◌}
 use Rattle.proc_table.specs.declared.view.View.{View}
 use Rattle.proc_table.specs.declared.pid.Pid.{Pid}
 use Rattle.proc_history.specs.declared.beginning.Beginning.{Beginning}
@@ -9,16 +9,26 @@ use Rattle.proc_history.specs.Histories.{replay}
 use Rattle.proc_history.specs.Values.{nothing, next_round, begun}
 use Rattle.proc_table.specs.Parts.{Part, part_of}
 use Rattle.proc_table.specs.Views.{seen}
+use Rattle.proc_table.specs.Calls.{Elsewhere}
+use Rattle.proc_table.specs.Begins.{BeganAt, GaveUpAt}
 use Rattle.proc_table.specs.Free.{next_in, BeganLowest}
 use Rattle.proc_history.proofs.Entries.{replay-append}
-use Rattle.proc_table.proofs.WaitLemmas.{since, elsewhere_left}
+use Rattle.proc_table.proofs.WaitLemmas.{held_and_released}
 
--- other slots are as they were
+-- whether a process began or not, other slots are as they were, and so are the passes that are lent
+pub began_at_elsewhere : (p : ℕ) (b : Beginning) (v w : View) (r : Result Pid Beginning) → BeganAt p b v r w → Elsewhere p v w
+began_at_elsewhere p b v w (Ok pid) began = held_and_released p _ v began.0 began.1 w began.2 began.6
+began_at_elsewhere p b v w (Err given) began = held_and_released p _ v began.0 began.1 w began.2 began.5
+
+pub gave_up_elsewhere : (p : ℕ) (v w : View) → GaveUpAt p v w → Elsewhere p v w
+gave_up_elsewhere p v w gave = held_and_released p _ v gave.0 gave.1 w gave.2 gave.3
+
+pub began_lowest_lent : (b : Beginning) (v w : View) (r : Result Pid Beginning) → BeganLowest b v r w → w.lent ≡ v.lent
+began_lowest_lent b v w (Ok pid) began = (began_at_elsewhere pid.slot b v w (Ok pid) began.1).lent
+began_lowest_lent b v w (Err given) began = ap (λ (z : View). z.lent) began.2
+
 pub began_elsewhere : (b : Beginning) (v w : View) (pid : Pid) → BeganLowest b v (Ok pid) w → (q : ℕ) → q ≢ pid.slot → part_of w.parts q ≡ part_of v.parts q
-began_elsewhere b v w pid (lowest, began) q ne =
-    let left = elsewhere_left pid.slot _ began.1 w began.6 in
-    let held = (since pid.slot v began.0 began.1 began.2).elsewhere in
-    left.others q ne ∙ held.others q ne
+began_elsewhere b v w pid (lowest, began) = (began_at_elsewhere pid.slot b v w (Ok pid) began).others
 
 pub next_elsewhere : (b : Beginning) (v w : View) (pid : Pid) → BeganLowest b v (Ok pid) w → (q : ℕ) → q ≢ pid.slot → next_in w q ≡ next_in v q
 next_elsewhere b v w pid began q ne = ap (λ (x : Part). if x.out then None else next_round (replay x.seen)) (began_elsewhere b v w pid began q ne)

@@ -57,10 +57,12 @@ hold_made p v m w x inside h t is laid_is =
     let value : x ≡ replay k = is ∙ ap replay (ap (λ (z : View). seen z p) m0 ∙ b.seen_is) in
     subst (HoldMade p v x) (sym there) (record {
       held = record {
+        handler = h.handler;
         slot = refl;
         looked = record {
           between = t.fresh.between;
           strangers = t.fresh.strangers;
+          alone = t.fresh.alone;
           seen_is = l.seen_is ∙ t.fresh.is;
           mine_is = l.mine_is;
           legal = subst IsLegal (sym l.seen_is) t.fresh.legal;

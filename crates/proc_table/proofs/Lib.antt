@@ -1,4 +1,5 @@
 pub mod Seats
+pub mod LentLemmas
 pub mod Turns
 pub mod SlotTurns
 pub mod StepKinds
@@ -17,4 +18,5 @@ pub mod CountLemmas
 pub mod TwoClients
 pub mod ApartLemmas
 pub mod MeetLemmas
+pub mod AloneLemmas
 pub mod ThreadLemmas

@@ -39,8 +39,8 @@ pub record NewPass (v : View) (w : Me) : Type 0 where
   pub empty : w.1 ≡ []
   pub made : Made v (one_more v) w.0
 
-pub is_new : (v : View) (m w : Me) → m ≡ (new_pass v, []) → Learnt m w → NewPass v w
-is_new v m w is learnt =
+pub is_new : (v : View) (m w : Me) → v.number ≡ 0 → m ≡ (new_pass v, []) → Learnt m w → NewPass v w
+is_new v m w handler is learnt =
     let l : Learnt (new_pass v, []) w = subst (λ (z : Me). Learnt z w) is learnt in
     subst (NewPass v) (sym l.is) (record {
       pass = record {
@@ -51,8 +51,10 @@ is_new v m w is learnt =
       };
       empty = refl;
       made = record {
+        maker = handler;
         count = refl;
         number = refl;
+        lent = refl;
         handler = (refl, refl, refl);
         seen_is = λ p. ap (λ (x : Part). x.seen) (only_seen_at v.parts p);
         mine_is = λ p. ap (λ (x : Part). x.mine) (only_seen_at v.parts p);
@@ -73,13 +75,14 @@ pub after_join : (v w : View) (m z : Me) → length v.parts ≡ slots → length
 after_join v w m z long too is learnt =
     let b = joined v w in
     let l : Learnt (b, []) z = subst (λ (y : Me). Learnt y z) is learnt in
-    let g : Guest = record { number = w.number; before = v.parts; parts = w.parts } in
+    let g : Guest = record { number = w.number; lent = v.lent; before = v.parts; parts = w.parts } in
     let met = l.met g refl in
     let at : (p : ℕ) → part_of b.parts p ≡ joined_part (part_of v.parts p) (part_of w.parts p) = λ p. joined_at v.parts w.parts p (long ∙ sym too) in
     subst (AfterJoin v w) (sym l.is) (record {
       is = record {
         number = refl;
         count = refl;
+        lent = refl;
         found = refl;
         seen_is = λ p. ap (λ (x : Part). x.seen) (at p);
         first = met.first;
@@ -90,6 +93,7 @@ after_join v w m z long too is learnt =
         legal = l.known.legal;
         once = λ p. l.known.once p ∙ ap (λ (x : Part). x.mine) (at p);
         other_once = met.once;
+        settled = met.settled;
       };
       live = refl;
       alone = refl;

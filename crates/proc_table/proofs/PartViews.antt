@@ -31,7 +31,7 @@ set_part p v s m out laid inside long =
       mine_is = ap (λ (y : Part). y.mine) there;
       out_is = ap (λ (y : Part). y.out) there;
       laid_is = ap (λ (y : Part). y.laid) there;
-      rest = record { number = refl; count = refl; found = refl; others = λ q ne. get_or-set_other v.parts p q x unseen ne };
+      rest = record { number = refl; count = refl; lent = refl; found = refl; others = λ q ne. get_or-set_other v.parts p q x unseen ne };
       parts = length-set v.parts p x ∙ long;
       live = refl;
       alone = refl;
@@ -50,6 +50,7 @@ then_part p v w s m out laid was t n away put inside =
       rest = record {
         number = was.rest.number;
         count = was.rest.count;
+        lent = was.rest.lent;
         found = was.rest.found;
         others = λ q ne. x.rest.others q ne ∙ was.rest.others q ne;
       };

@@ -150,6 +150,7 @@ pub looked : (p : ℕ) (v : View) (w : View) (h : List HistoryEntry) → Fresh v
 looked p v w h f b = record {
   between = f.between;
   strangers = f.strangers;
+  alone = f.alone;
   seen_is = b.seen_is ∙ (append-nil h ∙ f.is);
   mine_is = b.mine_is ∙ append-nil (mine v p);
   legal = subst IsLegal (sym (b.seen_is ∙ append-nil h)) f.legal;

@@ -4,9 +4,10 @@ use mathlib.Core.Option.{Option, some, some-injective, some-ne-none}
 use lib.ListN.{get_elem?}
 use Rattle.proc_table.specs.declared.view.View.{View}
 use Rattle.proc_history.specs.declared.value.Value.{Value}
+use Rattle.proc_history.specs.Events.{own}
 use Rattle.proc_table.specs.Parts.{Part, part_of, unseen}
 use Rattle.proc_history.specs.Values.{nothing}
-use Rattle.proc_table.specs.Views.{is_out, handler_view}
+use Rattle.proc_table.specs.Views.{seen, is_out, handler_view}
 use Rattle.proc_table.specs.Agrees.{slots, States, start, FitsPart, FitsSeat, Agrees}
 use Rattle.proc_table.specs.Moves.{Moves, Run, Reached, RunsAgree, ReachedAgrees, HeldAlone}
 use Rattle.proc_table.specs.Moves.Moves.{takes, gives, misses, lays, lifts, learns, splits, joins}
@@ -70,6 +71,7 @@ opening_part p home word = record {
   met_first = λ g is. absurd (cc);
   met_second = λ g is. absurd (cc);
   met_own = λ g is. absurd (cc);
+  met_settled = λ g is. absurd (cc);
 }
 
 pub start_agrees : Agrees start
@@ -92,6 +94,9 @@ start_agrees = record {
   given = λ p n lt. refl;
   seats = λ i v sv. let e = (only_first _ v i sv.0).1 in subst (FitsSeat 0) e (record { number = omega arith; count = λ z. refl; parts = length_replicate slots unseen });
   apart = λ i j v w sv sw e. (only_first _ v i sv.0).0 ∙ sym (only_first _ w j sw.0).0;
+  lent = λ i j v w sv sw handler pass. absurd (pass (ap (λ (y : View). y.number) (sym (only_first _ w j sw.0).1)));
+  settled = λ i p n v sv handler strange. subst (λ (y : View). own n [] ≡ own n (seen y p)) (only_first _ v i sv.0).1
+      (ap (λ (x : Part). own n x.seen) (sym (all_replicate slots unseen p)));
 }
 
 pub reached_agrees : ReachedAgrees

@@ -11,12 +11,12 @@ use Rattle.proc_table.specs.declared.view.View.{View}
 use Rattle.proc_history.specs.declared.value.Value.{Value}
 use Rattle.proc_history.specs.Events.{HistoryEntry, own}
 use Rattle.proc_table.specs.Parts.{Part, Guest, part_of, unseen}
-use Rattle.proc_table.specs.Views.{word_of, with_part}
+use Rattle.proc_table.specs.Views.{seen, word_of, with_part}
 use Rattle.proc_table.specs.Agrees.{slots, States, state, Sits, SlotAgrees, Agrees}
 use Rattle.proc_table.specs.Moves.{IsHistory}
 use Rattle.proc_history.proofs.Prefixes.{prefix_both}
 use Rattle.proc_table.proofs.Seats.{Reseats, reseats}
-use Rattle.proc_table.proofs.Turns.{Change, slot_changes, stays, turns}
+use Rattle.proc_table.proofs.Turns.{Change, Lends, slot_changes, stays, turns}
 
 -- one slot's history is another
 pub put : (ℕ → List HistoryEntry) → ℕ → List HistoryEntry → ℕ → List HistoryEntry
@@ -46,11 +46,12 @@ history_is s a p h all =
     (subst (λ g. IsPrefix g h) long.3 (all.longest long.0 long.1 long.2))
     (subst (λ g. IsPrefix g (a.history p)) top.3 ((a.each p).parts top.0 top.1 top.2).begins)
 
--- A seat's part of one slot changes, with the slot's history, word and home: if this slot agrees, all do.
+-- A seat's part of one slot changes, with the slot's history, word and home, and it has seen that whole history: if this slot
+-- agrees, all do.
 pub turns_at : (s : States) (i : ℕ) (v : View) (a : Agrees s) (p : ℕ) (k : List HistoryEntry) (x : Part) (n : ℕ) (m : Option Value)
-    → Sits s i v → v.guest ≡ None → p < slots → Change s (a.history p) k p i v None x n (some m)
+    → Sits s i v → v.guest ≡ None → p < slots → x.seen ≡ k → Change s (a.history p) k p i v None x n (some m)
     → Agrees (state (set s.words p n) (set s.homes p m) (set s.views i (with_part v p x)))
-turns_at s i v a p k x n m sits alone inside c =
+turns_at s i v a p k x n m sits alone inside all c =
     let w = with_part v p x in
     let t = state (set s.words p n) (set s.homes p m) (set s.views i w) in
     let r : Reseats s t i v w = reseats s (set s.words p n) (set s.homes p m) i v w sits sits.1 in
@@ -69,6 +70,14 @@ turns_at s i v a p k x n m sits alone inside c =
       grows = omega arith;
       counted = inl refl;
     })
+    (record {
+      lent = λ handler j u ne su pass. a.lent i j v u sits su handler pass;
+      settled = λ handler q z strange. dite (ℕ_discrete q p)
+          (λ e. subst (λ y. own z (put a.history p k y) ≡ own z (seen w y)) (sym e)
+          (ap (own z) (put_here a.history p k ∙ (sym all ∙ ap (λ (y : Part). y.seen) (sym (get_or-set_same v.parts p x unseen (omega arith)))))))
+          (λ other. ap (own z) (put_else a.history p k q other)
+          ∙ (a.settled i q z v sits handler strange ∙ ap (λ (y : Part). own z y.seen) (sym (get_or-set_other v.parts p q x unseen other))));
+    })
     (λ q. dite (ℕ_discrete q p)
     (λ e. subst (λ z. SlotAgrees t (put a.history p k z) z) (sym e) (rw (put_here a.history p k)
     (slot_changes s t (a.history p) k p i v w None x n (some m) r refl alone
@@ -82,12 +91,12 @@ turns_at s i v a p k x n m sits alone inside c =
     (λ e. subst (λ y. own z (put a.history p k y) ≡ own z (a.history y)) (sym e) (ap (own z) (put_here a.history p k) ∙ c.strangers z ne))
     (λ other. ap (own z) (put_else a.history p k q other)))
 
--- Words, homes and parts stay, and the seat's view differs in its count, what it found, or its guest.
+-- Words, homes and parts stay, and the seat's view differs in its count, what it lent or found, or its guest.
 unfoldable pub turns_nowhere : (s : States) (i : ℕ) (v w : View) (a : Agrees s) (more : ℕ)
     → Sits s i v → w.spent ≡ false → w.number ≡ v.number → w.parts ≡ v.parts → ((g : Guest) → w.guest ≡ Some g → v.guest ≡ Some g)
-    → (w.number ≡ 0 → w.count ≡ more) → a.passes ≤ more → (a.passes ≡ more) ⊎ (v.number ≡ 0)
+    → (w.number ≡ 0 → w.count ≡ more) → a.passes ≤ more → (a.passes ≡ more) ⊎ (v.number ≡ 0) → Lends s a.history i w
     → Agrees (state s.words s.homes (set s.views i w))
-turns_nowhere s i v w a more sits live number parts guest count grows counted =
+turns_nowhere s i v w a more sits live number parts guest count grows counted lends =
     let t = state s.words s.homes (set s.views i w) in
     let r : Reseats s t i v w = reseats s s.words s.homes i v w sits live in
     let fits = a.seats i v sits in
@@ -101,6 +110,7 @@ turns_nowhere s i v w a more sits live number parts guest count grows counted =
       grows = grows;
       counted = counted;
     })
+    lends
     (λ q. slot_changes s t (a.history q) (a.history q) q i v w w.guest (part_of v.parts q) (slice_index s.words q) (get_elem? s.homes q) r number refl
     (ap (λ l. part_of l q) parts) refl refl
     (λ j u ne su e. ne (a.apart j i u v su sits e)) (a.each q) (stays s (a.history q) q i v w.guest sits guest (a.each q)))

@@ -14,6 +14,7 @@ use Rattle.proc_history.specs.Events.{MayAdd}
 use Rattle.proc_table.specs.Moves.{Takes, Gives, Misses, Lays, Lifts, Learns}
 use Rattle.proc_history.proofs.Prefixes.{prefix_self, prefix_more}
 use Rattle.proc_history.proofs.Entries.{own-append, own_all_by, own_none_by, added_by}
+use Rattle.proc_table.proofs.Turns.{still_lends}
 use Rattle.proc_table.proofs.SlotTurns.{word_not_zero, history_is, turns_at, turns_nowhere}
 
 -- the history's own entries with those added
@@ -29,7 +30,7 @@ takes_agree s t m a =
     let f = (a.each m.p).parts m.i m.v m.sits in
     let same : h ≡ m.h = history_is s a m.p m.h m.all in
     let x = part m.h ((part_of m.v.parts m.p).mine) true false in
-    subst Agrees (sym m.is) (turns_at s m.i m.v a m.p m.h x (word_of m.v.number) none m.sits m.alone m.inside (record {
+    subst Agrees (sym m.is) (turns_at s m.i m.v a m.p m.h x (word_of m.v.number) none m.sits m.alone m.inside refl (record {
       longer = subst (λ g. IsPrefix h g) same (prefix_self h);
       legal = subst IsLegal same (a.each m.p).legal;
       strangers = λ z ne. ap (own z) (sym same);
@@ -44,6 +45,7 @@ takes_agree s t m a =
         met_first = λ g is. absurd (cc);
         met_second = λ g is. absurd (cc);
         met_own = λ g is. absurd (cc);
+        met_settled = λ g is. absurd (cc);
       };
       others = λ j u ne su ou. absurd (word_not_zero u.number (sym (((a.each m.p).parts j u su).word_where_out ou) ∙ m.free));
       home = λ inside zero. absurd (word_not_zero m.v.number zero);
@@ -59,7 +61,7 @@ gives_agree s t m a =
     let all : seen m.v m.p ≡ h = f.all_where_out m.out in
     let k = seen m.v m.p ++ m.entries in
     let x = part k ((part_of m.v.parts m.p).mine ++ m.entries) false false in
-    subst Agrees (sym m.is) (turns_at s m.i m.v a m.p k x 0 (some (replay k)) m.sits m.alone m.inside (record {
+    subst Agrees (sym m.is) (turns_at s m.i m.v a m.p k x 0 (some (replay k)) m.sits m.alone m.inside refl (record {
       longer = subst (λ g. IsPrefix g k) all (prefix_more (seen m.v m.p) m.entries);
       legal = m.legal;
       strangers = λ z ne. strangers_added m.v.number z (seen m.v m.p) m.entries m.may ne ∙ ap (own z) all;
@@ -74,6 +76,7 @@ gives_agree s t m a =
         met_first = λ g is. absurd (cc);
         met_second = λ g is. absurd (cc);
         met_own = λ g is. absurd (cc);
+        met_settled = λ g is. absurd (cc);
       };
       others = λ j u ne su ou. absurd (ne (here.alone j m.i u m.v su m.sits ou m.out));
       home = λ inside zero. refl;
@@ -85,13 +88,15 @@ pub misses_agree : (s t : States) → Misses s t → Agrees s → Agrees t
 misses_agree s t m a =
     let f = a.seats m.i m.v m.sits in
     subst Agrees (sym (m.is ∙ ap (λ ws. state ws s.homes (set s.views m.i (found_more m.v m.p (slice_index s.words m.p)))) (set-get_or s.words m.p 0)))
-    (turns_nowhere s m.i m.v (found_more m.v m.p (slice_index s.words m.p)) a a.passes m.sits m.sits.1 refl refl (λ g is. is) f.count (omega arith) (inl refl))
+    (turns_nowhere s m.i m.v (found_more m.v m.p (slice_index s.words m.p)) a a.passes m.sits m.sits.1 refl refl (λ g is. is) f.count (omega arith) (inl refl)
+    (still_lends s m.i m.v (found_more m.v m.p (slice_index s.words m.p)) a m.sits refl refl refl))
 
 pub learns_agree : (s t : States) → Learns s t → Agrees s → Agrees t
 learns_agree s t m a =
     let f = a.seats m.i m.v m.sits in
     subst Agrees (sym (m.is ∙ ap (λ ws. state ws s.homes (set s.views m.i (no_guest m.v))) (set-get_or s.words m.p 0)))
-    (turns_nowhere s m.i m.v (no_guest m.v) a a.passes m.sits m.sits.1 refl refl (λ g is. absurd (cc)) f.count (omega arith) (inl refl))
+    (turns_nowhere s m.i m.v (no_guest m.v) a a.passes m.sits m.sits.1 refl refl (λ g is. absurd (cc)) f.count (omega arith) (inl refl)
+    (still_lends s m.i m.v (no_guest m.v) a m.sits refl refl refl))
 
 -- the handler's part stays, and the home is another
 home_agrees : (s : States) (a : Agrees s) (i p : ℕ) (v : View) (laid : Bool) (m : Option Value)
@@ -101,7 +106,7 @@ home_agrees s a i p v laid m sits alone inside out y =
     let here = a.each p in
     let f = here.parts i v sits in
     let x = part (seen v p) (mine v p) true laid in
-    turns_at s i v a p (a.history p) x (slice_index s.words p) m sits alone inside (record {
+    turns_at s i v a p (a.history p) x (slice_index s.words p) m sits alone inside (f.all_where_out out) (record {
       longer = prefix_self (a.history p);
       legal = here.legal;
       strangers = λ z ne. refl;
@@ -116,6 +121,7 @@ home_agrees s a i p v laid m sits alone inside out y =
         met_first = λ g is. absurd (cc);
         met_second = λ g is. absurd (cc);
         met_own = λ g is. absurd (cc);
+        met_settled = λ g is. absurd (cc);
       };
       others = λ j u ne su ou. absurd (ne (here.alone j i u v su sits ou out));
       home = λ inside zero. absurd (word_not_zero v.number (sym (f.word_where_out out) ∙ zero));

@@ -1,5 +1,6 @@
 -- The table allows each step.
-use Rattle.std.proofs.Common.{◌≡◌, ◌≢◌, ◌⊎◌, ◌==◌, ℕ, zero, suc, ◌<◌, Bool, true, false, MatchBool, List, [], ◌∷◌, ◌++◌, slice_index, refl, ap, sym, ◌∙◌, inl, inr, ⊎_elim, arith}
+use Rattle.std.proofs.Common.{◌≡◌, ◌≢◌, ◌⊎◌, ◌==◌, ℕ, zero, suc, ◌<◌, Bool, true, false, MatchBool, List, [], ◌∷◌, ◌++◌, slice_index, refl, ap, sym, ◌∙◌, subst, inl, inr, ⊎_elim, arith}
+use Rattle.std.specs.List.{Contains}
 use Rattle.std.proofs.lemmas.Bool.Decides.{nat_tests}
 use mathlib.Core.Option.{none}
 use prog.Atomic.{either}
@@ -19,6 +20,7 @@ use Rattle.proc_table.specs.Steps.{Me, Ready, Fresh, Took, Missed, took_or_misse
 use Rattle.proc_table.specs.Moments.{Once, HasAtWord}
 use Rattle.proc_table.proofs.MomentLemmas.{has_at}
 use Rattle.proc_history.proofs.Entries.{own-append, legal_prefix, append_nothing}
+use Rattle.proc_table.proofs.LentLemmas.{none_lent, nothing_behind}
 use Rattle.proc_table.proofs.Runs.{reached_agrees, next}
 
 history_of : (s : States) (a : Agrees s) (p : ℕ) → IsHistory s p (a.history p)
@@ -33,6 +35,8 @@ fresh s a p i v sits =
       is = sym f.begins.1;
       strangers = append_nothing (own v.number (seen v p)) (own v.number f.begins.0)
           (sym (own-append v.number (seen v p) f.begins.0) ∙ (ap (own v.number) f.begins.1 ∙ (f.own_all ∙ sym f.own_seen)));
+      alone = λ handler none. nothing_behind (seen v p) f.begins.0
+          (λ n. ap (own n) f.begins.1 ∙ a.settled i p n v sits handler (subst (λ ns. ¬ Contains ns n) (sym none) (none_lent n)));
       legal = (a.each p).legal;
       once = f.own_all;
     }
@@ -172,6 +176,7 @@ learns_allowed n id me p live s r long at fits =
           first = λ q. ((a.each q).parts id me.0 sits).met_first g is;
           second = λ q. ((a.each q).parts id me.0 sits).met_second g is;
           once = λ q. ((a.each q).parts id me.0 sits).met_own g is;
+          settled = λ handler q. ((a.each q).parts id me.0 sits).met_settled g is handler;
         };
         is = refl;
       },

@@ -1,6 +1,7 @@
 -- One seat's view changes, and with it words, homes and histories: what the change owes so that all agree again.
 use Rattle.std.proofs.Common.{◌≡◌, ◌≢◌, ◌⊎◌, ℕ, zero, suc, ◌+◌, ◌<◌, ◌≤◌, Bool, true, false, List, [], ◌∷◌, ◌++◌, length, set, get_or, slice_index, refl, ap, sym, subst, ◌∙◌, inl, inr, ⊎_elim, arith, true≢false, Some, None, IfSome}
 use Rattle.std.proofs.Common as std
+use Rattle.std.specs.List.{Contains}
 use mathlib.Core.Option.{Option, some}
 use mathlib.Core.List.{IsPrefix}
 use native.Mathlib.Decide.{ℕ_discrete}
@@ -11,7 +12,7 @@ use Rattle.proc_history.specs.declared.value.Value.{Value}
 use Rattle.proc_history.specs.Events.{HistoryEntry, own}
 use Rattle.proc_table.specs.Parts.{Part, Guest, part_of}
 use Rattle.proc_history.specs.Histories.{replay, IsLegal}
-use Rattle.proc_table.specs.Views.{seen, is_out}
+use Rattle.proc_table.specs.Views.{seen, is_out, IsLent}
 use Rattle.proc_table.specs.Agrees.{slots, States, Sits, FitsPart, FitsSeat, SlotAgrees, Agrees}
 use Rattle.proc_history.proofs.Prefixes.{prefix_self, prefix_trans}
 use Rattle.proc_table.proofs.Seats.{Reseats, one_view}
@@ -43,6 +44,7 @@ other_part s h k p i v guest x n m c j u ne number sits f = record {
   met_first = f.met_first;
   met_second = f.met_second;
   met_own = f.met_own;
+  met_settled = f.met_settled;
 }
 
 -- the slot agrees again
@@ -98,6 +100,7 @@ stays s h p i v guest sits same a =
         met_first = λ g is. f.met_first g (same g is);
         met_second = λ g is. f.met_second g (same g is);
         met_own = λ g is. f.met_own g (same g is);
+        met_settled = λ g is. f.met_settled g (same g is);
       };
       others = λ j u ne su ou. (not_out (is_out v p) (λ out. ne (a.alone j i u v su sits ou out)), refl, refl, refl);
       home = a.home;
@@ -123,13 +126,26 @@ pub record Passes (s t : States) (passes more i : ℕ) (v w : View) : Type 0 whe
   pub grows : passes ≤ more
   pub counted : (passes ≡ more) ⊎ (v.number ≡ 0)
 
+-- What the seat owes where it is the handler's: it has lent each pass, and has seen all entries but theirs.
+pub record Lends (s : States) (history : ℕ → List HistoryEntry) (i : ℕ) (w : View) : Type 0 where
+  pub lent : w.number ≡ 0 → (j : ℕ) (u : View) → j ≢ i → Sits s j u → u.number ≢ 0 → IsLent w u.number
+  pub settled : w.number ≡ 0 → (p n : ℕ) → ¬ IsLent w n → own n (history p) ≡ own n (seen w p)
+
+-- it does where it did, and nothing that bears on it changed
+pub still_lends : (s : States) (i : ℕ) (v w : View) (a : Agrees s) → Sits s i v → w.number ≡ v.number → w.lent ≡ v.lent → w.parts ≡ v.parts → Lends s a.history i w
+still_lends s i v w a sits number lent parts = record {
+  lent = λ handler j u ne su pass. subst (λ ns. Contains ns u.number) (sym lent) (a.lent i j v u sits su (sym number ∙ handler) pass);
+  settled = λ handler p n strange. a.settled i p n v sits (sym number ∙ handler) (λ c. strange (subst (λ ns. Contains ns n) (sym lent) c))
+      ∙ ap (λ (ps : List Part). own n (part_of ps p).seen) (sym parts);
+}
+
 -- all agree again
 unfoldable pub turns : (s t : States) (i : ℕ) (v w : View) (a : Agrees s) (more : ℕ) (history : ℕ → List HistoryEntry)
-    → Reseats s t i v w → Passes s t a.passes more i v w
+    → Reseats s t i v w → Passes s t a.passes more i v w → Lends s history i w
     → ((p : ℕ) → SlotAgrees t (history p) p)
     → ((p z : ℕ) → z ≢ v.number → own z (history p) ≡ own z (a.history p))
     → Agrees t
-turns s t i v w a more history r f each strangers = record {
+turns s t i v w a more history r f lends each strangers = record {
   history = history;
   passes = more;
   words = f.words;
@@ -157,5 +173,22 @@ turns s t i v w a more history r f each strangers = record {
       (λ at. absurd (else.0 (a.apart j i u v else.1 r.before (e ∙ (sym (ap (λ (y : View). y.number) at.1) ∙ f.number)))))
       (λ too. a.apart j l u z else.1 too.1 e)
       (r.back l z sz))
+      (r.back j u su);
+  lent = λ j l u z su sz handler pass. ⊎_elim
+      (λ at. ⊎_elim
+      (λ too. absurd (pass (ap (λ (y : View). y.number) (sym too.1) ∙ (ap (λ (y : View). y.number) at.1 ∙ handler))))
+      (λ else. subst (λ (y : View). IsLent y z.number) at.1 (lends.lent (ap (λ (y : View). y.number) at.1 ∙ handler) l z else.0 else.1 pass))
+      (r.back l z sz))
+      (λ else. ⊎_elim
+      (λ at. subst (IsLent u) (sym f.number ∙ ap (λ (y : View). y.number) at.1)
+      (a.lent j i u v else.1 r.before handler (λ e. pass (ap (λ (y : View). y.number) (sym at.1) ∙ (f.number ∙ e)))))
+      (λ too. a.lent j l u z else.1 too.1 handler pass)
+      (r.back l z sz))
+      (r.back j u su);
+  settled = λ j p n u su handler strange. ⊎_elim
+      (λ at. subst (λ (y : View). own n (history p) ≡ own n (seen y p)) at.1
+      (lends.settled (ap (λ (y : View). y.number) at.1 ∙ handler) p n (λ c. strange (subst (λ (y : View). IsLent y n) at.1 c))))
+      (λ else. strangers p n (λ e. strange (subst (IsLent u) (sym e) (a.lent j i u v else.1 r.before handler (λ z. else.0 (a.apart j i u v else.1 r.before (handler ∙ sym z))))))
+      ∙ a.settled j p n u else.1 handler strange)
       (r.back j u su);
 }

@@ -32,10 +32,13 @@ pub since : (p : ℕ) (v : View) (h : Holding) (w : View) → HeldAtLast p v h w
 since p v h w at =
     let looked = at.held.looked in
     let number : at.before.number ≡ v.number = ap (λ (z : View). z.number) at.waited.is in
+    let lent : at.before.lent ≡ v.lent = ap (λ (z : View). z.lent) at.waited.is in
     let parts : at.before.parts ≡ v.parts = ap (λ (z : View). z.parts) at.waited.is in
     record {
       between = looked.between;
       strangers = subst (λ n. own n looked.between ≡ []) number looked.strangers;
+      handler = sym number ∙ at.held.handler;
+      alone = λ none. looked.alone at.held.handler (lent ∙ none);
       seen_is = looked.seen_is ∙ ap (λ (l : List Part). (part_of l p).seen ++ looked.between) parts;
       mine_is = looked.mine_is ∙ ap (λ (l : List Part). (part_of l p).mine) parts;
       legal = looked.legal;
@@ -45,10 +48,24 @@ since p v h w at =
       value = at.held.value;
       elsewhere = record {
         number = looked.rest.number ∙ number;
+        count = looked.rest.count ∙ ap (λ (z : View). z.count) at.waited.is;
+        lent = looked.rest.lent ∙ lent;
         others = λ q ne. looked.rest.others q ne ∙ ap (λ (l : List Part). part_of l q) parts;
       };
     }
 
 -- a release leaves other slots as they were
 pub elsewhere_left : (p : ℕ) (entries : List HistoryEntry) (v w : View) → Released p entries v w → Elsewhere p v w
-elsewhere_left p entries v w r = record { number = r.rest.number; others = r.rest.others }
+elsewhere_left p entries v w r = record { number = r.rest.number; count = r.rest.count; lent = r.rest.lent; others = r.rest.others }
+
+-- a hold and a release of what was held leave them so
+pub held_and_released : (p : ℕ) (entries : List HistoryEntry) (v : View) (h : Holding) (u w : View) → HeldAtLast p v h u → Released p entries u w → Elsewhere p v w
+held_and_released p entries v h u w at r =
+    let held = (since p v h u at).elsewhere in
+    let left = elsewhere_left p entries u w r in
+    record {
+      number = left.number ∙ held.number;
+      count = left.count ∙ held.count;
+      lent = left.lent ∙ held.lent;
+      others = λ q ne. left.others q ne ∙ held.others q ne;
+    }

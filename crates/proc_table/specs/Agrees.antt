@@ -1,5 +1,5 @@
 -- When the words, the values at home and the views agree: each slot has one legal history.
-use Rattle.std.specs.Prelude.{◌≡◌, ◌≢◌, ℕ, ◌<◌, ◌≤◌, true, false, List, [], length, replicate, slice_index, Option, Some}
+use Rattle.std.specs.Prelude.{◌≡◌, ◌≢◌, ℕ, ◌<◌, ◌≤◌, true, false, List, [], length, replicate, slice_index, Option, Some, Contains}
 use mathlib.Core.Option as base
 use mathlib.Core.Option.{some}
 use mathlib.Core.List.{IsPrefix}
@@ -12,7 +12,7 @@ use Rattle.proc_history.specs.Events.{HistoryEntry, own}
 use Rattle.proc_table.specs.Parts.{Part, Guest, part_of}
 use Rattle.proc_history.specs.Values.{nothing}
 use Rattle.proc_history.specs.Histories.{replay, IsLegal}
-use Rattle.proc_table.specs.Views.{seen, is_out, word_of, handler_view}
+use Rattle.proc_table.specs.Views.{seen, is_out, IsLent, word_of, handler_view}
 
 -- how many words and slots there are
 unfoldable pub slots : ℕ
@@ -36,7 +36,8 @@ Sits s i v = (get_elem? s.views i ≡ some v) × (v.spent ≡ false)
 -- all_where_out, word_where_out: where it has the value, it has seen all, and the word says so.
 -- laid: where an empty value is laid in its place, the slot is out, and some value at home.
 -- held, met_first, met_second, met_own: after a join, what is out was seen whole before; either had seen a beginning of what
--- is seen now, in which the own entries of the joined pass are its `mine`.
+-- is seen now, in which the own entries of the joined pass are its `mine`. met_settled: the handler had seen before all entries
+-- but those of the passes that it had lent.
 pub record FitsPart (h : List HistoryEntry) (word : ℕ) (home : base.Option (base.Option Value)) (number : ℕ) (guest : Option Guest) (p : ℕ) (x : Part) : Type 0 where
   pub begins : IsPrefix x.seen h
   pub own_seen : own number x.seen ≡ x.mine
@@ -48,6 +49,7 @@ pub record FitsPart (h : List HistoryEntry) (word : ℕ) (home : base.Option (ba
   pub met_first : (g : Guest) → guest ≡ Some g → IsPrefix (part_of g.before p).seen x.seen
   pub met_second : (g : Guest) → guest ≡ Some g → IsPrefix (part_of g.parts p).seen x.seen
   pub met_own : (g : Guest) → guest ≡ Some g → own g.number x.seen ≡ (part_of g.parts p).mine
+  pub met_settled : (g : Guest) → guest ≡ Some g → number ≡ 0 → (n : ℕ) → ¬ Contains g.lent n → own n x.seen ≡ own n (part_of g.before p).seen
 
 -- One slot. legal: its history may have happened. home: at word 0 the value at home is what the history leaves.
 -- taken, alone: at another word one seat has the value, and no two have it. parts: what each seat knows of it fits.
@@ -67,6 +69,7 @@ pub record FitsSeat (passes : ℕ) (v : View) : Type 0 where
   pub parts : length v.parts ≡ slots
 
 -- given: no entry has a number above the count of passes. apart: no two seats have one number.
+-- lent: the handler has lent each pass. settled: it has seen all entries but those of the passes that it has lent.
 pub record Agrees (s : States) : Type 0 where
   pub history : ℕ → List HistoryEntry
   pub passes : ℕ
@@ -76,3 +79,5 @@ pub record Agrees (s : States) : Type 0 where
   pub given : (p n : ℕ) → passes < n → own n (history p) ≡ []
   pub seats : (i : ℕ) (v : View) → Sits s i v → FitsSeat passes v
   pub apart : (i j : ℕ) (v w : View) → Sits s i v → Sits s j w → v.number ≡ w.number → i ≡ j
+  pub lent : (i j : ℕ) (v w : View) → Sits s i v → Sits s j w → v.number ≡ 0 → w.number ≢ 0 → IsLent v w.number
+  pub settled : (i p n : ℕ) (v : View) → Sits s i v → v.number ≡ 0 → ¬ IsLent v n → own n (history p) ≡ own n (seen v p)

@@ -14,25 +14,29 @@ use Rattle.proc_history.specs.Events.Event.{call}
 use Rattle.proc_table.specs.Parts.{longer, part_of}
 use Rattle.proc_history.specs.Histories.{replay, IsLegal}
 use Rattle.proc_history.specs.Values.{up_in, answer, outcome_of}
-use Rattle.proc_table.specs.Views.{seen, mine, is_out, found_more}
+use Rattle.proc_table.specs.Views.{seen, mine, is_out, IsLent, all_but, found_more}
 
 -- All but one slot is as before.
 pub record SameBut (p : ℕ) (v w : View) : Type 0 where
   pub number : w.number ≡ v.number
   pub count : w.count ≡ v.count
+  pub lent : w.lent ≡ v.lent
   pub found : w.found ≡ v.found
   pub others : (q : ℕ) → q ≢ p → part_of w.parts q ≡ part_of v.parts q
 
 -- All but one slot is as before. What was found isn't told, since it grows while a slot is waited for.
 pub record Elsewhere (p : ℕ) (v w : View) : Type 0 where
   pub number : w.number ≡ v.number
+  pub count : w.count ≡ v.count
+  pub lent : w.lent ≡ v.lent
   pub others : (q : ℕ) → q ≢ p → part_of w.parts q ≡ part_of v.parts q
 
--- The seat has seen the history up to a moment in the call: what it had seen, then entries of others. It is legal, and the
--- seat's own entries in it are those that it made, in order.
+-- The seat has seen the history up to a moment in the call: what it had seen, then entries of others, of which there are none
+-- where the handler has lent no pass. It is legal, and the seat's own entries in it are those that it made, in order.
 pub record Looked (p : ℕ) (v w : View) : Type 0 where
   pub between : List HistoryEntry
   pub strangers : own v.number between ≡ []
+  pub alone : v.number ≡ 0 → v.lent ≡ [] → between ≡ []
   pub seen_is : seen w p ≡ seen v p ++ between
   pub mine_is : mine w p ≡ mine v p
   pub legal : IsLegal (seen w p)
@@ -78,22 +82,26 @@ Shows p round v peeked.Busy w = w ≡ found_more v p 1
 Shows p round v peeked.Held w = w ≡ found_more v p 2
 Shows p round v peeked.Down w = Looked p v w × (up_in round (replay (seen w p)) ≡ None)
 
--- The handler's view is as before but for its count, and the pass has the number that it then has. The pass has seen as much,
--- and has done nothing.
+-- The handler's view is as before but for its count, and that it has lent the pass, whose number is that count. The pass has
+-- seen as much, and has done nothing.
 pub record Made (v w pass : View) : Type 0 where
+  pub maker : v.number ≡ 0
   pub count : w.count ≡ v.count + 1
   pub number : pass.number ≡ w.count
+  pub lent : w.lent ≡ w.count ∷ v.lent
   pub handler : (w.number ≡ v.number) × (w.parts ≡ v.parts) × (w.found ≡ v.found)
   pub seen_is : (p : ℕ) → seen pass p ≡ seen v p
   pub mine_is : (p : ℕ) → mine pass p ≡ []
   pub once : (p : ℕ) → own pass.number (seen pass p) ≡ []
   pub found : pass.found ≡ []
 
--- The seat v was joined by the pass w. Of each slot it has seen the longer of the two, in which the own entries of both stand,
--- in order and each once. All else stays.
+-- The seat v was joined by the pass w, which isn't lent any more. Of each slot it has seen the longer of the two, in which the
+-- own entries of both stand, in order and each once. The handler had seen before all entries in it but those of the passes that
+-- it had lent. All else stays.
 pub record Joined (v w both : View) : Type 0 where
   pub number : both.number ≡ v.number
   pub count : both.count ≡ v.count
+  pub lent : both.lent ≡ all_but w.number v.lent
   pub found : both.found ≡ v.found
   pub seen_is : (p : ℕ) → seen both p ≡ longer (seen v p) (seen w p)
   pub first : (p : ℕ) → IsPrefix (seen v p) (seen both p)
@@ -104,3 +112,4 @@ pub record Joined (v w both : View) : Type 0 where
   pub legal : (p : ℕ) → IsLegal (seen both p)
   pub once : (p : ℕ) → own v.number (seen both p) ≡ mine v p
   pub other_once : (p : ℕ) → own w.number (seen both p) ≡ mine w p
+  pub settled : v.number ≡ 0 → (p n : ℕ) → ¬ IsLent v n → own n (seen both p) ≡ own n (seen v p)

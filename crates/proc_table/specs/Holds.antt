@@ -19,6 +19,7 @@ holding_code value = code_by (ℕ × Value) (coded× coded_ℕ value) (λ h. (h.
 
 -- The handler holds the slot: it has seen the whole history, and the value is what that leaves.
 pub record HeldNow (p : ℕ) (v : View) (held : Holding) (w : View) : Type 0 where
+  pub handler : v.number ≡ 0
   pub slot : held.slot ≡ p
   pub looked : Looked p v w
   pub out : is_out w p ≡ true

@@ -11,4 +11,5 @@ pub mod Holds
 pub mod Waits
 pub mod Begins
 pub mod Free
+pub mod Alone
 pub mod Together

@@ -13,9 +13,11 @@ pub record Part : Type 0 where
 abbrev pub part : List HistoryEntry → List HistoryEntry → Bool → Bool → Part
 part seen mine out laid = record { seen = seen; mine = mine; out = out; laid = laid }
 
--- a pass that was joined. number: its own. before: what the first pass knew of each slot. parts: what this one knew.
+-- A pass that was joined. number: its own. lent: the passes that the first seat had lent. before: what the first knew of each
+-- slot. parts: what this one knew.
 pub record Guest : Type 0 where
   pub number : ℕ
+  pub lent : List ℕ
   pub before : List Part
   pub parts : List Part
 

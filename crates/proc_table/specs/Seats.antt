@@ -15,10 +15,10 @@ pub record Sitting : Type 0 where
   pub view : View
 
 abbrev pub view_code : Coded View
-view_code = code_by (ℕ × (ℕ × (List Part × (List (ℕ × ℕ) × (Option Guest × Bool)))))
-    (coded× coded_ℕ (coded× coded_ℕ (coded× parts_code (coded× (coded_list (coded× coded_ℕ coded_ℕ)) (coded× (coded_option guest_code) coded_bool)))))
-    (λ v. (v.number, (v.count, (v.parts, (v.found, (v.guest, v.spent))))))
-    (λ t. record { number = t.0; count = t.1.0; parts = t.1.1.0; found = t.1.1.1.0; guest = t.1.1.1.1.0; spent = t.1.1.1.1.1 }) (λ _. refl)
+view_code = code_by (ℕ × (ℕ × (List ℕ × (List Part × (List (ℕ × ℕ) × (Option Guest × Bool))))))
+    (coded× coded_ℕ (coded× coded_ℕ (coded× (coded_list coded_ℕ) (coded× parts_code (coded× (coded_list (coded× coded_ℕ coded_ℕ)) (coded× (coded_option guest_code) coded_bool))))))
+    (λ v. (v.number, (v.count, (v.lent, (v.parts, (v.found, (v.guest, v.spent)))))))
+    (λ t. record { number = t.0; count = t.1.0; lent = t.1.1.0; parts = t.1.1.1.0; found = t.1.1.1.1.0; guest = t.1.1.1.1.1.0; spent = t.1.1.1.1.1.1 }) (λ _. refl)
 
 abbrev pub sitting_code : Coded Sitting
 sitting_code = code_by (TableId × View) (coded× table_id_coded view_code) (λ s. (s.table, s.view)) (λ t. record { table = t.0; view = t.1 }) (λ _. refl)

@@ -1,5 +1,5 @@
 -- What each step asks of the seat that makes it, and what it tells.
-use Rattle.std.specs.Prelude.{◌≡◌, ◌⊎◌, ◌==◌, ℕ, Bool, true, false, List, [], ◌∷◌, ◌++◌, MatchBool, length, Some, None}
+use Rattle.std.specs.Prelude.{◌≡◌, ◌⊎◌, ◌==◌, ℕ, Bool, true, false, List, [], ◌∷◌, ◌++◌, MatchBool, length, Some, None, Contains}
 use mathlib.Core.List.{IsPrefix}
 use Rattle.atomic_table.specs.Table as table
 use Rattle.proc_table.specs.declared.view.View.{View}
@@ -21,12 +21,13 @@ pub record Ready (v : View) : Type 0 where
   pub live : v.spent ≡ false
   pub alone : v.guest ≡ None
 
--- This is the whole history of the slot: what was seen, then entries of others. It is legal, and the own entries in it are
--- `mine`.
+-- This is the whole history of the slot: what was seen, then entries of others, of which there are none where the handler has
+-- lent no pass. It is legal, and the own entries in it are `mine`.
 pub record Fresh (v : View) (p : ℕ) (h : List HistoryEntry) : Type 0 where
   pub between : List HistoryEntry
   pub is : h ≡ seen v p ++ between
   pub strangers : own v.number between ≡ []
+  pub alone : v.number ≡ 0 → v.lent ≡ [] → between ≡ []
   pub legal : IsLegal h
   pub once : own v.number h ≡ mine v p
 
@@ -74,12 +75,13 @@ pub record Known (v : View) : Type 0 where
   pub legal : (p : ℕ) → IsLegal (seen v p)
 
 -- Of a pass that was joined: what either had seen begins what is seen now, in which the own entries of the joined pass are its
--- `mine`. What is out was seen whole.
+-- `mine`. What is out was seen whole. The handler had seen before all entries in it but those of the passes that it had lent.
 pub record Met (v : View) (g : Guest) : Type 0 where
   pub held : (p : ℕ) → is_out v p ≡ true → seen v p ≡ (part_of g.before p).seen
   pub first : (p : ℕ) → IsPrefix (part_of g.before p).seen (seen v p)
   pub second : (p : ℕ) → IsPrefix (part_of g.parts p).seen (seen v p)
   pub once : (p : ℕ) → own g.number (seen v p) ≡ (part_of g.parts p).mine
+  pub settled : v.number ≡ 0 → (p n : ℕ) → ¬ Contains g.lent n → own n (seen v p) ≡ own n (part_of g.before p).seen
 
 pub record Learnt (me w : Me) : Type 0 where
   pub known : Known me.0

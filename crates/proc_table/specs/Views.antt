@@ -1,11 +1,11 @@
 -- What a seat knows: its view.
-use Rattle.std.specs.Prelude.{ℕ, zero, suc, ◌+◌, Bool, true, false, List, [], ◌∷◌, ◌++◌, map, replicate, slice_set, Some, None}
+use Rattle.std.specs.Prelude.{ℕ, zero, suc, ◌+◌, ◌==◌, Bool, true, false, not, List, [], ◌∷◌, ◌++◌, map, filter, replicate, slice_set, Some, None, Contains}
 use Rattle.proc_table.specs.declared.view.View.{View}
 use Rattle.proc_history.specs.Events.{HistoryEntry}
 use Rattle.proc_table.specs.Parts.{Part, part_of, unseen, only_seen, joined_parts}
 
 abbrev pub view : ℕ → ℕ → List Part → View
-view number count parts = record { number = number; count = count; parts = parts; found = []; guest = None; spent = false }
+view number count parts = record { number = number; count = count; lent = []; parts = parts; found = []; guest = None; spent = false }
 
 abbrev pub seen : View → ℕ → List HistoryEntry
 seen v p = (part_of v.parts p).seen
@@ -15,6 +15,14 @@ mine v p = (part_of v.parts p).mine
 
 abbrev pub is_out : View → ℕ → Bool
 is_out v p = (part_of v.parts p).out
+
+-- the handler has lent the pass of this number, and not taken it back
+abbrev pub IsLent : View → ℕ → Type 0
+IsLent v n = Contains v.lent n
+
+-- the other numbers
+abbrev pub all_but : ℕ → List ℕ → List ℕ
+all_but n ns = filter (λ m. not (m == n)) ns
 
 -- the word of a slot whose value this seat has
 abbrev pub word_of : ℕ → ℕ
@@ -33,17 +41,21 @@ no_guest v = record v { guest = None }
 
 -- the handler's after it made a pass, and the pass
 abbrev pub one_more : View → View
-one_more v = record v { count = v.count + 1 }
+one_more v = record v { count = v.count + 1; lent = (v.count + 1) ∷ v.lent }
 
 abbrev pub new_pass : View → View
 new_pass v = view (v.count + 1) 0 (map only_seen v.parts)
 
 -- the first seat's after a join, and the second's
 abbrev pub joined : View → View → View
-joined v w = record v { parts = joined_parts v.parts w.parts; guest = Some (record { number = w.number; before = v.parts; parts = w.parts }) }
+joined v w = record v {
+  lent = all_but w.number v.lent;
+  parts = joined_parts v.parts w.parts;
+  guest = Some (record { number = w.number; lent = v.lent; before = v.parts; parts = w.parts });
+}
 
 abbrev pub gone : View
-gone = record { number = 0; count = 0; parts = []; found = []; guest = None; spent = true }
+gone = record { number = 0; count = 0; lent = []; parts = []; found = []; guest = None; spent = true }
 
 -- the handler's at the start
 abbrev pub handler_view : ℕ → View

@@ -43,11 +43,13 @@ pub record HeldAtLast (p : ℕ) (v : View) (h : Holding) (w : View) : Type 0 whe
   pub waited : Waited p v before
   pub held : HeldNow p before h w
 
--- Of a slot that was waited for and is held, since before the waiting: entries of others came, and other slots are as they
--- were.
+-- Of a slot that was waited for and is held, since before the waiting: entries of others came, of which there are none where
+-- the handler has lent no pass, and other slots are as they were.
 pub record HeldSince (p : ℕ) (v : View) (h : Holding) (w : View) : Type 0 where
   pub between : List HistoryEntry
   pub strangers : own v.number between ≡ []
+  pub handler : v.number ≡ 0
+  pub alone : v.lent ≡ [] → between ≡ []
   pub seen_is : seen w p ≡ seen v p ++ between
   pub mine_is : mine w p ≡ mine v p
   pub legal : IsLegal (seen w p)

@@ -3,6 +3,7 @@ ghost use Rattle.std.specs.Prelude.{◌≡◌, IfOk, replicate, []};
 ghost use Rattle.proc_table.specs.Agrees.{slots};
 ghost use Rattle.proc_table.specs.Calls.{Made, Joined};
 ghost use Rattle.proc_history.specs.Values.{nothing};
+ghost use Rattle.proc_table.specs.Seats.{IsHandler};
 ghost use Rattle.proc_table.specs.Views.{handler_view};
 
 use crate::{Pass, ProcTable, SLOTS, View};
@@ -32,6 +33,15 @@ impl Model for HandlerSeat {
 
     ghost invariant = { λ p. (p.seat.me.1 ≡ []) × IsHandler p.seat.me.0
         × Noted p.next p.seat.me.0 };
+}
+
+impl HandlerSeat {
+    /// What is so of the handler between its calls: its number is 0, and what it knows of each slot is legal. It does nothing.
+    pub fn knows(&self)
+        ensures { IsHandler self.now.view }
+    {
+        let _ = &self.seat;
+    }
 }
 
 impl ProcTable {

@@ -1,4 +1,5 @@
 //! Laws of the definitions themselves. Each function does nothing: its contract is the law.
+ghost use Rattle.proc_table.specs.Alone.{AloneSeesAll};
 ghost use Rattle.proc_table.specs.Free.{BeginsTakeOne, HandlerKnows};
 ghost use Rattle.proc_table.specs.Moves.{RunsAgree, ReachedAgrees, HeldAlone};
 ghost use Rattle.proc_table.specs.Together.{TwoClients, CallsStandApart};
@@ -45,4 +46,9 @@ pub fn the_handler_knows_where_a_process_can_begin()
 /// A process that begins takes one of the slots in which one can, and where there is none, none is counted.
 pub fn a_begin_takes_one_free_slot()
     ensures { BeginsTakeOne }
+{}
+
+/// While the handler has lent no pass, it has seen all of each history: what it holds, after waiting or not, is what it knew.
+pub fn a_handler_alone_sees_all()
+    ensures { AloneSeesAll }
 {}

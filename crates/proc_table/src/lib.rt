@@ -7,13 +7,15 @@
 //! the handler the process, and [`ProcTable::release`] adds the handler's entries at once (specs/Holds, specs/Releases). They are
 //! given no memory and no lock. [`ProcTable::call`], [`ProcTable::hold`], [`ProcTable::begin`] and [`ProcTable::give_up`] wait
 //! for the slot, and say the same if they return (specs/Waits, specs/Begins). [`HandlerSeat::lowest_free`] tells where a process
-//! can begin, and [`ProcTable::begin_lowest`] begins one there (specs/Free).
+//! can begin, and [`ProcTable::begin_lowest`] begins one there (specs/Free). While the handler has lent no pass, nobody else adds
+//! to a history, and [`ProcTable::call_alone`] says all of its call (specs/Alone).
 //! Words, values and what each seat knows agree at any time (specs/Agrees). The table keeps that a run of the kinds of step
 //! leads to what it is (specs/Moves); the functions of `laws` say that every run keeps agreement.
 //!
 //! Only tested: that a call is answered where nobody has the process. Trusted: the toolchain alone, `atomic_table` with it.
 #![tactic(auto)]
 
+mod alone;
 mod begins;
 mod calls;
 mod free;

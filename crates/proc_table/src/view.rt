@@ -12,6 +12,9 @@ pub struct View {
     pub ghost number: { ℕ },
     /// How many passes the handler has made.
     pub ghost count: { ℕ },
+    /// The handler's: the numbers of the passes that it made and that weren't taken back. One that met another stays among
+    /// them.
+    pub ghost lent: { List ℕ } by { coded_list coded_ℕ },
     /// What it knows of each slot.
     pub ghost parts: { List Part } by { parts_code },
     /// The failed takes: each the slot, and the word found.

@@ -1,4 +1,5 @@
 //! The answer to a case.
+use crate::own_calls::push_own_calls;
 use crate::steps::follow_steps;
 use crate::texts::push_relup;
 use crate::threads::push_clients;
@@ -13,7 +14,7 @@ use std::sync::Wait;
 use std::thread::Threads;
 use text_cases::Answer;
 
-/// The answer in one of 22 modes. A text that can't be read is answered by its fault.
+/// The answer in one of 23 modes. A text that can't be read is answered by its fault.
 ///
 /// `mod`: the table of a file. `term`: the same, read again from the file's term. `step`: what comes of a call; the text is a
 /// state, an input and a file. `change`: the state after a change of code; the text is a direction, a version, an extra
@@ -31,8 +32,8 @@ use text_cases::Answer;
 /// [`made_relups`]. The modes of files are those of [`relups_of_files::push_answer`].
 ///
 /// `steps`: what steps at a new table answer, as in [`follow_steps`]. `tree`: the same with applications that are started and
-/// stopped, as in [`follow_tree`]. `clients`: what two clients and the handler see in
-/// threads of their own, as in [`push_clients`].
+/// stopped, as in [`follow_tree`]. `clients`: what two clients and the handler see in threads of their own, as in
+/// [`push_clients`]. `alone`: what a process answers to calls that the handler makes itself, as in [`push_own_calls`].
 pub(crate) fn answer<R: Threads + Wait + Sync>(
     rt: &R,
     alloc: Global,
@@ -45,6 +46,7 @@ pub(crate) fn answer<R: Threads + Wait + Sync>(
         "steps" => follow_steps(rt, alloc, words, &mut answer),
         "tree" => follow_tree(rt, alloc, words, &mut answer),
         "clients" => push_clients(rt, alloc, words, &mut answer),
+        "alone" => push_own_calls(rt, alloc, words, &mut answer),
         _ => push_read(alloc, mode, text, words, &mut answer),
     }
     answer.finish()

@@ -94,7 +94,12 @@ fn push_call(table: &ProcTable, pass: &mut Pass, pid: Pid, input: u32, answer: &
     requires { pass.old.table ≡ table.now }
     ensures { pass.new.table ≡ pass.old.table }
 {
-    match table.try_call(pass, pid, input) {
+    push_tried(table.try_call(pass, pid, input), answer);
+}
+
+/// Appends what a call was answered.
+pub(crate) fn push_tried(tried: Tried, answer: &mut Answer) {
+    match tried {
         Tried::Done(reply) => push_counted("done ", reply as u64, answer),
         Tried::Crashed => answer.push("crashed"),
         Tried::Ended(reply) => push_counted("ended ", reply as u64, answer),

@@ -1,7 +1,8 @@
 //! The program `upgrade_cases`: what the libraries of upgrades make of the texts on its input, a case a line. [`answer`] has the
 //! modes: tables of modules that `mod_table` reads, what clients see of the processes of `proc_table` that others call and hold,
-//! in one thread and in threads of their own, applications that `sup_tree` starts and stops, relups that `relup_file` reads and `relup_script` searches, appups that
-//! `appup_file` reads, and relups that `relup_translate` makes of releases, and `relup_command` of files.
+//! in one thread and in threads of their own, what these answer to the handler, applications that `sup_tree` starts and stops,
+//! relups that `relup_file` reads and `relup_script` searches, appups that `appup_file` reads, and relups that `relup_translate`
+//! makes of releases, and `relup_command` of files.
 #![tactic(auto)]
 
 mod answers;
@@ -9,6 +10,7 @@ mod appup_texts;
 mod appups;
 mod clients;
 mod made_relups;
+mod own_calls;
 mod processes;
 mod release_terms;
 mod relups;
