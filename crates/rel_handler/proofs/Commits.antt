@@ -6,17 +6,21 @@ use Rattle.std.specs.List.{AllByRecursion}
 use Rattle.rel_disk.specs.declared.disk.Disk.{Ghosts}
 use Rattle.rel_disk.specs.Moments.{LeavesOnly, HasFailed}
 use Rattle.rel_disk.proofs.Moments.{started, joined, weakened, both}
+use Rattle.rel_files.specs.File.{HasVersions}
 use Rattle.rel_files.specs.Release.{Release}
 use Rattle.library.specs.Library.{IsLibrary}
-use Rattle.rel_list.specs.Releases.{Bundle, Releases, permanent}
+use Rattle.rel_list.specs.Releases.{Bundle, Entry, Releases, permanent}
 use Rattle.rel_list.specs.Event.{Event, booted, step, list_after}
 use Rattle.rel_list.specs.Event.Event.{unpacked}
 use Rattle.rel_list.proofs.LibraryLaws.{libraries-booted}
 use Rattle.rel_records.specs.Lists.{Makes, HaveVersions, HaveLibraries}
 use Rattle.rel_records.specs.Reading.{Spells}
+use Rattle.rel_records.specs.Startable.{AreStartable}
 use Rattle.rel_records.specs.Writing.{record_of, IsComplete}
+use Rattle.rel_records.proofs.EachRelease.{each-of_booted}
 use Rattle.rel_records.proofs.EventRecords.{unpacked_tells}
 use Rattle.rel_records.proofs.RecordLaws.{make_libraries, make_versions}
+use Rattle.rel_records.proofs.StartableLemmas.{make_startable, startable-of_booted}
 use Rattle.rel_store.specs.Contents.{HasOnlyRead}
 use Rattle.rel_store.specs.Changed.{LeavesOthers, IsInRecord, IsInOtherSlot}
 use Rattle.rel_store.specs.Layout.{slot_with, base_of}
@@ -65,17 +69,17 @@ pub read_nothing : {D : Type 0} (v : Ghosts D) (h : Handler D) → ((c : List �
     → HasOnlyRead v.seen v.may_leave v.moment v.left_since (disk_in h) (disk_in h)
 read_nothing v h only_now = record { same = refl; crash = λ c now. now; any_moment = started v.moment v.left_since (disk_in h) (v.may_leave (disk_in h)) only_now }
 
--- the releases of a list have versions as they have them behind a boot
-versions-booted : (es : Releases) → HaveVersions (booted es) → HaveVersions es
-versions-booted [] all = tt
-versions-booted (e ∷ es) all = (all.0, versions-booted es all.1)
-
+-- the releases of a list have the versions of files
 pub have_versions : (bodies : List (List ℕ)) (es : Releases) → Makes bodies (booted es) → HaveVersions es
-have_versions bodies es makes_it = versions-booted es (make_versions bodies (booted es) makes_it)
+have_versions bodies es makes_it = each-of_booted (λ (e : Entry). HasVersions e.release) (λ e s has. has) es (make_versions bodies (booted es) makes_it)
 
--- and so are its libraries ones
+-- its libraries are what the files of applications say
 pub have_libraries : (bodies : List (List ℕ)) (es : Releases) → Makes bodies (booted es) → HaveLibraries es
 have_libraries bodies es makes_it = subst (AllByRecursion IsLibrary) (libraries-booted es) (make_libraries bodies (booted es) makes_it)
+
+-- a boot can start the releases of a handler that is ready
+pub releases_startable : {D : Type 0} {seen : D → List ℕ} {may_leave : D → List ℕ → Type 0} (h : Handler D) → IsReady seen may_leave h → AreStartable (list_in h)
+releases_startable h ready = startable-of_booted (list_in h) (make_startable (store.records_in h.store) (booted (list_in h)) ready.list)
 
 -- the record of a release that may come in
 pub unpacked_told : (p : Bundle) (es next : Releases) (body : List ℕ) → Spells body (record_of (unpacked p) es) → HaveLibraries es → IsComplete p → commanded (unpacked p) es ≡ Ok next → IsRecordFor body (unpacked p) es

@@ -2,6 +2,7 @@
 ghost use Rattle.std.specs.Prelude.{◌≡◌, true, false, string_bytes, IfOk, IfErr, OnOk, MatchResult};
 ghost use Rattle.rel_list.specs.Event.Event.{installed, made_permanent, removed, reboot_old};
 ghost use Rattle.rel_list.specs.Releases.{running};
+ghost use Rattle.rel_records.specs.Startable.{AreStartable};
 ghost use Rattle.rel_handler.specs.Commits.{Commits, IsDone};
 ghost use Rattle.rel_handler.specs.Refusals.{CommandRefused};
 ghost use Rattle.rel_handler.specs.State.{disk_in, list_in, is_dead, start_in, version_of, HasStarted, IsSound};
@@ -49,11 +50,13 @@ impl<D: Disk> Handler<D> {
         self.dead
     }
 
-    /// The releases of the node, in order of coming.
+    /// The releases of the node, in order of coming. A boot can start each of them (`startable`).
     pub fn which_releases(&self) -> Result<&ReleaseList, HandlerError>
-        ensures { MatchResult result (λ list. (is_dead self.now ≡ false)
+        ensures releases { MatchResult result (λ list. (is_dead self.now ≡ false)
             × (list.now ≡ list_in self.now))
             (λ e. (e ≡ HandlerError.Dead) × (is_dead self.now ≡ true)) }
+        ensures startable { IsSound D.seen D.may_leave self.now
+            → IfOk result (λ list. AreStartable list.now) }
     {
         if self.dead {
             Err(HandlerError::Dead)

@@ -6,16 +6,17 @@ use Rattle.std.specs.Option.{option_map, option_and_then, unwrap_or}
 use Rattle.std.specs.Str.{bytes_eq}
 use Rattle.std.proofs.lemmas.Slice.Eq.{bytes_eq-Decides}
 use Rattle.std.proofs.lemmas.List.{append-nil, drop_all, drop_more}
-use Rattle.rel_files.specs.Release.{Application, application_of}
+use Rattle.rel_files.specs.Release.{Application, Release, application_of}
 use Rattle.rel_files.specs.declared.release.RelApp.{RelApp}
 use Rattle.rel_files.proofs.Options.{both, chained, mapped}
 use Rattle.library.specs.Library.{Library, AreLibrariesOf, IsLibrary, agrees, is_at, library_at}
-use Rattle.rel_list.specs.Releases.{Releases, first_different, libraries_named, library_in}
+use Rattle.rel_check.specs.Fault.{release_fault}
+use Rattle.rel_list.specs.Releases.{Bundle, Releases, first_different, libraries_named, library_in}
 use Rattle.rel_list.specs.Event.{booted}
 use Rattle.rel_list.proofs.LibraryLaws.{all_found, libraries-booted, none_differs, own_library}
 use Rattle.rel_records.specs.Lists.{own_or_next, next_library, completed, HaveLibraries}
-use Rattle.rel_records.specs.Writing.{new_libraries}
-use Rattle.rel_records.proofs.RecordPlaces.{chosen}
+use Rattle.rel_records.specs.Writing.{new_libraries, IsComplete}
+use Rattle.rel_records.proofs.RecordPlaces.{IsOfRecord, chosen}
 
 -- A list has the same libraries behind a boot.
 library_in-booted : (es : Releases) (name vsn : List ℕ) → library_in (booted es) name vsn ≡ library_in es name vsn
@@ -161,6 +162,13 @@ are_completed es have (a ∷ apps) ls ks all e =
         subst (λ (m : Library × List Library). AreCompleted es (a ∷ apps) (l ∷ ls) (m.0 ∷ ms)) same
         (with_first l (l ∷ ls) ms all.0 at later.libraries
         (ap (λ o. cond (not (is_some o)) (l ∷ new_libraries es ms) (new_libraries es ms)) (sym (looked_up es a l at) ∙ is) ∙ ap (λ (ks : List Library). l ∷ ks) later.new))
+
+-- What a record brings is complete.
+pub brought_complete : (es : Releases) (r : Release) (ls : List Library) (p : Bundle) → IsOfRecord es r ls p → AreCompleted es r.apps ls p.libraries → IsComplete p
+brought_complete es r ls p of done = record {
+  libraries = subst (λ (s : Release). AreLibrariesOf s.apps p.libraries) of.release done.libraries;
+  faultless = subst (λ (s : Release). release_fault s.apps p.libraries ≡ None) of.release of.faultless;
+}
 
 -- the libraries of applications are libraries
 pub of_applications : (apps : List Application) (ls : List Library) → AreLibrariesOf apps ls → AllByRecursion IsLibrary ls

@@ -8,7 +8,7 @@ use Rattle.std.proofs.lemmas.Bool.Decides.{nat_tests}
 use Rattle.rel_files.specs.Release.{Release}
 use Rattle.erl_term.specs.Value.{Value}
 use Rattle.rel_files.proofs.Options.{both}
-use Rattle.library.specs.Library.{Library, AreLibrariesOf}
+use Rattle.library.specs.Library.{Library}
 use Rattle.rel_check.specs.Fault.{release_fault}
 use Rattle.rel_list.specs.declared.status.Status.{Status}
 use Rattle.rel_list.specs.declared.status.Status.TheVariants.{Unpacked, Current, Old, Permanent}
@@ -21,12 +21,12 @@ use Rattle.rel_list.proofs.Orderly.{status_or, is_itself, differs_back, first_di
 use Rattle.rel_records.specs.Limits.{has_one_permanent, is_small, most_releases}
 use Rattle.rel_records.specs.Record.{Assignment, Record, makes, adds, assigns, removes}
 use Rattle.rel_records.specs.Lists.{may_be_assigned, assign_all, completed, if_faultless, brought_by, taken_by, with_one_permanent, assigned, HaveLibraries}
-use Rattle.rel_records.specs.Writing.{is_same, is_changed, assignment_of, changes, new_libraries, record_of, IsComplete, IsWithinLimits, IsOfListed, Tells}
+use Rattle.rel_records.specs.Writing.{is_same, is_changed, assignment_of, changes, new_libraries, record_of, IsWithinLimits, IsOfListed, Tells}
 use Rattle.rel_records.specs.Laws.{IsOfEvent, IsOfOneRelease, RecordsAreOfEvents, RecordsTellEvents}
 use Rattle.rel_records.specs.Reading.{Says}
 use Rattle.library.proofs.TermCases.{are_libraries}
-use Rattle.rel_records.proofs.CompletionLemmas.{AreCompleted, all_new, are_completed, completed_first, completed_new, first_different-booted}
-use Rattle.rel_records.proofs.RecordPlaces.{IsOfRecord, assigned_so, event_of_record, chosen, kept, booted-push, booted-without, pushed_last}
+use Rattle.rel_records.proofs.CompletionLemmas.{all_new, are_completed, brought_complete, completed_first, completed_new, first_different-booted}
+use Rattle.rel_records.proofs.RecordPlaces.{assigned_so, event_of_record, chosen, kept, booted-push, booted-without, pushed_last}
 
 -- a boot leaves permanent releases permanent, and others not
 permanent-booted : (s : Status) → is_permanent (booted_status s) ≡ is_permanent s
@@ -282,13 +282,6 @@ unpacked_tells p es have fits next is one = ap with_one_permanent (comes_in p es
     behind : has_one_permanent next ≡ true
     behind = ap has_one_permanent (sym (pushed_last p es next is)) ∙ ap (λ l. length l == 1) (one-push es (entry p Unpacked) refl) ∙ one
 
--- What a record brings is complete.
-complete : (es : Releases) (r : Release) (ls : List Library) (p : Bundle) → IsOfRecord es r ls p → AreCompleted es r.apps ls p.libraries → IsComplete p
-complete es r ls p of done = record {
-  libraries = subst (λ (s : Release). AreLibrariesOf s.apps p.libraries) of.release done.libraries;
-  faultless = subst (λ (s : Release). release_fault s.apps p.libraries ≡ None) of.release of.faultless;
-}
-
 below : (n : ℕ) → nat_lt n most_releases ≡ true → n < most_releases
 below n e = grind (arith, nat_tests)
 
@@ -305,7 +298,7 @@ of_event v (makes r ls) es next have says one taken =
     record {
       event = made p;
       leads = is;
-      fits = (ap is_small (sym of.release) ∙ (chosen (is_small r) (option_and_then (λ (q : Bundle). step (made q) es) (brought_by es r ls)) next taken).0, complete es r ls p of done);
+      fits = (ap is_small (sym of.release) ∙ (chosen (is_small r) (option_and_then (λ (q : Bundle). step (made q) es) (brought_by es r ls)) next taken).0, brought_complete es r ls p of done);
       own = λ k. makes (sym of.release k) ((sym (all_brought p es next is) ∙ done.new) k);
     }
 of_event v (adds r ls) es next have says one taken =
@@ -316,7 +309,7 @@ of_event v (adds r ls) es next have says one taken =
     record {
       event = unpacked p;
       leads = is;
-      fits = (ap is_small (sym of.release) ∙ small, below (length es) few, complete es r ls p of done);
+      fits = (ap is_small (sym of.release) ∙ small, below (length es) few, brought_complete es r ls p of done);
       own = λ k. adds (sym of.release k) (done.new k);
     }
 of_event v (removes w) es next have says one taken = record { event = removed w; leads = taken; fits = tt; own = refl }

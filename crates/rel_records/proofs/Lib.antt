@@ -7,6 +7,8 @@ pub mod CompletionLemmas
 pub mod Progress
 pub mod Within
 pub mod TermLemmas
+pub mod EachRelease
+pub mod StartableLemmas
 pub mod RecordLaws
 pub mod EventRecords
 pub mod Characters

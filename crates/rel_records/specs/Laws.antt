@@ -6,6 +6,7 @@ use Rattle.rel_records.specs.Limits.{has_one_permanent}
 use Rattle.rel_records.specs.Lists.{assigned, Makes, IsBadRecord, HaveVersions, HaveLibraries}
 use Rattle.rel_records.specs.Reading.{Spells}
 use Rattle.rel_records.specs.Record.{Record, assigns}
+use Rattle.rel_records.specs.Startable.{AreStartable}
 use Rattle.rel_records.specs.Writing.{record_of, IsWithinLimits}
 
 -- Bodies make a list, which is the same behind a boot, or one of them is the first bad record.
@@ -51,3 +52,7 @@ MakeVersions = (bodies : List (List ℕ)) (es : Releases) → Makes bodies es �
 -- So do its libraries: each is what the files of an application say.
 abbrev pub MakeLibraries : Type 0
 MakeLibraries = (bodies : List (List ℕ)) (es : Releases) → Makes bodies es → HaveLibraries es
+
+-- A boot can start each of them.
+abbrev pub MakeStartableReleases : Type 0
+MakeStartableReleases = (bodies : List (List ℕ)) (es : Releases) → Makes bodies es → AreStartable es

@@ -3,5 +3,6 @@ pub mod Record
 pub mod Reading
 pub mod Lists
 pub mod Writing
+pub mod Startable
 pub mod Parts
 pub mod Laws

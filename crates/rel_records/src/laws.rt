@@ -1,5 +1,5 @@
 //! Laws of records and lists, whatever reads and writes them. Each function does nothing: its contract is the law.
-ghost use Rattle.rel_records.specs.Laws.{MakeOrHaveABadOne, MakeOneList, NeverBothRecords, RecordsTellEvents, RecordsAreOfEvents, MakeVersions, MakeLibraries};
+ghost use Rattle.rel_records.specs.Laws.{MakeOrHaveABadOne, MakeOneList, NeverBothRecords, RecordsTellEvents, RecordsAreOfEvents, MakeVersions, MakeLibraries, MakeStartableReleases};
 
 /// The bodies of records make one list, or one of them is the first bad record, and never both.
 pub fn records_make_a_list_or_one_is_bad()
@@ -26,4 +26,9 @@ pub fn records_make_versions()
 /// The libraries of a list that records make are what the files of applications say.
 pub fn records_make_libraries()
     ensures { MakeLibraries }
+{}
+
+/// A boot can start each release of a list that records make.
+pub fn records_make_startable_releases()
+    ensures { MakeStartableReleases }
 {}

@@ -1,0 +1,87 @@
+-- What holds of each release of a list that records make, whatever its status.
+use Rattle.std.proofs.Common.{◌≡◌, ℕ, Bool, true, false, cond, List, [], ◌∷◌, ◌++◌, length, Some, sym, subst, find}
+use Rattle.std.specs.Prelude.{◌&&◌, nat_lt, if◌then◌else◌}
+use Rattle.std.specs.List.{AllByRecursion}
+use Rattle.std.specs.Str.{bytes_eq}
+use Rattle.erl_term.specs.Value.{Value}
+use Rattle.rel_files.specs.Release.{Release}
+use Rattle.library.specs.Library.{Library}
+use Rattle.rel_list.specs.declared.status.Status.{Status}
+use Rattle.rel_list.specs.declared.status.Status.TheVariants.{Unpacked, Permanent}
+use Rattle.rel_list.specs.Releases.{Bundle, Releases, Entry, entry, status_of}
+use Rattle.rel_list.specs.Event.{booted, booted_status, step, without, assigned_status, list_assigned, may_be_removed}
+use Rattle.rel_list.specs.Event.Event.{made, unpacked}
+use Rattle.rel_records.specs.Limits.{is_small, most_releases}
+use Rattle.rel_records.specs.Lists.{may_be_assigned, assign_all, taken_by, MakesFrom, Makes}
+use Rattle.rel_records.specs.Reading.{Brings, Says}
+use Rattle.rel_records.specs.Record.{Assignment, Record, makes, adds, assigns, removes}
+use Rattle.rel_records.proofs.RecordPlaces.{IsOfRecord, chosen, assigned_so, event_of_record, pushed_last}
+
+module _ (P : Entry → Type 0) where
+  -- what holds of each holds of the one that is found
+  pub each-found : (test : Entry → Bool) (es : Releases) (e : Entry) → AllByRecursion P es → find test es ≡ Some e → P e
+  each-found test [] e all is = absurd cc
+  each-found test (f ∷ es) e all is = go (test f) (each-found test es e all.1) is
+    where
+      go : (b : Bool) → (find test es ≡ Some e → P e) → cond b (Some f) (find test es) ≡ Some e → P e
+      go true behind is = let same : f ≡ e = cc is in subst P same all.0
+      go false behind is = behind is
+
+  each-without : (v : List ℕ) (es : Releases) → AllByRecursion P es → AllByRecursion P (without v es)
+  each-without v [] all = tt
+  each-without v (e ∷ es) all = go (bytes_eq v e.release.vsn) (each-without v es all.1)
+    where
+      go : (b : Bool) → AllByRecursion P (without v es) → AllByRecursion P (if b then es else e ∷ without v es)
+      go true rest = all.1
+      go false rest = (all.0, rest)
+
+  each-push : (es : Releases) (e : Entry) → AllByRecursion P es → P e → AllByRecursion P (es ++ e ∷ [])
+  each-push [] e all has = (has, tt)
+  each-push (f ∷ es) e all has = (all.0, each-push es e all.1 has)
+
+  each_first : (p : Bundle) (es next : Releases) → step (made p) es ≡ Some next → P (entry p Permanent) → AllByRecursion P next
+  each_first p [] next is has = let one : entry p Permanent ∷ [] ≡ next = cc is in subst (AllByRecursion P) one (has, tt)
+  each_first p (f ∷ fs) next is has = absurd cc
+
+  -- It holds whatever the status is.
+  module _ (still : (e : Entry) (s : Status) → P e → P (record e { status = s })) where
+    pub each-booted : (es : Releases) → AllByRecursion P es → AllByRecursion P (booted es)
+    each-booted [] all = tt
+    each-booted (e ∷ es) all = (still e (booted_status e.status) all.0, each-booted es all.1)
+
+    -- it held before a boot
+    pub each-of_booted : (es : Releases) → AllByRecursion P (booted es) → AllByRecursion P es
+    each-of_booted [] all = tt
+    each-of_booted (e ∷ es) all = (still (record e { status = booted_status e.status }) e.status all.0, each-of_booted es all.1)
+
+    each-assigned : (v : List ℕ) (t : Status) (es : Releases) → AllByRecursion P es → AllByRecursion P (list_assigned v t es)
+    each-assigned v t [] all = tt
+    each-assigned v t (e ∷ es) all = (still e (assigned_status t (bytes_eq v e.release.vsn) e.status) all.0, each-assigned v t es all.1)
+
+    each-assign_all : (given : List Assignment) (es next : Releases) → AllByRecursion P es → assign_all given es ≡ Some next → AllByRecursion P next
+    each-assign_all [] es next all is = let same : es ≡ next = cc is in subst (AllByRecursion P) same all
+    each-assign_all (a ∷ given) es next all is =
+        let (may, rest) = chosen (may_be_assigned a es) (assign_all given (list_assigned a.vsn a.status es)) next is in
+        each-assign_all given (list_assigned a.vsn a.status es) next (each-assigned a.vsn a.status es all) rest
+
+    -- Where it holds of each release that a record brings, it holds of each of a list that records make.
+    module _ (brings : (word : List ℕ) (v : Value) (es : Releases) (r : Release) (ls : List Library) (p : Bundle) (s : Status) → AllByRecursion P es → Brings word v r ls → IsOfRecord es r ls p → P (entry p s)) where
+      each_behind : (v : Value) (r : Record) (es next : Releases) → Says v r → taken_by r es ≡ Some next → AllByRecursion P es → AllByRecursion P next
+      each_behind v (makes r ls) es next says e all =
+          let (p, of, is) = event_of_record made (is_small r) r ls es next e in
+          each_first p es next is (brings _ v es r ls p Permanent all says of)
+      each_behind v (adds r ls) es next says e all =
+          let (p, of, is) = event_of_record unpacked (is_small r && nat_lt (length es) most_releases) r ls es next e in
+          subst (AllByRecursion P) (pushed_last p es next is) (each-push es (entry p Unpacked) all (brings _ v es r ls p Unpacked all says of))
+      each_behind v (assigns given) es next says e all = each-assign_all given es next all e
+      each_behind v (removes w) es next says e all =
+          let (may, is) = chosen (may_be_removed (status_of w es)) (Some (without w es)) next e in
+          let left : without w es ≡ next = cc is in subst (AllByRecursion P) left (each-without w es all)
+
+      each_from : (es : Releases) (bodies : List (List ℕ)) (end : Releases) → MakesFrom es bodies end → AllByRecursion P es → AllByRecursion P end
+      each_from es [] end is all = subst (AllByRecursion P) (sym is) all
+      each_from es (body ∷ bodies) end (r, next, spelled, taken, rest) all =
+          each_from next bodies end rest (each_behind spelled.term r es next spelled.says (assigned_so r es next taken).0 all)
+
+      pub each_made : (bodies : List (List ℕ)) (es : Releases) → Makes bodies es → AllByRecursion P es
+      each_made bodies es makes_it = each_from [] bodies es makes_it.0 tt

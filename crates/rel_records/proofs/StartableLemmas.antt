@@ -1,0 +1,55 @@
+-- Releases that a boot can start.
+use Rattle.std.proofs.Common.{◌≡◌, ℕ, List, [], ◌∷◌, map, Some, refl, ap, subst, find}
+use Rattle.erl_term.specs.Value.{Value}
+use Rattle.rel_files.specs.Form.{AppForm, app_form_of}
+use Rattle.rel_files.specs.Name.{AreDistinct}
+use Rattle.rel_files.specs.Release.{Application, Release}
+use Rattle.library.specs.Library.{Library, IsLibrary}
+use Rattle.library.proofs.TermCases.{are_libraries}
+use Rattle.rel_list.specs.declared.status.Status.{Status}
+use Rattle.rel_list.specs.Status.{is_permanent}
+use Rattle.rel_list.specs.Releases.{Bundle, Releases, Entry, entry, libraries_named}
+use Rattle.rel_list.specs.Event.{booted}
+use Rattle.rel_list.proofs.LibraryLaws.{all-append}
+use Rattle.rel_records.specs.Laws.{MakeStartableReleases}
+use Rattle.rel_records.specs.Lists.{HaveLibraries}
+use Rattle.rel_records.specs.Reading.{Brings}
+use Rattle.rel_records.specs.Startable.{IsStartable, AreStartable}
+use Rattle.rel_records.proofs.CompletionLemmas.{are_completed, brought_complete, of_applications}
+use Rattle.rel_records.proofs.EachRelease.{each-found, each-booted, each-of_booted, each_made}
+use Rattle.rel_records.proofs.RecordPlaces.{IsOfRecord}
+
+-- the permanent release of a list is startable
+pub permanent_is_startable : (es : Releases) (e : Entry) → AreStartable es → find (λ (f : Entry). is_permanent f.status) es ≡ Some e → IsStartable e
+permanent_is_startable = each-found IsStartable (λ (f : Entry). is_permanent f.status)
+
+-- whatever its status is
+still_startable : (e : Entry) (s : Status) → IsStartable e → IsStartable (record e { status = s })
+still_startable e s is = record { complete = is.complete; distinct = is.distinct }
+
+pub startable-booted : (es : Releases) → AreStartable es → AreStartable (booted es)
+startable-booted = each-booted IsStartable still_startable
+
+pub startable-of_booted : (es : Releases) → AreStartable (booted es) → AreStartable es
+startable-of_booted = each-of_booted IsStartable still_startable
+
+-- the libraries of startable releases are libraries
+pub startable_libraries : (es : Releases) → AreStartable es → HaveLibraries es
+startable_libraries [] all = tt
+startable_libraries (e ∷ es) all =
+    all-append IsLibrary e.libraries (libraries_named es) (of_applications e.release.apps e.libraries all.0.complete.libraries) (startable_libraries es all.1)
+
+-- the names of applications in the form of a release
+form_app_names : (apps : List Application) → map (λ (a : AppForm). a.name) (map app_form_of apps) ≡ map (λ (a : Application). a.name) apps
+form_app_names [] = refl
+form_app_names (a ∷ apps) = ap (λ (ns : List (List ℕ)). a.name ∷ ns) (form_app_names apps)
+
+-- what a record brings to startable releases is startable
+brought_startable : (word : List ℕ) (v : Value) (es : Releases) (r : Release) (ls : List Library) (p : Bundle) (s : Status) → AreStartable es → Brings word v r ls → IsOfRecord es r ls p → IsStartable (entry p s)
+brought_startable word v es r ls p s all brings of = record {
+  complete = brought_complete es r ls p of (are_completed es (startable_libraries es all) r.apps ls p.libraries (are_libraries brings.libs ls brings.libraries) of.libraries);
+  distinct = subst (λ (q : Release). AreDistinct (map (λ (a : Application). a.name) q.apps)) of.release (subst AreDistinct (form_app_names r.apps) brings.release.distinct);
+}
+
+pub make_startable : MakeStartableReleases
+make_startable = each_made IsStartable still_startable brought_startable
