@@ -11,21 +11,13 @@ use Rattle.std.proofs.lemmas.List.Folds.{find-append}
 use Rattle.rel_files.proofs.Options.{both, both_true}
 use Rattle.library.specs.Library.{Library, IsLibrary, is_at, library_at, agrees, is_same_library}
 use Rattle.library.proofs.Terms.{same_libraries}
-use Rattle.rel_list.specs.declared.status.Status.{Status}
-use Rattle.rel_list.specs.declared.status.Status.TheVariants.{Unpacked, Permanent}
-use Rattle.rel_list.specs.Releases.{Releases, Entry, entry, status_of, has_current, libraries_named, library_in, each_once, shared, differs, first_different}
-use Rattle.rel_list.specs.Event.{Event, may_be_installed, may_be_made_permanent, may_be_removed, may_be_rebooted, installed_status, permanent_status, booted_status, with_statuses, list_installed, list_made_permanent, without, booted, is_barred, step}
-use Rattle.rel_list.specs.Event.Event.{made, unpacked, installed, made_permanent, removed, reboot_old, boot}
+use Rattle.rel_list.specs.Releases.{Releases, Entry, libraries_named, library_in, each_once, shared, differs, first_different}
+use Rattle.rel_list.specs.Event.{booted}
 use Rattle.rel_list.proofs.Orderly.{same_version, is_itself}
-use Rattle.rel_list.proofs.EventLaws.{allowed, allowed_else}
 
--- Changes of statuses
+-- Boots, and releases that come in
 
--- other statuses leave the libraries
-pub libraries-with_statuses : (f : List ℕ → Status → Status) (es : Releases) → libraries_named (with_statuses f es) ≡ libraries_named es
-libraries-with_statuses f [] = refl
-libraries-with_statuses f (e ∷ es) = ap (λ (ls : List Library). e.libraries ++ ls) (libraries-with_statuses f es)
-
+-- a boot leaves the libraries
 pub libraries-booted : (es : Releases) → libraries_named (booted es) ≡ libraries_named es
 libraries-booted [] = refl
 libraries-booted (e ∷ es) = ap (λ (ls : List Library). e.libraries ++ ls) (libraries-booted es)
@@ -192,62 +184,7 @@ shared_own es (l ∷ ls) all are none =
     let behind = shared_own es ls all are.1 rest in
     λ j. here j ∷ behind j
 
--- What holds of each library
-
--- the libraries that an event brings
-abbrev pub brought : Event → List Library
-brought (made p) = p.libraries
-brought (unpacked p) = p.libraries
-brought e = []
-
-module _ (P : Library → Type 0) where
-  pub all-append : (ls ks : List Library) → AllByRecursion P ls → AllByRecursion P ks → AllByRecursion P (ls ++ ks)
-  all-append [] ks all also = also
-  all-append (l ∷ ls) ks all also = (all.0, all-append ls ks all.1 also)
-
-  all-front : (ls ks : List Library) → AllByRecursion P (ls ++ ks) → AllByRecursion P ls
-  all-front [] ks all = tt
-  all-front (l ∷ ls) ks all = (all.0, all-front ls ks all.1)
-
-  all-behind : (ls ks : List Library) → AllByRecursion P (ls ++ ks) → AllByRecursion P ks
-  all-behind [] ks all = all
-  all-behind (l ∷ ls) ks all = all-behind ls ks all.1
-
-  all-push : (es : Releases) (e : Entry) → AllByRecursion P (libraries_named es) → AllByRecursion P e.libraries → AllByRecursion P (libraries_named (es ++ e ∷ []))
-  all-push es e all also = subst (AllByRecursion P) (sym (libraries-push es e)) (all-append (libraries_named es) e.libraries all also)
-
-  all-with_statuses : (f : List ℕ → Status → Status) (es : Releases) → AllByRecursion P (libraries_named es) → AllByRecursion P (libraries_named (with_statuses f es))
-  all-with_statuses f es all = subst (AllByRecursion P) (sym (libraries-with_statuses f es)) all
-
-  all-without : (v : List ℕ) (es : Releases) → AllByRecursion P (libraries_named es) → AllByRecursion P (libraries_named (without v es))
-  all-without v [] all = tt
-  all-without v (e ∷ es) all =
-      go (bytes_eq v e.release.vsn) (all-behind e.libraries (libraries_named es) all) (all-without v es (all-behind e.libraries (libraries_named es) all))
-    where
-      go : (b : Bool) → AllByRecursion P (libraries_named es) → AllByRecursion P (libraries_named (without v es)) → AllByRecursion P (libraries_named (cond b es (e ∷ without v es)))
-      go true behind rest = behind
-      go false behind rest = all-append e.libraries (libraries_named (without v es)) (all-front e.libraries (libraries_named es) all) rest
-
-  -- what holds of the libraries of a list and of those that an event brings holds of those behind it
-  pub all-step : (e : Event) (es next : Releases) → AllByRecursion P (brought e) → AllByRecursion P (libraries_named es) → step e es ≡ Some next → AllByRecursion P (libraries_named next)
-  all-step (made p) [] next also all is =
-      let single : entry p Permanent ∷ [] ≡ next = cc is in
-      subst (λ (l : Releases). AllByRecursion P (libraries_named l)) single (all-push [] (entry p Permanent) tt also)
-  all-step (made p) (e ∷ es) next also all is = cc
-  all-step (unpacked p) es next also all is =
-      subst (λ (l : Releases). AllByRecursion P (libraries_named l)) (allowed_else (is_barred p es) (es ++ entry p Unpacked ∷ []) next is).1
-      (all-push es (entry p Unpacked) all also)
-  all-step (installed v) es next also all is =
-      subst (λ (l : Releases). AllByRecursion P (libraries_named l)) (allowed (may_be_installed (has_current es) (status_of v es)) (list_installed v es) next is).1
-      (all-with_statuses (λ vsn s. installed_status (bytes_eq v vsn) s) es all)
-  all-step (made_permanent v) es next also all is =
-      subst (λ (l : Releases). AllByRecursion P (libraries_named l)) (allowed (may_be_made_permanent (status_of v es)) (list_made_permanent v es) next is).1
-      (all-with_statuses (λ vsn s. permanent_status (bytes_eq v vsn) s) es all)
-  all-step (removed v) es next also all is =
-      subst (λ (l : Releases). AllByRecursion P (libraries_named l)) (allowed (may_be_removed (status_of v es)) (without v es) next is).1 (all-without v es all)
-  all-step (reboot_old v) es next also all is =
-      subst (λ (l : Releases). AllByRecursion P (libraries_named l)) (allowed (may_be_rebooted (status_of v es)) (list_made_permanent v es) next is).1
-      (all-with_statuses (λ vsn s. permanent_status (bytes_eq v vsn) s) es all)
-  all-step boot es next also all is =
-      let is_booted : booted es ≡ next = cc is in
-      subst (λ (l : Releases). AllByRecursion P (libraries_named l)) is_booted (all-with_statuses (λ vsn s. booted_status s) es all)
+-- what holds of each library of two lists holds of each of both
+pub all-append : (P : Library → Type 0) (ls ks : List Library) → AllByRecursion P ls → AllByRecursion P ks → AllByRecursion P (ls ++ ks)
+all-append P [] ks all also = also
+all-append P (l ∷ ls) ks all also = (all.0, all-append P ls ks all.1 also)
