@@ -3,3 +3,4 @@ pub mod AppLemmas
 pub mod CheckLemmas
 pub mod BeginLemmas
 pub mod LoadedLemmas
+pub mod ListingLemmas

@@ -1,8 +1,10 @@
 -- The modules that are loaded.
-use Rattle.std.specs.Prelude.{ℕ, List, [], ◌∷◌, String, slice_index_or, Option, Some, None, if◌then◌else◌}
+use Rattle.std.specs.Prelude.{ℕ, List, [], ◌∷◌, map, String, string_bytes, slice_index_or, Option, Some, None, if◌then◌else◌}
 use Rattle.std.specs.declared.alloc.Global.{Global}
-use Rattle.std.specs.BTreeMap.{BTreeMap, get_by_text}
+use Rattle.std.specs.BTreeMap.{BTreeMap, get_by_text, insert_entry}
+use Rattle.std.specs.Cmp.Lexicographic.{slice_cmp}
 use Rattle.std.specs.Option.{option_map, option_or, option_and_then}
+use Rattle.std.specs.Ordering.{nat_cmp}
 use Rattle.std.specs.Str.{bytes_eq}
 use Rattle.app_file.specs.File.{Specification}
 use Rattle.mod_table.specs.declared.table.Table.{Table}
@@ -57,3 +59,37 @@ modules_in_map ms name = option_map module_in (get_by_text ms name)
 
 abbrev pub modules_in : Loaded → Modules
 modules_in l name = modules_in_map l.modules name
+
+-- Modules with their names. What is loaded is listed by the bytes of the names.
+abbrev pub NamedModules : Type 0
+NamedModules = List (List ℕ × Module)
+
+abbrev pub name_and_version : List ℕ × Module → List ℕ × List ℕ
+name_and_version m = (m.0, m.1.vsn)
+
+-- each name with what is in its place
+abbrev pub named_modules : Specification → List (List ℕ) → List (Option TableTerm) → NamedModules
+named_modules app (m ∷ ms) (t ∷ ts) = (m, module_of app t) ∷ named_modules app ms ts
+named_modules app ms ts = []
+
+-- these modules are loaded one after another: each stands in its place, and one of its name that stood there is replaced
+abbrev pub loaded_behind : NamedModules → NamedModules → NamedModules
+loaded_behind before [] = before
+loaded_behind before (m ∷ ms) = loaded_behind (insert_entry (slice_cmp nat_cmp) before m.0 m.1) ms
+
+abbrev pub libraries_behind : NamedModules → List Library → NamedModules
+libraries_behind before [] = before
+libraries_behind before (l ∷ ls) = libraries_behind (loaded_behind before (named_modules l.app l.app.modules l.tables)) ls
+
+-- what is loaded where all modules of these libraries are
+abbrev pub listed_modules : List Library → NamedModules
+listed_modules ls = libraries_behind [] ls
+
+abbrev pub named_in : String Global × LoadedModule → List ℕ × Module
+named_in e = (string_bytes e.0, module_in e.1)
+
+abbrev pub listed_in_map : BTreeMap (String Global) LoadedModule → NamedModules
+listed_in_map ms = map named_in ms.entries
+
+abbrev pub listed_in : Loaded → NamedModules
+listed_in l = listed_in_map l.modules

@@ -3,7 +3,11 @@ ghost use Rattle.std.specs.Prelude.{◌≡◌, ℕ, List, IfOk, OnOk, Some, cond
 ghost use Rattle.std.specs.Str.{bytes_eq};
 ghost use Rattle.std.specs.Option.{option_map, option_or};
 ghost use Rattle.library.specs.InMemory.{shared_of};
-ghost use Rattle.sup_tree.specs.Loaded.{Module, modules_of, library_modules, modules_in, modules_in_map, module_at, module_in, tables_of};
+ghost use Rattle.std.specs.BTreeMap.{insert_entry};
+ghost use Rattle.std.specs.Cmp.Lexicographic.{slice_cmp};
+ghost use Rattle.std.specs.Map.Iter.{deref_pair};
+ghost use Rattle.std.specs.Ordering.{nat_cmp};
+ghost use Rattle.sup_tree.specs.Loaded.{Module, modules_of, library_modules, modules_in, modules_in_map, module_at, module_in, tables_of, listed_in, listed_in_map, listed_modules, loaded_behind, named_modules, name_and_version};
 
 use app_file::App;
 use library::Library;
@@ -29,8 +33,10 @@ pub struct Loaded {
 impl Loaded {
     /// All modules of these libraries. Of two modules of one name the later one is loaded.
     pub fn of(alloc: Global, libraries: &[Rc<Library>]) -> Result<Loaded, AllocError>
-        ensures { IfOk result (λ loaded. (name : List ℕ) →
+        ensures loaded { IfOk result (λ loaded. (name : List ℕ) →
             modules_in loaded name ≡ modules_of (map shared_of libraries.now) name) }
+        ensures listed { IfOk result (λ loaded.
+            listed_in loaded ≡ listed_modules (map shared_of libraries.now)) }
     {
         let mut modules = BTreeMap::new(alloc);
         for library in libraries {
@@ -48,6 +54,18 @@ impl Loaded {
             Some(module) => Some(module.vsn()),
             None => None,
         }
+    }
+
+    /// The loaded modules with their versions, by the bytes of their names.
+    pub fn versions<'a>(&'a self, alloc: Global) -> Result<Vec<(&'a str, &'a str)>, AllocError>
+        ensures { IfOk result (λ vs.
+            map deref_pair vs.items ≡ map name_and_version (listed_in self.now)) }
+    {
+        let mut versions = Vec::new(alloc);
+        for (name, module) in &self.modules {
+            versions.push((name.as_str(), module.vsn()))?;
+        }
+        Ok(versions)
     }
 
     /// The table of the module, where it is loaded and has one.
@@ -87,8 +105,10 @@ fn load_library(
     alloc: Global,
     library: &Rc<Library>,
 ) -> Result<(), AllocError>
-    ensures { OnOk result ((name : List ℕ) → modules_in_map modules.new name ≡ option_or
+    ensures loaded { OnOk result ((name : List ℕ) → modules_in_map modules.new name ≡ option_or
         (library_modules (shared_of library.now) name) (modules_in_map modules.old name)) }
+    ensures listed { OnOk result (let l = shared_of library.now in listed_in_map modules.new
+        ≡ loaded_behind (listed_in_map modules.old) (named_modules l.app l.app.modules l.tables)) }
 {
     let Library {
         app: App { modules: names, .. },
@@ -108,8 +128,12 @@ fn load_module(
     place: usize,
     name: &str,
 ) -> Result<(), AllocError>
-    ensures { OnOk result ((q : List ℕ) → modules_in_map modules.new q ≡ cond (bytes_eq name.now q)
-        (Some (module_at (shared_of library.now) place)) (modules_in_map modules.old q)) }
+    ensures loaded { OnOk result ((q : List ℕ) → modules_in_map modules.new q
+        ≡ cond (bytes_eq name.now q) (Some (module_at (shared_of library.now) place))
+        (modules_in_map modules.old q)) }
+    ensures listed { OnOk result (listed_in_map modules.new
+        ≡ insert_entry (slice_cmp nat_cmp) (listed_in_map modules.old) name.now
+        (module_at (shared_of library.now) place)) }
 {
     let library = library.clone()?;
     modules.insert(

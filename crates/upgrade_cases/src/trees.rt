@@ -18,7 +18,7 @@ use text_cases::{Answer, first_word};
 ///
 /// - `start APP`, `stop APP`: `ok`, or why not.
 /// - `find APP ID`: the name of the process, or `none`. `using MODULE`: the names of the processes that run it.
-/// - `vsn MODULE`: its version that is loaded, or `none`.
+/// - `vsn MODULE`: its version that is loaded, or `none`. `versions`: each module that is loaded, with its version.
 /// - Any other step is one of a table, as [`crate::steps::follow_steps`] has them.
 pub(crate) fn follow_tree<R: Wait>(rt: &R, alloc: Global, words: &str, answer: &mut Answer) {
     let Some((terms, steps)) = words.split_once(" | ") else {
@@ -62,7 +62,9 @@ fn follow_with<R: Wait>(
                 Ok(()) => answer.push("ok"),
                 Err(error) => answer.push_shown(&error),
             },
-            "find" | "using" | "vsn" => push_found(alloc, &loaded, &tree, word, rest, answer),
+            "find" | "using" | "vsn" | "versions" => push_found(
+                alloc, &loaded, &tree, word, rest, answer,
+            ),
             _ => take_step(rt, alloc, &table, &mut seat, step, answer),
         }
     }
@@ -109,6 +111,7 @@ fn push_found(
             push_pid(tree.find(app, id), answer);
         }
         "using" => push_using(alloc, tree, name, answer),
+        "versions" => push_versions(alloc, loaded, answer),
         _ => answer.push(loaded.vsn(name).unwrap_or("none")),
     }
 }
@@ -121,6 +124,19 @@ fn push_using(alloc: Global, tree: &Tree, module: &str, answer: &mut Answer) {
     for pid in pids.as_slice() {
         answer.push(between);
         push_pid(Some(*pid), answer);
+        between = ", ";
+    }
+}
+
+fn push_versions(alloc: Global, loaded: &Loaded, answer: &mut Answer) {
+    let Ok(versions) = loaded.versions(alloc) else {
+        return answer.note_no_memory();
+    };
+    let mut between = "";
+    for (name, vsn) in versions.as_slice() {
+        answer.push(between);
+        answer.push(name);
+        answer.push_after(" ", vsn);
         between = ", ";
     }
 }
