@@ -3,6 +3,7 @@ use crate::sessions::push_input;
 use std::alloc::Global;
 use std::io;
 use std::io::{ErrorKind, Read};
+use std::sync::Wait;
 use text_cases::Answer;
 
 /// Gives a text in pieces of at most so many bytes, and fails behind it.
@@ -24,15 +25,21 @@ impl Read for Broken<'_> {
 }
 
 /// The answer where a read fails behind a text, which comes in such pieces.
-pub(crate) fn push_broken(alloc: Global, text: &[u8], piece: usize, answer: &mut Answer) {
+pub(crate) fn push_broken<H: Wait>(
+    rt: &H,
+    alloc: Global,
+    text: &[u8],
+    piece: usize,
+    answer: &mut Answer,
+) {
     let kind = ErrorKind::Other;
-    push_input(alloc, Broken { text, piece, kind }, answer);
+    push_input(rt, alloc, Broken { text, piece, kind }, answer);
 }
 
 /// The answer where it fails behind so many letters.
-pub(crate) fn push_letters(alloc: Global, count: usize, answer: &mut Answer) {
+pub(crate) fn push_letters<H: Wait>(rt: &H, alloc: Global, count: usize, answer: &mut Answer) {
     match vec![in alloc; b'a'; count] {
-        Ok(letters) => push_broken(alloc, letters.as_slice(), 8_192, answer),
+        Ok(letters) => push_broken(rt, alloc, letters.as_slice(), 8_192, answer),
         Err(_) => answer.note_no_memory(),
     }
 }

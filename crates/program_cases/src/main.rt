@@ -23,6 +23,6 @@ use text_cases::answer_cases;
 
 fn main(rt: HostRuntime) -> io::Result<()> {
     answer_cases(&rt, |alloc: Global, mode: &str, text: &[u8]| {
-        answer(&rt, alloc, mode, text)
+        answer(&rt, &rt, alloc, mode, text)
     })
 }

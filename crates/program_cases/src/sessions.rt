@@ -8,6 +8,7 @@ use session_input::{Input, SessionError};
 use std::alloc::{AllocError, Global};
 use std::fmt;
 use std::io::{Read, Write};
+use std::sync::Wait;
 use text_cases::{Answer, CaseFiles};
 
 /// The application's files of both versions: for each a line of its path, a blank and its bytes.
@@ -42,7 +43,8 @@ pub(crate) const PLAIN: Setting = Setting {
 /// Where a text has sessions, their lines are parted by ` | `, and the sessions by ` || `. A line `@NAME` stands for the lines
 /// that give the files of this name (src/given.rt). A file that isn't given in its session comes from a source of these files,
 /// which have the form of [`APPLICATIONS`].
-pub(crate) fn push_sessions(
+pub(crate) fn push_sessions<H: Wait>(
+    rt: &H,
     alloc: Global,
     files: &str,
     first: Setting,
@@ -57,31 +59,36 @@ pub(crate) fn push_sessions(
                 refused: 0,
                 in_part: first.in_part,
             };
-            follow_all(alloc, disk, files, first.room, text, answer);
+            follow_all(rt, alloc, disk, files, first.room, text, answer);
         }
         Err(_) => answer.note_no_memory(),
     }
 }
 
 /// The same of sessions behind the files of their source.
-pub(crate) fn push_over_files(alloc: Global, text: &str, answer: &mut Answer) {
+pub(crate) fn push_over_files<H: Wait>(rt: &H, alloc: Global, text: &str, answer: &mut Answer) {
     let (files, text) = text.split_once(" || ").unwrap_or((text, ""));
     let files = lines_of(alloc, files, answer);
-    push_sessions(alloc, files.as_str(), PLAIN, text, answer);
+    push_sessions(rt, alloc, files.as_str(), PLAIN, text, answer);
 }
 
 /// Appends what one session of this input writes.
-pub(crate) fn push_input<R: Read + Drop>(alloc: Global, reader: R, answer: &mut Answer) {
+pub(crate) fn push_input<H: Wait, R: Read + Drop>(
+    rt: &H,
+    alloc: Global,
+    reader: R,
+    answer: &mut Answer,
+) {
     match MemDisk::new(alloc, DISK, 2 * DISK) {
-        Ok(disk) => drop(follow(alloc, disk, APPLICATIONS, WIDE, reader, answer)),
+        Ok(disk) => drop(follow(rt, alloc, disk, APPLICATIONS, WIDE, reader, answer)),
         Err(_) => answer.note_no_memory(),
     }
 }
 
 /// Appends that of one which gives a file of so many bytes, a line of blanks, and makes a node of it.
-pub(crate) fn push_blanks(alloc: Global, bytes: usize, answer: &mut Answer) {
+pub(crate) fn push_blanks<H: Wait>(rt: &H, alloc: Global, bytes: usize, answer: &mut Answer) {
     match blanks(alloc, bytes) {
-        Ok(input) => push_input(alloc, input.as_bytes(), answer),
+        Ok(input) => push_input(rt, alloc, input.as_bytes(), answer),
         Err(_) => answer.note_no_memory(),
     }
 }
@@ -98,7 +105,8 @@ fn blanks(alloc: Global, bytes: usize) -> Result<String, AllocError> {
 
 // Appends what the sessions of a text write, one after another on this disk. The room is that of the first, in which alone the
 // disk may fail.
-fn follow_all(
+fn follow_all<H: Wait>(
+    rt: &H,
     alloc: Global,
     disk: FailDisk<MemDisk>,
     files: &str,
@@ -110,7 +118,7 @@ fn follow_all(
     let mut room = room;
     for part in text.split(" || ") {
         let lines = lines_of(alloc, part, answer);
-        disk = follow(alloc, disk, files, room, lines.as_bytes(), answer);
+        disk = follow(rt, alloc, disk, files, room, lines.as_bytes(), answer);
         disk.left = 0;
         room = WIDE;
     }
@@ -127,7 +135,8 @@ fn lines_of(alloc: Global, text: &str, answer: &mut Answer) -> String {
 }
 
 // Appends what this room takes of a session of this input. The disk comes back.
-fn follow<D: Disk + Drop, R: Read + Drop>(
+fn follow<H: Wait, D: Disk + Drop, R: Read + Drop>(
+    rt: &H,
     alloc: Global,
     disk: D,
     files: &str,
@@ -140,14 +149,15 @@ fn follow<D: Disk + Drop, R: Read + Drop>(
         room,
         written: &mut written,
     };
-    let (disk, ended) = run(alloc, disk, files, reader, writer);
+    let (disk, ended) = run(rt, alloc, disk, files, reader, writer);
     push_written(alloc, &written, answer);
     push_end(&ended, answer);
     disk
 }
 
 // Has a session of this input write to a writer. The disk comes back, and how the session ended.
-fn run<D: Disk + Drop, R: Read + Drop, W: Write + Drop>(
+fn run<H: Wait, D: Disk + Drop, R: Read + Drop, W: Write + Drop>(
+    rt: &H,
     alloc: Global,
     disk: D,
     files: &str,
@@ -159,7 +169,7 @@ fn run<D: Disk + Drop, R: Read + Drop, W: Write + Drop>(
     };
     let mut output = CountedWriter::new(writer);
     match Input::new(alloc, reader) {
-        Ok(mut input) => session(alloc, disk, &files, &mut input, &mut output),
+        Ok(mut input) => session(rt, alloc, disk, &files, &mut input, &mut output),
         Err(error) => (disk, Err(error)),
     }
 }

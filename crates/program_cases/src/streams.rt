@@ -6,6 +6,7 @@ use crate::listings::push_in_room;
 use crate::narrow_writers::Room;
 use crate::sessions::{APPLICATIONS, PLAIN, Setting, push_blanks, push_over_files, push_sessions};
 use std::alloc::Global;
+use std::sync::Wait;
 use text_cases::{Answer, first_word, number};
 
 /// The answer in one of these modes, or in one of [`push_stream`] or of [`push_host`].
@@ -15,14 +16,20 @@ use text_cases::{Answer, first_word, number};
 /// - `files`: the source has the files before the first ` || `, which are parted by ` | `: for each its path, a blank and its
 ///   bytes. Behind that are sessions.
 /// - `list_broken`: as in [`listings::push_broken`].
-pub(crate) fn push_of_text(host: &HostRuntime, mode: &str, text: &str, answer: &mut Answer) {
+pub(crate) fn push_of_text<H: Wait>(
+    rt: &H,
+    host: &HostRuntime,
+    mode: &str,
+    text: &str,
+    answer: &mut Answer,
+) {
     let alloc = host.alloc();
     match mode {
-        "session" => push_sessions(alloc, APPLICATIONS, PLAIN, text, answer),
-        "bare" => push_sessions(alloc, "", PLAIN, text, answer),
-        "files" => push_over_files(alloc, text, answer),
+        "session" => push_sessions(rt, alloc, APPLICATIONS, PLAIN, text, answer),
+        "bare" => push_sessions(rt, alloc, "", PLAIN, text, answer),
+        "files" => push_over_files(rt, alloc, text, answer),
         "list_broken" => listings::push_broken(alloc, text, answer),
-        _ => push_stream(host, mode, text, answer),
+        _ => push_stream(rt, host, mode, text, answer),
     }
 }
 
@@ -39,32 +46,46 @@ pub(crate) fn push_of_text(host: &HostRuntime, mode: &str, text: &str, answer: &
 // - `writes`: behind the number are another one and sessions. So many writes of the first session and so many flushes are
 //   taken. Then a write takes nothing, and a flush fails.
 // - `list_bytes`: behind the numbers is a text. Its listing is taken so, a byte at a write.
-fn push_stream(host: &HostRuntime, mode: &str, text: &str, answer: &mut Answer) {
+fn push_stream<H: Wait>(rt: &H, host: &HostRuntime, mode: &str, text: &str, answer: &mut Answer) {
     let alloc = host.alloc();
     let (word, rest) = first_word(text);
     let count = number(word);
     match mode {
-        "blanks" => push_blanks(alloc, count, answer),
-        "letters" => push_letters(alloc, count, answer),
-        "broken" => push_broken(alloc, rest.as_bytes(), count, answer),
+        "blanks" => push_blanks(rt, alloc, count, answer),
+        "letters" => push_letters(rt, alloc, count, answer),
+        "broken" => push_broken(rt, alloc, rest.as_bytes(), count, answer),
         "list_bytes" => push_in_room(alloc, text, answer),
-        "writes" => push_writes(alloc, text, answer),
-        "fail" | "part" | "bytes" => push_first(alloc, mode, count, rest, answer),
+        "writes" => push_writes(rt, alloc, text, answer),
+        "fail" | "part" | "bytes" => push_first(rt, alloc, mode, count, rest, answer),
         _ => push_host(host, mode, text, answer),
     }
 }
 
-fn push_writes(alloc: Global, text: &str, answer: &mut Answer) {
+fn push_writes<H: Wait>(rt: &H, alloc: Global, text: &str, answer: &mut Answer) {
     let (room, text) = Room::of_words(9_999, text);
-    push_sessions(alloc, APPLICATIONS, Setting { room, ..PLAIN }, text, answer);
+    push_sessions(
+        rt,
+        alloc,
+        APPLICATIONS,
+        Setting { room, ..PLAIN },
+        text,
+        answer,
+    );
 }
 
-fn push_first(alloc: Global, mode: &str, count: usize, text: &str, answer: &mut Answer) {
+fn push_first<H: Wait>(
+    rt: &H,
+    alloc: Global,
+    mode: &str,
+    count: usize,
+    text: &str,
+    answer: &mut Answer,
+) {
     let mut first = PLAIN;
     match mode {
         "bytes" => first.room = Room::of_bytes(count),
         _ => first.call = count,
     }
     first.in_part = mode == "part";
-    push_sessions(alloc, APPLICATIONS, first, text, answer);
+    push_sessions(rt, alloc, APPLICATIONS, first, text, answer);
 }

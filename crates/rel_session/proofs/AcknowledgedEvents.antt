@@ -9,11 +9,11 @@ use Rattle.session_input.specs.Feed.{Feed}
 use Rattle.session_input.specs.Feed.Feed.{over, cut, next}
 use Rattle.rel_unpack.specs.Source.{Source}
 use Rattle.rel_session.specs.Files.{Files, files_behind, source_of}
-use Rattle.rel_session.specs.Node.{Place, Outcome, Reply}
+use Rattle.rel_session.specs.Node.{Place, at_rest, Outcome, Reply}
 use Rattle.rel_session.specs.Node.Place.{raw, closed, running, dead}
 use Rattle.rel_session.specs.Run.{Starts, Holds, Moments, Executes, MayLeave, IsReply, Replies, Ending, IsReached, events_of}
 use Rattle.rel_session.specs.Run.Ending.{ended, cut_off, early}
-use Rattle.rel_session.specs.RunLaws.{acknowledged_at, IsKnown, Finds, Keeps, place_after, HaveAll, StandsForAll, BecomesKnown, LosesNothing, IsOfAccepted, at_rest, BeginsWhereOneEnded, BeginsBehindACrash, IsNextDisk, Lasts, LosesNothingEver}
+use Rattle.rel_session.specs.RunLaws.{acknowledged_at, IsKnown, Finds, Keeps, place_after, HaveAll, StandsForAll, BecomesKnown, LosesNothing, IsOfAccepted, BeginsWhereOneEnded, BeginsBehindACrash, IsNextDisk, Lasts, LosesNothingEver}
 use Rattle.rel_session.specs.Transition.{Transition}
 use Rattle.rel_session.proofs.Prefixes.{prefix_of}
 use Rattle.rel_session.proofs.DeviceLemmas.{IsDevice, weakened, joined, still}
@@ -67,7 +67,7 @@ doubt_more events (Some e) found (inr is) = (e ∷ [], is)
 finds_more : (p : Place) (found : Events) → Finds p found → (more : Events) × (found ≡ acknowledged_at p ++ more)
 finds_more (raw bytes) found finds = (found, refl)
 finds_more (closed s) found finds = doubt_more s.known.acknowledged s.known.in_doubt found finds
-finds_more (running events end) found finds = ([], finds ∙ sym (append-nil events))
+finds_more (running events end ps) found finds = ([], finds ∙ sym (append-nil events))
 finds_more (dead s) found finds = doubt_more s.known.acknowledged s.known.in_doubt found finds
 
 -- so do those behind a reply
@@ -157,14 +157,14 @@ module _ {D : Type 0} (v : Device D) (laws : IsDevice v) where
   held_images : (p : Place) (disk : D) → IsKnown p → Holds v p disk → (c : List ℕ) → v.may_leave disk c → StandsForAll (acknowledged_at p) c
   held_images (raw bytes) disk known holds c now = absurd known
   held_images (closed s) disk known holds c now = stands_for s c (holds c now)
-  held_images (running events end) disk known holds c now = stands_for (certain events end) c (holds c now).0
+  held_images (running events end ps) disk known holds c now = stands_for (certain events end) c (holds c now).0
   held_images (dead s) disk known holds c now = stands_for s c (holds c now)
 
   -- and at each moment of a command
   command_images : (p : Place) (o : Outcome) (old new : D) → IsKnown p → Moments v p o old new → LeavesOnly v old new (StandsForAll (acknowledged_at p))
   command_images (raw bytes) o old new known moments = absurd known
   command_images (closed s) o old new known moments = weakened v old new _ _ (stands_for_reached s.known (events_of o)) moments
-  command_images (running events end) o old new known moments = weakened v old new _ _ (stands_for_reached (settled events) (events_of o)) moments
+  command_images (running events end ps) o old new known moments = weakened v old new _ _ (stands_for_reached (settled events) (events_of o)) moments
   command_images (dead s) o old new known moments = weakened v old new _ _ (stands_for_reached s.known (events_of o)) moments
 
   -- and so at each moment of a session
@@ -211,7 +211,7 @@ module _ {D : Type 0} (v : Device D) (laws : IsDevice v) where
   starts_at_rest : (p : Place) (disk : D) → Holds v p disk → Starts v (at_rest p) disk
   starts_at_rest (raw bytes) disk holds = holds
   starts_at_rest (closed s) disk holds = holds
-  starts_at_rest (running events end) disk holds = λ c now. (holds c now).0
+  starts_at_rest (running events end ps) disk holds = λ c now. (holds c now).0
   starts_at_rest (dead s) disk holds = holds
 
   pub begins_where_one_ended : BeginsWhereOneEnded v
@@ -227,7 +227,7 @@ module _ {D : Type 0} (v : Device D) (laws : IsDevice v) where
   known_at_rest : (p : Place) → IsKnown p → (s : Stored) × (at_rest p ≡ closed s) × (s.known.acknowledged ≡ acknowledged_at p)
   known_at_rest (raw bytes) known = absurd known
   known_at_rest (closed s) known = (s, refl, refl)
-  known_at_rest (running events end) known = (certain events end, refl, refl)
+  known_at_rest (running events end ps) known = (certain events end, refl, refl)
   known_at_rest (dead s) known = (s, refl, refl)
 
   -- where all these events are acknowledged, with others behind them

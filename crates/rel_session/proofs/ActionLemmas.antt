@@ -1,19 +1,28 @@
 -- What commands come to: each to one action, and to one at least, whose texts are whole lines.
 use Rattle.std.proofs.Common.{◌≡◌, ◌⊎◌, inl, inr, ℕ, Bool, true, false, cond, List, [], ◌∷◌, Option, None, Some, Result, Ok, Err, refl, sym, ap, ◌∙◌, subst}
-use Rattle.std.specs.Prelude.{if◌then◌else◌, is_some}
+use Rattle.std.specs.Prelude.{if◌then◌else◌, ◌||◌, is_some}
 use Rattle.std.specs.List.{AllByRecursion}
 use Rattle.std.specs.Option.{option_map, option_or}
 use Rattle.erl_term.specs.Lines.{is_one_line}
 use Rattle.rel_files.specs.File.{HasVersions}
 use Rattle.library.specs.Library.{Library}
-use Rattle.node_command.specs.Place.{difference}
+use Rattle.node_command.specs.Files.{Brings, bundle_brought}
+use Rattle.node_command.specs.Place.{difference, files_refusal}
+use Rattle.node_command.specs.Taking.{commanded}
+use Rattle.node_command.proofs.CommandLemmas.{commanded_step}
+use Rattle.rel_records.proofs.CompletionLemmas.{of_applications}
+use Rattle.node_listing.specs.Listing.{listing}
+use Rattle.node_processes.specs.Answers.{processes_line, modules_line, peek_line}
+use Rattle.node_processes.specs.ModuleVersions.{HaveModuleVersions}
+use Rattle.node_processes.specs.Processes.{Processes}
+use Rattle.rel_unpack.proofs.BroughtLibraries.{brought_libraries}
 use Rattle.node_command.proofs.ReleaseLemmas.{told_library}
 use Rattle.rel_list.specs.Releases.{Releases, differs, first_different, running as running_release, status_of}
 use Rattle.rel_list.specs.Event.{Event}
 use Rattle.rel_list.specs.Event.Event.{made, unpacked}
-use Rattle.rel_session.specs.AnswerLaws.{HasLinePath}
+use Rattle.rel_session.specs.AnswerLaws.{HasLinePath, IsOfFiles, HasModuleVersionsAt}
 use Rattle.session_input.specs.Commands.{Command}
-use Rattle.session_input.specs.Commands.Command.{file, create, set_unpacked, install, permanent, remove, reboot_old, boot, start, releases, relup, quit, bad}
+use Rattle.session_input.specs.Commands.Command.{file, create, set_unpacked, install, permanent, remove, reboot_old, boot, start, releases, procs, modules, peek, call, relup, quit, bad}
 use Rattle.rel_unpack.proofs.LineLibraries.{IsLineBrought, good_brought}
 use Rattle.rel_unpack.proofs.LineOutcomes.{TellsLine, OrNone, IsGood, version_line}
 use Rattle.rel_unpack.proofs.OneOutcome.{one_brought}
@@ -27,8 +36,9 @@ use Rattle.relup_command.proofs.RelupOutcomes.{one_answer, some_answer}
 use Rattle.rel_session.specs.Node.{Place, releases_after}
 use Rattle.rel_session.specs.Node.Place.{raw, closed, running, dead}
 use Rattle.rel_session.specs.Refusals.{refusal_for}
-use Rattle.rel_session.specs.Transition.{Action, ComesTo, OnNode, listed, creation, unpacking, relup_telling, version_of}
-use Rattle.rel_session.specs.Transition.Action.{answers, makes_node, changes_node, reboots_node, boots_node, tells_start}
+use Rattle.rel_session.specs.Transition.{Action, ComesTo, OnNode, told, creation, unpacking, relup_telling, version_of}
+use Rattle.rel_session.specs.Transition.Action.{answers, makes_node, changes_node, reboots_node, boots_node, tells_start, calls}
+use Rattle.rel_session.proofs.ProcessLines.{processes_whole, modules_whole, peek_whole}
 use Rattle.rel_session.proofs.AnswerLines.{HasLine, IsWhole, refusal_whole, listing_whole, installed_line, translation_whole}
 
 -- the kind of a place
@@ -41,19 +51,23 @@ pub data Kind : Type 0 where
 abbrev pub kind_of : Place → Kind
 kind_of (raw x) = of_bytes
 kind_of (closed s) = at_rest
-kind_of (running events end) = runs
+kind_of (running events end ps) = runs
 kind_of (dead s) = fails
 
 on_node : (P : Action → Type 0) (x y : Action) (p q : Place) → kind_of p ≡ kind_of q → (P x → P y → x ≡ y) → OnNode p P x → OnNode q P y → x ≡ y
-on_node P x y (running events end) (running others stop) kinds one is also = one is also
+on_node P x y (running events end ps) (running others stop qs) kinds one is also = one is also
 on_node P x y (raw b) (raw c) kinds one is also = is ∙ sym also
 on_node P x y (closed s) (closed t) kinds one is also = is ∙ sym also
 on_node P x y (dead s) (dead t) kinds one is also = is ∙ sym also
 on_node P x y p q kinds one is also = absurd cc
 
--- At places of one kind a command comes to one action, but for the listing of the releases.
+-- what a node is asked is answered by its releases and its processes
+abbrev pub AreTold : Place → Place → Action → Action → Type 0
+AreTold p q x y = (says : Releases → Processes → List ℕ) × (x ≡ answers (told says p)) × (y ≡ answers (told says q))
+
+-- At places of one kind a command comes to one action, but where it asks the node.
 pub one_action : (source : Source) → GivesOne source → (p q : Place) (c : Command) (x y : Action) → kind_of p ≡ kind_of q → ComesTo source p c x → ComesTo source q c y
-    → (x ≡ y) ⊎ ((x ≡ answers (listed p)) × (y ≡ answers (listed q)))
+    → (x ≡ y) ⊎ AreTold p q x y
 one_action source one p q (file path f) x y kinds is also = inl (is ∙ sym also)
 one_action source one p q (create path) x y kinds (found, there, is) (again, there_too, also) = inl (is ∙ ap creation (one_brought source one path found again there there_too) ∙ sym also)
 one_action source one p q (set_unpacked path) x y kinds is also =
@@ -64,7 +78,11 @@ one_action source one p q (remove vsn) x y kinds is also = inl (is ∙ sym also)
 one_action source one p q (reboot_old vsn) x y kinds is also = inl (is ∙ sym also)
 one_action source one p q boot x y kinds is also = inl (is ∙ sym also)
 one_action source one p q start x y kinds is also = inl (is ∙ sym also)
-one_action source one p q releases x y kinds is also = inr (is, also)
+one_action source one p q releases x y kinds is also = inr ((λ list ps. listing list), is, also)
+one_action source one p q procs x y kinds is also = inr ((λ list ps. processes_line ps), is, also)
+one_action source one p q modules x y kinds is also = inr ((λ list ps. modules_line ps), is, also)
+one_action source one p q (peek app id) x y kinds is also = inr ((λ list ps. peek_line app id ps), is, also)
+one_action source one p q (call app id input) x y kinds is also = inl (is ∙ sym also)
 one_action source one p q (relup new ups downs) x y kinds (found, there, is) (again, there_too, also) =
     inl (is ∙ ap relup_telling (one_answer source one new ups downs found again there there_too) ∙ sym also)
 one_action source one p q quit x y kinds is also = absurd is
@@ -74,7 +92,7 @@ one_action source one p q bad x y kinds is also = inl (is ∙ sym also)
 pub some_action : (source : Source) → GivesEach source → (p : Place) (c : Command) → (c ≡ quit) ⊎ ((does : Action) × ComesTo source p c does)
 some_action source each p (file path f) = inr (_, refl)
 some_action source each p (create path) = let (brought, there) = some_brought source each path in inr (creation brought, (brought, there, refl))
-some_action source each (running events end) (set_unpacked path) = let (brought, there) = some_brought source each path in inr (unpacking brought, (brought, there, refl))
+some_action source each (running events end ps) (set_unpacked path) = let (brought, there) = some_brought source each path in inr (unpacking brought, (brought, there, refl))
 some_action source each (raw x) (set_unpacked path) = inr (_, refl)
 some_action source each (closed s) (set_unpacked path) = inr (_, refl)
 some_action source each (dead s) (set_unpacked path) = inr (_, refl)
@@ -85,14 +103,18 @@ some_action source each p (reboot_old vsn) = inr (_, refl)
 some_action source each p boot = inr (_, refl)
 some_action source each p start = inr (_, refl)
 some_action source each p releases = inr (_, refl)
+some_action source each p procs = inr (_, refl)
+some_action source each p modules = inr (_, refl)
+some_action source each p (peek app id) = inr (_, refl)
+some_action source each p (call app id input) = inr (_, refl)
 some_action source each p (relup new ups downs) = let (found, there) = some_answer source each new ups downs in inr (relup_telling found, (found, there, refl))
 some_action source each p quit = inl refl
 some_action source each p bad = inr (_, refl)
 
--- the versions of the release that an event brings
+-- the release that an event brings is of files
 abbrev pub OfEvent : Event → Type 0
-OfEvent (made p) = HasVersions p.release
-OfEvent (unpacked p) = HasVersions p.release
+OfEvent (made p) = IsOfFiles p
+OfEvent (unpacked p) = IsOfFiles p
 OfEvent e = Unit {0}
 
 -- what is told of files, where they are refused, is within a line
@@ -100,14 +122,16 @@ abbrev pub TellsFilesLine : Option Refusal → Type 0
 TellsFilesLine None = Unit {0}
 TellsFilesLine (Some why) = HasLine (refusal_for why)
 
--- An action's text ends where its last line does, and its versions are those of files.
+-- An action's text ends where its last line does, and the release that it brings to a list is of files.
 abbrev pub IsGoodAction : Action → Type 0
 IsGoodAction (answers text) = IsWhole text
-IsGoodAction (makes_node b) = HasVersions b.found.release × TellsFilesLine b.refusal
-IsGoodAction (changes_node c) = OfEvent c.event × ((list : Releases) → TellsFilesLine (c.files list)) × ((list : Releases) → is_one_line (c.details list) ≡ true)
+IsGoodAction (makes_node b) = (b.refusal ≡ None → IsOfFiles (bundle_brought b)) × TellsFilesLine b.refusal
+IsGoodAction (changes_node c) =
+    ((list next : Releases) → c.files list ≡ None → commanded c.event list ≡ Ok next → OfEvent c.event) × ((list : Releases) → TellsFilesLine (c.files list)) × ((list : Releases) → is_one_line (c.details list) ≡ true)
 IsGoodAction (reboots_node vsn) = Unit {0}
 IsGoodAction boots_node = Unit {0}
 IsGoodAction tells_start = Unit {0}
+IsGoodAction (calls app id input) = Unit {0}
 
 good_as : (x y : Action) → x ≡ y → IsGoodAction y → IsGoodAction x
 good_as x y is good = subst IsGoodAction (sym is) good
@@ -139,13 +163,37 @@ difference_line es (l ∷ ls) o names good = go (differs es l) (difference_line 
     go true rest = names.0
     go false rest = rest
 
-good_creation : (brought : Result Brought Refusal) → IsGood IsLineBrought brought → IsGoodAction (creation brought)
-good_creation (Err why) good = refusal_whole (refusal_for why) (told_line why good)
-good_creation (Ok b) good = (good.found.versions, files_line b.refusal good.refusal)
+-- what is brought without a refusal is of files
+of_files : (source : Source) (path : List ℕ) (b : Brought) → Brings source path (Ok b) → HasVersions b.found.release → b.refusal ≡ None → IsOfFiles (bundle_brought b)
+of_files source path b brings versions free = (versions, of_applications b.found.release.apps b.libraries (brought_libraries source path b brings free).0)
 
-good_unpacking : (brought : Result Brought Refusal) → IsGood IsLineBrought brought → IsGoodAction (unpacking brought)
-good_unpacking (Err why) good = refusal_whole (refusal_for why) (told_line why good)
-good_unpacking (Ok b) good = (good.found.versions, (λ list. unlisted list (is_some (status_of b.found.release.vsn list))), λ list. version_line b.found.release.vsn good.found.versions.own)
+-- A list that takes a release in has no refusal for its files.
+not_barred : (p q : Bool) (next end : Releases) → (if p || q then None else Some next) ≡ Some end → p ≡ false
+not_barred true q next end is = absurd cc
+not_barred false q next end is = refl
+
+unrefused : (listed : Bool) (d o : Option Refusal) → listed ≡ false → (if listed then None else option_or d o) ≡ None → o ≡ None
+unrefused true d o is none = absurd cc
+unrefused false None o is none = none
+unrefused false (Some why) o is none = absurd cc
+
+taken_in : (b : Brought) (list next : Releases) → files_refusal b list ≡ None → commanded (unpacked (bundle_brought b)) list ≡ Ok next → b.refusal ≡ None
+taken_in b list next free allowed =
+    let listed = is_some (status_of b.found.release.vsn list) in
+    let new = not_barred listed (is_some (first_different list b.libraries)) _ next (commanded_step (unpacked (bundle_brought b)) list next allowed) in
+    unrefused listed (difference b.libraries list) b.refusal new free
+
+good_creation : (source : Source) (path : List ℕ) (brought : Result Brought Refusal) → Brings source path brought → IsGood IsLineBrought brought → IsGoodAction (creation brought)
+good_creation source path (Err why) brings good = refusal_whole (refusal_for why) (told_line why good)
+good_creation source path (Ok b) brings good = (of_files source path b brings good.found.versions, files_line b.refusal good.refusal)
+
+good_unpacking : (source : Source) (path : List ℕ) (brought : Result Brought Refusal) → Brings source path brought → IsGood IsLineBrought brought → IsGoodAction (unpacking brought)
+good_unpacking source path (Err why) brings good = refusal_whole (refusal_for why) (told_line why good)
+good_unpacking source path (Ok b) brings good = (
+  λ list next free allowed. of_files source path b brings good.found.versions (taken_in b list next free allowed),
+  λ list. unlisted list (is_some (status_of b.found.release.vsn list)),
+  λ list. version_line b.found.release.vsn good.found.versions.own,
+)
   where
     unlisted : (list : Releases) (listed : Bool) → TellsFilesLine (if listed then None else option_or (difference b.libraries list) b.refusal)
     unlisted list true = tt
@@ -155,26 +203,31 @@ good_telling : (found : Result (List ℕ) Refusal) → IsGood IsLineAnswer found
 good_telling (Err why) good = refusal_whole (refusal_for why) (told_line why good)
 good_telling (Ok text) (t, line, is) = subst IsWhole (sym is) (translation_whole t line)
 
-whole_list : (p : Place) → IsWhole (listed p)
-whole_list (raw x) behind = refl
-whole_list (closed s) behind = refl
-whole_list (running events end) behind = listing_whole (releases_after events) behind
-whole_list (dead s) behind = refl
+-- what a node is asked is answered whole, where it is on a node that runs
+whole_told : (says : Releases → Processes → List ℕ) (p : Place) → HasModuleVersionsAt p → ((list : Releases) (ps : Processes) → HaveModuleVersions ps → IsWhole (says list ps)) → IsWhole (told says p)
+whole_told says (raw x) lines whole behind = refl
+whole_told says (closed s) lines whole behind = refl
+whole_told says (running events end ps) lines whole behind = whole (releases_after events) ps lines behind
+whole_told says (dead s) lines whole behind = refl
 
-pub good_action : (source : Source) (p : Place) (c : Command) (does : Action) → HasLinePath c → ComesTo source p c does → IsGoodAction does
-good_action source p (file path f) does line is = good_as does _ is (λ behind. refl)
-good_action source p (create path) does line (found, there, is) = good_as does _ is (good_creation found (good_brought source path line found there))
-good_action source (running events end) (set_unpacked path) does line (found, there, is) = good_as does _ is (good_unpacking found (good_brought source path line found there))
-good_action source (raw x) (set_unpacked path) does line is = good_as does _ is (λ behind. refl)
-good_action source (closed s) (set_unpacked path) does line is = good_as does _ is (λ behind. refl)
-good_action source (dead s) (set_unpacked path) does line is = good_as does _ is (λ behind. refl)
-good_action source p (install vsn) does line is = good_as does _ is (tt, (λ list. tt), λ list. installed_line (version_of (running_release list)))
-good_action source p (permanent vsn) does line is = good_as does _ is (tt, (λ list. tt), λ list. refl)
-good_action source p (remove vsn) does line is = good_as does _ is (tt, (λ list. tt), λ list. refl)
-good_action source p (reboot_old vsn) does line is = good_as does _ is tt
-good_action source p boot does line is = good_as does _ is tt
-good_action source p start does line is = good_as does _ is tt
-good_action source p releases does line is = good_as does _ is (whole_list p)
-good_action source p (relup new ups downs) does lines (found, there, is) = good_as does _ is (good_telling found (good_answer source new ups downs lines.0 lines.1 lines.2 found there))
-good_action source p quit does line is = absurd is
-good_action source p bad does line is = good_as does _ is (λ behind. refl)
+pub good_action : (source : Source) (p : Place) (c : Command) (does : Action) → HasLinePath c → HasModuleVersionsAt p → ComesTo source p c does → IsGoodAction does
+good_action source p (file path f) does line tells is = good_as does _ is (λ behind. refl)
+good_action source p (create path) does line tells (found, there, is) = good_as does _ is (good_creation source path found there (good_brought source path line found there))
+good_action source (running events end ps) (set_unpacked path) does line tells (found, there, is) = good_as does _ is (good_unpacking source path found there (good_brought source path line found there))
+good_action source (raw x) (set_unpacked path) does line tells is = good_as does _ is (λ behind. refl)
+good_action source (closed s) (set_unpacked path) does line tells is = good_as does _ is (λ behind. refl)
+good_action source (dead s) (set_unpacked path) does line tells is = good_as does _ is (λ behind. refl)
+good_action source p (install vsn) does line tells is = good_as does _ is ((λ list next free allowed. tt), (λ list. tt), λ list. installed_line (version_of (running_release list)))
+good_action source p (permanent vsn) does line tells is = good_as does _ is ((λ list next free allowed. tt), (λ list. tt), λ list. refl)
+good_action source p (remove vsn) does line tells is = good_as does _ is ((λ list next free allowed. tt), (λ list. tt), λ list. refl)
+good_action source p (reboot_old vsn) does line tells is = good_as does _ is tt
+good_action source p boot does line tells is = good_as does _ is tt
+good_action source p start does line tells is = good_as does _ is tt
+good_action source p releases does line tells is = good_as does _ is (whole_told _ p tells (λ list ps lines. listing_whole list))
+good_action source p procs does line tells is = good_as does _ is (whole_told _ p tells (λ list ps lines. processes_whole ps))
+good_action source p modules does line tells is = good_as does _ is (whole_told _ p tells (λ list ps lines. modules_whole ps))
+good_action source p (peek app id) does line tells is = good_as does _ is (whole_told _ p tells (λ list ps lines. peek_whole app id ps lines))
+good_action source p (call app id input) does line tells is = good_as does _ is tt
+good_action source p (relup new ups downs) does lines tells (found, there, is) = good_as does _ is (good_telling found (good_answer source new ups downs lines.0 lines.1 lines.2 found there))
+good_action source p quit does line tells is = absurd is
+good_action source p bad does line tells is = good_as does _ is (λ behind. refl)

@@ -21,13 +21,14 @@ use Rattle.rel_unpack.specs.Refusal.{Refusal}
 use Rattle.rel_unpack.specs.Refusal.Refusal.{missing_file, bad_file, vsn_mismatch, lib_differs, no_table, too_many, no_memory}
 use Rattle.rel_unpack.specs.Unpacking.{Brought}
 use Rattle.rel_unpack.specs.Source.{Source, GivesOne}
+use Rattle.node_processes.specs.Processes.{Processes}
 use Rattle.rel_session.specs.Node.{Place, Outcome, Reply, reply, nothing, done, failed_with, releases_after, behind}
 use Rattle.rel_session.specs.Node.Place.{raw, closed, running, dead}
 use Rattle.rel_session.specs.Refusals.{refusal_of, refusal_for, refusal_line, boot_line}
 use Rattle.rel_session.specs.Refusals.Refusal.{device}
 use Rattle.rel_session.specs.Transition
-use Rattle.rel_session.specs.Transition.Action.{answers, makes_node, changes_node, reboots_node, boots_node, tells_start}
-use Rattle.rel_session.proofs.ActionLemmas.{Kind, kind_of, one_action}
+use Rattle.rel_session.specs.Transition.Action.{answers, makes_node, changes_node, reboots_node, boots_node, tells_start, calls}
+use Rattle.rel_session.proofs.ActionLemmas.{Kind, kind_of, AreTold, one_action}
 use Rattle.rel_session.proofs.ActionLemmas.Kind.{of_bytes, at_rest, runs, fails}
 
 -- what an answer tells: that the command was done, that the device failed, within a boot or not, or that nothing was done
@@ -133,25 +134,25 @@ plain_files no_memory = refl
 
 -- a commit, by what its answers tell
 module _ (e : Event) (f : Report → Effect) (stays : f nothing_done ≡ effect nothing runs) (doubted : f it_failed ≡ effect (failed_with (Some e)) fails) where
-  commits : (events : Events) (end size : ℕ) (o : Result Releases HandlerError) (P : Reply → Type 0) → IsPlainList o → ((a : Reply) → P a → HasEffect f a) → (a : Reply)
-      → Transition.IsCommit events end e size o P a → HasEffect f a
-  commits events end size (Err why) P plain done a is = effect_as f a _ is (sym stays ∙ ap f (sym plain))
-  commits events end size (Ok list) P plain done a (inl (fits, inl is)) = done a is
-  commits events end size (Ok list) P plain done a (inl (fits, inr is)) = effect_as f a _ is (sym doubted)
-  commits events end size (Ok list) P plain done a (inr (over_it, is)) = effect_as f a _ is (sym stays)
+  commits : (events : Events) (end : ℕ) (ps : Processes) (size : ℕ) (o : Result Releases HandlerError) (P : Reply → Type 0) → IsPlainList o → ((a : Reply) → P a → HasEffect f a) → (a : Reply)
+      → Transition.IsCommit events end ps e size o P a → HasEffect f a
+  commits events end ps size (Err why) P plain done a is = effect_as f a _ is (sym stays ∙ ap f (sym plain))
+  commits events end ps size (Ok list) P plain done a (inl (fits, inl is)) = done a is
+  commits events end ps size (Ok list) P plain done a (inl (fits, inr is)) = effect_as f a _ is (sym doubted)
+  commits events end ps size (Ok list) P plain done a (inr (over_it, is)) = effect_as f a _ is (sym stays)
 
-changes : (events : Events) (end : ℕ) (c : Transition.Change) (l : Releases) (f : Option Refusal) (o : Result Releases HandlerError) → IsPlainList o → (a : Reply) → Transition.Changes events end c l f o a → HasEffect (changed runs c) a
-changes events end c l (Some why) o plain a is = effect_as (changed runs c) a _ is (sym (ap (changed runs c) (plain_files why)))
-changes events end c l None o plain a is = commits c.event (changed runs c) refl refl events end (c.size l) o _ plain (λ a is. effect_as (changed runs c) a _ is refl) a is
+changes : (events : Events) (end : ℕ) (ps : Processes) (c : Transition.Change) (l : Releases) (f : Option Refusal) (o : Result Releases HandlerError) → IsPlainList o → (a : Reply) → Transition.Changes events end ps c l f o a → HasEffect (changed runs c) a
+changes events end ps c l (Some why) o plain a is = effect_as (changed runs c) a _ is (sym (ap (changed runs c) (plain_files why)))
+changes events end ps c l None o plain a is = commits c.event (changed runs c) refl refl events end ps (c.size l) o _ plain (λ a is. effect_as (changed runs c) a _ is refl) a is
 
 -- the boot behind a commit
 boots_behind : (vsn : List ℕ) (s : Stored) (a b : Reply) → Transition.BootsStore s b → a ≡ behind (reboot_old vsn) b → HasEffect (rebooted runs vsn) a
 boots_behind vsn s a b (inl (events, end, has, (list, after, is))) told = effect_as (rebooted runs vsn) a _ (told ∙ ap (behind (reboot_old vsn)) is) refl
 boots_behind vsn s a b (inr is) told = effect_as (rebooted runs vsn) a _ (told ∙ ap (behind (reboot_old vsn)) is) refl
 
-reboots : (events : Events) (end : ℕ) (vsn : List ℕ) (l : Releases) (o : Result Releases HandlerError) → IsPlainList o → (a : Reply) → Transition.Reboots events end vsn l o a → HasEffect (rebooted runs vsn) a
-reboots events end vsn l o plain =
-    commits (reboot_old vsn) (rebooted runs vsn) refl refl events end _ o _ plain (λ a (b, boot, is). boots_behind vsn (Transition.rebooted events end vsn l) a b boot is)
+reboots : (events : Events) (end : ℕ) (ps : Processes) (vsn : List ℕ) (l : Releases) (o : Result Releases HandlerError) → IsPlainList o → (a : Reply) → Transition.Reboots events end ps vsn l o a → HasEffect (rebooted runs vsn) a
+reboots events end ps vsn l o plain =
+    commits (reboot_old vsn) (rebooted runs vsn) refl refl events end ps _ o _ plain (λ a (b, boot, is). boots_behind vsn (Transition.rebooted events end vsn l) a b boot is)
 
 -- create
 makes_with : (x : List ℕ) (p : Bundle) (size : ℕ) (why : Option Refusal) (a : Reply) → Transition.MakesWith x p size why a → HasEffect (created of_bytes p) a
@@ -168,7 +169,7 @@ makes (raw x) b a (inl is) = makes_on x b (holds_a_store x) a is
 makes (raw x) b a (inr (torn, is)) = effect_as (created of_bytes (bundle_brought b)) a _ is refl
 makes (closed s) b a (inl is) = effect_as (created at_rest (bundle_brought b)) a _ is refl
 makes (closed s) b a (inr is) = effect_as (created at_rest (bundle_brought b)) a _ is refl
-makes (running events end) b a is = effect_as (created runs (bundle_brought b)) a _ is refl
+makes (running events end ps) b a is = effect_as (created runs (bundle_brought b)) a _ is refl
 makes (dead s) b a is = effect_as (created fails (bundle_brought b)) a _ is refl
 
 -- boot
@@ -188,7 +189,7 @@ boots (raw x) a (inl (events, list, end, after, image, (list_then, after_then, i
 boots (raw x) a (inr (inl (why, refusal, is))) = effect_as (booted of_bytes) a _ is (boots_refused x why refusal)
 boots (raw x) a (inr (inr (torn, is))) = effect_as (booted of_bytes) a _ is refl
 boots (closed s) a is = boots_store at_rest s a refl is
-boots (running events end) a is = boots_store runs (certain events end) a refl is
+boots (running events end ps) a is = boots_store runs (certain events end) a refl is
 boots (dead s) a is = boots_store fails s a refl is
 
 -- Two replies with the same answer, from places of one kind.
@@ -207,31 +208,36 @@ acted k (changes_node c) t = changed k c t
 acted k (reboots_node vsn) t = rebooted k vsn t
 acted k boots_node t = booted k t
 acted k tells_start t = tells k t
+acted k (calls app id input) t = effect nothing k
 
 acts : (p : Place) (does : Transition.Action) (a : Reply) → Transition.Acts p does a → HasEffect (acted (kind_of p) does) a
 acts p (answers text) a is = effect_as (acted (kind_of p) (answers text)) a _ is refl
 acts p (makes_node found) a is = makes p found a is
-acts (running events end) (changes_node c) a is = changes events end c (releases_after events) (c.files (releases_after events)) (commanded c.event (releases_after events)) (plain_list c.event (releases_after events)) a is
+acts (running events end ps) (changes_node c) a is = changes events end ps c (releases_after events) (c.files (releases_after events)) (commanded c.event (releases_after events)) (plain_list c.event (releases_after events)) a is
 acts (raw x) (changes_node c) a is = effect_as (changed of_bytes c) a _ is refl
 acts (closed s) (changes_node c) a is = effect_as (changed at_rest c) a _ is refl
 acts (dead s) (changes_node c) a is = effect_as (changed fails c) a _ is refl
-acts (running events end) (reboots_node vsn) a is = reboots events end vsn (releases_after events) (commanded (reboot_old vsn) (releases_after events)) (plain_list (reboot_old vsn) (releases_after events)) a is
+acts (running events end ps) (reboots_node vsn) a is = reboots events end ps vsn (releases_after events) (commanded (reboot_old vsn) (releases_after events)) (plain_list (reboot_old vsn) (releases_after events)) a is
 acts (raw x) (reboots_node vsn) a is = effect_as (rebooted of_bytes vsn) a _ is refl
 acts (closed s) (reboots_node vsn) a is = effect_as (rebooted at_rest vsn) a _ is refl
 acts (dead s) (reboots_node vsn) a is = effect_as (rebooted fails vsn) a _ is refl
 acts p boots_node a is = boots p a is
-acts (running events end) tells_start a (inl is) = effect_as (tells runs) a _ is refl
-acts (running events end) tells_start a (inr is) = effect_as (tells runs) a _ is refl
+acts (running events end ps) tells_start a (inl is) = effect_as (tells runs) a _ is refl
+acts (running events end ps) tells_start a (inr is) = effect_as (tells runs) a _ is refl
 acts (raw x) tells_start a is = effect_as (tells of_bytes) a _ is refl
 acts (closed s) tells_start a is = effect_as (tells at_rest) a _ is refl
 acts (dead s) tells_start a is = effect_as (tells fails) a _ is refl
+acts (running events end ps) (calls app id input) a is = effect_as (acted runs (calls app id input)) a _ is refl
+acts (raw x) (calls app id input) a is = effect_as (acted of_bytes (calls app id input)) a _ is refl
+acts (closed s) (calls app id input) a is = effect_as (acted at_rest (calls app id input)) a _ is refl
+acts (dead s) (calls app id input) a is = effect_as (acted fails (calls app id input)) a _ is refl
 
 pub one_effect : (source : Source) → GivesOne source → (p q : Place) (c : Command) (a b : Reply) → kind_of p ≡ kind_of q → a.answer ≡ b.answer → Transition.Transition source p c a → Transition.Transition source q c b → effect_of a ≡ effect_of b
 one_effect source one p q c a b kinds same (x, comes, is) (y, comes_too, also) = go (one_action source one p q c x y kinds comes comes_too)
   where
-    go : (x ≡ y) ⊎ ((x ≡ answers (Transition.listed p)) × (y ≡ answers (Transition.listed q))) → effect_of a ≡ effect_of b
+    go : (x ≡ y) ⊎ AreTold p q x y → effect_of a ≡ effect_of b
     go (inl one) =
         same_effect (acted (kind_of p) x) a b (acts p x a is)
         (subst (λ k. HasEffect (acted k x) b) (sym kinds) (subst (λ z. HasEffect (acted (kind_of q) z) b) (sym one) (acts q y b also))) same
-    go (inr (lists, lists_too)) =
-        idle a b _ _ (subst (λ z. Transition.Acts p z a) lists is) (subst (λ z. Transition.Acts q z b) lists_too also) (ap (effect nothing) kinds)
+    go (inr (says, here, here_too)) =
+        idle a b _ _ (subst (λ z. Transition.Acts p z a) here is) (subst (λ z. Transition.Acts q z b) here_too also) (ap (effect nothing) kinds)

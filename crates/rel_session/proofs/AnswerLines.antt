@@ -31,7 +31,7 @@ use Rattle.rel_handler.specs.declared.error.BootError.{BootError}
 use Rattle.rel_handler.specs.declared.error.BootError.TheVariants as boot_error
 use Rattle.rel_unpack.specs.Refusal.{Trouble, trouble_text}
 use Rattle.rel_unpack.specs.Refusal.Trouble.{unreadable, faulty, misshapen}
-use Rattle.rel_session.specs.Listing.{listing, release_line, text_value, application_value}
+use Rattle.node_listing.specs.Listing.{listing, count_line, release_line, text_value, application_value}
 use Rattle.rel_session.specs.Refusals.{Refusal, refusal_line, boot_line}
 use Rattle.rel_session.specs.Refusals.Refusal.{no_such_release, existing_release, already_installed, bad_status, permanent, is_running, lib_differs, bad_file, missing_file, vsn_mismatch, no_table, too_many, device, full, dead, no_memory, exists}
 use Rattle.rel_session.specs.Transition.{ok_line, done_line, installed_details}
@@ -53,11 +53,11 @@ cut last (x ∷ s) = x ∷ (if x == 10 then [] else cut last s)
 abbrev pub IsWhole : List ℕ → Type 0
 IsWhole s = (behind : List ℕ) → cut start (s ++ behind) ≡ s
 
-abbrev EndsIt : List ℕ → Type 0
+abbrev pub EndsIt : List ℕ → Type 0
 EndsIt s = (behind : List ℕ) → cut last (s ++ behind) ≡ s
 
 -- whatever follows it, this ends a line of a listing
-abbrev EndsLine : List ℕ → Type 0
+abbrev pub EndsLine : List ℕ → Type 0
 EndsLine s = (behind : List ℕ) → cut within (s ++ behind) ≡ s ++ cut start behind
 
 -- Two answers in front of the same text are one.
@@ -69,7 +69,7 @@ no_newline true e = absurd cc
 no_newline false e = refl
 
 -- a line without its end
-ends_behind : (l s : List ℕ) → is_one_line l ≡ true → EndsIt s → EndsIt (l ++ s)
+pub ends_behind : (l s : List ℕ) → is_one_line l ≡ true → EndsIt s → EndsIt (l ++ s)
 ends_behind [] s line ends = ends
 ends_behind (b ∷ l) s line ends = λ behind.
     let (first, more) = and_parts (not (b == 10)) (is_one_line l) line in
@@ -81,7 +81,7 @@ line_behind (b ∷ l) s line ends = λ behind.
     let (first, more) = and_parts (not (b == 10)) (is_one_line l) line in
     ap (λ q. b ∷ (if q then cut start ((l ++ s) ++ behind) else cut within ((l ++ s) ++ behind))) (no_newline (b == 10) first) ∙ ap (λ t. b ∷ t) (line_behind l s more ends behind)
 
-newline : EndsIt (codes "\n")
+pub newline : EndsIt (codes "\n")
 newline behind = refl
 
 pub ok_whole : (vsn : List ℕ) → is_one_line vsn ≡ true → IsWhole (ok_line vsn)
@@ -160,7 +160,7 @@ pub installed_line : (other : List ℕ) → is_one_line (installed_details other
 installed_line other = append_line (text_of (text_value other)) (codes " [] []") (term_line (text_value other)) refl
 
 -- a line that tells a tuple, and then an answer's rest
-tuple_line : (vs : Values) (end rest : List ℕ) → EndsLine end → IsWhole rest → IsWhole ((text_of (tuple vs) ++ end) ++ rest)
+pub tuple_line : (vs : Values) (end rest : List ℕ) → EndsLine end → IsWhole rest → IsWhole ((text_of (tuple vs) ++ end) ++ rest)
 tuple_line vs end rest ends whole behind =
     let inner = with_commas (texts_of vs) ++ codes "}" in
     let plain : is_one_line inner ≡ true = append_line (with_commas (texts_of vs)) (codes "}") (commas_line (texts_of vs) (members_line vs)) refl in
@@ -172,16 +172,17 @@ line_of_listing e rest whole =
     let apps = list (values_of (map application_value e.release.apps)) in
     tuple_line (values_of (text_value e.release.name ∷ text_value e.release.vsn ∷ apps ∷ atom (status_word e.status) ∷ [])) (codes "\n") rest (λ behind. refl) whole
 
-count_whole : (n : ℕ) → IsWhole (codes "ok " ++ (decimal n ++ codes "\n"))
+count_whole : (n : ℕ) → IsWhole (count_line n)
 count_whole n behind = ap (λ t. codes "ok " ++ t) (ends_behind (decimal n) (codes "\n") (decimal_line n) newline behind)
 
+-- lines, none of which ends the answer, and then their count
+pub lines_whole : {X : Type 0} (line : X → List ℕ) → ((x : X) (rest : List ℕ) → IsWhole rest → IsWhole (line x ++ rest)) → (xs : List X) (n : ℕ) → IsWhole (flat_map line xs ++ count_line n)
+lines_whole line goes_on [] n = count_whole n
+lines_whole line goes_on (x ∷ xs) n =
+    subst IsWhole (sym (append_assoc (line x) (flat_map line xs) (count_line n))) (goes_on x (flat_map line xs ++ count_line n) (lines_whole line goes_on xs n))
+
 pub listing_whole : (es : Releases) → IsWhole (listing es)
-listing_whole es = go es (length es)
-  where
-    go : (es : Releases) (n : ℕ) → IsWhole (flat_map release_line es ++ (codes "ok " ++ (decimal n ++ codes "\n")))
-    go [] n = count_whole n
-    go (e ∷ es) n = subst IsWhole (sym (append_assoc (release_line e) (flat_map release_line es) (codes "ok " ++ (decimal n ++ codes "\n"))))
-        (line_of_listing e (flat_map release_line es ++ (codes "ok " ++ (decimal n ++ codes "\n"))) (go es n))
+listing_whole es = lines_whole release_line line_of_listing es (length es)
 
 -- a relup and `ok`, or why there is none
 term_whole : (u v w : Value) → IsWhole (text_of (triple_term u v w) ++ codes ".\nok\n")

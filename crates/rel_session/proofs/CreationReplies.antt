@@ -1,6 +1,6 @@
 -- What `create` replies, wherever the disk stands.
 use Rattle.std.proofs.Common.{◌≡◌, ◌≢◌, ◌⊎◌, inl, inr, ℕ, ◌≤◌, Bool, true, false, List, [], ◌∷◌, Option, None, Some, Result, Ok, Err, refl, sym, ap, ◌∙◌, subst}
-use Rattle.std.specs.Prelude.{IfOk, MatchResult, String, string_bytes}
+use Rattle.std.specs.Prelude.{MatchResult, String}
 use Rattle.std.specs.declared.alloc.Global.{Global}
 use Rattle.std.specs.declared.alloc.AllocError.{AllocError}
 use Rattle.rel_list.specs.Releases.{Releases, running as running_release}
@@ -19,18 +19,21 @@ use Rattle.rel_unpack.specs.Refusal as of_files
 use Rattle.rel_unpack.specs.Unpacking.{Brought}
 use Rattle.rel_unpack.specs.Source.{Source}
 use Rattle.session_input.specs.Commands.Command.{create}
+use Rattle.rel_session.specs.declared.booted_node.BootedNode.{BootedNode}
+use Rattle.rel_session.specs.declared.place.Place.{Place as PlaceInMemory}
 use Rattle.rel_session.specs.declared.place.Place.TheVariants as memory
 use Rattle.rel_session.specs.Device.{Device, HasFailed}
-use Rattle.rel_session.specs.InMemory.{IsAt, Replied, NothingDone, Answers}
-use Rattle.rel_session.specs.Node.{Place, Reply, reply, refused, failed, done}
+use Rattle.rel_session.specs.InMemory.{IsAt, Replied, NothingDone, Answers, AnswersCommand, IsStarted}
+use Rattle.rel_session.specs.Node.{Place, just_booted, Reply, reply, refused, failed, done}
 use Rattle.rel_session.specs.Node.Place.{raw, closed, running, dead}
 use Rattle.rel_session.specs.Refusals.{Refusal, refusal_of, refusal_for, refusal_line}
 use Rattle.rel_session.specs.Refusals.Refusal.{full, exists, device}
 use Rattle.rel_session.specs.Transition
 use Rattle.rel_session.specs.Transition.Action.{makes_node}
+use Rattle.rel_session.specs.Transition.StopsWithin.{without_its_node}
 use Rattle.rel_session.proofs.DeviceLemmas.{IsDevice}
 use Rattle.rel_session.proofs.ReleaseLemmas.{files_refuse, told_alike, creation_refused}
-use Rattle.rel_session.proofs.Replies.{held, kept, quiet, moments_of_nothing, stays, runs_at, tells, answers_line, tells_refusal, refuses_anywhere}
+use Rattle.rel_session.proofs.Replies.{HasBooted, held, kept, quiet, moments_of_nothing, stays, booted_at, starts, answers_or_stops, tells_refusal, refuses_anywhere}
 
 never : {A : Type 0} → false ≡ true → A
 never e = absurd cc
@@ -39,20 +42,23 @@ module _ {D : Type 0} (v : Device D) (laws : IsDevice v) (source : Source) (path
   abbrev Creates : Place → Reply → Type 0
   Creates = λ p a. Transition.Transition source p (create path) a
 
+  abbrev Stops : Place → Reply → Type 0
+  Stops = λ p a. Transition.IsStopped source p (create path) a
+
   making : (found : Brought) → Brings source path (Ok found) → (p : Place) (a : Reply) → Transition.MakesNode p found a → Creates p a
   making found read p a is = (makes_node found, (Ok found, read, refl), is)
 
   -- There is a node.
-  pub creates_again : (h : Handler D) (why : HandlerError) → IsOfFiles source path why ⊎ ((why ≡ handler_error.Exists) × ((found : Brought) × Brings source path (Ok found)))
-      → Answers v Creates (Err why) (memory.Made h) (memory.Made h)
-  creates_again h why (inl of) = refuses_anywhere v laws Creates (memory.Made h) why (λ known p. creation_refused source path (refusal_of why) p (files_refuse source path why of known))
-  creates_again h why (inr (is, (found, read))) = subst (λ e. Answers v Creates (Err e) (memory.Made h) (memory.Made h)) (sym is) (λ p at. inl (there p at))
+  pub creates_again : (n : BootedNode D) (why : HandlerError) → IsOfFiles source path why ⊎ ((why ≡ handler_error.Exists) × ((found : Brought) × Brings source path (Ok found)))
+      → Answers v Creates (Err why) (memory.Made n) (memory.Made n)
+  creates_again n why (inl of) = refuses_anywhere v laws Creates (memory.Made n) why (λ known p. creation_refused source path (refusal_of why) p (files_refuse source path why of known))
+  creates_again n why (inr (is, (found, read))) = subst (λ e. Answers v Creates (Err e) (memory.Made n) (memory.Made n)) (sym is) (λ p at. inl (there p at))
     where
-      there : (p : Place) → IsAt v (memory.Made h) p → Replied v p (λ a. Creates p a × (a.answer ≡ refusal_line exists)) (memory.Made h) (memory.Made h)
+      there : (p : Place) → IsAt v (memory.Made n) p → Replied v p (λ a. Creates p a × (a.answer ≡ refusal_line exists)) (memory.Made n) (memory.Made n)
       there (raw bytes) at = absurd at
       there (closed s) at = absurd at
-      there (running events end) at = stays v laws (running events end) (refusal_line exists) _ (memory.Made h) (memory.Made h) at refl at (making found read (running events end) _ refl, refl)
-      there (dead s) at = stays v laws (dead s) (refusal_line exists) _ (memory.Made h) (memory.Made h) at refl at (making found read (dead s) _ refl, refl)
+      there (running events end ps) at = stays v laws (running events end ps) (refusal_line exists) _ (memory.Made n) (memory.Made n) at refl at (making found read (running events end ps) _ refl, refl)
+      there (dead s) at = stays v laws (dead s) (refusal_line exists) _ (memory.Made n) (memory.Made n) at refl at (making found read (dead s) _ refl, refl)
 
   -- There is none on this disk.
   module _ (disk : D) (stores : (es : Releases) → IsImageOf (v.seen disk) es → holds_a_store (v.seen disk) ≡ true) where
@@ -69,20 +75,20 @@ module _ {D : Type 0} (v : Device D) (laws : IsDevice v) (source : Source) (path
     -- It is made.
     module _ (h : Handler D) (is_made : IsMade v source path disk h) (started : HasStarted v.may_leave h) (alive : is_dead h ≡ false) (free : holds_a_store (v.seen disk) ≡ true → ⊥) (counted : v.failures disk ≤ v.failures (disk_in h)) where
       replies : (p : Place) → IsAt v (memory.Idle disk) p
-          → Replied v p (λ a. Creates p a × (a.answer ≡ Transition.ok_line is_made.brought.found.release.vsn)) (memory.Idle disk) (memory.Made h)
+          → HasBooted v laws p (λ a. Creates p a × (a.answer ≡ Transition.ok_line (Transition.version_of (running_release (list_in h))))) (memory.Idle disk) h
       replies (closed s) at = absurd (free (store_there s at))
-      replies (running events end) at = absurd at
+      replies (running events end ps) at = absurd at
       replies (dead s) at = absurd at
       replies (raw bytes) at =
           let found = is_made.brought in
           let events = made (bundle_brought found) ∷ booting ∷ [] in
           let end = end_behind first_end (made_size found) in
-          let place = runs_at v laws h events end alive (ap (λ l. Some l) (sym is_made.list)) is_made.end is_made.acknowledged started in
-          let a = reply (Transition.ok_line found.found.release.vsn) (done events) (running events end) in
+          let place = booted_at v laws h events end alive (ap (λ l. Some l) (sym is_made.list)) is_made.end is_made.acknowledged started in
+          let a = reply (Transition.ok_line found.found.release.vsn) (done events) (just_booted events end) in
           record {
             given = a;
-            right = (making is_made.brought is_made.read (raw bytes) a (on_raw is_made.brought bytes false a (no_store (holds_a_store bytes) refl) (by_refusal is_made.brought bytes _ a is_made.free (inl (is_made.fits, refl)))), refl);
-            at = place;
+            right = (making is_made.brought is_made.read (raw bytes) a (on_raw is_made.brought bytes false a (no_store (holds_a_store bytes) refl) (by_refusal is_made.brought bytes _ a is_made.free (inl (is_made.fits, refl)))), ap (λ l. Transition.ok_line (Transition.version_of (running_release l))) (sym is_made.list));
+            at = place.1;
             happens = record { moments = (is_made.synced, is_made.begun); holds = place.0; cause = λ e. never e; counted = counted };
           }
         where
@@ -90,18 +96,17 @@ module _ {D : Type 0} (v : Device D) (laws : IsDevice v) (source : Source) (path
           no_store true e = absurd (free (ap holds_a_store at ∙ e))
           no_store false e = e
 
-      pub creates : (line : Result (String Global) AllocError) (result : Result (String Global) HandlerError) → MatchResult line (λ text. result ≡ Ok text) (λ _. result ≡ Err handler_error.NoMemory)
-          → IfOk line (λ text. string_bytes text ≡ Transition.ok_line (Transition.version_of (running_release (list_in h)))) → Answers v Creates result (memory.Idle disk) (memory.Made h)
-      creates line result is told = answers_line v laws Creates line result (memory.Idle disk) (memory.Made h) is
-          (tells v laws Creates line (Transition.ok_line is_made.brought.found.release.vsn) (memory.Idle disk) (memory.Made h)
-          (subst (λ list. IfOk line (λ text. string_bytes text ≡ Transition.ok_line (Transition.version_of (running_release list)))) is_made.list told) replies)
+      pub creates : (line : Result (String Global) AllocError) (result : Result (String Global) HandlerError) (place : PlaceInMemory D) → MatchResult line (λ text. result ≡ Ok text) (λ _. result ≡ Err handler_error.NoMemory)
+          → IsStarted h line place → AnswersCommand v source (create path) result (memory.Idle disk) place
+      creates line result place is told = answers_or_stops v laws Creates Stops line result (memory.Idle disk) place is
+          (starts v laws Creates Stops (λ p b (does, comes, acts). (does, comes, without_its_node b acts refl)) h (memory.Idle disk) replies line place told)
 
     -- It isn't.
     module _ (new : D) (counted : v.failures disk ≤ v.failures new) where
       unwritten_at : (p : Place) → IsAt v (memory.Idle disk) p → WritesNothing v.seen v.may_leave v.moment v.left_since disk new → IsAt v (memory.Idle new) p
       unwritten_at (raw bytes) at u = u.same ∙ at
       unwritten_at (closed s) at u = kept v laws (IsStoredAs s) disk new at u.any_moment
-      unwritten_at (running events end) at u = absurd at
+      unwritten_at (running events end ps) at u = absurd at
       unwritten_at (dead s) at u = absurd at
 
       refuses : (p : Place) (why : Refusal) → IsAt v (memory.Idle disk) p → WritesNothing v.seen v.may_leave v.moment v.left_since disk new → Creates p (refused why p)
@@ -137,7 +142,7 @@ module _ {D : Type 0} (v : Device D) (laws : IsDevice v) (source : Source) (path
           there : (p : Place) → IsAt v (memory.Idle disk) p → Transition.MakesNode p n.brought (refused (refusal_for (of_files.refusal_of n.barred.error)) p)
           there (raw bytes) at = on_raw n.brought bytes false _ (ap holds_a_store (sym at) ∙ n.free) (by_refusal n.brought bytes _ _ n.barred.refused refl)
           there (closed s) at = never (sym n.free ∙ store_there s at)
-          there (running events end) at = absurd at
+          there (running events end ps) at = absurd at
           there (dead s) at = absurd at
 
       -- the disk, the store or memory is
@@ -164,13 +169,13 @@ module _ {D : Type 0} (v : Device D) (laws : IsDevice v) (source : Source) (path
               at = holds;
               happens = record { moments = quiet v laws s (made (bundle_brought found) ∷ []) disk new at u.any_moment; holds = holds; cause = λ e. cause; counted = counted };
             }
-        device_fails cause (running events end) at = absurd at
+        device_fails cause (running events end ps) at = absurd at
         device_fails cause (dead s) at = absurd at
 
         exists_there : holds_a_store (v.seen disk) ≡ true → (p : Place) → IsAt v (memory.Idle disk) p → Transition.MakesNode p is_not.brought (refused exists p)
         exists_there stored_there (raw bytes) at = on_raw is_not.brought bytes true (refused exists (raw bytes)) (ap holds_a_store (sym at) ∙ stored_there) refl
         exists_there stored_there (closed s) at = inl refl
-        exists_there stored_there (running events end) at = absurd at
+        exists_there stored_there (running events end ps) at = absurd at
         exists_there stored_there (dead s) at = absurd at
 
         full_there : is_not.brought.refusal ≡ None → holds_a_store (v.seen disk) ≡ false → (HasSpace first_end (made_size found) → ⊥) → (p : Place) → IsAt v (memory.Idle disk) p
@@ -178,7 +183,7 @@ module _ {D : Type 0} (v : Device D) (laws : IsDevice v) (source : Source) (path
         full_there clear stored_there over (raw bytes) at =
             on_raw is_not.brought bytes false (refused full (raw bytes)) (ap holds_a_store (sym at) ∙ stored_there) (by_refusal is_not.brought bytes _ _ clear (inr (over, refl)))
         full_there clear stored_there over (closed s) at = never (sym stored_there ∙ store_there s at)
-        full_there clear stored_there over (running events end) at = absurd at
+        full_there clear stored_there over (running events end ps) at = absurd at
         full_there clear stored_there over (dead s) at = absurd at
 
         by_error : (e : HandlerError) → (e ≢ handler_error.Exists → e ≢ handler_error.Device → is_not.brought.refusal ≡ None) → MakingRefused (v.seen disk) (made_size found) (v.failures disk) (v.failures new) (WritesNothing v.seen v.may_leave v.moment v.left_since disk new) e

@@ -23,13 +23,16 @@ use Rattle.rel_unpack.specs.Unpacking.{Brought}
 use Rattle.rel_unpack.specs.Source.{Source, GivesEach}
 use Rattle.rel_session.specs.Files.{Files, files_behind, source_of}
 use Rattle.rel_session.specs.LawsBelow.{BootLaws}
+use Rattle.node_processes.specs.Answers.{called}
+use Rattle.node_processes.specs.Fresh.{fresh}
+use Rattle.node_processes.specs.Processes.{Processes}
 use Rattle.rel_session.specs.Node.{Place, Reply, reply, nothing, releases_after, list_or_none, behind}
 use Rattle.rel_session.specs.Node.Place.{raw, closed, running, dead}
 use Rattle.rel_session.specs.Refusals.{boot_line}
 use Rattle.rel_session.specs.Run.Ending.{ended, cut_off}
 use Rattle.rel_session.specs.AnswerLaws.{IsCertain, HasList, HasAnswer, EachHasAnAnswer}
 use Rattle.rel_session.specs.Transition
-use Rattle.rel_session.specs.Transition.Action.{answers, makes_node, changes_node, reboots_node, boots_node, tells_start}
+use Rattle.rel_session.specs.Transition.Action.{answers, makes_node, changes_node, reboots_node, boots_node, tells_start, calls}
 use Rattle.node_command.proofs.CommandLemmas.{commanded_step}
 use Rattle.rel_session.proofs.SourceLemmas.{gives_each}
 use Rattle.rel_session.proofs.ActionLemmas.{some_action}
@@ -53,7 +56,7 @@ fits_or_not end size = by_size (cases_lt 16777216 size)
 pub data IsFair : Place → Type 0 where
   of_raw : (x : List ℕ) → IsFair (raw x)
   rests : (events : Events) (end : ℕ) (list : Releases) → list_after events ≡ Some list → IsFair (closed (certain events end))
-  runs : (events : Events) (end : ℕ) (list : Releases) → list_after events ≡ Some list → IsFair (running events end)
+  runs : (events : Events) (end : ℕ) (ps : Processes) (list : Releases) → list_after events ≡ Some list → IsFair (running events end ps)
 
 -- A reply that is had there, in which the device does not fail.
 pub record Has (P : Reply → Type 0) : Type 0 where
@@ -69,32 +72,32 @@ mapped : (P Q : Reply → Type 0) → ((a : Reply) → P a → Q a) → Has P �
 mapped P Q f has = record { given = has.given; is = f has.given has.is; works = has.works; fair = has.fair }
 
 -- a commit has one where what is committed has one
-commits : (events : Events) (end : ℕ) (list : Releases) (c : Event) (size : ℕ) (P : Reply → Type 0) → list_after events ≡ Some list → ((grown : Releases) → list_after (events ++ c ∷ []) ≡ Some grown → Has P)
-    → Has (Transition.IsCommit events end c size (commanded c (releases_after events)) P)
-commits events end list c size P after done = by_list (commanded c (releases_after events)) refl
+commits : (events : Events) (end : ℕ) (ps : Processes) (list : Releases) (c : Event) (size : ℕ) (P : Reply → Type 0) → list_after events ≡ Some list → ((grown : Releases) → list_after (events ++ c ∷ []) ≡ Some grown → Has P)
+    → Has (Transition.IsCommit events end ps c size (commanded c (releases_after events)) P)
+commits events end ps list c size P after done = by_list (commanded c (releases_after events)) refl
   where
-    by_room : (grown : Releases) → commanded c (releases_after events) ≡ Ok grown → HasSpace end size ⊎ (HasSpace end size → ⊥) → Has (Transition.IsCommit events end c size (Ok grown) P)
+    by_room : (grown : Releases) → commanded c (releases_after events) ≡ Ok grown → HasSpace end size ⊎ (HasSpace end size → ⊥) → Has (Transition.IsCommit events end ps c size (Ok grown) P)
     by_room grown e (inl fits) =
         let allowed : commanded c list ≡ Ok grown = ap (λ o. commanded c (list_or_none o)) (sym after) ∙ e in
-        mapped P (Transition.IsCommit events end c size (Ok grown) P) (λ a is. inl (fits, inl is)) (done grown (list_after-push events c list grown after (commanded_step c list grown allowed)))
-    by_room grown e (inr over_it) = fair_reply _ _ (inr (over_it, refl)) refl (runs events end list after)
+        mapped P (Transition.IsCommit events end ps c size (Ok grown) P) (λ a is. inl (fits, inl is)) (done grown (list_after-push events c list grown after (commanded_step c list grown allowed)))
+    by_room grown e (inr over_it) = fair_reply _ _ (inr (over_it, refl)) refl (runs events end ps list after)
 
-    by_list : (o : Result Releases HandlerError) → commanded c (releases_after events) ≡ o → Has (Transition.IsCommit events end c size o P)
-    by_list (Err why) e = fair_reply _ _ refl refl (runs events end list after)
+    by_list : (o : Result Releases HandlerError) → commanded c (releases_after events) ≡ o → Has (Transition.IsCommit events end ps c size o P)
+    by_list (Err why) e = fair_reply _ _ refl refl (runs events end ps list after)
     by_list (Ok grown) e = by_room grown e (fits_or_not end size)
 
-changes : (events : Events) (end : ℕ) (list : Releases) (c : Transition.Change) (f : Option Refusal) → list_after events ≡ Some list → Has (Transition.Changes events end c (releases_after events) f (commanded c.event (releases_after events)))
-changes events end list c (Some why) after = fair_reply _ _ refl refl (runs events end list after)
-changes events end list c None after =
+changes : (events : Events) (end : ℕ) (ps : Processes) (list : Releases) (c : Transition.Change) (f : Option Refusal) → list_after events ≡ Some list → Has (Transition.Changes events end ps c (releases_after events) f (commanded c.event (releases_after events)))
+changes events end ps list c (Some why) after = fair_reply _ _ refl refl (runs events end ps list after)
+changes events end ps list c None after =
     let size = c.size (releases_after events) in
-    commits events end list c.event size _ after (λ grown then. fair_reply _ _ refl refl (runs (events ++ c.event ∷ []) (end_behind end size) grown then))
+    commits events end ps list c.event size _ after (λ grown then. fair_reply _ _ refl refl (runs (events ++ c.event ∷ []) (end_behind end size) ps grown then))
 
 makes_with : (x : List ℕ) (p : Bundle) (size : ℕ) (why : Option Refusal) → Has (Transition.MakesWith x p size why)
 makes_with x p size (Some why) = fair_reply _ _ refl refl (of_raw x)
 makes_with x p size None = go (fits_or_not first_end size)
   where
     go : HasSpace first_end size ⊎ (HasSpace first_end size → ⊥) → Has (Transition.MakesWith x p size None)
-    go (inl fits) = fair_reply _ _ (inl (fits, refl)) refl (runs (made p ∷ booting ∷ []) (end_behind first_end size) (entry p Permanent ∷ []) refl)
+    go (inl fits) = fair_reply _ _ (inl (fits, refl)) refl (runs (made p ∷ booting ∷ []) (end_behind first_end size) (fresh (entry p Permanent ∷ [])) (entry p Permanent ∷ []) refl)
     go (inr over_it) = fair_reply _ _ (inr (over_it, refl)) refl (of_raw x)
 
 makes_on : (x : List ℕ) (b : Brought) (there : Bool) → Has (Transition.MakesOn x b there)
@@ -105,12 +108,12 @@ makes : (p : Place) (found : Brought) → IsFair p → Has (Transition.MakesNode
 makes p found (of_raw x) =
     mapped (Transition.MakesOn x found (holds_a_store x)) (Transition.MakesNode (raw x) found) (λ a is. inl is) (makes_on x found (holds_a_store x))
 makes p found (rests events end list after) = fair_reply _ _ (inl refl) refl (rests events end list after)
-makes p found (runs events end list after) = fair_reply _ _ refl refl (runs events end list after)
+makes p found (runs events end ps list after) = fair_reply _ _ refl refl (runs events end ps list after)
 
 booted_there : (events : Events) (end : ℕ) (list : Releases) → list_after events ≡ Some list → Has (Transition.IsBooted events end)
 booted_there events end list after =
     let then = list_after-push events booting list (booted list) after refl in
-    fair_reply _ _ (booted list, then, refl) refl (runs (events ++ booting ∷ []) end (booted list) then)
+    fair_reply _ _ (booted list, then, refl) refl (runs (events ++ booting ∷ []) end (fresh (releases_after (events ++ booting ∷ []))) (booted list) then)
 
 boots_bytes : BootLaws → (x : List ℕ) → Has (Transition.BootsBytes x)
 boots_bytes laws x = go (laws.either x)
@@ -125,31 +128,36 @@ boots_bytes laws x = go (laws.either x)
 boots : BootLaws → (p : Place) → IsFair p → Has (Transition.Boots p)
 boots laws p (of_raw x) = boots_bytes laws x
 boots laws p (rests events end list after) = mapped (Transition.IsBooted events end) (Transition.BootsStore (certain events end)) (λ a is. inl (events, end, inl (refl, refl), is)) (booted_there events end list after)
-boots laws p (runs events end list after) = mapped (Transition.IsBooted events end) (Transition.BootsStore (certain events end)) (λ a is. inl (events, end, inl (refl, refl), is)) (booted_there events end list after)
+boots laws p (runs events end ps list after) = mapped (Transition.IsBooted events end) (Transition.BootsStore (certain events end)) (λ a is. inl (events, end, inl (refl, refl), is)) (booted_there events end list after)
 
-reboots : (events : Events) (end : ℕ) (list : Releases) (vsn : List ℕ) → list_after events ≡ Some list
-    → Has (Transition.Reboots events end vsn (releases_after events) (commanded (rebooting vsn) (releases_after events)))
-reboots events end list vsn after =
+reboots : (events : Events) (end : ℕ) (ps : Processes) (list : Releases) (vsn : List ℕ) → list_after events ≡ Some list
+    → Has (Transition.Reboots events end ps vsn (releases_after events) (commanded (rebooting vsn) (releases_after events)))
+reboots events end ps list vsn after =
     let e = rebooting vsn in
     let s = Transition.rebooted events end vsn (releases_after events) in
-    commits events end list e _ _ after (λ grown then.
+    commits events end ps list e _ _ after (λ grown then.
     let booted = booted_there (events ++ e ∷ []) s.end grown then in
     fair_reply _ (behind e booted.given) (booted.given, inl (events ++ e ∷ [], s.end, inl (refl, refl), booted.is), refl) booted.works booted.fair)
 
 rebooted : (p : Place) (vsn : List ℕ) → IsFair p → Has (Transition.Acts p (reboots_node vsn))
 rebooted p vsn (of_raw x) = fair_reply _ _ refl refl (of_raw x)
 rebooted p vsn (rests events end list after) = fair_reply _ _ refl refl (rests events end list after)
-rebooted p vsn (runs events end list after) = reboots events end list vsn after
+rebooted p vsn (runs events end ps list after) = reboots events end ps list vsn after
 
 changed : (p : Place) (c : Transition.Change) → IsFair p → Has (Transition.Acts p (changes_node c))
 changed p c (of_raw x) = fair_reply _ _ refl refl (of_raw x)
 changed p c (rests events end list after) = fair_reply _ _ refl refl (rests events end list after)
-changed p c (runs events end list after) = changes events end list c (c.files (releases_after events)) after
+changed p c (runs events end ps list after) = changes events end ps list c (c.files (releases_after events)) after
 
 told : (p : Place) → IsFair p → Has (Transition.Acts p tells_start)
 told p (of_raw x) = fair_reply _ _ refl refl (of_raw x)
 told p (rests events end list after) = fair_reply _ _ refl refl (rests events end list after)
-told p (runs events end list after) = fair_reply _ _ (inl refl) refl (runs events end list after)
+told p (runs events end ps list after) = fair_reply _ _ (inl refl) refl (runs events end ps list after)
+
+called_there : (p : Place) (app id : List ℕ) (input : ℕ) → IsFair p → Has (Transition.Acts p (calls app id input))
+called_there p app id input (of_raw x) = fair_reply _ _ refl refl (of_raw x)
+called_there p app id input (rests events end list after) = fair_reply _ _ refl refl (rests events end list after)
+called_there p app id input (runs events end ps list after) = fair_reply _ _ refl refl (runs events end (called app id input ps) list after)
 
 acts : BootLaws → (p : Place) (does : Transition.Action) → IsFair p → Has (Transition.Acts p does)
 acts laws p (answers text) fair = fair_reply _ (reply text nothing p) refl refl fair
@@ -158,6 +166,7 @@ acts laws p (changes_node c) fair = changed p c fair
 acts laws p (reboots_node vsn) fair = rebooted p vsn fair
 acts laws p boots_node fair = boots laws p fair
 acts laws p tells_start fair = told p fair
+acts laws p (calls app id input) fair = called_there p app id input fair
 
 -- A reply to the first command, and what follows it.
 one_more : (base : Source) (files : Files) (p : Place) (c : Command) (rest : Feed Command) (a : Reply) → Transition.Transition (source_of base files) p c a → a.outcome.failed ≡ false → HasAnswer base (files_behind files c) a.after rest → HasAnswer base files p (next c rest)
@@ -183,7 +192,7 @@ each laws base some files p (next c rest) fair = by_action (some_action (source_
 fair_place : (p : Place) → IsCertain p → HasList p → IsFair p
 fair_place (raw x) sure has = of_raw x
 fair_place (closed s) sure (list, after) = subst (λ t. IsFair (closed t)) (sym sure) (rests s.known.acknowledged s.end list after)
-fair_place (running events end) sure (list, after) = runs events end list after
+fair_place (running events end ps) sure (list, after) = runs events end ps list after
 fair_place (dead s) sure has = absurd sure
 
 pub each_has_an_answer : BootLaws → (base : Source) → EachHasAnAnswer base

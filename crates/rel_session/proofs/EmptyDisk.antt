@@ -1,5 +1,5 @@
 -- A session on an empty disk.
-use Rattle.std.proofs.Common.{Option, None, Some, ◌≡◌, ◌≢◌, ◌⊎◌, inl, inr, ⊎_elim, ℕ, true, false, List, [], ◌∷◌, ◌++◌, refl, sym, ◌∙◌, subst, append_assoc}
+use Rattle.std.proofs.Common.{Option, None, Some, ◌≡◌, ◌≢◌, ◌⊎◌, inl, inr, ⊎_elim, ℕ, true, false, List, [], ◌∷◌, ◌++◌, refl, sym, ap, ◌∙◌, subst, append_assoc}
 use Rattle.rel_list.specs.Releases.{Bundle}
 use Rattle.rel_list.specs.Event.Event.{made, boot as booting}
 use Rattle.session_input.specs.Commands.{Command}
@@ -10,14 +10,15 @@ use Rattle.rel_unpack.specs.Refusal.{Refusal}
 use Rattle.rel_unpack.specs.Unpacking.{Brought}
 use Rattle.rel_unpack.specs.Source.{Source}
 use Rattle.rel_session.specs.Files.{Files, files_behind, source_of}
-use Rattle.rel_session.specs.Node.{Place, Reply}
+use Rattle.rel_session.specs.Node.{Place, at_rest, Reply}
 use Rattle.rel_session.specs.Node.Place.{raw}
 use Rattle.rel_session.specs.Run.{Executes, MayLeave, Replies, Ending}
 use Rattle.rel_session.specs.RunLaws.{acknowledged_at, BecomesKnown, NoneFails, NoneAcknowledged, BeginsWithAMaking}
 use Rattle.rel_session.specs.Transition
-use Rattle.rel_session.specs.Transition.Action.{answers, makes_node, changes_node, reboots_node, boots_node, tells_start}
+use Rattle.rel_session.specs.Transition.Action.{answers, makes_node, changes_node, reboots_node, boots_node, tells_start, calls}
 use Rattle.rel_session.proofs.AcknowledgedEvents.{first_answered, loses_nothing}
 use Rattle.rel_session.proofs.DeviceLemmas.{IsDevice}
+use Rattle.rel_session.proofs.Transitions.{rest_acknowledged}
 
 -- A reply on an empty disk leaves it empty, or the device failed, or a release was made.
 pub record IsMade (a : Reply) : Type 0 where
@@ -45,17 +46,28 @@ boots a (inl (events, list, end, after, image, is)) = cc image.image_of.store
 boots a (inr (inl (why, told, is))) = on_empty_as a _ is (inl (refl, inl refl))
 boots a (inr (inr (torn, is))) = on_empty_as a _ is (inl (refl, inr refl))
 
-on_empty : (source : Source) (c : Command) (a : Reply) → Transition.Transition source (raw []) c a → OnEmpty a
-on_empty source c a (answers text, comes, is) = on_empty_as a _ is (inl (refl, inl refl))
-on_empty source c a (makes_node found, comes, is) = makes found a is
-on_empty source c a (changes_node change, comes, is) = on_empty_as a _ is (inl (refl, inl refl))
-on_empty source c a (reboots_node vsn, comes, is) = on_empty_as a _ is (inl (refl, inl refl))
-on_empty source c a (boots_node, comes, is) = boots a is
-on_empty source c a (tells_start, comes, is) = on_empty_as a _ is (inl (refl, inl refl))
+acts : (does : Transition.Action) (a : Reply) → Transition.Acts (raw []) does a → OnEmpty a
+acts (answers text) a is = on_empty_as a _ is (inl (refl, inl refl))
+acts (makes_node found) a is = makes found a is
+acts (changes_node change) a is = on_empty_as a _ is (inl (refl, inl refl))
+acts (reboots_node vsn) a is = on_empty_as a _ is (inl (refl, inl refl))
+acts boots_node a is = boots a is
+acts tells_start a is = on_empty_as a _ is (inl (refl, inl refl))
+acts (calls app id input) a is = on_empty_as a _ is (inl (refl, inl refl))
+
+-- where its node is lost too
+without_node : (b : Reply) → OnEmpty b → OnEmpty (Transition.without_node b)
+without_node b (inl (none, inl there)) = inl (none, inl (ap at_rest there))
+without_node b (inl (none, inr failed)) = inl (none, inr failed)
+without_node b (inr of) = inr (record { bundle = of.bundle; acknowledged = of.acknowledged; after = rest_acknowledged b.after ∙ of.after })
+
+stops : (does : Transition.Action) (a : Reply) → Transition.StopsWithin (raw []) does a → OnEmpty a
+stops does a (Transition.StopsWithin.without_its_boot alone) = let never = alone.here in absurd cc
+stops does a (Transition.StopsWithin.without_its_node b is lost) = on_empty_as a _ lost (without_node b (acts does b is))
 
 left_on_empty : (source : Source) (p : Place) (c : Command) (a : Reply) → p ≡ raw [] → MayLeave source p c a → OnEmpty a
-left_on_empty source p c a empty (inl is) = on_empty source c a (subst (λ q. Transition.Transition source q c a) empty is)
-left_on_empty source p c a empty (inr stopped) = let never = sym empty ∙ stopped.here in absurd cc
+left_on_empty source p c a empty (inl (does, comes, is)) = acts does a (subst (λ q. Transition.Acts q does a) empty is)
+left_on_empty source p c a empty (inr (does, comes, stopped)) = stops does a (subst (λ q. Transition.StopsWithin q does a) empty stopped)
 
 -- where it was left empty
 still_empty : (a : Reply) → OnEmpty a → a.outcome.failed ≡ false → a.outcome.acknowledged ≡ [] → a.after ≡ raw []

@@ -15,6 +15,7 @@ use Rattle.rel_unpack.specs.Refusal.{Refusal}
 use Rattle.rel_unpack.specs.Unpacking.{Brought}
 use Rattle.rel_unpack.specs.Source.{Source}
 use Rattle.rel_session.specs.Files.{files_behind, source_of}
+use Rattle.node_processes.specs.Processes.{Processes}
 use Rattle.rel_session.specs.Node.{Place, Reply, releases_after}
 use Rattle.rel_session.specs.Node.Place.{raw, closed, running, dead}
 use Rattle.rel_session.specs.Refusals.{refusal_line}
@@ -22,7 +23,7 @@ use Rattle.rel_session.specs.Refusals.Refusal.{device}
 use Rattle.rel_session.specs.Run.{Executes, MayLeave}
 use Rattle.rel_session.specs.AnswerLaws.{FailsOnlyWithTheDevice, TellsDoubt}
 use Rattle.rel_session.specs.Transition
-use Rattle.rel_session.specs.Transition.Action.{answers, makes_node, changes_node, reboots_node, boots_node, tells_start}
+use Rattle.rel_session.specs.Transition.Action.{answers, makes_node, changes_node, reboots_node, boots_node, tells_start, calls}
 use Rattle.rel_session.proofs.AcknowledgedEvents.{first_answered}
 use Rattle.rel_session.proofs.DeviceLemmas.{failed_first, failed_behind}
 
@@ -33,15 +34,15 @@ IsPlain a = (a.outcome.in_doubt ≡ None) ⊎ ((a.outcome.failed ≡ true) × (a
 plain : (a b : Reply) → a ≡ b → IsPlain b → IsPlain a
 plain a b is of = subst IsPlain (sym is) of
 
-commits : (events : Events) (end : ℕ) (e : Event) (size : ℕ) (o : Result Releases HandlerError) (P : Reply → Type 0) → ((a : Reply) → P a → IsPlain a) → (a : Reply) → Transition.IsCommit events end e size o P a → IsPlain a
-commits events end e size (Err why) P done a is = plain a _ is (inl refl)
-commits events end e size (Ok list) P done a (inl (fits, inl is)) = done a is
-commits events end e size (Ok list) P done a (inl (fits, inr is)) = plain a _ is (inr (refl, refl))
-commits events end e size (Ok list) P done a (inr (over, is)) = plain a _ is (inl refl)
+commits : (events : Events) (end : ℕ) (ps : Processes) (e : Event) (size : ℕ) (o : Result Releases HandlerError) (P : Reply → Type 0) → ((a : Reply) → P a → IsPlain a) → (a : Reply) → Transition.IsCommit events end ps e size o P a → IsPlain a
+commits events end ps e size (Err why) P done a is = plain a _ is (inl refl)
+commits events end ps e size (Ok list) P done a (inl (fits, inl is)) = done a is
+commits events end ps e size (Ok list) P done a (inl (fits, inr is)) = plain a _ is (inr (refl, refl))
+commits events end ps e size (Ok list) P done a (inr (over, is)) = plain a _ is (inl refl)
 
-changes : (events : Events) (end : ℕ) (c : Transition.Change) (l : Releases) (f : Option Refusal) (o : Result Releases HandlerError) (a : Reply) → Transition.Changes events end c l f o a → IsPlain a
-changes events end c l (Some why) o a is = plain a _ is (inl refl)
-changes events end c l None o a is = commits events end c.event (c.size l) o _ (λ a is. plain a _ is (inl refl)) a is
+changes : (events : Events) (end : ℕ) (ps : Processes) (c : Transition.Change) (l : Releases) (f : Option Refusal) (o : Result Releases HandlerError) (a : Reply) → Transition.Changes events end ps c l f o a → IsPlain a
+changes events end ps c l (Some why) o a is = plain a _ is (inl refl)
+changes events end ps c l None o a is = commits events end ps c.event (c.size l) o _ (λ a is. plain a _ is (inl refl)) a is
 
 makes_with : (bytes : List ℕ) (p : Bundle) (size : ℕ) (why : Option Refusal) (a : Reply) → Transition.MakesWith bytes p size why a → IsPlain a
 makes_with bytes p size (Some why) a is = plain a _ is (inl refl)
@@ -57,7 +58,7 @@ makes (raw bytes) found a (inl is) = makes_on bytes found (holds_a_store bytes) 
 makes (raw bytes) found a (inr (torn, is)) = plain a _ is (inr (refl, refl))
 makes (closed s) found a (inl is) = plain a _ is (inl refl)
 makes (closed s) found a (inr is) = plain a _ is (inr (refl, refl))
-makes (running events end) found a is = plain a _ is (inl refl)
+makes (running events end ps) found a is = plain a _ is (inl refl)
 makes (dead s) found a is = plain a _ is (inl refl)
 
 -- a boot leaves nothing in doubt
@@ -65,15 +66,15 @@ boots_store : (s : Stored) (a : Reply) → Transition.BootsStore s a → a.outco
 boots_store s a (inl (events, end, has, (list, after, is))) = ap (λ (r : Reply). r.outcome.in_doubt) is
 boots_store s a (inr is) = ap (λ (r : Reply). r.outcome.in_doubt) is
 
-reboots : (events : Events) (end : ℕ) (vsn : List ℕ) (l : Releases) (o : Result Releases HandlerError) (a : Reply) → Transition.Reboots events end vsn l o a → IsPlain a
-reboots events end vsn l o = commits events end (rebooting vsn) _ o _ (λ a (b, boot, is). plain a _ is (inl (boots_store (Transition.rebooted events end vsn l) b boot)))
+reboots : (events : Events) (end : ℕ) (ps : Processes) (vsn : List ℕ) (l : Releases) (o : Result Releases HandlerError) (a : Reply) → Transition.Reboots events end ps vsn l o a → IsPlain a
+reboots events end ps vsn l o = commits events end ps (rebooting vsn) _ o _ (λ a (b, boot, is). plain a _ is (inl (boots_store (Transition.rebooted events end vsn l) b boot)))
 
 boots : (p : Place) (a : Reply) → Transition.Boots p a → IsPlain a
 boots (raw bytes) a (inl (events, list, end, after, image, (list_then, after_then, is))) = plain a _ is (inl refl)
 boots (raw bytes) a (inr (inl (why, told, is))) = plain a _ is (inl refl)
 boots (raw bytes) a (inr (inr (torn, is))) = plain a _ is (inl refl)
 boots (closed s) a is = inl (boots_store s a is)
-boots (running events end) a is = inl (boots_store (certain events end) a is)
+boots (running events end ps) a is = inl (boots_store (certain events end) a is)
 boots (dead s) a is = inl (boots_store s a is)
 
 acts : (p : Place) (does : Transition.Action) (a : Reply) → Transition.Acts p does a → IsPlain a
@@ -81,18 +82,22 @@ acts p (answers text) a is = plain a _ is (inl refl)
 acts p (makes_node found) a is = makes p found a is
 acts (raw bytes) (changes_node c) a is = plain a _ is (inl refl)
 acts (closed s) (changes_node c) a is = plain a _ is (inl refl)
-acts (running events end) (changes_node c) a is = changes events end c (releases_after events) (c.files (releases_after events)) (commanded c.event (releases_after events)) a is
+acts (running events end ps) (changes_node c) a is = changes events end ps c (releases_after events) (c.files (releases_after events)) (commanded c.event (releases_after events)) a is
 acts (dead s) (changes_node c) a is = plain a _ is (inl refl)
-acts (running events end) (reboots_node vsn) a is = reboots events end vsn (releases_after events) (commanded (rebooting vsn) (releases_after events)) a is
+acts (running events end ps) (reboots_node vsn) a is = reboots events end ps vsn (releases_after events) (commanded (rebooting vsn) (releases_after events)) a is
 acts (raw bytes) (reboots_node vsn) a is = plain a _ is (inl refl)
 acts (closed s) (reboots_node vsn) a is = plain a _ is (inl refl)
 acts (dead s) (reboots_node vsn) a is = plain a _ is (inl refl)
 acts p boots_node a is = boots p a is
-acts (running events end) tells_start a (inl is) = plain a _ is (inl refl)
-acts (running events end) tells_start a (inr is) = plain a _ is (inl refl)
+acts (running events end ps) tells_start a (inl is) = plain a _ is (inl refl)
+acts (running events end ps) tells_start a (inr is) = plain a _ is (inl refl)
 acts (raw bytes) tells_start a is = plain a _ is (inl refl)
 acts (closed s) tells_start a is = plain a _ is (inl refl)
 acts (dead s) tells_start a is = plain a _ is (inl refl)
+acts (running events end ps) (calls app id input) a is = plain a _ is (inl refl)
+acts (raw bytes) (calls app id input) a is = plain a _ is (inl refl)
+acts (closed s) (calls app id input) a is = plain a _ is (inl refl)
+acts (dead s) (calls app id input) a is = plain a _ is (inl refl)
 
 is_plain : (source : Source) (p : Place) (c : Command) (a : Reply) → Transition.Transition source p c a → IsPlain a
 is_plain source p c a (does, comes, is) = acts p does a is
@@ -104,17 +109,19 @@ tells_doubt source p c a e is doubt = go (is_plain source p c a is)
     go (inl none) = let lost : Some e ≡ None = sym doubt ∙ none in absurd cc
     go (inr told) = told
 
-left_plain : (source : Source) (p : Place) (c : Command) (a : Reply) → MayLeave source p c a → IsPlain a
-left_plain source p c a (inl is) = is_plain source p c a is
-left_plain source p c a (inr stopped) = plain a _ stopped.is (inl refl)
-
 -- a reply in which the device does not fail leaves nothing in doubt
+sure : (a : Reply) → IsPlain a → a.outcome.failed ≡ false → a.outcome.in_doubt ≡ None
+sure a (inl none) works = none
+sure a (inr (failed, told)) works = let lost : true ≡ false = sym failed ∙ works in absurd cc
+
+stopped_sure : (p : Place) (does : Transition.Action) (a : Reply) → Transition.StopsWithin p does a → a.outcome.failed ≡ false → a.outcome.in_doubt ≡ None
+stopped_sure p does a (Transition.StopsWithin.without_its_boot alone) works = ap (λ (r : Reply). r.outcome.in_doubt) alone.is
+stopped_sure p does a (Transition.StopsWithin.without_its_node b is lost) works =
+    ap (λ (r : Reply). r.outcome.in_doubt) lost ∙ sure b (acts p does b is) (ap (λ (r : Reply). r.outcome.failed) (sym lost) ∙ works)
+
 pub no_doubt : (source : Source) (p : Place) (c : Command) (a : Reply) → MayLeave source p c a → a.outcome.failed ≡ false → a.outcome.in_doubt ≡ None
-no_doubt source p c a is works = go (left_plain source p c a is)
-  where
-    go : IsPlain a → a.outcome.in_doubt ≡ None
-    go (inl none) = none
-    go (inr (failed, told)) = let lost : true ≡ false = sym failed ∙ works in absurd cc
+no_doubt source p c a (inl is) works = sure a (is_plain source p c a is) works
+no_doubt source p c a (inr (does, comes, stopped)) works = stopped_sure p does a stopped works
 
 -- the device failed in it or not
 works : (b : Bool) (P : Type 0) → (b ≡ true → P) → (P → ⊥) → b ≡ false

@@ -1,4 +1,3 @@
-pub mod ListingLemmas
 pub mod ReleaseLemmas
 pub mod DeviceLemmas
 pub mod ListLemmas
@@ -10,6 +9,7 @@ pub mod UnpackingReplies
 pub mod StartReplies
 pub mod RebootReplies
 pub mod RelupReplies
+pub mod ProcessReplies
 pub mod ReplyTexts
 pub mod LoopLemmas
 pub mod GivenFiles
@@ -19,12 +19,14 @@ pub mod AcknowledgedEvents
 pub mod Failures
 pub mod EmptyDisk
 pub mod AnswerLines
+pub mod ProcessLines
 pub mod SourceLemmas
 pub mod ActionLemmas
 pub mod OneAnswer
 pub mod EachAnswer
 pub mod AnswerEvents
 pub mod Versions
+pub mod ProcessVersions
 pub mod OneRun
 pub mod LinePaths
 pub mod OneText

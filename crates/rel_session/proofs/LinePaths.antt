@@ -9,12 +9,10 @@ use Rattle.erl_term.specs.Lines.{is_one_line}
 use Rattle.rel_files.specs.Name.{is_text}
 use Rattle.rel_list.specs.Releases.{Releases}
 use Rattle.rel_list.specs.Event.{list_after}
-use Rattle.rel_records.specs.Lists.{HaveVersions}
 use Rattle.rel_handler.specs.Image.{store_end}
 use Rattle.rel_handler.specs.Events.{Events, MayHave, IsStoredAs, certain}
-use Rattle.rel_handler.proofs.Commits.{have_versions}
-use Rattle.session_input.specs.Commands.{Command, ParsedLine, parse_line, parse_words, parse_command, parse_change, change_named, with_word, without_words, path_of, path_in, paths_of, is_path, relup_of, parse_relup, split_at, version_in, is_blank, words_of, is_end, file_of, most_line, put_parsed, commands_of, commands_behind}
-use Rattle.session_input.specs.Commands.Command.{file, create, set_unpacked, install, permanent, remove, reboot_old, boot, start, releases, quit, bad}
+use Rattle.session_input.specs.Commands.{Command, ParsedLine, parse_line, parse_words, parse_command, parse_process_command, parse_path_command, parse_peek, parse_call, call_of, names_process, input_of, parse_change, change_named, with_word, without_words, path_of, path_in, paths_of, is_path, relup_of, parse_relup, split_at, version_in, is_blank, words_of, is_end, file_of, most_line, put_parsed, commands_of, commands_behind}
+use Rattle.session_input.specs.Commands.Command.{file, create, set_unpacked, install, permanent, remove, reboot_old, boot, start, releases, procs, modules, peek, call, quit, bad}
 use Rattle.session_input.specs.Commands.ParsedLine.{blank, file_begins, whole_command}
 use Rattle.relup_command.specs.Answer.{AreLinePaths}
 use Rattle.rel_session.specs.Device.{Device}
@@ -23,9 +21,14 @@ use Rattle.session_input.specs.Feed.Feed.{over, cut, next}
 use Rattle.session_input.specs.Input.{most_bytes}
 use Rattle.session_input.specs.Lines.{onto, lines_of}
 use Rattle.rel_session.specs.Node.Place.{raw, closed, running, dead}
-use Rattle.rel_session.specs.AnswerLaws.{HasLinePath, HaveLinePaths, ReadsLinePaths, HasVersionsAt, KeepsVersions}
+use Rattle.rel_session.specs.AnswerLaws.{HasLinePath, HaveLinePaths, ReadsLinePaths, AreOfFiles, HasVersionsAt, HasModuleVersionsAt, KeepsVersions, KeepsModuleVersions}
 use Rattle.rel_session.specs.RunLaws.{MayBe}
+use Rattle.rel_session.specs.Node.{Place}
+use Rattle.rel_session.specs.Run.{Starts}
+use Rattle.rel_unpack.specs.Source.{Source}
 use Rattle.rel_session.proofs.DeviceLemmas.{IsDevice}
+use Rattle.rel_session.proofs.ProcessVersions.{keeps_versions_of_modules}
+use Rattle.rel_session.proofs.Versions.{of_image}
 
 abbrev AreFeedLines : Feed (List ℕ) → Type 0
 AreFeedLines (next l ls) = (is_one_line l ≡ true) × AreFeedLines ls
@@ -141,16 +144,47 @@ relup_plain (new ∷ ups ∷ downs ∷ []) plain =
     between_plain (path_of new) (paths_of ups) (paths_of downs) (one_path_plain new plain.0) (paths_plain ups plain.1.0) (paths_plain downs plain.1.1.0)
 relup_plain (new ∷ ups ∷ downs ∷ more ∷ words) plain = tt
 
+-- a command on a process names no path
+no_path : (b : Bool) (c : Command) → HasLinePath c → HasLinePath (if b then c else bad)
+no_path true c line = line
+no_path false c line = tt
+
+peek_plain : (words : List (List ℕ)) → IsPlainLine (parse_peek words)
+peek_plain [] = tt
+peek_plain (app ∷ []) = tt
+peek_plain (app ∷ id ∷ []) = no_path (names_process app id) (peek app id) tt
+peek_plain (app ∷ id ∷ more ∷ words) = tt
+
+input_plain : (app id : List ℕ) (o : Option ℕ) → HasLinePath (call_of app id o)
+input_plain app id None = tt
+input_plain app id (Some input) = no_path (names_process app id) (call app id input) tt
+
+call_plain : (words : List (List ℕ)) → IsPlainLine (parse_call words)
+call_plain [] = tt
+call_plain (app ∷ []) = tt
+call_plain (app ∷ id ∷ []) = tt
+call_plain (app ∷ id ∷ input ∷ []) = input_plain app id (input_of input)
+call_plain (app ∷ id ∷ input ∷ more ∷ words) = tt
+
+path_command_plain : (word : List ℕ) (words : List (List ℕ)) → AreLines words → IsPlainLine (parse_path_command word words)
+path_command_plain word words plain =
+    either (bytes_eq word (codes "file")) (with_word (path_in words) file_begins) _ (path_plain words file_begins plain (λ path line. tt))
+    (either (bytes_eq word (codes "create")) (with_word (path_in words) (λ path. whole_command (create path))) _ (path_plain words (λ path. whole_command (create path)) plain (λ path line. line))
+    (either (bytes_eq word (codes "set_unpacked")) (with_word (path_in words) (λ path. whole_command (set_unpacked path))) _ (path_plain words (λ path. whole_command (set_unpacked path)) plain (λ path line. line))
+    (either (bytes_eq word (codes "relup")) (parse_relup words) _ (relup_plain words plain) (change_plain word words))))
+
+process_command_plain : (word : List ℕ) (words : List (List ℕ)) → AreLines words → IsPlainLine (parse_process_command word words)
+process_command_plain word words plain =
+    either (bytes_eq word (codes "peek")) (parse_peek words) _ (peek_plain words) (either (bytes_eq word (codes "call")) (parse_call words) _ (call_plain words) (path_command_plain word words plain))
+
 word_plain : (word : List ℕ) (words : List (List ℕ)) → AreLines words → IsPlainLine (parse_command word words)
 word_plain word words plain =
     either (bytes_eq word (codes "boot")) (without_words words (whole_command boot)) _ (alone_plain words boot tt)
     (either (bytes_eq word (codes "start")) (without_words words (whole_command start)) _ (alone_plain words start tt)
     (either (bytes_eq word (codes "releases")) (without_words words (whole_command releases)) _ (alone_plain words releases tt)
-    (either (bytes_eq word (codes "quit")) (without_words words (whole_command quit)) _ (alone_plain words quit tt)
-    (either (bytes_eq word (codes "file")) (with_word (path_in words) file_begins) _ (path_plain words file_begins plain (λ path line. tt))
-    (either (bytes_eq word (codes "create")) (with_word (path_in words) (λ path. whole_command (create path))) _ (path_plain words (λ path. whole_command (create path)) plain (λ path line. line))
-    (either (bytes_eq word (codes "set_unpacked")) (with_word (path_in words) (λ path. whole_command (set_unpacked path))) _ (path_plain words (λ path. whole_command (set_unpacked path)) plain (λ path line. line))
-    (either (bytes_eq word (codes "relup")) (parse_relup words) _ (relup_plain words plain) (change_plain word words))))))))
+    (either (bytes_eq word (codes "procs")) (without_words words (whole_command procs)) _ (alone_plain words procs tt)
+    (either (bytes_eq word (codes "modules")) (without_words words (whole_command modules)) _ (alone_plain words modules tt)
+    (either (bytes_eq word (codes "quit")) (without_words words (whole_command quit)) _ (alone_plain words quit tt) (process_command_plain word words plain))))))
 
 words_plain : (words : List (List ℕ)) → AreLines words → IsPlainLine (parse_words words)
 words_plain [] plain = tt
@@ -182,12 +216,12 @@ pub reads_line_paths : ReadsLinePaths
 reads_line_paths input = (commands_plain (lines_of (bytes_within most_bytes input)) (lines_plain (bytes_within most_bytes input))).0
 
 -- the list of events that an image stands for
-image_versions : (events : Events) (end : ℕ) (c : List ℕ) → IsStoredAs (certain events end) c → (list : Releases) → list_after events ≡ Some list → HaveVersions list
+image_versions : (events : Events) (end : ℕ) (c : List ℕ) → IsStoredAs (certain events end) c → (list : Releases) → list_after events ≡ Some list → AreOfFiles list
 image_versions events end c of list after =
-    let versions = have_versions of.image_of.bodies of.list of.image_of.list in
+    let versions = of_image c of.list of.image_of in
     let same : Some of.list ≡ Some list = sym of.after ∙ ap list_after (only of.has) ∙ after in
     let one : of.list ≡ list = cc in
-    subst HaveVersions one versions
+    subst AreOfFiles one versions
   where
     only : MayHave (certain events end) of.events (store_end c) → of.events ≡ events
     only (inl has) = has.0
@@ -195,7 +229,7 @@ image_versions events end c of list after =
 
 pub keeps_versions : {D : Type 0} (v : Device D) → IsDevice v → KeepsVersions v
 keeps_versions v laws (raw x) disk sure holds = tt
-keeps_versions v laws (running events end) disk sure holds = image_versions events end (v.seen disk) (holds (v.seen disk) (laws.reads_an_image disk)).0
+keeps_versions v laws (running events end ps) disk sure holds = image_versions events end (v.seen disk) (holds (v.seen disk) (laws.reads_an_image disk)).0
 keeps_versions v laws (dead s) disk sure holds = absurd sure
 keeps_versions v laws (closed s) disk sure holds =
     subst (λ t. HasVersionsAt (closed t)) (sym sure) (λ events list is after.
@@ -204,3 +238,13 @@ keeps_versions v laws (closed s) disk sure holds =
     only : (events : Events) → MayBe (certain s.known.acknowledged s.end) events → events ≡ s.known.acknowledged
     only events (inl same) = same
     only events (inr same) = same
+
+-- where a session begins there are no processes
+no_processes : {D : Type 0} (v : Device D) (p : Place) (disk : D) → Starts v p disk → HasModuleVersionsAt p
+no_processes v (raw x) disk starts = tt
+no_processes v (closed s) disk starts = tt
+no_processes v (running events end ps) disk starts = absurd starts
+no_processes v (dead s) disk starts = tt
+
+pub keeps_module_versions : {D : Type 0} (v : Device D) (source : Source) → KeepsModuleVersions v source
+keeps_module_versions v source = record { first = no_processes v; kept = keeps_versions_of_modules source }

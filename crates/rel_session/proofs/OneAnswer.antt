@@ -22,7 +22,9 @@ use Rattle.rel_unpack.specs.Refusal.{Refusal}
 use Rattle.rel_unpack.specs.Unpacking.{Brought}
 use Rattle.rel_unpack.specs.Source.{Source, GivesOne}
 use Rattle.rel_session.specs.Files.{Files, files_behind, source_of}
-use Rattle.rel_session.specs.Listing.{listing}
+use Rattle.node_processes.specs.Answers.{call_line, called}
+use Rattle.node_processes.specs.Fresh.{fresh}
+use Rattle.node_processes.specs.Processes.{Processes}
 use Rattle.rel_session.specs.LawsBelow.{BootLaws}
 use Rattle.rel_session.specs.Node.{Place, Outcome, Reply, releases_after, list_or_none, behind}
 use Rattle.rel_session.specs.Node.Place.{raw, closed, running, dead}
@@ -32,22 +34,22 @@ use Rattle.rel_session.specs.Run.Ending.{ended, cut_off, early}
 use Rattle.rel_session.specs.AnswerLaws.{IsCertain, AreSame, HaveOneAnswer}
 use Rattle.rel_session.specs.RunLaws.{NoneFails}
 use Rattle.rel_session.specs.Transition
-use Rattle.rel_session.specs.Transition.Action.{answers, makes_node, changes_node, reboots_node, boots_node, tells_start}
+use Rattle.rel_session.specs.Transition.Action.{answers, makes_node, changes_node, reboots_node, boots_node, tells_start, calls}
 use Rattle.rel_session.proofs.AcknowledgedEvents.{next_answered, none_left}
 use Rattle.rel_session.proofs.SourceLemmas.{gives_one}
-use Rattle.rel_session.proofs.ActionLemmas.{kind_of, one_action}
+use Rattle.rel_session.proofs.ActionLemmas.{kind_of, AreTold, one_action}
 use Rattle.rel_session.proofs.ListLemmas.{list_after-more, same_list}
 
 -- Two places that nothing tells apart: the events of a boot of bytes are any that have the list.
 data Alike : Place → Place → Type 0 where
   same_bytes : (x : List ℕ) → Alike (raw x) (raw x)
   same_store : (events : Events) (end : ℕ) → Alike (closed (certain events end)) (closed (certain events end))
-  same_lists : (events others : Events) (end : ℕ) → list_after events ≡ list_after others → Alike (running events end) (running others end)
+  same_lists : (events others : Events) (end : ℕ) (ps qs : Processes) → list_after events ≡ list_after others → ps ≡ qs → Alike (running events end ps) (running others end qs)
 
 alike_itself : (p : Place) → IsCertain p → Alike p p
 alike_itself (raw x) sure = same_bytes x
 alike_itself (closed s) sure = subst (λ t. Alike (closed t) (closed t)) (sym sure) (same_store s.known.acknowledged s.end)
-alike_itself (running events end) sure = same_lists events events end refl
+alike_itself (running events end ps) sure = same_lists events events end ps ps refl refl
 alike_itself (dead s) sure = absurd sure
 
 -- Commands come to the same there.
@@ -57,16 +59,16 @@ same_action source one p q c x y alike comes comes_too = go (one_action source o
     same_kind : (p q : Place) → Alike p q → kind_of p ≡ kind_of q
     same_kind p q (same_bytes b) = refl
     same_kind p q (same_store events end) = refl
-    same_kind p q (same_lists events others end same) = refl
+    same_kind p q (same_lists events others end ps qs same one) = refl
 
-    listed_same : (p q : Place) → Alike p q → Transition.listed p ≡ Transition.listed q
-    listed_same p q (same_bytes b) = refl
-    listed_same p q (same_store events end) = refl
-    listed_same p q (same_lists events others end same) = ap (λ o. listing (list_or_none o)) same
+    told_same : (says : Releases → Processes → List ℕ) (p q : Place) → Alike p q → Transition.told says p ≡ Transition.told says q
+    told_same says p q (same_bytes b) = refl
+    told_same says p q (same_store events end) = refl
+    told_same says p q (same_lists events others end ps qs same one) = ap (λ o. says (list_or_none o) ps) same ∙ ap (λ r. says (releases_after others) r) one
 
-    go : (x ≡ y) ⊎ ((x ≡ answers (Transition.listed p)) × (y ≡ answers (Transition.listed q))) → x ≡ y
+    go : (x ≡ y) ⊎ AreTold p q x y → x ≡ y
     go (inl one) = one
-    go (inr (lists, lists_too)) = lists ∙ ap answers (listed_same p q alike) ∙ sym lists_too
+    go (inr (says, here, here_too)) = here ∙ ap answers (told_same says p q alike) ∙ sym here_too
 
 abbrev Same : Reply → Reply → Type 0
 Same a b = (a.answer ≡ b.answer) × (a.outcome ≡ b.outcome) × Alike a.after b.after
@@ -83,27 +85,28 @@ failure a x is failed works = let lost : true ≡ false = sym failed ∙ ap (λ 
 
 module _ (a b : Reply) (both : Both a b) where
   -- a commit, where what is committed leaves one reply
-  commits : (events others : Events) (end : ℕ) (e : Event) (size : ℕ) (o : Result Releases HandlerError) (P Q : Reply → Type 0) → (P a → Q b → Same a b) → list_after events ≡ list_after others
-      → Transition.IsCommit events end e size o P a → Transition.IsCommit others end e size o Q b → Same a b
-  commits events others end e size (Err why) P Q one same is also = as_these a b _ _ is also (refl, refl, same_lists events others end same)
-  commits events others end e size (Ok list) P Q one same (inl (fits, inl is)) (inl (fits_too, inl also)) = one is also
-  commits events others end e size (Ok list) P Q one same (inl (fits, inl is)) (inl (fits_too, inr also)) = failure b _ also refl both.1
-  commits events others end e size (Ok list) P Q one same (inl (fits, inl is)) (inr (over_it, also)) = absurd (over_it fits)
-  commits events others end e size (Ok list) P Q one same (inl (fits, inr is)) other = failure a _ is refl both.0
-  commits events others end e size (Ok list) P Q one same (inr (over_it, is)) (inl (fits, also)) = absurd (over_it fits)
-  commits events others end e size (Ok list) P Q one same (inr (over_it, is)) (inr (over_too, also)) = as_these a b _ _ is also (refl, refl, same_lists events others end same)
+  commits : (events others : Events) (end : ℕ) (ps qs : Processes) (e : Event) (size : ℕ) (o : Result Releases HandlerError) (P Q : Reply → Type 0) → (P a → Q b → Same a b) → Alike (running events end ps) (running others end qs)
+      → Transition.IsCommit events end ps e size o P a → Transition.IsCommit others end qs e size o Q b → Same a b
+  commits events others end ps qs e size (Err why) P Q one alike is also = as_these a b _ _ is also (refl, refl, alike)
+  commits events others end ps qs e size (Ok list) P Q one alike (inl (fits, inl is)) (inl (fits_too, inl also)) = one is also
+  commits events others end ps qs e size (Ok list) P Q one alike (inl (fits, inl is)) (inl (fits_too, inr also)) = failure b _ also refl both.1
+  commits events others end ps qs e size (Ok list) P Q one alike (inl (fits, inl is)) (inr (over_it, also)) = absurd (over_it fits)
+  commits events others end ps qs e size (Ok list) P Q one alike (inl (fits, inr is)) other = failure a _ is refl both.0
+  commits events others end ps qs e size (Ok list) P Q one alike (inr (over_it, is)) (inl (fits, also)) = absurd (over_it fits)
+  commits events others end ps qs e size (Ok list) P Q one alike (inr (over_it, is)) (inr (over_too, also)) = as_these a b _ _ is also (refl, refl, alike)
 
-  changes : (events others : Events) (end : ℕ) (c : Transition.Change) (l : Releases) (f : Option Refusal) (o : Result Releases HandlerError) → list_after events ≡ list_after others
-      → Transition.Changes events end c l f o a → Transition.Changes others end c l f o b → Same a b
-  changes events others end c l (Some why) o same is also = as_these a b _ _ is also (refl, refl, same_lists events others end same)
-  changes events others end c l None o same is also =
-      let behind_it = same_lists (events ++ c.event ∷ []) (others ++ c.event ∷ []) (end_behind end (c.size l)) (same_list events others c.event same) in
-      commits events others end c.event (c.size l) o _ _ (λ is also. as_these a b _ _ is also (refl, refl, behind_it)) same is also
+  changes : (events others : Events) (end : ℕ) (ps qs : Processes) (c : Transition.Change) (l : Releases) (f : Option Refusal) (o : Result Releases HandlerError) → list_after events ≡ list_after others → ps ≡ qs
+      → Transition.Changes events end ps c l f o a → Transition.Changes others end qs c l f o b → Same a b
+  changes events others end ps qs c l (Some why) o same one is also = as_these a b _ _ is also (refl, refl, same_lists events others end ps qs same one)
+  changes events others end ps qs c l None o same one is also =
+      let behind_it = same_lists (events ++ c.event ∷ []) (others ++ c.event ∷ []) (end_behind end (c.size l)) ps qs (same_list events others c.event same) one in
+      commits events others end ps qs c.event (c.size l) o _ _ (λ is also. as_these a b _ _ is also (refl, refl, behind_it)) (same_lists events others end ps qs same one) is also
 
   makes_with : (x : List ℕ) (p : Bundle) (size : ℕ) (why : Option Refusal) → Transition.MakesWith x p size why a → Transition.MakesWith x p size why b → Same a b
   makes_with x p size (Some why) is also = as_these a b _ _ is also (refl, refl, same_bytes x)
   makes_with x p size None (inl (fits, is)) (inl (fits_too, also)) =
-      as_these a b _ _ is also (refl, refl, same_lists (made p ∷ booting ∷ []) (made p ∷ booting ∷ []) (end_behind first_end size) refl)
+      let events = made p ∷ booting ∷ [] in
+      as_these a b _ _ is also (refl, refl, same_lists events events (end_behind first_end size) (fresh (releases_after events)) (fresh (releases_after events)) refl refl)
   makes_with x p size None (inl (fits, is)) (inr (over_it, also)) = absurd (over_it fits)
   makes_with x p size None (inr (over_it, is)) (inl (fits, also)) = absurd (over_it fits)
   makes_with x p size None (inr (over_it, is)) (inr (over_too, also)) = as_these a b _ _ is also (refl, refl, same_bytes x)
@@ -119,14 +122,17 @@ module _ (a b : Reply) (both : Both a b) where
   makes p q found (same_store events end) (inl is) (inl also) = as_these a b _ _ is also (refl, refl, same_store events end)
   makes p q found (same_store events end) (inl is) (inr also) = failure b _ also refl both.1
   makes p q found (same_store events end) (inr is) other = failure a _ is refl both.0
-  makes p q found (same_lists events others end same) is also = as_these a b _ _ is also (refl, refl, same_lists events others end same)
+  makes p q found (same_lists events others end ps qs same one) is also = as_these a b _ _ is also (refl, refl, same_lists events others end ps qs same one)
 
   -- boots of the same list
   booted_same : (events others : Events) (end : ℕ) → list_after (events ++ booting ∷ []) ≡ list_after (others ++ booting ∷ [])
       → Transition.IsBooted events end a → Transition.IsBooted others end b → Same a b
   booted_same events others end same (list, after, is) (again, after_too, also) =
       let one : list ≡ again = let e : Some list ≡ Some again = sym after ∙ same ∙ after_too in cc in
-      as_these a b _ _ is also (ap (λ (l : Releases). Transition.ok_line (Transition.version_of (running_release l))) one, refl, same_lists (events ++ booting ∷ []) (others ++ booting ∷ []) end same)
+      let first = events ++ booting ∷ [] in
+      let second = others ++ booting ∷ [] in
+      let just_alike = same_lists first second end (fresh (releases_after first)) (fresh (releases_after second)) same (ap (λ o. fresh (list_or_none o)) same) in
+      as_these a b _ _ is also (ap (λ (l : Releases). Transition.ok_line (Transition.version_of (running_release l))) one, refl, just_alike)
 
   boots_store : (events others : Events) (end : ℕ) → list_after events ≡ list_after others → Transition.BootsStore (certain events end) a → Transition.BootsStore (certain others end) b → Same a b
   boots_store events others end same (inl (es, n, has, is)) (inl (fs, m, has_too, also)) =
@@ -171,19 +177,19 @@ module _ (a b : Reply) (both : Both a b) where
   boots : BootLaws → (p q : Place) → Alike p q → Transition.Boots p a → Transition.Boots q b → Same a b
   boots laws p q (same_bytes x) is also = boots_bytes laws x is also
   boots laws p q (same_store events end) is also = boots_store events events end refl is also
-  boots laws p q (same_lists events others end same) is also = boots_store events others end same is also
+  boots laws p q (same_lists events others end ps qs same one) is also = boots_store events others end same is also
 
 -- replies behind an event
 behind_same : (e : Event) (x y : Reply) → Same x y → Same (behind e x) (behind e y)
 behind_same e x y (told, outcomes, then) = (told, ap (λ (o : Outcome). (behind e (record { answer = []; outcome = o; after = x.after })).outcome) outcomes, then)
 
 module _ (a b : Reply) (both : Both a b) where
-  reboots : (events others : Events) (end : ℕ) (vsn : List ℕ) (l : Releases) (o : Result Releases HandlerError) → list_after events ≡ list_after others
-      → Transition.Reboots events end vsn l o a → Transition.Reboots others end vsn l o b → Same a b
-  reboots events others end vsn l o same =
+  reboots : (events others : Events) (end : ℕ) (ps qs : Processes) (vsn : List ℕ) (l : Releases) (o : Result Releases HandlerError) → list_after events ≡ list_after others → ps ≡ qs
+      → Transition.Reboots events end ps vsn l o a → Transition.Reboots others end qs vsn l o b → Same a b
+  reboots events others end ps qs vsn l o same one =
       let e = rebooting vsn in
-      commits a b both events others end e _ o _ _ (λ (x, boot, is) (y, boot_too, also).
-      as_these a b _ _ is also (behind_same e x y (boots_store x y (works a x is both.0, works b y also both.1) (events ++ e ∷ []) (others ++ e ∷ []) _ (same_list events others e same) boot boot_too))) same
+      commits a b both events others end ps qs e _ o _ _ (λ (x, boot, is) (y, boot_too, also).
+      as_these a b _ _ is also (behind_same e x y (boots_store x y (works a x is both.0, works b y also both.1) (events ++ e ∷ []) (others ++ e ∷ []) _ (same_list events others e same) boot boot_too))) (same_lists events others end ps qs same one)
     where
       works : (r x : Reply) → r ≡ behind (rebooting vsn) x → r.outcome.failed ≡ false → x.outcome.failed ≡ false
       works r x is fine = ap (λ (s : Reply). s.outcome.failed) (sym is) ∙ fine
@@ -191,24 +197,30 @@ module _ (a b : Reply) (both : Both a b) where
   changed : (p q : Place) (c : Transition.Change) → Alike p q → Transition.Acts p (changes_node c) a → Transition.Acts q (changes_node c) b → Same a b
   changed p q c (same_bytes x) is also = as_these a b _ _ is also (refl, refl, same_bytes x)
   changed p q c (same_store events end) is also = as_these a b _ _ is also (refl, refl, same_store events end)
-  changed p q c (same_lists events others end same) is also =
+  changed p q c (same_lists events others end ps qs same one) is also =
       let then : releases_after others ≡ releases_after events = ap list_or_none (sym same) in
-      changes a b both events others end c (releases_after events) (c.files (releases_after events)) (commanded c.event (releases_after events)) same is (subst (λ l. Transition.Changes others end c l (c.files l) (commanded c.event l) b) then also)
+      changes a b both events others end ps qs c (releases_after events) (c.files (releases_after events)) (commanded c.event (releases_after events)) same one is (subst (λ l. Transition.Changes others end qs c l (c.files l) (commanded c.event l) b) then also)
 
   rebooted : (p q : Place) (vsn : List ℕ) → Alike p q → Transition.Acts p (reboots_node vsn) a → Transition.Acts q (reboots_node vsn) b → Same a b
   rebooted p q vsn (same_bytes x) is also = as_these a b _ _ is also (refl, refl, same_bytes x)
   rebooted p q vsn (same_store events end) is also = as_these a b _ _ is also (refl, refl, same_store events end)
-  rebooted p q vsn (same_lists events others end same) is also =
+  rebooted p q vsn (same_lists events others end ps qs same one) is also =
       let then : releases_after others ≡ releases_after events = ap list_or_none (sym same) in
-      reboots events others end vsn (releases_after events) (commanded (rebooting vsn) (releases_after events)) same is (subst (λ l. Transition.Reboots others end vsn l (commanded (rebooting vsn) l) b) then also)
+      reboots events others end ps qs vsn (releases_after events) (commanded (rebooting vsn) (releases_after events)) same one is (subst (λ l. Transition.Reboots others end qs vsn l (commanded (rebooting vsn) l) b) then also)
 
   told : (p q : Place) → Alike p q → Transition.Acts p tells_start a → Transition.Acts q tells_start b → Same a b
   told p q (same_bytes x) is also = as_these a b _ _ is also (refl, refl, same_bytes x)
   told p q (same_store events end) is also = as_these a b _ _ is also (refl, refl, same_store events end)
-  told p q (same_lists events others end same) (inl is) (inl also) =
-      as_these a b _ _ is also (ap (λ o. Transition.ok_line (Transition.start_versions (permanent (list_or_none o)))) same, refl, same_lists events others end same)
-  told p q (same_lists events others end same) (inl is) (inr also) = failure b _ also refl both.1
-  told p q (same_lists events others end same) (inr is) other = failure a _ is refl both.0
+  told p q (same_lists events others end ps qs same one) (inl is) (inl also) =
+      as_these a b _ _ is also (ap (λ o. Transition.ok_line (Transition.start_versions (permanent (list_or_none o)))) same, refl, same_lists events others end ps qs same one)
+  told p q (same_lists events others end ps qs same one) (inl is) (inr also) = failure b _ also refl both.1
+  told p q (same_lists events others end ps qs same one) (inr is) other = failure a _ is refl both.0
+
+  called_alike : (p q : Place) (app id : List ℕ) (input : ℕ) → Alike p q → Transition.Acts p (calls app id input) a → Transition.Acts q (calls app id input) b → Same a b
+  called_alike p q app id input (same_bytes x) is also = as_these a b _ _ is also (refl, refl, same_bytes x)
+  called_alike p q app id input (same_store events end) is also = as_these a b _ _ is also (refl, refl, same_store events end)
+  called_alike p q app id input (same_lists events others end ps qs same one) is also =
+      as_these a b _ _ is also (ap (call_line app id input) one, refl, same_lists events others end (called app id input ps) (called app id input qs) same (ap (called app id input) one))
 
   acts : BootLaws → (p q : Place) (does : Transition.Action) → Alike p q → Transition.Acts p does a → Transition.Acts q does b → Same a b
   acts laws p q (answers text) alike is also = as_these a b _ _ is also (refl, refl, alike)
@@ -217,6 +229,7 @@ module _ (a b : Reply) (both : Both a b) where
   acts laws p q (reboots_node vsn) alike is also = rebooted p q vsn alike is also
   acts laws p q boots_node alike is also = boots a b both laws p q alike is also
   acts laws p q tells_start alike is also = told p q alike is also
+  acts laws p q (calls app id input) alike is also = called_alike p q app id input alike is also
 
   one_reply : BootLaws → (source : Source) → GivesOne source → (p q : Place) (c : Command) → Alike p q → Transition.Transition source p c a → Transition.Transition source q c b → Same a b
   one_reply laws source single p q c alike (does, comes, is) (again, comes_too, also) =

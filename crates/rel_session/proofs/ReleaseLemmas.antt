@@ -9,6 +9,7 @@ use Rattle.rel_unpack.specs.Source.{Source}
 use Rattle.rel_unpack.specs.declared.error.UnpackError.{UnpackError}
 use Rattle.rel_unpack.specs.declared.error.UnpackError.TheVariants as unpack
 use Rattle.session_input.specs.Commands.Command.{create, set_unpacked}
+use Rattle.node_processes.specs.Processes.{Processes}
 use Rattle.rel_session.specs.Node.{Place, refused}
 use Rattle.rel_session.specs.Node.Place.{running}
 use Rattle.rel_session.specs.Refusals.{Refusal, refusal_of, refusal_for, IsFilesRefusal}
@@ -31,5 +32,5 @@ files_refuse source path e of known =
 pub creation_refused : (source : Source) (path : List ℕ) (why : Refusal) (p : Place) → IsFilesRefusal source path why → Transition source p (create path) (refused why p)
 creation_refused source path why p (r, found, is) = (creation (Err r), (Err r, found, refl), ap (λ w. refused w p) is)
 
-pub unpacking_refused : (source : Source) (path : List ℕ) (why : Refusal) (events : Events) (end : ℕ) → IsFilesRefusal source path why → Transition source (running events end) (set_unpacked path) (refused why (running events end))
-unpacking_refused source path why events end (r, found, is) = (unpacking (Err r), (Err r, found, refl), ap (λ w. refused w (running events end)) is)
+pub unpacking_refused : (source : Source) (path : List ℕ) (why : Refusal) (events : Events) (end : ℕ) (ps : Processes) → IsFilesRefusal source path why → Transition source (running events end ps) (set_unpacked path) (refused why (running events end ps))
+unpacking_refused source path why events end ps (r, found, is) = (unpacking (Err r), (Err r, found, refl), ap (λ w. refused w (running events end ps)) is)

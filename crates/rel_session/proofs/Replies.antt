@@ -16,20 +16,26 @@ use Rattle.rel_handler.specs.Events.{Events, Stored, MayHave, certain, StartsBeh
 use Rattle.rel_handler.specs.Image.{IsImageOf, IsImageAt, IsRepairOf}
 use Rattle.rel_handler.specs.Refusals.{BootRefused, IsBootRefusal}
 use Rattle.rel_handler.specs.State.{disk_in, list_in, is_dead, end_in, HasStarted, IsSame}
+use Rattle.node_processes.specs.Answers.{processes_line, modules_line, peek_line}
+use Rattle.node_processes.specs.Fresh.{fresh}
+use Rattle.node_processes.specs.InMemory.{processes_in}
+use Rattle.node_processes.specs.Processes.{Processes}
+use Rattle.rel_session.specs.declared.booted_node.BootedNode.{BootedNode}
 use Rattle.rel_session.specs.declared.place.Place.{Place as PlaceInMemory}
 use Rattle.rel_session.specs.declared.place.Place.TheVariants as memory
 use Rattle.session_input.specs.Commands.{Command}
-use Rattle.session_input.specs.Commands.Command.{file, create, set_unpacked, install, permanent, remove, reboot_old, boot, start, releases, relup, quit, bad}
+use Rattle.session_input.specs.Commands.Command.{file, create, set_unpacked, install, permanent, remove, reboot_old, boot, start, releases, procs, modules, peek, call, relup, quit, bad}
 use Rattle.rel_session.specs.Device.{Device, LeavesOnly, HasFailed}
 use Rattle.rel_unpack.specs.Source.{Source}
-use Rattle.rel_session.specs.InMemory.{disk_at, IsAt, Replied, NothingDone, Answers, TellsReply, NeedsNode}
-use Rattle.rel_session.specs.Node.{Place, Reply, reply, refused, failed, nothing, done, failed_with}
+use Rattle.rel_session.specs.InMemory.{disk_at, IsAt, Replied, Leads, NothingDone, Answers, TellsReply, TellsOrStops, AnswersOrStops, IsStarted, NeedsNode}
+use Rattle.rel_session.specs.Node.{Place, just_booted, at_rest, list_or_none, Reply, reply, refused, failed, nothing, done, failed_with}
 use Rattle.rel_session.specs.Node.Place.{raw, closed, running, dead}
 use Rattle.rel_session.specs.Refusals.{refusal_of, refusal_line, boot_line}
 use Rattle.rel_session.specs.Refusals.Refusal.{dead as dead_node}
-use Rattle.rel_session.specs.Run.{IsReached, Holds, Moments}
+use Rattle.rel_session.specs.Run.{IsReached, Holds, Moments, Happens}
 use Rattle.rel_session.specs.Transition
-use Rattle.rel_session.specs.Transition.Action.{changes_node, reboots_node, tells_start}
+use Rattle.rel_session.specs.Transition.Action.{answers, changes_node, reboots_node, boots_node, tells_start, calls}
+use Rattle.rel_session.specs.Transition.StopsWithin.{without_its_node}
 use Rattle.rel_session.proofs.DeviceLemmas.{IsDevice, weakened, still}
 use Rattle.rel_session.proofs.Histories.{events_of_image}
 use Rattle.rel_session.proofs.ListLemmas.{list_after-push}
@@ -65,12 +71,12 @@ module _ {D : Type 0} (v : Device D) (laws : IsDevice v) where
   pub held : (place : PlaceInMemory D) (p : Place) → IsAt v place p → Holds v p (disk_at place)
   held (memory.Idle disk) (raw bytes) at = at
   held (memory.Idle disk) (closed s) at = at
-  held (memory.Idle disk) (running events end) at = absurd at
+  held (memory.Idle disk) (running events end ps) at = absurd at
   held (memory.Idle disk) (dead s) at = absurd at
-  held (memory.Made h) (raw bytes) at = absurd at
-  held (memory.Made h) (closed s) at = absurd at
-  held (memory.Made h) (running events end) at = at.0
-  held (memory.Made h) (dead s) at = at.0
+  held (memory.Made n) (raw bytes) at = absurd at
+  held (memory.Made n) (closed s) at = absurd at
+  held (memory.Made n) (running events end ps) at = at.0
+  held (memory.Made n) (dead s) at = at.0
 
   -- calls that leave nothing new keep what is known of a store
   pub kept : (P : List ℕ → Type 0) (old new : D) → ((c : List ℕ) → v.may_leave old c → P c) → LeavesOnly v old new (v.may_leave old)
@@ -86,14 +92,14 @@ module _ {D : Type 0} (v : Device D) (laws : IsDevice v) where
   pub moments_of_nothing : (p : Place) (old new : D) → Holds v p old → LeavesOnly v old new (v.may_leave old) → Moments v p nothing old new
   moments_of_nothing (raw bytes) old new here leaves = leaves
   moments_of_nothing (closed s) old new here leaves = quiet s [] old new here leaves
-  moments_of_nothing (running events end) old new here leaves = quiet (certain events end) [] old new (λ c now. (here c now).0) leaves
+  moments_of_nothing (running events end ps) old new here leaves = quiet (certain events end) [] old new (λ c now. (here c now).0) leaves
   moments_of_nothing (dead s) old new here leaves = quiet s [] old new here leaves
 
   -- where a disk stands that is read alone
   pub holds_still : (p : Place) (old new : D) → Holds v p old → v.seen new ≡ v.seen old → LeavesOnly v old new (v.may_leave old) → Holds v p new
   holds_still (raw bytes) old new here same leaves = same ∙ here
   holds_still (closed s) old new here same leaves = kept (IsStoredAs s) old new here leaves
-  holds_still (running events end) old new here same leaves = kept (λ c. IsStoredAs (certain events end) c × StartsBehind events c) old new here leaves
+  holds_still (running events end ps) old new here same leaves = kept (λ c. IsStoredAs (certain events end) c × StartsBehind events c) old new here leaves
   holds_still (dead s) old new here same leaves = kept (IsStoredAs s) old new here leaves
 
   never : {A : Type 0} → false ≡ true → A
@@ -120,27 +126,84 @@ module _ {D : Type 0} (v : Device D) (laws : IsDevice v) where
     counted = subst (λ d. v.failures (disk_at old) ≤ v.failures d) (sym same) (omega arith);
   }
 
-  -- a handler of which nothing has changed stands where it stood
-  pub same_at : (h new : Handler D) (p : Place) → IsSame h new → IsAt v (memory.Made h) p → IsAt v (memory.Made new) p
-  same_at h new (raw bytes) same at = at
-  same_at h new (closed s) same at = at
-  same_at h new (running events end) same (here, alive, after, ends) = (
-    subst (λ d. Holds v (running events end) d) (sym same.disk) here,
+  -- a node of which nothing has changed stands where it stood
+  pub same_at : (n new : BootedNode D) (p : Place) → IsSame n.handler new.handler → processes_in new.processes ≡ processes_in n.processes → IsAt v (memory.Made n) p → IsAt v (memory.Made new) p
+  same_at n new (raw bytes) same kept_on at = at
+  same_at n new (closed s) same kept_on at = at
+  same_at n new (running events end ps) same kept_on (here, alive, after, ends, has) = (
+    subst (λ d. Holds v (running events end ps) d) (sym same.disk) here,
     same.dead ∙ alive,
     after ∙ ap (λ l. Some l) (sym same.list),
     same.end ∙ ends,
+    kept_on ∙ has,
   )
-  same_at h new (dead s) same (here, is) = (subst (λ d. Holds v (dead s) d) (sym same.disk) here, same.dead ∙ is)
+  same_at n new (dead s) same kept_on (here, is) = (subst (λ d. Holds v (dead s) d) (sym same.disk) here, same.dead ∙ is)
 
   -- A handler whose list is that of these events.
-  pub runs_at : (h : Handler D) (events : Events) (end : ℕ) → is_dead h ≡ false → list_after events ≡ Some (list_in h) → end_in h ≡ end
-      → ((c : List ℕ) → v.may_leave (disk_in h) c → IsImageAt c (list_in h) (end_in h)) → HasStarted v.may_leave h → IsAt v (memory.Made h) (running events end)
-  runs_at h events end alive after ends images started = (
+  abbrev RunsWith : Handler D → Events → ℕ → Type 0
+  RunsWith h events end =
+      ((c : List ℕ) → v.may_leave (disk_in h) c → IsStoredAs (certain events end) c × StartsBehind events c) × (is_dead h ≡ false)
+      × (list_after events ≡ Some (list_in h)) × (end_in h ≡ end)
+
+  runs_with : (h : Handler D) (events : Events) (end : ℕ) → is_dead h ≡ false → list_after events ≡ Some (list_in h) → end_in h ≡ end
+      → ((c : List ℕ) → v.may_leave (disk_in h) c → IsImageAt c (list_in h) (end_in h)) → HasStarted v.may_leave h → RunsWith h events end
+  runs_with h events end alive after ends images started = (
     λ c now. (stored events end (list_in h) c after (subst (IsImageAt c (list_in h)) ends (images c now)) (started c now), (list_in h, after, started c now)),
     alive,
     after,
     ends,
   )
+
+  -- a node with it, and with these processes
+  pub runs_at : (n : BootedNode D) (events : Events) (end : ℕ) (ps : Processes) → is_dead n.handler ≡ false → list_after events ≡ Some (list_in n.handler) → end_in n.handler ≡ end
+      → ((c : List ℕ) → v.may_leave (disk_in n.handler) c → IsImageAt c (list_in n.handler) (end_in n.handler)) → HasStarted v.may_leave n.handler → processes_in n.processes ≡ ps
+      → IsAt v (memory.Made n) (running events end ps)
+  runs_at n events end ps alive after ends images started has =
+      let (here, living, behind, stop) = runs_with n.handler events end alive after ends images started in
+      (here, living, behind, stop, has)
+
+  -- A node has booted with this handler: the reply, and where a node with it and with its processes stands.
+  pub record HasBooted (p : Place) (P : Reply → Type 0) (old : PlaceInMemory D) (h : Handler D) : Type 0 where
+    pub given : Reply
+    pub right : P given
+    pub at : (n : BootedNode D) → n.handler ≡ h → processes_in n.processes ≡ fresh (list_in h) → IsAt v (memory.Made n) given.after
+    pub happens : Happens v p given (disk_at old) (disk_in h)
+
+  pub booted_at : (h : Handler D) (events : Events) (end : ℕ) → is_dead h ≡ false → list_after events ≡ Some (list_in h) → end_in h ≡ end
+      → ((c : List ℕ) → v.may_leave (disk_in h) c → IsImageAt c (list_in h) (end_in h)) → HasStarted v.may_leave h
+      → Holds v (just_booted events end) (disk_in h) × ((n : BootedNode D) → n.handler ≡ h → processes_in n.processes ≡ fresh (list_in h) → IsAt v (memory.Made n) (just_booted events end))
+  booted_at h events end alive after ends images started =
+      let runs = runs_with h events end alive after ends images started in (
+        runs.0,
+        λ n is has.
+            let (here, living, behind, stop) = subst (λ k. RunsWith k events end) (sym is) runs in
+            (here, living, behind, stop, has ∙ ap (λ o. fresh (list_or_none o)) (sym after)),
+      )
+
+  -- what holds of a disk holds once no node runs on it
+  rests : (p : Place) (disk : D) → Holds v p disk → Holds v (at_rest p) disk
+  rests (raw bytes) disk holds = holds
+  rests (closed s) disk holds = holds
+  rests (running events end ps) disk holds = λ c now. (holds c now).0
+  rests (dead s) disk holds = holds
+
+  -- Its processes were started, or memory was refused and its disk alone is left.
+  module _ (P Q : Place → Reply → Type 0) (lost : (p : Place) (b : Reply) → P p b → Q p (Transition.without_node b)) (h : Handler D) (old : PlaceInMemory D) where
+    abbrev Tells : Place → Reply → Type 0
+    Tells p a = P p a × (a.answer ≡ Transition.ok_line (Transition.version_of (running_release (list_in h))))
+
+    pub starts : ((p : Place) → IsAt v old p → HasBooted p (Tells p) old h) → (line : Result (String Global) AllocError) (place : PlaceInMemory D) → IsStarted h line place → TellsOrStops v P Q line old place
+    starts booted_there (Ok text) (memory.Idle disk) never_so = absurd never_so
+    starts booted_there (Ok text) (memory.Made n) (is, has, told) = λ p at.
+        let b = booted_there p at in
+        record { given = b.given; right = (b.right.0, b.right.1 ∙ sym told); at = b.at n is has; happens = subst (λ k. Happens v p b.given (disk_at old) (disk_in k)) (sym is) b.happens }
+    starts booted_there (Err e) (memory.Made n) never_so = absurd never_so
+    starts booted_there (Err e) (memory.Idle disk) is = λ p at.
+        let b = booted_there p at in
+        inl (record { given = Transition.without_node b.given; right = inr (lost p b.given b.right.0); happens = subst (λ d. Happens v p (Transition.without_node b.given) (disk_at old) d) (sym is) (left p b.given b.happens) })
+      where
+        left : (p : Place) (b : Reply) → Happens v p b (disk_at old) (disk_in h) → Happens v p (Transition.without_node b) (disk_at old) (disk_in h)
+        left p b happens = record { moments = happens.moments; holds = rests b.after (disk_in h) happens.holds; cause = happens.cause; counted = happens.counted }
 
   -- A command's line, which may not fit into memory.
   pub tells : (P : Place → Reply → Type 0) (line : Result (String Global) AllocError) (answer : List ℕ) (old new : PlaceInMemory D) → IfOk line (λ text. string_bytes text ≡ answer)
@@ -159,17 +222,18 @@ module _ {D : Type 0} (v : Device D) (laws : IsDevice v) where
       (only : (es : Releases) → IsImageOf (v.seen disk) es → list_in h ≡ booted es)
       (leaves : LeavesOnly v disk (disk_in h) (λ c. v.may_leave disk c ⊎ IsRepairOf (v.seen disk) c))
       (stored_all : (s : Stored) → ((c : List ℕ) → v.may_leave disk c → IsStoredAs s c) → LeavesOnly v disk (disk_in h) (IsStoredAs s)) (counted : v.failures disk ≤ v.failures (disk_in h)) where
+    abbrev version_line : List ℕ
+    version_line = Transition.ok_line (Transition.version_of (running_release (list_in h)))
+
     -- with these events
     boots_with : (p : Place) (events : Events) (end : ℕ) → end_in h ≡ end → list_after (events ++ booting ∷ []) ≡ Some (list_in h) → Moments v p (done (booting ∷ [])) disk (disk_in h)
-        → (P : Reply → Type 0) → ((a : Reply) → Transition.IsBooted events end a → P a)
-        → Replied v p (λ a. P a × (a.answer ≡ Transition.ok_line (Transition.version_of (running_release (list_in h))))) old (memory.Made h)
+        → (P : Reply → Type 0) → ((a : Reply) → Transition.IsBooted events end a → P a) → HasBooted p (λ a. P a × (a.answer ≡ version_line)) old h
     boots_with p events end at after moments P right =
-        let answer = Transition.ok_line (Transition.version_of (running_release (list_in h))) in
-        let place = runs_at h (events ++ booting ∷ []) end alive after at images started in
+        let place = booted_at h (events ++ booting ∷ []) end alive after at images started in
         record {
-          given = reply answer (done (booting ∷ [])) (running (events ++ booting ∷ []) end);
+          given = reply version_line (done (booting ∷ [])) (just_booted (events ++ booting ∷ []) end);
           right = (right _ (list_in h, after, refl), refl);
-          at = place;
+          at = place.1;
           happens = record {
             moments = subst (λ d. Moments v p (done (booting ∷ [])) d (disk_in h)) taken moments;
             holds = place.0;
@@ -179,26 +243,24 @@ module _ {D : Type 0} (v : Device D) (laws : IsDevice v) where
         }
 
     boots_store : (p : Place) (s : Stored) → ((c : List ℕ) → v.may_leave disk c → IsStoredAs s c) → (LeavesOnly v disk (disk_in h) (IsReached s.known (booting ∷ [])) → Moments v p (done (booting ∷ [])) disk (disk_in h))
-        → Replied v p (λ a. Transition.BootsStore s a × (a.answer ≡ Transition.ok_line (Transition.version_of (running_release (list_in h))))) old (memory.Made h)
+        → HasBooted p (λ a. Transition.BootsStore s a × (a.answer ≡ version_line)) old h
     boots_store p s here moments =
         let of = here (v.seen disk) (laws.reads_an_image disk) in
         boots_with p of.events (end_in h) refl
         (list_after-push of.events booting of.list (booted of.list) of.after refl ∙ ap (λ l. Some l) (sym (only of.list of.image_of)))
         (moments (weakened v disk (disk_in h) (IsStoredAs s) _ (reached s (booting ∷ [])) (stored_all s here))) (Transition.BootsStore s) (λ a is. inl (of.events, end_in h, subst (MayHave s of.events) image.ends of.has, is))
 
-    boots_at : (p : Place) → Holds v p disk
-        → Replied v p (λ a. Transition.Boots p a × (a.answer ≡ Transition.ok_line (Transition.version_of (running_release (list_in h))))) old (memory.Made h)
+    boots_at : (p : Place) → Holds v p disk → HasBooted p (λ a. Transition.Boots p a × (a.answer ≡ version_line)) old h
     boots_at (raw bytes) here =
         let (events, before, after) = events_of_image (v.seen disk) (list_in h) image.image_of again in
         boots_with (raw bytes) events (end_in h) refl after leaves (Transition.Boots (raw bytes))
         (λ a is. inl (events, list_in h, end_in h, before, subst (λ b. IsImageAt b (list_in h) (end_in h)) here image, is))
     boots_at (closed s) here = boots_store (closed s) s here (λ m. m)
-    boots_at (running events end) here = boots_store (running events end) (certain events end) (λ c now. (here c now).0) (λ m. m)
+    boots_at (running events end ps) here = boots_store (running events end ps) (certain events end) (λ c now. (here c now).0) (λ m. m)
     boots_at (dead s) here = boots_store (dead s) s here (λ m. m)
 
-    pub boots : (line : Result (String Global) AllocError) → IfOk line (λ text. string_bytes text ≡ Transition.ok_line (Transition.version_of (running_release (list_in h))))
-        → TellsReply v Transition.Boots line old (memory.Made h)
-    boots line told = tells Transition.Boots line _ old (memory.Made h) told (λ p at. boots_at p (subst (λ d. Holds v p d) (sym taken) (held old p at)))
+    pub boots : (line : Result (String Global) AllocError) (place : PlaceInMemory D) → IsStarted h line place → TellsOrStops v Transition.Boots (λ p a. Transition.StopsWithin p boots_node a) line old place
+    boots = starts Transition.Boots (λ p a. Transition.StopsWithin p boots_node a) (λ p b is. without_its_node b is refl) h old (λ p at. boots_at p (subst (λ d. Holds v p d) (sym taken) (held old p at)))
 
   -- the disk was read alone
   abbrev IsQuiet : D → D → Type 0
@@ -255,7 +317,7 @@ module _ {D : Type 0} (v : Device D) (laws : IsDevice v) where
       boot_refused_at : (p : Place) → Holds v p disk → Replied v p (λ a. Transition.Boots p a × (a.answer ≡ boot_line why)) old (memory.Idle new)
       boot_refused_at (raw bytes) here = by_bytes bytes here
       boot_refused_at (closed s) here = by_store (closed s) s here (λ m. m)
-      boot_refused_at (running events end) here = by_store (running events end) (certain events end) (λ c now. (here c now).0) (λ m. m)
+      boot_refused_at (running events end ps) here = by_store (running events end ps) (certain events end) (λ c now. (here c now).0) (λ m. m)
       boot_refused_at (dead s) here = by_store (dead s) s here (λ m. m)
 
       pub boot_refused : (line : Result (String Global) AllocError) → IfOk line (λ text. string_bytes text ≡ boot_line why) → TellsReply v Transition.Boots line old (memory.Idle new)
@@ -292,9 +354,31 @@ module _ {D : Type 0} (v : Device D) (laws : IsDevice v) where
   answers_line P (Ok text) result old new is told = subst (λ r. Answers v P r old new) (sym is) told
   answers_line P (Err e) result old new is told = subst (λ r. Answers v P r old new) (sym is) (λ p at. inr (refl, told p at))
 
+  -- What was never stopped within.
+  pub never_stops : (P Q : Place → Reply → Type 0) (result : Result (String Global) HandlerError) (old new : PlaceInMemory D) → Answers v P result old new → AnswersOrStops v P Q result old new
+  never_stops P Q (Ok text) old new given = given
+  never_stops P Q (Err why) old new given = λ p at. ⊎_elim (λ told. inl told) (λ (memory, r). inr (memory, done_or_not p r)) (given p at)
+    where
+      done_or_not : (p : Place) → Replied v p (P p) old new ⊎ NothingDone v p old new → Leads v p (λ a. P p a ⊎ Q p a) old new ⊎ NothingDone v p old new
+      done_or_not p (inl r) = inl (record { given = r.given; right = inl r.right; happens = r.happens })
+      done_or_not p (inr lapsed) = inr lapsed
+
+  pub line_never_stops : (P Q : Place → Reply → Type 0) (line : Result (String Global) AllocError) (old new : PlaceInMemory D) → TellsReply v P line old new → TellsOrStops v P Q line old new
+  line_never_stops P Q (Ok text) old new told = told
+  line_never_stops P Q (Err e) old new told = λ p at. ⊎_elim (λ (r : Replied v p (P p) old new). inl (record { given = r.given; right = inl r.right; happens = r.happens })) (λ lapsed. inr lapsed) (told p at)
+
+  -- a line as an answer, where it may be stopped within
+  pub answers_or_stops : (P Q : Place → Reply → Type 0) (line : Result (String Global) AllocError) (result : Result (String Global) HandlerError) (old new : PlaceInMemory D)
+      → MatchResult line (λ text. result ≡ Ok text) (λ _. result ≡ Err handler_error.NoMemory) → TellsOrStops v P Q line old new → AnswersOrStops v P Q result old new
+  answers_or_stops P Q (Ok text) result old new is told = subst (λ r. AnswersOrStops v P Q r old new) (sym is) told
+  answers_or_stops P Q (Err e) result old new is told = subst (λ r. AnswersOrStops v P Q r old new) (sym is) (λ p at. inr (refl, told p at))
+
   -- from the place as the call took it
   pub from_there : (P : Place → Reply → Type 0) (r : Result (String Global) HandlerError) (old there new : PlaceInMemory D) → old ≡ there → Answers v P r there new → Answers v P r old new
-  from_there P r old there new is answers = subst (λ o. Answers v P r o new) (sym is) answers
+  from_there P r old there new is given = subst (λ o. Answers v P r o new) (sym is) given
+
+  pub stops_from_there : (P Q : Place → Reply → Type 0) (r : Result (String Global) HandlerError) (old there new : PlaceInMemory D) → old ≡ there → AnswersOrStops v P Q r there new → AnswersOrStops v P Q r old new
+  stops_from_there P Q r old there new is given = subst (λ o. AnswersOrStops v P Q r o new) (sym is) given
 
   -- A refusal is told, unless memory was refused.
   pub tells_refusal : (P : Place → Reply → Type 0) (why : HandlerError) (old new : PlaceInMemory D)
@@ -303,31 +387,33 @@ module _ {D : Type 0} (v : Device D) (laws : IsDevice v) where
   tells_refusal P why old new told lapsed = λ p at. ⊎_elim (λ memory. inr (memory, inr (lapsed p at))) (λ known. inl (told known p at)) (memory_or_not why)
 
   -- A command on the node that runs: P has what it replies there.
-  module _ (P : Place → Reply → Type 0) (h : Handler D) (alive : is_dead h ≡ false) where
+  module _ (P : Place → Reply → Type 0) (n : BootedNode D) (alive : is_dead n.handler ≡ false) where
     -- it is refused, and nothing of the node has changed
-    pub refuses_running : (new : Handler D) → IsSame h new → (why : HandlerError) → (why ≢ handler_error.NoMemory → (events : Events) (end : ℕ) → P (running events end) (refused (refusal_of why) (running events end)))
-        → Answers v P (Err why) (memory.Made h) (memory.Made new)
-    refuses_running new same why right = tells_refusal P why (memory.Made h) (memory.Made new) (λ known p at. stands known p at) (λ p at. leaves_all p (memory.Made h) (memory.Made new) same.disk (same_at h new p same at))
+    pub refuses_running : (new : BootedNode D) → IsSame n.handler new.handler → processes_in new.processes ≡ processes_in n.processes → (why : HandlerError)
+        → (why ≢ handler_error.NoMemory → (events : Events) (end : ℕ) (ps : Processes) → P (running events end ps) (refused (refusal_of why) (running events end ps)))
+        → Answers v P (Err why) (memory.Made n) (memory.Made new)
+    refuses_running new same kept_on why right =
+        tells_refusal P why (memory.Made n) (memory.Made new) (λ known p at. stands known p at) (λ p at. leaves_all p (memory.Made n) (memory.Made new) same.disk (same_at n new p same kept_on at))
       where
-        stands : why ≢ handler_error.NoMemory → (p : Place) → IsAt v (memory.Made h) p → Replied v p (λ a. P p a × (a.answer ≡ refusal_line (refusal_of why))) (memory.Made h) (memory.Made new)
+        stands : why ≢ handler_error.NoMemory → (p : Place) → IsAt v (memory.Made n) p → Replied v p (λ a. P p a × (a.answer ≡ refusal_line (refusal_of why))) (memory.Made n) (memory.Made new)
         stands known (raw bytes) at = absurd at
         stands known (closed s) at = absurd at
-        stands known (running events end) at =
-            stays (running events end) (refusal_line (refusal_of why)) _ (memory.Made h) (memory.Made new) at same.disk (same_at h new (running events end) same at) (right known events end, refl)
+        stands known (running events end ps) at =
+            stays (running events end ps) (refusal_line (refusal_of why)) _ (memory.Made n) (memory.Made new) at same.disk (same_at n new (running events end ps) same kept_on at) (right known events end ps, refl)
         stands known (dead s) at = never (sym alive ∙ at.1)
 
   -- Where no node runs, a command that would change one is refused.
-  module _ (P : Place → Reply → Type 0) (right : (p : Place) → ((events : Events) (end : ℕ) → p ≡ running events end → ⊥) → P p (refused dead_node p)) where
-    pub changes_dead : (h : Handler D) → is_dead h ≡ true → Answers v P (Err handler_error.Dead) (memory.Made h) (memory.Made h)
-    changes_dead h gone (raw bytes) at = absurd at
-    changes_dead h gone (closed s) at = absurd at
-    changes_dead h gone (running events end) at = never (sym at.1 ∙ gone)
-    changes_dead h gone (dead s) at = inl (stays (dead s) (refusal_line dead_node) _ (memory.Made h) (memory.Made h) at refl at (right (dead s) (λ es n e. cc e), refl))
+  module _ (P : Place → Reply → Type 0) (right : (p : Place) → ((events : Events) (end : ℕ) (ps : Processes) → p ≡ running events end ps → ⊥) → P p (refused dead_node p)) where
+    pub changes_dead : (n : BootedNode D) → is_dead n.handler ≡ true → Answers v P (Err handler_error.Dead) (memory.Made n) (memory.Made n)
+    changes_dead n gone (raw bytes) at = absurd at
+    changes_dead n gone (closed s) at = absurd at
+    changes_dead n gone (running events end ps) at = never (sym at.1 ∙ gone)
+    changes_dead n gone (dead s) at = inl (stays (dead s) (refusal_line dead_node) _ (memory.Made n) (memory.Made n) at refl at (right (dead s) (λ es n ps e. cc e), refl))
 
     pub changes_nowhere : (disk : D) → Answers v P (Err handler_error.Dead) (memory.Idle disk) (memory.Idle disk)
-    changes_nowhere disk (raw bytes) at = inl (stays (raw bytes) (refusal_line dead_node) _ (memory.Idle disk) (memory.Idle disk) at refl at (right (raw bytes) (λ es n e. cc e), refl))
-    changes_nowhere disk (closed s) at = inl (stays (closed s) (refusal_line dead_node) _ (memory.Idle disk) (memory.Idle disk) at refl at (right (closed s) (λ es n e. cc e), refl))
-    changes_nowhere disk (running events end) at = absurd at
+    changes_nowhere disk (raw bytes) at = inl (stays (raw bytes) (refusal_line dead_node) _ (memory.Idle disk) (memory.Idle disk) at refl at (right (raw bytes) (λ es n ps e. cc e), refl))
+    changes_nowhere disk (closed s) at = inl (stays (closed s) (refusal_line dead_node) _ (memory.Idle disk) (memory.Idle disk) at refl at (right (closed s) (λ es n ps e. cc e), refl))
+    changes_nowhere disk (running events end ps) at = absurd at
     changes_nowhere disk (dead s) at = absurd at
 
   -- where memory is refused
@@ -341,38 +427,54 @@ module _ {D : Type 0} (v : Device D) (laws : IsDevice v) where
       tells_refusal P why place place (λ known p at. stays p (refusal_line (refusal_of why)) _ place place at refl at (right known p, refl)) (λ p at. leaves_all p place place refl at)
 
   -- `set_unpacked` where no node runs
-  idle_sets : (source : Source) (path : List ℕ) (p : Place) → ((events : Events) (end : ℕ) → p ≡ running events end → ⊥) → Transition.Transition source p (set_unpacked path) (refused dead_node p)
+  idle_sets : (source : Source) (path : List ℕ) (p : Place) → ((events : Events) (end : ℕ) (ps : Processes) → p ≡ running events end ps → ⊥) → Transition.Transition source p (set_unpacked path) (refused dead_node p)
   idle_sets source path (raw bytes) idle = (Transition.refuses dead_node, refl, refl)
   idle_sets source path (closed s) idle = (Transition.refuses dead_node, refl, refl)
-  idle_sets source path (running events end) idle = absurd (idle events end refl)
+  idle_sets source path (running events end ps) idle = absurd (idle events end ps refl)
   idle_sets source path (dead s) idle = (Transition.refuses dead_node, refl, refl)
 
   -- and so are a change, a reboot and `start`
-  idle_changes : (c : Transition.Change) (p : Place) → ((events : Events) (end : ℕ) → p ≡ running events end → ⊥) → Transition.Acts p (changes_node c) (refused dead_node p)
+  idle_changes : (c : Transition.Change) (p : Place) → ((events : Events) (end : ℕ) (ps : Processes) → p ≡ running events end ps → ⊥) → Transition.Acts p (changes_node c) (refused dead_node p)
   idle_changes c (raw bytes) idle = refl
   idle_changes c (closed s) idle = refl
-  idle_changes c (running events end) idle = absurd (idle events end refl)
+  idle_changes c (running events end ps) idle = absurd (idle events end ps refl)
   idle_changes c (dead s) idle = refl
 
-  pub idle_reboots : (vsn : List ℕ) (p : Place) → ((events : Events) (end : ℕ) → p ≡ running events end → ⊥) → Transition.Acts p (reboots_node vsn) (refused dead_node p)
+  pub idle_reboots : (vsn : List ℕ) (p : Place) → ((events : Events) (end : ℕ) (ps : Processes) → p ≡ running events end ps → ⊥) → Transition.Acts p (reboots_node vsn) (refused dead_node p)
   idle_reboots vsn (raw bytes) idle = refl
   idle_reboots vsn (closed s) idle = refl
-  idle_reboots vsn (running events end) idle = absurd (idle events end refl)
+  idle_reboots vsn (running events end ps) idle = absurd (idle events end ps refl)
   idle_reboots vsn (dead s) idle = refl
 
-  idle_tells : (p : Place) → ((events : Events) (end : ℕ) → p ≡ running events end → ⊥) → Transition.Acts p tells_start (refused dead_node p)
+  idle_tells : (p : Place) → ((events : Events) (end : ℕ) (ps : Processes) → p ≡ running events end ps → ⊥) → Transition.Acts p tells_start (refused dead_node p)
   idle_tells (raw bytes) idle = refl
   idle_tells (closed s) idle = refl
-  idle_tells (running events end) idle = absurd (idle events end refl)
+  idle_tells (running events end ps) idle = absurd (idle events end ps refl)
   idle_tells (dead s) idle = refl
 
+  idle_calls : (app id : List ℕ) (input : ℕ) (p : Place) → ((events : Events) (end : ℕ) (ps : Processes) → p ≡ running events end ps → ⊥) → Transition.Acts p (calls app id input) (refused dead_node p)
+  idle_calls app id input (raw bytes) idle = refl
+  idle_calls app id input (closed s) idle = refl
+  idle_calls app id input (running events end ps) idle = absurd (idle events end ps refl)
+  idle_calls app id input (dead s) idle = refl
+
+  idle_asked : (says : Processes → List ℕ) (p : Place) → ((events : Events) (end : ℕ) (ps : Processes) → p ≡ running events end ps → ⊥) → Transition.Acts p (answers (Transition.asked says p)) (refused dead_node p)
+  idle_asked says (raw bytes) idle = refl
+  idle_asked says (closed s) idle = refl
+  idle_asked says (running events end ps) idle = absurd (idle events end ps refl)
+  idle_asked says (dead s) idle = refl
+
   -- So is each command that needs a node.
-  pub idle_needs : (source : Source) (c : Command) → NeedsNode c → (p : Place) → ((events : Events) (end : ℕ) → p ≡ running events end → ⊥) → Transition.Transition source p c (refused dead_node p)
+  pub idle_needs : (source : Source) (c : Command) → NeedsNode c → (p : Place) → ((events : Events) (end : ℕ) (ps : Processes) → p ≡ running events end ps → ⊥) → Transition.Transition source p c (refused dead_node p)
   idle_needs source (set_unpacked path) needs p idle = idle_sets source path p idle
   idle_needs source (install vsn) needs p idle = (changes_node (Transition.installation vsn), refl, idle_changes (Transition.installation vsn) p idle)
   idle_needs source (permanent vsn) needs p idle = (changes_node (Transition.permanence vsn), refl, idle_changes (Transition.permanence vsn) p idle)
   idle_needs source (remove vsn) needs p idle = (changes_node (Transition.removal vsn), refl, idle_changes (Transition.removal vsn) p idle)
   idle_needs source start needs p idle = (tells_start, refl, idle_tells p idle)
+  idle_needs source procs needs p idle = (answers (Transition.asked processes_line p), refl, idle_asked processes_line p idle)
+  idle_needs source modules needs p idle = (answers (Transition.asked modules_line p), refl, idle_asked modules_line p idle)
+  idle_needs source (peek app id) needs p idle = (answers (Transition.asked (peek_line app id) p), refl, idle_asked (peek_line app id) p idle)
+  idle_needs source (call app id input) needs p idle = (calls app id input, refl, idle_calls app id input p idle)
   idle_needs source (file path f) needs p idle = absurd needs
   idle_needs source (create path) needs p idle = absurd needs
   idle_needs source (reboot_old vsn) needs p idle = absurd needs

@@ -14,17 +14,18 @@ use Rattle.session_input.specs.Commands.Command.{file}
 use Rattle.session_input.specs.declared.command.Command.{Command as CommandInMemory}
 use Rattle.session_input.specs.declared.command.Command.TheVariants as asked
 use Rattle.erl_term.specs.Printing.{text_of}
+use Rattle.node_processes.specs.Processes.{Processes}
 use Rattle.rel_session.specs.Device.{Device}
-use Rattle.rel_session.specs.Listing.{text_value}
+use Rattle.node_listing.specs.Listing.{text_value}
 use Rattle.rel_unpack.specs.Source.{Source}
 use Rattle.rel_session.specs.Files.{Files, files_of, files_behind, give, source_of}
-use Rattle.rel_session.specs.InMemory.{IsAt, Replied, Leads, NothingDone, Answers, AnswersOrStops, AnswersCommand, AsksNode, FollowsCommand, IsLine, IsText}
+use Rattle.rel_session.specs.InMemory.{IsAt, Replied, Leads, NothingDone, Answers, AnswersAsked, AnswersAction, AnswersCommand, AsksNode, FollowsCommand, IsLine, IsText}
 use Rattle.rel_session.specs.Node.{Place, Reply, reply, nothing}
 use Rattle.rel_session.specs.Refusals.{refusal_of, refusal_line}
-use Rattle.rel_session.specs.Transition.{Action, ComesTo, Acts, IsStopped, Transition, ok_line, installed_line}
+use Rattle.rel_session.specs.Transition.{Action, ComesTo, Acts, asked, StopsWithin, IsStopped, Transition, ok_line, installed_line}
 use Rattle.rel_session.specs.Transition.Action.{answers}
 use Rattle.rel_session.proofs.DeviceLemmas.{IsDevice}
-use Rattle.rel_session.proofs.Replies.{stays, leaves_all, changes_no_memory}
+use Rattle.rel_session.proofs.Replies.{stays, leaves_all, changes_no_memory, never_stops}
 
 module _ {D : Type 0} (v : Device D) where
   module _ (old new : PlaceInMemory D) where
@@ -46,24 +47,39 @@ module _ {D : Type 0} (v : Device D) where
         by_reply p (inr (memory, inl r)) = inr (memory, inl (replied_so p _ _ (right p) r))
         by_reply p (inr (memory, inr lapsed)) = inr (memory, inr lapsed)
 
+    -- what is answered by no function that is stopped within
+    pub never_stopped : IsDevice v → (source : Source) (command : Command) (r : Result (String Global) HandlerError) → Answers v (λ p a. Transition source p command a) r old new → AnswersCommand v source command r old new
+    never_stopped laws source command r given = never_stops v laws _ _ r old new given
+
     -- So a command is answered that comes to this action.
     module _ (source : Source) (command c : Command) (r : Result (String Global) HandlerError) (is : command ≡ c) where
       pub answers_command : Answers v (λ p a. Transition source p c a) r old new → Answers v (λ p a. Transition source p command a) r old new
       answers_command given = subst (λ d. Answers v (λ p a. Transition source p d a) r old new) (sym is) given
+
+      pub stops_command : AnswersCommand v source c r old new → AnswersCommand v source command r old new
+      stops_command given = subst (λ d. AnswersCommand v source d r old new) (sym is) given
+
+      -- so it is answered by what it asks of the processes
+      pub asks_node : (says : Processes → List ℕ) → ((p : Place) → ComesTo source p c (answers (asked says p))) → AnswersAsked v says r old new → Answers v (λ p a. Transition source p command a) r old new
+      asks_node says comes given = answers_command (answers_so _ _ (λ p a acts. (answers (asked says p), comes p, acts)) r given)
 
       module _ (does : Action) (comes : (p : Place) → ComesTo source p c does) where
         pub answers_action : Answers v (λ p a. Acts p does a) r old new → Answers v (λ p a. Transition source p command a) r old new
         answers_action given = answers_command (answers_so _ _ (λ p a acts. (does, comes p, acts)) r given)
 
         -- it may be stopped within
-        pub stops_action : AnswersOrStops v (λ p a. Acts p does a) (λ p a. IsStopped p c a) r old new → AnswersCommand v source command r old new
-        stops_action (inl given) = inl (answers_action given)
-        stops_action (inr (memory, leads)) = subst (λ d. AnswersCommand v source d r old new) (sym is) (inr (
-          memory,
-          λ p at.
-              let l = leads p at in
-              record { given = l.given; right = ⊎_elim (λ acts. inl (does, comes p, acts)) (λ stopped. inr stopped) l.right; happens = l.happens },
-        ))
+        pub stops_action : AnswersAction v does r old new → AnswersCommand v source command r old new
+        stops_action given = subst (λ d. AnswersCommand v source d r old new) (sym is) (stops_so r given)
+          where
+            leads_then : (p : Place) → Leads v p (λ a. Acts p does a ⊎ StopsWithin p does a) old new → Leads v p (λ a. Transition source p c a ⊎ IsStopped source p c a) old new
+            leads_then p l =
+                record { given = l.given; right = ⊎_elim (λ acts. inl (does, comes p, acts)) (λ stopped. inr (does, comes p, stopped)) l.right; happens = l.happens }
+
+            stops_so : (r : Result (String Global) HandlerError) → AnswersAction v does r old new → AnswersCommand v source c r old new
+            stops_so (Ok text) given = λ p at. replied_so p _ _ (λ a right. ((does, comes p, right.0), right.1)) (given p at)
+            stops_so (Err why) given = λ p at.
+                ⊎_elim (λ told. inl (replied_so p _ _ (λ a right. ((does, comes p, right.0), right.1)) told))
+                (λ (memory, r). inr (memory, ⊎_elim (λ l. inl (leads_then p l)) (λ lapsed. inr lapsed) r)) (given p at)
 
   module _ (laws : IsDevice v) where
     -- A command left the place as it was, and gave a line.
@@ -97,6 +113,10 @@ module _ {D : Type 0} (v : Device D) where
   files_stay files asked.Boot other = refl
   files_stay files asked.Start other = refl
   files_stay files asked.Releases other = refl
+  files_stay files asked.Procs other = refl
+  files_stay files asked.Modules other = refl
+  files_stay files (asked.Peek app id) other = refl
+  files_stay files (asked.Call app id input) other = refl
   files_stay files (asked.Relup new ups downs) other = refl
   files_stay files asked.Quit other = absurd (other.1 refl)
   files_stay files asked.Bad other = refl
@@ -113,27 +133,18 @@ module _ {D : Type 0} (v : Device D) where
     new = record { place = place; files = old.files }
 
     ended : (r : Result (String Global) HandlerError) → AnswersCommand v (source_of base (files_of old.files)) command r old.place place → (p : Place) → IsAt v old.place p
-        → Leads v p (λ a. Does p a ⊎ IsStopped p command a) old.place place ⊎ NothingDone v p old.place place
-    ended (Ok answer) (inl given) p at = inl (leads_so old.place place p _ _ (λ a is. inl is.0) (given p at))
-    ended (Err why) (inl given) p at = by_reply (given p at)
-      where
-        by_reply : Replied v p (λ a. Does p a × (a.answer ≡ refusal_line (refusal_of why))) old.place place ⊎ ((why ≡ handler_error.NoMemory) × (Replied v p (Does p) old.place place ⊎ NothingDone v p old.place place))
-            → Leads v p (λ a. Does p a ⊎ IsStopped p command a) old.place place ⊎ NothingDone v p old.place place
-        by_reply (inl r) = inl (leads_so old.place place p _ _ (λ a is. inl is.0) r)
-        by_reply (inr (memory, inl r)) = inl (leads_so old.place place p _ _ (λ a is. inl is) r)
-        by_reply (inr (memory, inr lapsed)) = inr lapsed
-    ended r (inr (memory, leads)) p at = inl (leads p at)
+        → Leads v p (λ a. Does p a ⊎ IsStopped (source_of base (files_of old.files)) p command a) old.place place ⊎ NothingDone v p old.place place
+    ended (Ok answer) given p at = inl (leads_so old.place place p _ _ (λ a is. inl is.0) (given p at))
+    ended (Err why) given p at = ⊎_elim (λ told. inl (leads_so old.place place p _ _ (λ a is. inl is.0) told)) (λ (memory, r). r) (given p at)
 
     pub follows : (r : Result (String Global) HandlerError) (line : Result (Option (String Global)) SessionError) → IfOk line (λ text. IsLine r text)
         → AnswersCommand v (source_of base (files_of old.files)) command r old.place place → FollowsCommand v base command line old new
     follows r (Ok None) is given = absurd is
-    follows (Ok answer) (Ok (Some text)) is (inl given) = (files_stay (files_of old.files) m other, λ p at. replied_so old.place place p _ _ (λ a told. (told.0, told.1 ∙ sym is)) (given p at))
-    follows (Ok answer) (Ok (Some text)) is (inr (memory, leads)) = absurd cc
-    follows (Err why) (Ok (Some text)) (known, is) (inl given) = (
+    follows (Ok answer) (Ok (Some text)) is given = (files_stay (files_of old.files) m other, λ p at. replied_so old.place place p _ _ (λ a told. (told.0, told.1 ∙ sym is)) (given p at))
+    follows (Err why) (Ok (Some text)) (known, is) given = (
       files_stay (files_of old.files) m other,
       λ p at. ⊎_elim (λ r. replied_so old.place place p _ _ (λ a told. (told.0, told.1 ∙ sym is)) r) (λ lapsed. absurd (known lapsed.0)) (given p at),
     )
-    follows (Err why) (Ok (Some text)) (known, is) (inr (memory, leads)) = absurd (known cc)
     follows r (Err e) is given = ended r given
 
 -- the line of an installation

@@ -11,7 +11,9 @@ use Rattle.rel_handler.specs.Refusals.{StartRefused}
 use Rattle.rel_handler.specs.State.{disk_in, list_in, is_dead}
 use Rattle.node_command.specs.declared.error.HandlerError.{HandlerError}
 use Rattle.node_command.specs.declared.error.HandlerError.TheVariants as handler_error
-use Rattle.rel_handler.specs.declared.handler.Handler.{Handler}
+use Rattle.node_processes.specs.InMemory.{processes_in}
+use Rattle.node_processes.specs.Processes.{Processes}
+use Rattle.rel_session.specs.declared.booted_node.BootedNode.{BootedNode}
 use Rattle.rel_session.specs.Device.{Device, HasFailed}
 use Rattle.rel_session.specs.InMemory.{IsAt, Replied, NothingDone, Answers}
 use Rattle.rel_session.specs.Node.{Place, Reply, reply, failed, nothing, releases_after, list_or_none}
@@ -25,73 +27,74 @@ use Rattle.rel_session.specs.declared.place.Place.TheVariants as memory
 use Rattle.rel_session.proofs.DeviceLemmas.{IsDevice}
 use Rattle.rel_session.proofs.Replies.{held, kept, quiet, moments_of_nothing, holds_still, tells, answers_line}
 
-module _ {D : Type 0} (v : Device D) (laws : IsDevice v) (h new : Handler D) (alive : is_dead h ≡ false) (read : HasRead v h new) where
+module _ {D : Type 0} (v : Device D) (laws : IsDevice v) (n new : BootedNode D) (alive : is_dead n.handler ≡ false)
+    (kept_on : processes_in new.processes ≡ processes_in n.processes) (read : HasRead v n.handler new.handler) where
   abbrev Does : Place → Reply → Type 0
   Does p a = Acts p tells_start a
 
-  still_holds : (p : Place) → IsAt v (memory.Made h) p → Holds v p (disk_in new)
-  still_holds p at = holds_still v laws p (disk_in h) (disk_in new) (held v laws (memory.Made h) p at) read.only_read.same read.only_read.any_moment
+  still_holds : (p : Place) → IsAt v (memory.Made n) p → Holds v p (disk_in new.handler)
+  still_holds p at = holds_still v laws p (disk_in n.handler) (disk_in new.handler) (held v laws (memory.Made n) p at) read.only_read.same read.only_read.any_moment
 
   never : {A : Type 0} → false ≡ true → A
   never e = absurd cc
 
   -- the node runs on
-  runs_on : is_dead new ≡ false → (events : Events) (end : ℕ) → IsAt v (memory.Made h) (running events end) → IsAt v (memory.Made new) (running events end)
-  runs_on works events end at = (still_holds (running events end) at, works, at.2 ∙ ap (λ l. Some l) (sym read.list), read.end ∙ at.3)
+  runs_on : is_dead new.handler ≡ false → (events : Events) (end : ℕ) (ps : Processes) → IsAt v (memory.Made n) (running events end ps) → IsAt v (memory.Made new) (running events end ps)
+  runs_on works events end ps at = (still_holds (running events end ps) at, works, at.2 ∙ ap (λ l. Some l) (sym read.list), read.end ∙ at.3, kept_on ∙ at.4)
 
-  told_there : is_dead new ≡ false → (r : Release) → permanent (list_in h) ≡ Some r → (p : Place) → IsAt v (memory.Made h) p
-      → Replied v p (λ a. Does p a × (a.answer ≡ ok_line (r.erts ++ (codes " " ++ r.vsn)))) (memory.Made h) (memory.Made new)
+  told_there : is_dead new.handler ≡ false → (r : Release) → permanent (list_in n.handler) ≡ Some r → (p : Place) → IsAt v (memory.Made n) p
+      → Replied v p (λ a. Does p a × (a.answer ≡ ok_line (r.erts ++ (codes " " ++ r.vsn)))) (memory.Made n) (memory.Made new)
   told_there works r listed (raw bytes) at = absurd at
   told_there works r listed (closed s) at = absurd at
   told_there works r listed (dead s) at = never (sym alive ∙ at.1)
-  told_there works r listed (running events end) at =
+  told_there works r listed (running events end ps) at =
       let there : permanent (releases_after events) ≡ Some r = ap (λ o. permanent (list_or_none o)) at.2 ∙ listed in
       let line = ok_line (start_versions (permanent (releases_after events))) in
       record {
-        given = reply line nothing (running events end);
+        given = reply line nothing (running events end ps);
         right = (inl (refl), ap (λ o. ok_line (start_versions o)) there);
-        at = runs_on works events end at;
+        at = runs_on works events end ps at;
         happens = record {
-          moments = moments_of_nothing v laws (running events end) (disk_in h) (disk_in new) at.0 read.only_read.any_moment;
-          holds = still_holds (running events end) at;
+          moments = moments_of_nothing v laws (running events end ps) (disk_in n.handler) (disk_in new.handler) at.0 read.only_read.any_moment;
+          holds = still_holds (running events end ps) at;
           cause = λ e. never e;
           counted = read.counted;
         };
       }
 
-  pub told : is_dead new ≡ false → (start : (r : Release) × (permanent (list_in h) ≡ Some r)) → (line : Result (String Global) AllocError) (result : Result (String Global) HandlerError)
+  pub told : is_dead new.handler ≡ false → (start : (r : Release) × (permanent (list_in n.handler) ≡ Some r)) → (line : Result (String Global) AllocError) (result : Result (String Global) HandlerError)
       → MatchResult line (λ text. result ≡ Ok text) (λ _. result ≡ Err handler_error.NoMemory) → IfOk line (λ text. string_bytes text ≡ ok_line (start.0.erts ++ (codes " " ++ start.0.vsn)))
-      → Answers v Does result (memory.Made h) (memory.Made new)
+      → Answers v Does result (memory.Made n) (memory.Made new)
   told works start line result is said =
-      answers_line v laws Does line result (memory.Made h) (memory.Made new) is (tells v laws Does line _ (memory.Made h) (memory.Made new) said (told_there works start.0 start.1))
+      answers_line v laws Does line result (memory.Made n) (memory.Made new) is (tells v laws Does line _ (memory.Made n) (memory.Made new) said (told_there works start.0 start.1))
 
   -- memory was refused, and the disk was read alone
-  nothing_done : is_dead new ≡ false → (p : Place) → IsAt v (memory.Made h) p → NothingDone v p (memory.Made h) (memory.Made new)
+  nothing_done : is_dead new.handler ≡ false → (p : Place) → IsAt v (memory.Made n) p → NothingDone v p (memory.Made n) (memory.Made new)
   nothing_done works p at = record { nothing_new = read.only_read.any_moment; holds = still_holds p at; counted = read.counted }
 
   -- the device failed
-  device_failed : HasFailed v (disk_in h) (disk_in new) → is_dead new ≡ true → (p : Place) → IsAt v (memory.Made h) p
-      → Replied v p (λ a. Does p a × (a.answer ≡ refusal_line device)) (memory.Made h) (memory.Made new)
+  device_failed : HasFailed v (disk_in n.handler) (disk_in new.handler) → is_dead new.handler ≡ true → (p : Place) → IsAt v (memory.Made n) p
+      → Replied v p (λ a. Does p a × (a.answer ≡ refusal_line device)) (memory.Made n) (memory.Made new)
   device_failed cause gone (raw bytes) at = absurd at
   device_failed cause gone (closed s) at = absurd at
   device_failed cause gone (dead s) at = never (sym alive ∙ at.1)
-  device_failed cause gone (running events end) at =
+  device_failed cause gone (running events end ps) at =
       let s = certain events end in
-      let stored : (c : List ℕ) → v.may_leave (disk_in h) c → IsStoredAs s c = λ c now. (at.0 c now).0 in
-      let holds = kept v laws (IsStoredAs s) (disk_in h) (disk_in new) stored read.only_read.any_moment in
+      let stored : (c : List ℕ) → v.may_leave (disk_in n.handler) c → IsStoredAs s c = λ c now. (at.0 c now).0 in
+      let holds = kept v laws (IsStoredAs s) (disk_in n.handler) (disk_in new.handler) stored read.only_read.any_moment in
       record {
         given = failed None (dead s);
         right = (inr (refl), refl);
         at = (holds, gone);
         happens = record {
-          moments = quiet v laws s _ (disk_in h) (disk_in new) stored read.only_read.any_moment;
+          moments = quiet v laws s _ (disk_in n.handler) (disk_in new.handler) stored read.only_read.any_moment;
           holds = holds;
           cause = λ e. cause;
           counted = read.counted;
         };
       }
 
-  pub told_none : (e : HandlerError) → StartRefused v.failures h new e → Answers v Does (Err e) (memory.Made h) (memory.Made new)
+  pub told_none : (e : HandlerError) → StartRefused v.failures n.handler new.handler e → Answers v Does (Err e) (memory.Made n) (memory.Made new)
   told_none handler_error.Dead (gone, same) = never (sym alive ∙ gone)
   told_none handler_error.NoMemory (living, works) = λ p at. inr (refl, inr (nothing_done works p at))
   told_none handler_error.Device (living, cause, gone) = λ p at. inl (device_failed cause gone p at)

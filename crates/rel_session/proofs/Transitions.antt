@@ -13,12 +13,13 @@ use Rattle.rel_list.specs.Releases.{Bundle}
 use Rattle.rel_unpack.specs.Refusal.{Refusal}
 use Rattle.rel_unpack.specs.Unpacking.{Brought}
 use Rattle.rel_unpack.specs.Source.{Source}
-use Rattle.rel_session.specs.Node.{Place, Reply, reply, nothing, releases_after, behind}
+use Rattle.node_processes.specs.Processes.{Processes}
+use Rattle.rel_session.specs.Node.{Place, at_rest, Reply, reply, nothing, releases_after, behind}
 use Rattle.rel_session.specs.Node.Place.{raw, closed, running, dead}
 use Rattle.rel_session.specs.Run.{MayLeave}
 use Rattle.rel_session.specs.RunLaws.{MayBe, acknowledged_at, IsKnown, Finds, Keeps}
 use Rattle.rel_session.specs.Transition
-use Rattle.rel_session.specs.Transition.Action.{answers, makes_node, changes_node, reboots_node, boots_node, tells_start}
+use Rattle.rel_session.specs.Transition.Action.{answers, makes_node, changes_node, reboots_node, boots_node, tells_start, calls}
 
 same_known : (p : Place) (es : Events) → es ≡ [] → IsKnown p ⊎ (es ≢ []) → IsKnown p
 same_known p es none (inl known) = known
@@ -27,7 +28,7 @@ same_known p es none (inr some) = absurd (some none)
 found_there : (p : Place) → Finds p (acknowledged_at p)
 found_there (raw bytes) = inl refl
 found_there (closed s) = inl refl
-found_there (running events end) = refl
+found_there (running events end ps) = refl
 found_there (dead s) = inl refl
 
 -- a reply without an event, which leaves the disk where it stood
@@ -51,16 +52,16 @@ keeps_known : (p : Place) (a : Reply) (found : Events) → Finds p found → ack
 keeps_known p a found finds are known = record { found = found; finds = finds; are = are; known = λ k. known }
 
 -- a commit, where the replies to what is committed keep them
-commits : (events : Events) (end : ℕ) (e : Event) (size : ℕ) (o : Result Releases HandlerError) (P : Reply → Type 0) → ((a : Reply) → P a → Keeps (running events end) a)
-    → (a : Reply) → Transition.IsCommit events end e size o P a → Keeps (running events end) a
-commits events end e size (Err why) P keeps a is = still_as (running events end) _ a is
-commits events end e size (Ok list) P keeps a (inl (fits, inl is)) = keeps a is
-commits events end e size (Ok list) P keeps a (inl (fits, inr is)) = keeps_as (running events end) a _ is (keeps_known (running events end) _ events refl (sym (append-nil events)) tt)
-commits events end e size (Ok list) P keeps a (inr (over, is)) = still_as (running events end) _ a is
+commits : (events : Events) (end : ℕ) (ps : Processes) (e : Event) (size : ℕ) (o : Result Releases HandlerError) (P : Reply → Type 0) → ((a : Reply) → P a → Keeps (running events end ps) a)
+    → (a : Reply) → Transition.IsCommit events end ps e size o P a → Keeps (running events end ps) a
+commits events end ps e size (Err why) P keeps a is = still_as (running events end ps) _ a is
+commits events end ps e size (Ok list) P keeps a (inl (fits, inl is)) = keeps a is
+commits events end ps e size (Ok list) P keeps a (inl (fits, inr is)) = keeps_as (running events end ps) a _ is (keeps_known (running events end ps) _ events refl (sym (append-nil events)) tt)
+commits events end ps e size (Ok list) P keeps a (inr (over, is)) = still_as (running events end ps) _ a is
 
-changes : (events : Events) (end : ℕ) (c : Transition.Change) (l : Releases) (f : Option Refusal) (o : Result Releases HandlerError) (a : Reply) → Transition.Changes events end c l f o a → Keeps (running events end) a
-changes events end c l (Some why) o a is = still_as (running events end) _ a is
-changes events end c l None o a is = commits events end c.event (c.size l) o _ (λ a is. keeps_as (running events end) a _ is (keeps_known (running events end) _ events refl refl tt)) a is
+changes : (events : Events) (end : ℕ) (ps : Processes) (c : Transition.Change) (l : Releases) (f : Option Refusal) (o : Result Releases HandlerError) (a : Reply) → Transition.Changes events end ps c l f o a → Keeps (running events end ps) a
+changes events end ps c l (Some why) o a is = still_as (running events end ps) _ a is
+changes events end ps c l None o a is = commits events end ps c.event (c.size l) o _ (λ a is. keeps_as (running events end ps) a _ is (keeps_known (running events end ps) _ events refl refl tt)) a is
 
 makes_with : (bytes : List ℕ) (p : Bundle) (size : ℕ) (why : Option Refusal) (a : Reply) → Transition.MakesWith bytes p size why a → Keeps (raw bytes) a
 makes_with bytes p size (Some why) a is = still_as (raw bytes) _ a is
@@ -83,7 +84,7 @@ makes (raw bytes) found a (inl is) = makes_on bytes found (holds_a_store bytes) 
 makes (raw bytes) found a (inr (torn, is)) = torn_as bytes torn _ _ a is
 makes (closed s) found a (inl is) = still_as (closed s) _ a is
 makes (closed s) found a (inr is) = failed_as s _ _ (closed s) a (inl refl) is
-makes (running events end) found a is = still_as (running events end) _ a is
+makes (running events end ps) found a is = still_as (running events end ps) _ a is
 makes (dead s) found a is = still_as (dead s) _ a is
 
 booted : (p : Place) (events : Events) (end : ℕ) (a : Reply) → Finds p events → Transition.IsBooted events end a → Keeps p a
@@ -99,23 +100,23 @@ boots_store p s a finds here (inl (events, end, has, is)) = booted p events end 
 boots_store p s a finds here (inr is) = failed_as s _ None p a here is
 
 -- behind an event that was committed
-keeps_behind : (events : Events) (end then : ℕ) (e : Event) (b : Reply) → Keeps (closed (certain (events ++ e ∷ []) then)) b → Keeps (running events end) (behind e b)
-keeps_behind events end then e b keeps =
+keeps_behind : (events : Events) (end : ℕ) (ps : Processes) (then : ℕ) (e : Event) (b : Reply) → Keeps (closed (certain (events ++ e ∷ []) then)) b → Keeps (running events end ps) (behind e b)
+keeps_behind events end ps then e b keeps =
     let found : keeps.found ≡ events ++ e ∷ [] = ⊎_elim (λ is. is) (λ is. is) keeps.finds in
-    keeps_known (running events end) (behind e b) events refl
+    keeps_known (running events end ps) (behind e b) events refl
     (keeps.are ∙ ap (λ (l : Events). l ++ b.outcome.acknowledged) found ∙ append_assoc events (e ∷ []) b.outcome.acknowledged) (keeps.known (inl tt))
 
-reboots : (events : Events) (end : ℕ) (vsn : List ℕ) (l : Releases) (o : Result Releases HandlerError) (a : Reply) → Transition.Reboots events end vsn l o a → Keeps (running events end) a
-reboots events end vsn l o =
+reboots : (events : Events) (end : ℕ) (ps : Processes) (vsn : List ℕ) (l : Releases) (o : Result Releases HandlerError) (a : Reply) → Transition.Reboots events end ps vsn l o a → Keeps (running events end ps) a
+reboots events end ps vsn l o =
     let s = Transition.rebooted events end vsn l in
-    commits events end (rebooting vsn) _ o _ (λ a (b, boot, is). keeps_as (running events end) a _ is (keeps_behind events end s.end (rebooting vsn) b (boots_store (closed s) s b (may_have s) (inl refl) boot)))
+    commits events end ps (rebooting vsn) _ o _ (λ a (b, boot, is). keeps_as (running events end ps) a _ is (keeps_behind events end ps s.end (rebooting vsn) b (boots_store (closed s) s b (may_have s) (inl refl) boot)))
 
 boots : (p : Place) (a : Reply) → Transition.Boots p a → Keeps p a
 boots (raw bytes) a (inl (events, list, end, after, image, is)) = booted (raw bytes) events end a (inr (list, after, image.image_of)) is
 boots (raw bytes) a (inr (inl (why, told, is))) = still_as (raw bytes) _ a is
 boots (raw bytes) a (inr (inr (torn, is))) = torn_as bytes torn _ None a is
 boots (closed s) a is = boots_store (closed s) s a (may_have s) (inl refl) is
-boots (running events end) a is = boots_store (running events end) (certain events end) a (λ es n has. ⊎_elim (λ e. e) (λ e. e) (may_have (certain events end) es n has)) refl is
+boots (running events end ps) a is = boots_store (running events end ps) (certain events end) a (λ es n has. ⊎_elim (λ e. e) (λ e. e) (may_have (certain events end) es n has)) refl is
 boots (dead s) a is = boots_store (dead s) s a (may_have s) (inl refl) is
 
 acts : (p : Place) (does : Transition.Action) (a : Reply) → Transition.Acts p does a → Keeps p a
@@ -123,25 +124,55 @@ acts p (answers text) a is = still_as p _ a is
 acts p (makes_node found) a is = makes p found a is
 acts (raw bytes) (changes_node c) a is = still_as (raw bytes) _ a is
 acts (closed s) (changes_node c) a is = still_as (closed s) _ a is
-acts (running events end) (changes_node c) a is = changes events end c (releases_after events) (c.files (releases_after events)) (commanded c.event (releases_after events)) a is
+acts (running events end ps) (changes_node c) a is = changes events end ps c (releases_after events) (c.files (releases_after events)) (commanded c.event (releases_after events)) a is
 acts (dead s) (changes_node c) a is = still_as (dead s) _ a is
-acts (running events end) (reboots_node vsn) a is = reboots events end vsn (releases_after events) (commanded (rebooting vsn) (releases_after events)) a is
+acts (running events end ps) (reboots_node vsn) a is = reboots events end ps vsn (releases_after events) (commanded (rebooting vsn) (releases_after events)) a is
 acts (raw bytes) (reboots_node vsn) a is = still_as (raw bytes) _ a is
 acts (closed s) (reboots_node vsn) a is = still_as (closed s) _ a is
 acts (dead s) (reboots_node vsn) a is = still_as (dead s) _ a is
 acts p boots_node a is = boots p a is
-acts (running events end) tells_start a (inl is) = still_as (running events end) _ a is
-acts (running events end) tells_start a (inr is) = keeps_as (running events end) a _ is (keeps_known (running events end) _ events refl (sym (append-nil events)) tt)
+acts (running events end ps) tells_start a (inl is) = still_as (running events end ps) _ a is
+acts (running events end ps) tells_start a (inr is) = keeps_as (running events end ps) a _ is (keeps_known (running events end ps) _ events refl (sym (append-nil events)) tt)
 acts (raw bytes) tells_start a is = still_as (raw bytes) _ a is
 acts (closed s) tells_start a is = still_as (closed s) _ a is
 acts (dead s) tells_start a is = still_as (dead s) _ a is
+acts (running events end ps) (calls app id input) a is = keeps_as (running events end ps) a _ is (keeps_known (running events end ps) _ events refl (sym (append-nil events)) tt)
+acts (raw bytes) (calls app id input) a is = still_as (raw bytes) _ a is
+acts (closed s) (calls app id input) a is = still_as (closed s) _ a is
+acts (dead s) (calls app id input) a is = still_as (dead s) _ a is
 
 pub each_keeps : (source : Source) (p : Place) (c : Command) (a : Reply) → Transition.Transition source p c a → Keeps p a
 each_keeps source p c a (does, comes, is) = acts p does a is
 
+-- a place at rest has the same events
+pub rest_acknowledged : (p : Place) → acknowledged_at (at_rest p) ≡ acknowledged_at p
+rest_acknowledged (raw bytes) = refl
+rest_acknowledged (closed s) = refl
+rest_acknowledged (running events end ps) = refl
+rest_acknowledged (dead s) = refl
+
+rest_known : (p : Place) → IsKnown p → IsKnown (at_rest p)
+rest_known (raw bytes) known = known
+rest_known (closed s) known = tt
+rest_known (running events end ps) known = tt
+rest_known (dead s) known = tt
+
+-- so a reply whose node is lost keeps them
+keeps_without_node : (p : Place) (b : Reply) → Keeps p b → Keeps p (Transition.without_node b)
+keeps_without_node p b keeps = record {
+  found = keeps.found;
+  finds = keeps.finds;
+  are = rest_acknowledged b.after ∙ keeps.are;
+  known = λ k. rest_known b.after (keeps.known k);
+}
+
+stops : (p : Place) (does : Transition.Action) (a : Reply) → Transition.StopsWithin p does a → Keeps p a
+stops p does a (Transition.StopsWithin.without_its_boot alone) =
+    let here = running alone.events alone.end alone.processes in
+    subst (λ q. Keeps q a) (sym alone.here) (keeps_as here a _ alone.is (keeps_known here _ alone.events refl refl tt))
+stops p does a (Transition.StopsWithin.without_its_node b is lost) = keeps_as p a _ lost (keeps_without_node p b (acts p does b is))
+
 -- and so it does where memory is refused within a command
 pub each_left_keeps : (source : Source) (p : Place) (c : Command) (a : Reply) → MayLeave source p c a → Keeps p a
 each_left_keeps source p c a (inl is) = each_keeps source p c a is
-each_left_keeps source p c a (inr stopped) =
-    let here = running stopped.events stopped.end in
-    subst (λ q. Keeps q a) (sym stopped.here) (keeps_as here a _ stopped.is (keeps_known here _ stopped.events refl refl tt))
+each_left_keeps source p c a (inr (does, comes, stopped)) = stops p does a stopped

@@ -5,7 +5,9 @@ use Rattle.std.specs.declared.alloc.AllocError.{AllocError}
 use Rattle.std.specs.declared.alloc.Global.{Global}
 use Rattle.node_command.specs.declared.error.HandlerError.{HandlerError}
 use Rattle.node_command.specs.declared.error.HandlerError.TheVariants as handler_error
-use Rattle.rel_handler.specs.declared.handler.Handler.{Handler}
+use Rattle.node_processes.specs.InMemory.{processes_in}
+use Rattle.node_processes.specs.Processes.{Processes}
+use Rattle.rel_session.specs.declared.booted_node.BootedNode.{BootedNode}
 use Rattle.rel_handler.specs.Events.{Events}
 use Rattle.rel_handler.specs.State.{is_dead}
 use Rattle.node_command.specs.Files.{Brings}
@@ -30,32 +32,33 @@ use Rattle.rel_session.proofs.Replies.{leaves_all, refuses_running, same_at, tel
 never : {A : Type 0} → false ≡ true → A
 never e = absurd cc
 
-module _ {D : Type 0} (v : Device D) (laws : IsDevice v) (source : Source) (path : List ℕ) (h : Handler D) (alive : is_dead h ≡ false) (new : Handler D) where
+module _ {D : Type 0} (v : Device D) (laws : IsDevice v) (source : Source) (path : List ℕ) (n : BootedNode D) (alive : is_dead n.handler ≡ false) (new : BootedNode D)
+    (kept_on : processes_in new.processes ≡ processes_in n.processes) where
   abbrev Unpacks : Place → Reply → Type 0
   Unpacks = λ p a. Transition.Transition source p (set_unpacked path) a
 
-  changing : (b : Brought) → Brings source path (Ok b) → (events : Events) (end : ℕ) (a : Reply) → Transition.Acts (running events end) (changes_node (Transition.unpacked_change b)) a → Unpacks (running events end) a
-  changing b read events end a is = (changes_node (Transition.unpacked_change b), (Ok b, read, refl), is)
+  changing : (b : Brought) → Brings source path (Ok b) → (events : Events) (end : ℕ) (ps : Processes) (a : Reply) → Transition.Acts (running events end ps) (changes_node (Transition.unpacked_change b)) a → Unpacks (running events end ps) a
+  changing b read events end ps a is = (changes_node (Transition.unpacked_change b), (Ok b, read, refl), is)
 
-  pub unpacks : (vsn : List ℕ) (line : Result (String Global) AllocError) (result : Result (String Global) HandlerError) → IsUnpacked v source path h new vsn
-      → MatchResult line (λ text. result ≡ Ok text) (λ _. result ≡ Err handler_error.NoMemory) → IfOk line (λ text. string_bytes text ≡ Transition.ok_line vsn) → Answers v Unpacks result (memory.Made h) (memory.Made new)
-  unpacks vsn line result u is told = changes v laws Unpacks h alive (Transition.unpacked_change u.brought) (changing u.brought u.read) u.free new u.commits u.works u.done line result is
+  pub unpacks : (vsn : List ℕ) (line : Result (String Global) AllocError) (result : Result (String Global) HandlerError) → IsUnpacked v source path n.handler new.handler vsn
+      → MatchResult line (λ text. result ≡ Ok text) (λ _. result ≡ Err handler_error.NoMemory) → IfOk line (λ text. string_bytes text ≡ Transition.ok_line vsn) → Answers v Unpacks result (memory.Made n) (memory.Made new)
+  unpacks vsn line result u is told = changes v laws Unpacks n alive (Transition.unpacked_change u.brought) (changing u.brought u.read) u.free new kept_on u.commits u.works u.done line result is
       (subst (λ name. IfOk line (λ text. string_bytes text ≡ Transition.ok_line name)) u.version told)
 
   -- its files are refused
-  barred : (why : HandlerError) → IsBarred source path h new why → Answers v Unpacks (Err why) (memory.Made h) (memory.Made new)
-  barred why b = tells_refusal v laws Unpacks why (memory.Made h) (memory.Made new) (λ known p at. told p at) (λ p at. leaves_all v laws p (memory.Made h) (memory.Made new) b.same.disk (same_at v laws h new p b.same at))
+  barred : (why : HandlerError) → IsBarred source path n.handler new.handler why → Answers v Unpacks (Err why) (memory.Made n) (memory.Made new)
+  barred why b = tells_refusal v laws Unpacks why (memory.Made n) (memory.Made new) (λ known p at. told p at) (λ p at. leaves_all v laws p (memory.Made n) (memory.Made new) b.same.disk (same_at v laws n new p b.same kept_on at))
     where
-      told : (p : Place) → IsAt v (memory.Made h) p → Replied v p (λ a. Unpacks p a × (a.answer ≡ refusal_line (refusal_of why))) (memory.Made h) (memory.Made new)
+      told : (p : Place) → IsAt v (memory.Made n) p → Replied v p (λ a. Unpacks p a × (a.answer ≡ refusal_line (refusal_of why))) (memory.Made n) (memory.Made new)
       told p at =
           let error = b.barred.error in
           let line = ap refusal_line (sym (told_alike error)) ∙ ap (λ w. refusal_line (refusal_of w)) (sym b.barred.told) in
-          subst (λ l. Replied v p (λ a. Unpacks p a × (a.answer ≡ l)) (memory.Made h) (memory.Made new)) line
-          (files_refused v laws Unpacks h alive (Transition.unpacked_change b.brought) (changing b.brought b.read) new b.same (of_files.refusal_of error) b.barred.refused p at)
+          subst (λ l. Replied v p (λ a. Unpacks p a × (a.answer ≡ l)) (memory.Made n) (memory.Made new)) line
+          (files_refused v laws Unpacks n alive (Transition.unpacked_change b.brought) (changing b.brought b.read) new kept_on b.same (of_files.refusal_of error) b.barred.refused p at)
 
-  pub unpacks_none : (why : HandlerError) → UnpackingRefused v source path h new why → Answers v Unpacks (Err why) (memory.Made h) (memory.Made new)
+  pub unpacks_none : (why : HandlerError) → UnpackingRefused v source path n.handler new.handler why → Answers v Unpacks (Err why) (memory.Made n) (memory.Made new)
   unpacks_none why (inl (is, gone, same)) = never (sym alive ∙ gone)
   unpacks_none why (inr (inl (of, living, same))) =
-      refuses_running v laws Unpacks h alive new same why (λ known events end. unpacking_refused source path (refusal_of why) events end (files_refuse source path why of known))
+      refuses_running v laws Unpacks n alive new same kept_on why (λ known events end ps. unpacking_refused source path (refusal_of why) events end ps (files_refuse source path why of known))
   unpacks_none why (inr (inr (inl b))) = barred why b
-  unpacks_none why (inr (inr (inr n))) = changes_none v laws Unpacks h alive (Transition.unpacked_change n.brought) (changing n.brought n.read) n.free new n.commits why n.refused
+  unpacks_none why (inr (inr (inr m))) = changes_none v laws Unpacks n alive (Transition.unpacked_change m.brought) (changing m.brought m.read) m.free new kept_on m.commits why m.refused

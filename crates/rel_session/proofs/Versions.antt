@@ -5,9 +5,8 @@ use Rattle.std.specs.Option.{option_and_then, option_map, option_or}
 use Rattle.erl_term.proofs.Lines.{append_line}
 use Rattle.erl_term.specs.Lines.{is_one_line}
 use Rattle.rel_unpack.proofs.LineOutcomes.{version_line}
-use Rattle.rel_files.specs.File.{HasVersions}
 use Rattle.rel_files.specs.Release.{Release}
-use Rattle.rel_list.specs.Releases.{Bundle}
+use Rattle.rel_list.specs.Releases.{Bundle, bundle_in}
 use Rattle.rel_list.specs.Releases.{Releases, Entry, status_of, has_current, permanent, current, running as running_release}
 use Rattle.rel_list.specs.Status.{is_current, is_permanent}
 use Rattle.rel_list.specs.Event.{Event, is_barred, may_be_installed, may_be_made_permanent, may_be_removed, may_be_rebooted, booted_status, with_statuses, list_installed, list_made_permanent, without, step, list_after, booted, entry}
@@ -15,6 +14,9 @@ use Rattle.rel_list.specs.declared.status.Status.{Status}
 use Rattle.rel_list.specs.declared.status.Status.TheVariants.{Unpacked, Permanent}
 use Rattle.rel_list.specs.Event.Event.{made, unpacked, installed, made_permanent, removed, reboot_old, boot as booting}
 use Rattle.rel_records.specs.Lists.{HaveVersions}
+use Rattle.rel_records.specs.Startable.{AreStartable}
+use Rattle.rel_records.proofs.CompletionLemmas.{of_applications}
+use Rattle.rel_records.proofs.StartableLemmas.{make_startable, startable-of_booted}
 use Rattle.node_command.specs.Files.{bundle_brought, made_size}
 use Rattle.node_command.proofs.CommandLemmas.{IsListRefusal, IsListAnswer, of_command}
 use Rattle.rel_handler.proofs.Commits.{have_versions}
@@ -22,7 +24,8 @@ use Rattle.rel_handler.proofs.RepairLemmas.{permanent_versions}
 use Rattle.node_command.specs.declared.error.HandlerError.{HandlerError}
 use Rattle.node_command.specs.declared.error.HandlerError.TheVariants as handler_error
 use Rattle.rel_handler.specs.Events.{Events, Stored, MayHave, certain, uncertain}
-use Rattle.rel_handler.specs.Image.{holds_a_store}
+use Rattle.rel_handler.specs.Image.{IsImageOf, holds_a_store}
+use Rattle.node_processes.specs.Processes.{Processes}
 use Rattle.node_command.specs.Taking.{commanded}
 use Rattle.session_input.specs.Commands.{Command}
 use Rattle.rel_unpack.specs.Refusal.{Refusal}
@@ -32,47 +35,48 @@ use Rattle.rel_session.specs.Node.{Place, Reply, releases_after, list_or_none}
 use Rattle.rel_session.specs.Node.Place.{raw, closed, running, dead}
 use Rattle.rel_session.specs.Refusals.{refusal_of, refusal_for, refusal_line}
 use Rattle.rel_session.specs.Refusals.Refusal.{device, bad_status}
-use Rattle.rel_session.specs.AnswerLaws.{HasLinePath, HasVersionsAt}
+use Rattle.rel_session.specs.AnswerLaws.{HasLinePath, IsOfFiles, AreOfFiles, HasVersionsAt, HasModuleVersionsAt}
 use Rattle.rel_session.specs.RunLaws.{MayBe}
 use Rattle.rel_session.specs.Transition
-use Rattle.rel_session.specs.Transition.Action.{answers, makes_node, changes_node, reboots_node, boots_node, tells_start}
+use Rattle.rel_session.specs.Transition.Action.{answers, makes_node, changes_node, reboots_node, boots_node, tells_start, calls}
 use Rattle.rel_session.proofs.ActionLemmas.{OfEvent, TellsFilesLine, IsGoodAction, good_action}
 use Rattle.rel_session.proofs.ListLemmas.{list_after-more}
+use Rattle.rel_session.proofs.ProcessLines.{call_whole}
 use Rattle.rel_session.proofs.Transitions.{may_have}
 use Rattle.rel_session.proofs.AnswerLines.{IsWhole, ok_whole, done_whole, refusal_whole, boot_line_whole}
 
-more_versions : (es : Releases) (e : Entry) → HaveVersions es → HasVersions e.release → HaveVersions (es ++ e ∷ [])
+more_versions : (es : Releases) (e : Entry) → AreOfFiles es → IsOfFiles (bundle_in e) → AreOfFiles (es ++ e ∷ [])
 more_versions [] e all one = (one, tt)
 more_versions (f ∷ es) e all one = (all.0, more_versions es e all.1 one)
 
-restated_versions : (f : List ℕ → Status → Status) (es : Releases) → HaveVersions es → HaveVersions (with_statuses f es)
+restated_versions : (f : List ℕ → Status → Status) (es : Releases) → AreOfFiles es → AreOfFiles (with_statuses f es)
 restated_versions f [] all = tt
 restated_versions f (e ∷ es) all = (all.0, restated_versions f es all.1)
 
-booted_versions : (es : Releases) → HaveVersions es → HaveVersions (booted es)
+booted_versions : (es : Releases) → AreOfFiles es → AreOfFiles (booted es)
 booted_versions es all = restated_versions (λ vsn s. booted_status s) es all
 
-fewer_versions : (v : List ℕ) (es : Releases) → HaveVersions es → HaveVersions (without v es)
+fewer_versions : (v : List ℕ) (es : Releases) → AreOfFiles es → AreOfFiles (without v es)
 fewer_versions v [] all = tt
 fewer_versions v (e ∷ es) all = go (bytes_eq v e.release.vsn) (fewer_versions v es all.1)
   where
-    go : (b : Bool) → HaveVersions (without v es) → HaveVersions (if b then es else e ∷ without v es)
+    go : (b : Bool) → AreOfFiles (without v es) → AreOfFiles (if b then es else e ∷ without v es)
     go true rest = all.1
     go false rest = (all.0, rest)
 
 -- the list that an event makes, where it is allowed
-where_allowed : (b : Bool) (next end : Releases) → HaveVersions next → (if b then Some next else None) ≡ Some end → HaveVersions end
-where_allowed true next end all is = let same : next ≡ end = cc in subst HaveVersions same all
+where_allowed : (b : Bool) (next end : Releases) → AreOfFiles next → (if b then Some next else None) ≡ Some end → AreOfFiles end
+where_allowed true next end all is = let same : next ≡ end = cc in subst AreOfFiles same all
 where_allowed false next end all is = absurd cc
 
-step_versions : (e : Event) (es end : Releases) → OfEvent e → HaveVersions es → step e es ≡ Some end → HaveVersions end
-step_versions (made p) [] end of all is = let same : entry p Permanent ∷ [] ≡ end = cc in subst HaveVersions same (of, tt)
+step_versions : (e : Event) (es end : Releases) → OfEvent e → AreOfFiles es → step e es ≡ Some end → AreOfFiles end
+step_versions (made p) [] end of all is = let same : entry p Permanent ∷ [] ≡ end = cc in subst AreOfFiles same (of, tt)
 step_versions (made p) (f ∷ es) end of all is = absurd cc
 step_versions (unpacked p) es end of all is = go (is_barred p es) is
   where
-    go : (b : Bool) → (if b then None else Some (es ++ entry p Unpacked ∷ [])) ≡ Some end → HaveVersions end
+    go : (b : Bool) → (if b then None else Some (es ++ entry p Unpacked ∷ [])) ≡ Some end → AreOfFiles end
     go true is = absurd cc
-    go false is = let same : es ++ entry p Unpacked ∷ [] ≡ end = cc in subst HaveVersions same (more_versions es (entry p Unpacked) all of)
+    go false is = let same : es ++ entry p Unpacked ∷ [] ≡ end = cc in subst AreOfFiles same (more_versions es (entry p Unpacked) all of)
 step_versions (installed v) es end of all is =
     where_allowed (may_be_installed (has_current es) (status_of v es)) (list_installed v es) end (restated_versions _ es all) is
 step_versions (made_permanent v) es end of all is =
@@ -80,34 +84,34 @@ step_versions (made_permanent v) es end of all is =
 step_versions (removed v) es end of all is = where_allowed (may_be_removed (status_of v es)) (without v es) end (fewer_versions v es all) is
 step_versions (reboot_old v) es end of all is =
     where_allowed (may_be_rebooted (status_of v es)) (list_made_permanent v es) end (restated_versions _ es all) is
-step_versions booting es end of all is = let same : booted es ≡ end = cc in subst HaveVersions same (booted_versions es all)
+step_versions booting es end of all is = let same : booted es ≡ end = cc in subst AreOfFiles same (booted_versions es all)
 
 -- one event more
 abbrev pub OfList : Events → Type 0
-OfList events = (list : Releases) → list_after events ≡ Some list → HaveVersions list
+OfList events = (list : Releases) → list_after events ≡ Some list → AreOfFiles list
 
-list_versions : (events : Events) (e : Event) → OfEvent e → OfList events → OfList (events ++ e ∷ [])
+pub list_versions : (events : Events) (e : Event) → OfEvent e → OfList events → OfList (events ++ e ∷ [])
 list_versions events e of all list is = go (list_after events) refl (sym (list_after-more events e) ∙ is)
   where
-    go : (o : Option Releases) → list_after events ≡ o → option_and_then (step e) o ≡ Some list → HaveVersions list
+    go : (o : Option Releases) → list_after events ≡ o → option_and_then (step e) o ≡ Some list → AreOfFiles list
     go None after is = absurd cc
     go (Some es) after is = step_versions e es list of (all es after) is
 
 -- and a store one of those of its list
-stored_versions : (s : Stored) → HasVersionsAt (closed s) → (events : Events) (end : ℕ) → MayHave s events end → OfList events
+pub stored_versions : (s : Stored) → HasVersionsAt (closed s) → (events : Events) (end : ℕ) → MayHave s events end → OfList events
 stored_versions s all events end has list is = all events list (may_have s events end has) is
 
 -- the version of the release that runs
-found_version : (t : Entry → Bool) (es : Releases) → HaveVersions es → is_one_line (Transition.version_of (option_map (λ (e : Entry). e.release) (find t es))) ≡ true
+found_version : (t : Entry → Bool) (es : Releases) → AreOfFiles es → is_one_line (Transition.version_of (option_map (λ (e : Entry). e.release) (find t es))) ≡ true
 found_version t [] all = refl
 found_version t (e ∷ es) all = go (t e) (found_version t es all.1)
   where
     go : (b : Bool) → is_one_line (Transition.version_of (option_map (λ (e : Entry). e.release) (find t es))) ≡ true
         → is_one_line (Transition.version_of (option_map (λ (e : Entry). e.release) (if b then Some e else find t es))) ≡ true
-    go true rest = version_line e.release.vsn all.0.own
+    go true rest = version_line e.release.vsn all.0.0.own
     go false rest = rest
 
-running_version : (es : Releases) → HaveVersions es → is_one_line (Transition.version_of (running_release es)) ≡ true
+running_version : (es : Releases) → AreOfFiles es → is_one_line (Transition.version_of (running_release es)) ≡ true
 running_version es all = go (current es) (permanent es) (found_version (λ e. is_current e.status) es all) (found_version (λ e. is_permanent e.status) es all)
   where
     go : (a b : Option Release) → is_one_line (Transition.version_of a) ≡ true → is_one_line (Transition.version_of b) ≡ true → is_one_line (Transition.version_of (option_or a b)) ≡ true
@@ -143,26 +147,27 @@ handler_line handler_error.Exists of behind = absurd of
 device_line : IsWhole (refusal_line device)
 device_line behind = refl
 
-commits : (events : Events) (end : ℕ) (e : Event) (size : ℕ) (o : Result Releases HandlerError) (P : Reply → Type 0) → IsListAnswer o → ((a : Reply) → P a → IsGood a) → OfEvent e → OfList events → (a : Reply)
-    → Transition.IsCommit events end e size o P a → IsGood a
-commits events end e size (Err why) P plain done of all a is = good_as a _ is (handler_line why plain, all)
-commits events end e size (Ok next) P plain done of all a (inl (fits, inl is)) = done a is
-commits events end e size (Ok next) P plain done of all a (inl (fits, inr is)) = good_as a _ is (device_line, either_way)
+commits : (events : Events) (end : ℕ) (ps : Processes) (e : Event) (size : ℕ) (o : Result Releases HandlerError) (P : Reply → Type 0) → IsListAnswer o → ((next : Releases) (a : Reply) → o ≡ Ok next → P a → IsGood a)
+    → ((next : Releases) → o ≡ Ok next → OfEvent e) → OfList events → (a : Reply) → Transition.IsCommit events end ps e size o P a → IsGood a
+commits events end ps e size (Err why) P plain done of all a is = good_as a _ is (handler_line why plain, all)
+commits events end ps e size (Ok next) P plain done of all a (inl (fits, inl is)) = done next a refl is
+commits events end ps e size (Ok next) P plain done of all a (inl (fits, inr is)) = good_as a _ is (device_line, either_way)
   where
-    either_way : (es : Events) (l : Releases) → MayBe (uncertain events end e size) es → list_after es ≡ Some l → HaveVersions l
+    either_way : (es : Events) (l : Releases) → MayBe (uncertain events end e size) es → list_after es ≡ Some l → AreOfFiles l
     either_way es l (inl same) after = all l (ap list_after (sym same) ∙ after)
-    either_way es l (inr same) after = list_versions events e of all l (ap list_after (sym same) ∙ after)
-commits events end e size (Ok next) P plain done of all a (inr (over_it, is)) = good_as a _ is ((λ behind. refl), all)
+    either_way es l (inr same) after = list_versions events e (of next refl) all l (ap list_after (sym same) ∙ after)
+commits events end ps e size (Ok next) P plain done of all a (inr (over_it, is)) = good_as a _ is ((λ behind. refl), all)
 
-changes : (events : Events) (end : ℕ) (c : Transition.Change) (list : Releases) (f : Option Refusal) (o : Result Releases HandlerError) → IsListAnswer o → OfEvent c.event → TellsFilesLine f → is_one_line (c.details list) ≡ true → OfList events → (a : Reply)
-    → Transition.Changes events end c list f o a → IsGood a
-changes events end c list (Some why) o plain of told line all a is = good_as a _ is (refusal_whole (refusal_for why) told, all)
-changes events end c list None o plain of told line all a is =
-    commits events end c.event (c.size list) o _ plain (λ a is. good_as a _ is (done_whole (c.details list) line, list_versions events c.event of all)) of all a is
+changes : (events : Events) (end : ℕ) (ps : Processes) (c : Transition.Change) (list : Releases) (f : Option Refusal) (o : Result Releases HandlerError) → IsListAnswer o → ((next : Releases) → f ≡ None → o ≡ Ok next → OfEvent c.event) → TellsFilesLine f
+    → is_one_line (c.details list) ≡ true → OfList events → (a : Reply) → Transition.Changes events end ps c list f o a → IsGood a
+changes events end ps c list (Some why) o plain of told line all a is = good_as a _ is (refusal_whole (refusal_for why) told, all)
+changes events end ps c list None o plain of told line all a is =
+    commits events end ps c.event (c.size list) o _ plain (λ next a taken is. good_as a _ is (done_whole (c.details list) line, list_versions events c.event (of next refl taken) all))
+    (λ next taken. of next refl taken) all a is
 
-makes_with : (x : List ℕ) (p : Bundle) (size : ℕ) (why : Option Refusal) → HasVersions p.release → TellsFilesLine (why) → (a : Reply) → Transition.MakesWith x p size why a → IsGood a
+makes_with : (x : List ℕ) (p : Bundle) (size : ℕ) (why : Option Refusal) → (why ≡ None → IsOfFiles p) → TellsFilesLine why → (a : Reply) → Transition.MakesWith x p size why a → IsGood a
 makes_with x p size (Some why) of told a is = good_as a _ is (refusal_whole (refusal_for why) told, tt)
-makes_with x p size None of told a (inl (fits, is)) = good_as a _ is (ok_whole p.release.vsn (version_line p.release.vsn of.own), list_versions (made p ∷ []) booting tt (list_versions [] (made p) of (λ l e. let same : [] ≡ l = cc in subst HaveVersions same tt)))
+makes_with x p size None of told a (inl (fits, is)) = good_as a _ is (ok_whole p.release.vsn (version_line p.release.vsn (of refl).0.own), list_versions (made p ∷ []) booting tt (list_versions [] (made p) (of refl) (λ l e. let same : [] ≡ l = cc in subst AreOfFiles same tt)))
 makes_with x p size None of told a (inr (over_it, is)) = good_as a _ is ((λ behind. refl), tt)
 
 makes_on : (x : List ℕ) (b : Brought) (there : Bool) → IsGoodAction (makes_node b) → (a : Reply) → Transition.MakesOn x b there a → IsGood a
@@ -174,7 +179,7 @@ makes (raw x) found good all a (inl is) = makes_on x found (holds_a_store x) goo
 makes (raw x) found good all a (inr (torn, is)) = good_as a _ is ((λ behind. refl), tt)
 makes (closed s) found good all a (inl is) = good_as a _ is ((λ behind. refl), all)
 makes (closed s) found good all a (inr is) = good_as a _ is ((λ behind. refl), all)
-makes (running events end) found good all a is = good_as a _ is ((λ behind. refl), all)
+makes (running events end ps) found good all a is = good_as a _ is ((λ behind. refl), all)
 makes (dead s) found good all a is = good_as a _ is ((λ behind. refl), all)
 
 boots_to : (events : Events) (end : ℕ) → OfList events → (a : Reply) → Transition.IsBooted events end a → IsGood a
@@ -187,62 +192,78 @@ boots_store s all a (inl (events, end, has, is)) = boots_to events end (stored_v
 boots_store s all a (inr is) = good_as a _ is ((λ behind. refl), all)
 
 -- a store with nothing in doubt
-certain_versions : (events : Events) (end : ℕ) → OfList events → HasVersionsAt (closed (certain events end))
+pub certain_versions : (events : Events) (end : ℕ) → OfList events → HasVersionsAt (closed (certain events end))
 certain_versions events end all es l (inl same) after = all l (ap list_after (sym same) ∙ after)
 certain_versions events end all es l (inr same) after = all l (ap list_after (sym same) ∙ after)
 
-reboots : (events : Events) (end : ℕ) (vsn : List ℕ) (list : Releases) (o : Result Releases HandlerError) → IsListAnswer o → OfList events → (a : Reply) → Transition.Reboots events end vsn list o a → IsGood a
-reboots events end vsn list o plain all =
+reboots : (events : Events) (end : ℕ) (ps : Processes) (vsn : List ℕ) (list : Releases) (o : Result Releases HandlerError) → IsListAnswer o → OfList events → (a : Reply) → Transition.Reboots events end ps vsn list o a → IsGood a
+reboots events end ps vsn list o plain all =
     let e = reboot_old vsn in
     let s = Transition.rebooted events end vsn list in
     let behind_it = certain_versions (events ++ e ∷ []) s.end (list_versions events e tt all) in
-    commits events end e _ o _ plain (λ a (b, boot, is). good_as a _ is (boots_store s behind_it b boot)) tt all
+    commits events end ps e _ o _ plain (λ next a taken (b, boot, is). good_as a _ is (boots_store s behind_it b boot)) (λ next taken. tt) all
+
+-- the list of an image
+pub of_image : (image : List ℕ) (es : Releases) → IsImageOf image es → AreOfFiles es
+of_image image es of = both es (have_versions of.bodies es of.list) (startable-of_booted es (make_startable of.bodies (booted es) of.list))
+  where
+    both : (es : Releases) → HaveVersions es → AreStartable es → AreOfFiles es
+    both [] versions start = tt
+    both (e ∷ es) versions start = ((versions.0, of_applications e.release.apps e.libraries start.0.complete.libraries), both es versions.1 start.1)
 
 boots : (p : Place) → HasVersionsAt p → (a : Reply) → Transition.Boots p a → IsGood a
 boots (raw x) all a (inl (events, list, end, after, image, is)) =
-    let versions = have_versions image.image_of.bodies list image.image_of.list in
-    boots_to events end (λ l e. let same : list ≡ l = cc in subst HaveVersions same versions) a is
+    let versions = of_image x list image.image_of in
+    boots_to events end (λ l e. let same : list ≡ l = cc in subst AreOfFiles same versions) a is
 boots (raw x) all a (inr (inl (why, refusal, is))) = good_as a _ is (boot_line_whole why, tt)
 boots (raw x) all a (inr (inr (torn, is))) = good_as a _ is ((λ behind. refl), tt)
 boots (closed s) all a is = boots_store s all a is
-boots (running events end) all a is = boots_store (certain events end) (certain_versions events end all) a is
+boots (running events end ps) all a is = boots_store (certain events end) (certain_versions events end all) a is
 boots (dead s) all a is = boots_store s all a is
 
+versions_of : (es : Releases) → AreOfFiles es → HaveVersions es
+versions_of [] all = tt
+versions_of (e ∷ es) all = (all.0.0, versions_of es all.1)
+
 -- the versions of the permanent release
-start_plain : (es : Releases) → HaveVersions es → is_one_line (Transition.start_versions (permanent es)) ≡ true
+start_plain : (es : Releases) → AreOfFiles es → is_one_line (Transition.start_versions (permanent es)) ≡ true
 start_plain es all = go (permanent es) refl
   where
     go : (o : Option Release) → permanent es ≡ o → is_one_line (Transition.start_versions o) ≡ true
     go None e = refl
     go (Some r) e =
-        let of = permanent_versions es r all e in
+        let of = permanent_versions es r (versions_of es all) e in
         append_line r.erts (codes " " ++ r.vsn) (version_line r.erts of.erts) (append_line (codes " ") r.vsn refl (version_line r.vsn of.own))
 
 -- each list of these events has versions
-listed_versions : (events : Events) → OfList events → HaveVersions (releases_after events)
+listed_versions : (events : Events) → OfList events → AreOfFiles (releases_after events)
 listed_versions events all = go (list_after events) all
   where
-    go : (o : Option Releases) → ((l : Releases) → o ≡ Some l → HaveVersions l) → HaveVersions (list_or_none o)
+    go : (o : Option Releases) → ((l : Releases) → o ≡ Some l → AreOfFiles l) → AreOfFiles (list_or_none o)
     go None each = tt
     go (Some l) each = each l refl
 
 acts : (p : Place) (does : Transition.Action) → IsGoodAction does → HasVersionsAt p → (a : Reply) → Transition.Acts p does a → IsGood a
 acts p (answers text) good all a is = good_as a _ is (good, all)
 acts p (makes_node found) good all a is = makes p found good all a is
-acts (running events end) (changes_node c) good all a is = changes events end c (releases_after events) (c.files (releases_after events)) (commanded c.event (releases_after events)) (of_command c.event (releases_after events)) good.0 (good.1 (releases_after events)) (good.2 (releases_after events)) all a is
+acts (running events end ps) (changes_node c) good all a is = changes events end ps c (releases_after events) (c.files (releases_after events)) (commanded c.event (releases_after events)) (of_command c.event (releases_after events)) (good.0 (releases_after events)) (good.1 (releases_after events)) (good.2 (releases_after events)) all a is
 acts (raw x) (changes_node c) good all a is = good_as a _ is ((λ behind. refl), all)
 acts (closed s) (changes_node c) good all a is = good_as a _ is ((λ behind. refl), all)
 acts (dead s) (changes_node c) good all a is = good_as a _ is ((λ behind. refl), all)
-acts (running events end) (reboots_node vsn) good all a is = reboots events end vsn (releases_after events) (commanded (reboot_old vsn) (releases_after events)) (of_command (reboot_old vsn) (releases_after events)) all a is
+acts (running events end ps) (reboots_node vsn) good all a is = reboots events end ps vsn (releases_after events) (commanded (reboot_old vsn) (releases_after events)) (of_command (reboot_old vsn) (releases_after events)) all a is
 acts (raw x) (reboots_node vsn) good all a is = good_as a _ is ((λ behind. refl), all)
 acts (closed s) (reboots_node vsn) good all a is = good_as a _ is ((λ behind. refl), all)
 acts (dead s) (reboots_node vsn) good all a is = good_as a _ is ((λ behind. refl), all)
 acts p boots_node good all a is = boots p all a is
-acts (running events end) tells_start good all a (inl is) = good_as a _ is (ok_whole _ (start_plain (releases_after events) (listed_versions events all)), all)
-acts (running events end) tells_start good all a (inr is) = good_as a _ is (device_line, certain_versions events end all)
+acts (running events end ps) tells_start good all a (inl is) = good_as a _ is (ok_whole _ (start_plain (releases_after events) (listed_versions events all)), all)
+acts (running events end ps) tells_start good all a (inr is) = good_as a _ is (device_line, certain_versions events end all)
 acts (raw x) tells_start good all a is = good_as a _ is ((λ behind. refl), all)
 acts (closed s) tells_start good all a is = good_as a _ is ((λ behind. refl), all)
 acts (dead s) tells_start good all a is = good_as a _ is ((λ behind. refl), all)
+acts (running events end ps) (calls app id input) good all a is = good_as a _ is (call_whole app id input ps, all)
+acts (raw x) (calls app id input) good all a is = good_as a _ is ((λ behind. refl), all)
+acts (closed s) (calls app id input) good all a is = good_as a _ is ((λ behind. refl), all)
+acts (dead s) (calls app id input) good all a is = good_as a _ is ((λ behind. refl), all)
 
-pub each_good : (source : Source) (p : Place) (c : Command) → HasLinePath c → HasVersionsAt p → (a : Reply) → Transition.Transition source p c a → IsGood a
-each_good source p c line all a (does, comes, is) = acts p does (good_action source p c does line comes) all a is
+pub each_good : (source : Source) (p : Place) (c : Command) → HasLinePath c → HasVersionsAt p → HasModuleVersionsAt p → (a : Reply) → Transition.Transition source p c a → IsGood a
+each_good source p c line all tells a (does, comes, is) = acts p does (good_action source p c does line tells comes) all a is

@@ -1,9 +1,12 @@
 -- What is so of the answers of whole sessions.
 use Rattle.std.specs.Prelude.{◌≡◌, ◌≢◌, true, ℕ, List, [], ◌∷◌, None, Some}
+use Rattle.std.specs.List.{AllByRecursion}
 use Rattle.erl_term.specs.Lines.{is_one_line}
-use Rattle.rel_list.specs.Releases.{Releases}
+use Rattle.rel_files.specs.File.{HasVersions}
+use Rattle.library.specs.Library.{IsLibrary}
+use Rattle.rel_list.specs.Releases.{Bundle, Entry, Releases, bundle_in}
 use Rattle.rel_list.specs.Event.{Event, list_after}
-use Rattle.rel_records.specs.Lists.{HaveVersions}
+use Rattle.node_processes.specs.ModuleVersions.{HaveModuleVersions}
 use Rattle.rel_handler.specs.Events.{Events, certain}
 use Rattle.session_input.specs.Commands.{Command}
 use Rattle.session_input.specs.Commands.Command.{create, set_unpacked, relup}
@@ -17,7 +20,7 @@ use Rattle.rel_session.specs.Node.{Place, Reply}
 use Rattle.rel_session.specs.Node.Place.{raw, closed, running, dead}
 use Rattle.rel_session.specs.Refusals.{refusal_line}
 use Rattle.rel_session.specs.Refusals.Refusal.{device}
-use Rattle.rel_session.specs.Run.{Holds, Executes, Replies, Ending, answers_of, commands_in, IsRun}
+use Rattle.rel_session.specs.Run.{Starts, Holds, Executes, Replies, Ending, answers_of, commands_in, IsRun}
 use Rattle.rel_session.specs.Run.Ending.{early}
 use Rattle.rel_session.specs.RunLaws.{MayBe, NoneFails}
 use Rattle.rel_session.specs.Transition.{Transition}
@@ -45,7 +48,7 @@ TellsDoubt source =
 abbrev pub IsCertain : Place → Type 0
 IsCertain (raw bytes) = Unit {0}
 IsCertain (closed s) = s ≡ certain s.known.acknowledged s.end
-IsCertain (running events end) = Unit {0}
+IsCertain (running events end ps) = Unit {0}
 IsCertain (dead s) = ⊥
 
 -- the same answers, and the same events, acknowledged and in doubt
@@ -75,7 +78,7 @@ HaveOneText {D} v base =
 abbrev pub HasList : Place → Type 0
 HasList (raw bytes) = Unit {0}
 HasList (closed s) = (list : Releases) × (list_after s.known.acknowledged ≡ Some list)
-HasList (running events end) = (list : Releases) × (list_after events ≡ Some list)
+HasList (running events end ps) = (list : Releases) × (list_after events ≡ Some list)
 HasList (dead s) = ⊥
 
 -- The commands have answers in which the device does not fail.
@@ -104,21 +107,33 @@ abbrev pub HaveLinePaths : Feed Command → Type 0
 HaveLinePaths (next c rest) = HasLinePath c × HaveLinePaths rest
 HaveLinePaths commands = Unit {0}
 
--- each release of each list that the store there may have has the versions of a file
+-- a release that has the versions of a file, and libraries that are what files say
+abbrev pub IsOfFiles : Bundle → Type 0
+IsOfFiles p = HasVersions p.release × AllByRecursion IsLibrary p.libraries
+
+abbrev pub AreOfFiles : Releases → Type 0
+AreOfFiles list = AllByRecursion (λ (e : Entry). IsOfFiles (bundle_in e)) list
+
+-- each release of each list that the store there may have is such a one
 abbrev pub HasVersionsAt : Place → Type 0
 HasVersionsAt (raw bytes) = Unit {0}
 HasVersionsAt (closed s) =
-    (events : Events) (list : Releases) → MayBe s events → list_after events ≡ Some list → HaveVersions list
-HasVersionsAt (running events end) = (list : Releases) → list_after events ≡ Some list → HaveVersions list
+    (events : Events) (list : Releases) → MayBe s events → list_after events ≡ Some list → AreOfFiles list
+HasVersionsAt (running events end ps) = (list : Releases) → list_after events ≡ Some list → AreOfFiles list
 HasVersionsAt (dead s) =
-    (events : Events) (list : Releases) → MayBe s events → list_after events ≡ Some list → HaveVersions list
+    (events : Events) (list : Releases) → MayBe s events → list_after events ≡ Some list → AreOfFiles list
+
+-- the module of each process there has a version
+abbrev pub HasModuleVersionsAt : Place → Type 0
+HasModuleVersionsAt (running events end ps) = HaveModuleVersions ps
+HasModuleVersionsAt p = Unit {0}
 
 -- A text tells one run, where a read of a file has one answer: two over the same commands, whether the device fails or
 -- not, which write the same have the same answers and the same events, acknowledged and in doubt, command by command.
 abbrev pub TellsOneRun : Source → Type 0
 TellsOneRun base =
     GivesOne base → (files : Files) (p : Place) (commands : Feed Command) (a b : Ending) (first second : List Reply)
-    → HasVersionsAt p → HaveLinePaths commands → a ≢ early → b ≢ early
+    → HasVersionsAt p → HasModuleVersionsAt p → HaveLinePaths commands → a ≢ early → b ≢ early
     → Replies base files p commands a first → Replies base files p commands b second → answers_of first ≡ answers_of second
     → (a ≡ b) × AreSame first second
 
@@ -129,3 +144,9 @@ ReadsLinePaths = (input : List ℕ) → HaveLinePaths (commands_in input)
 -- A store with nothing in doubt has such versions.
 abbrev pub KeepsVersions : {D : Type 0} → Device D → Type 0
 KeepsVersions {D} v = (p : Place) (disk : D) → IsCertain p → Holds v p disk → HasVersionsAt p
+
+-- Where a session begins there are no processes, and each reply keeps the versions of those that there are.
+pub record KeepsModuleVersions {D : Type 0} (v : Device D) (source : Source) : Type 0 where
+  pub first : (p : Place) (disk : D) → Starts v p disk → HasModuleVersionsAt p
+  pub kept : (p : Place) (c : Command) (a : Reply)
+      → HasVersionsAt p → HasModuleVersionsAt p → Transition source p c a → HasModuleVersionsAt a.after

@@ -3,16 +3,21 @@ use Rattle.std.specs.Prelude.{◌≡◌, ◌≢◌, ◌⊎◌, ℕ, ◌≤◌, t
 use Rattle.std.specs.declared.alloc.Global.{Global}
 use Rattle.std.specs.declared.alloc.AllocError.{AllocError}
 use Rattle.rel_unpack.specs.Source.{Source}
+use Rattle.rel_list.specs.Releases.{running as running_release}
 use Rattle.rel_list.specs.Event.{list_after}
+use Rattle.rel_handler.specs.declared.handler.Handler.{Handler}
 use Rattle.rel_handler.specs.State.{disk_in, list_in, is_dead, end_in, IsSound}
 use Rattle.session_input.specs.declared.error.SessionError.{SessionError}
+use Rattle.node_processes.specs.Fresh.{fresh}
+use Rattle.node_processes.specs.InMemory.{processes_in, AreSound}
+use Rattle.rel_session.specs.declared.booted_node.BootedNode.{BootedNode}
 use Rattle.rel_session.specs.declared.node.Node.{Node}
 use Rattle.rel_session.specs.declared.place.Place.{Place as PlaceInMemory}
 use Rattle.rel_session.specs.declared.place.Place.TheVariants as memory
 use Rattle.node_command.specs.declared.error.HandlerError.{HandlerError}
 use Rattle.node_command.specs.declared.error.HandlerError.TheVariants as handler_error
 use Rattle.session_input.specs.Commands.{Command}
-use Rattle.session_input.specs.Commands.Command.{set_unpacked, install, permanent, remove, start, quit}
+use Rattle.session_input.specs.Commands.Command.{set_unpacked, install, permanent, remove, start, procs, modules, peek, call, quit}
 use Rattle.session_input.specs.declared.command.Command.{Command as CommandInMemory}
 use Rattle.session_input.specs.declared.command.Command.TheVariants as asked
 use Rattle.session_input.specs.declared.given.GivenFile.{GivenFile}
@@ -22,27 +27,34 @@ use Rattle.rel_session.specs.Node.{Place, Reply}
 use Rattle.rel_session.specs.Node.Place.{raw, closed, running, dead}
 use Rattle.rel_session.specs.Refusals.{refusal_of, refusal_line}
 use Rattle.rel_session.specs.Run.{Holds, Happens}
-use Rattle.rel_session.specs.Transition.{Transition, IsStopped}
+use Rattle.node_processes.specs.Processes.{Processes}
+use Rattle.rel_session.specs.Transition.{Action, Acts, asked, StopsWithin, Transition, IsStopped, ok_line, version_of}
+use Rattle.rel_session.specs.Transition.Action.{answers}
 
 abbrev pub disk_at : {D : Type 0} → PlaceInMemory D → D
 disk_at (memory.Idle disk) = disk
-disk_at (memory.Made handler) = disk_in handler
+disk_at (memory.Made node) = disk_in node.handler
 
--- the handler of a place is sound
+-- the handler of a node is sound, and so are its processes
+abbrev pub IsSoundNode : {D : Type 0} → (D → List ℕ) → (D → List ℕ → Type 0) → BootedNode D → Type 0
+IsSoundNode seen may_leave node = IsSound seen may_leave node.handler × AreSound node.processes
+
+-- the node of a place is sound
 abbrev pub IsSoundPlace : {D : Type 0} → (D → List ℕ) → (D → List ℕ → Type 0) → PlaceInMemory D → Type 0
 IsSoundPlace seen may_leave (memory.Idle disk) = Unit {0}
-IsSoundPlace seen may_leave (memory.Made handler) = IsSound seen may_leave handler
+IsSoundPlace seen may_leave (memory.Made node) = IsSoundNode seen may_leave node
 
 -- This is where the place in memory stands.
 abbrev pub IsAt : {D : Type 0} → Device D → PlaceInMemory D → Place → Type 0
 IsAt v (memory.Idle disk) (raw bytes) = Holds v (raw bytes) disk
 IsAt v (memory.Idle disk) (closed s) = Holds v (closed s) disk
 IsAt v (memory.Idle disk) p = ⊥
-IsAt v (memory.Made handler) (running events end) =
-    Holds v (running events end) (disk_in handler) × (is_dead handler ≡ false)
-    × (list_after events ≡ Some (list_in handler)) × (end_in handler ≡ end)
-IsAt v (memory.Made handler) (dead s) = Holds v (dead s) (disk_in handler) × (is_dead handler ≡ true)
-IsAt v (memory.Made handler) p = ⊥
+IsAt v (memory.Made node) (running events end ps) =
+    Holds v (running events end ps) (disk_in node.handler) × (is_dead node.handler ≡ false)
+    × (list_after events ≡ Some (list_in node.handler)) × (end_in node.handler ≡ end)
+    × (processes_in node.processes ≡ ps)
+IsAt v (memory.Made node) (dead s) = Holds v (dead s) (disk_in node.handler) × (is_dead node.handler ≡ true)
+IsAt v (memory.Made node) p = ⊥
 
 -- A command with a reply of which P holds led from the one place to the other.
 pub record Replied {D : Type 0} (v : Device D) (p : Place) (P : Reply → Type 0) (old new : PlaceInMemory D) : Type 0 where
@@ -81,12 +93,44 @@ TellsReply v P (Ok text) old new =
     (p : Place) → IsAt v old p → Replied v p (λ a. P p a × (a.answer ≡ string_bytes text)) old new
 TellsReply v P (Err e) old new = (p : Place) → IsAt v old p → Replied v p (P p) old new ⊎ NothingDone v p old new
 
--- It gave this result, or memory was refused within it. Q says what stands in place of the reply then.
+-- It gave this line. Where memory is refused, it may have been done, or stopped within: Q says what stands in place of the reply
+-- then.
+abbrev pub TellsOrStops : {D : Type 0} → Device D → (P Q : Place → Reply → Type 0) → Result (String Global) AllocError
+    → PlaceInMemory D → PlaceInMemory D → Type 0
+TellsOrStops v P Q (Ok text) old new =
+    (p : Place) → IsAt v old p → Replied v p (λ a. P p a × (a.answer ≡ string_bytes text)) old new
+TellsOrStops v P Q (Err e) old new =
+    (p : Place) → IsAt v old p → Leads v p (λ a. P p a ⊎ Q p a) old new ⊎ NothingDone v p old new
+
+-- It gave this result. Where memory is refused, it may have been done, or stopped within: Q says what stands in place of the
+-- reply then.
 abbrev pub AnswersOrStops : {D : Type 0} → Device D → (P Q : Place → Reply → Type 0)
     → Result (String Global) HandlerError → PlaceInMemory D → PlaceInMemory D → Type 0
-AnswersOrStops v P Q result old new =
-    Answers v P result old new
-    ⊎ ((result ≡ Err handler_error.NoMemory) × ((p : Place) → IsAt v old p → Leads v p (λ a. P p a ⊎ Q p a) old new))
+AnswersOrStops v P Q (Ok text) old new =
+    (p : Place) → IsAt v old p → Replied v p (λ a. P p a × (a.answer ≡ string_bytes text)) old new
+AnswersOrStops v P Q (Err why) old new =
+    (p : Place) → IsAt v old p
+    → Replied v p (λ a. P p a × (a.answer ≡ refusal_line (refusal_of why))) old new
+    ⊎ ((why ≡ handler_error.NoMemory) × (Leads v p (λ a. P p a ⊎ Q p a) old new ⊎ NothingDone v p old new))
+
+-- An action gave this result, or was stopped within.
+abbrev pub AnswersAction : {D : Type 0} → Device D → Action → Result (String Global) HandlerError
+    → PlaceInMemory D → PlaceInMemory D → Type 0
+AnswersAction v does result old new = AnswersOrStops v (λ p a. Acts p does a) (λ p a. StopsWithin p does a) result old new
+
+-- So were the processes of a node asked.
+abbrev pub AnswersAsked : {D : Type 0} → Device D → (Processes → List ℕ) → Result (String Global) HandlerError
+    → PlaceInMemory D → PlaceInMemory D → Type 0
+AnswersAsked v says result old new = Answers v (λ p a. Acts p (answers (asked says p)) a) result old new
+
+-- The handler of a node that has just booted is at this place, with its processes, and this line tells the version that runs;
+-- or memory was refused, and its disk alone is left.
+abbrev pub IsStarted : {D : Type 0} → Handler D → Result (String Global) AllocError → PlaceInMemory D → Type 0
+IsStarted h (Ok text) (memory.Made node) =
+    (node.handler ≡ h) × (processes_in node.processes ≡ fresh (list_in h))
+    × (string_bytes text ≡ ok_line (version_of (running_release (list_in h))))
+IsStarted h (Err e) (memory.Idle disk) = disk ≡ disk_in h
+IsStarted h line place = ⊥
 
 -- what is asked of the node: all but to keep a file and to end the session
 abbrev pub AsksNode : CommandInMemory → Type 0
@@ -100,13 +144,18 @@ NeedsNode (install vsn) = Unit {0}
 NeedsNode (permanent vsn) = Unit {0}
 NeedsNode (remove vsn) = Unit {0}
 NeedsNode start = Unit {0}
+NeedsNode procs = Unit {0}
+NeedsNode modules = Unit {0}
+NeedsNode (peek app id) = Unit {0}
+NeedsNode (call app id input) = Unit {0}
 NeedsNode command = ⊥
 
 -- It answered a command by its transition, over a source of files.
 abbrev pub AnswersCommand : {D : Type 0} → Device D → Source → Command → Result (String Global) HandlerError
     → PlaceInMemory D → PlaceInMemory D → Type 0
 AnswersCommand v source command result old new =
-    AnswersOrStops v (λ p a. Transition source p command a) (λ p a. IsStopped p command a) result old new
+    AnswersOrStops v (λ p a. Transition source p command a) (λ p a. IsStopped source p command a)
+    result old new
 
 -- A command was followed, over a source of files. Its text is its answer; there is none where the session ends.
 abbrev pub FollowsCommand : {D : Type 0} → Device D → Source → Command → Result (Option (String Global)) SessionError
@@ -120,7 +169,7 @@ FollowsCommand v base command (Ok None) old new = (command ≡ quit) × (new.pla
 FollowsCommand v base command (Err e) old new =
     let source = source_of base (files_of old.files) in
     (p : Place) → IsAt v old.place p
-    → Leads v p (λ a. Transition source p command a ⊎ IsStopped p command a) old.place new.place
+    → Leads v p (λ a. Transition source p command a ⊎ IsStopped source p command a) old.place new.place
     ⊎ NothingDone v p old.place new.place
 
 abbrev pub disk_of : {D : Type 0} → Node D → D

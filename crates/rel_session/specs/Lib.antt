@@ -3,7 +3,6 @@ pub mod Device
 pub mod Session
 pub mod Files
 pub mod InMemory
-pub mod Listing
 pub mod Node
 pub mod Refusals
 pub mod Run

@@ -25,7 +25,7 @@ use Rattle.rel_session.specs.Transition.{Transition, IsStopped}
 abbrev pub Holds : {D : Type 0} → Device D → Place → D → Type 0
 Holds v (raw bytes) disk = v.seen disk ≡ bytes
 Holds v (closed s) disk = (c : List ℕ) → v.may_leave disk c → IsStoredAs s c
-Holds v (running events end) disk =
+Holds v (running events end ps) disk =
     (c : List ℕ) → v.may_leave disk c → IsStoredAs (certain events end) c × StartsBehind events c
 Holds v (dead s) disk = (c : List ℕ) → v.may_leave disk c → IsStoredAs s c
 
@@ -67,7 +67,7 @@ MomentsOf v acknowledged doubt failed old new = LeavesOnly v old new (λ c. v.ma
 abbrev pub Moments : {D : Type 0} → Device D → Place → Outcome → D → D → Type 0
 Moments v (raw bytes) o old new = MomentsOf v o.acknowledged o.in_doubt o.failed old new
 Moments v (closed s) o old new = LeavesOnly v old new (IsReached s.known (events_of o))
-Moments v (running events end) o old new = LeavesOnly v old new (IsReached (settled events) (events_of o))
+Moments v (running events end ps) o old new = LeavesOnly v old new (IsReached (settled events) (events_of o))
 Moments v (dead s) o old new = LeavesOnly v old new (IsReached s.known (events_of o))
 
 -- A command with this reply led from the one disk to the other.
@@ -91,7 +91,7 @@ pub data Ending : Type 0 where
 
 -- A command was followed with this reply, or stopped within.
 abbrev pub MayLeave : Source → Place → Command → Reply → Type 0
-MayLeave source p c a = Transition source p c a ⊎ IsStopped p c a
+MayLeave source p c a = Transition source p c a ⊎ IsStopped source p c a
 
 -- This is the reply to a command, which these follow. The last one before an early end may be stopped within.
 abbrev pub IsReply : Source → Place → Command → Ending → List Reply → Reply → Type 0

@@ -11,7 +11,7 @@ use Rattle.rel_session.specs.Device.{Device, LeavesOnly}
 use Rattle.session_input.specs.Feed.{Feed}
 use Rattle.rel_unpack.specs.Source.{Source}
 use Rattle.rel_session.specs.Files.{Files}
-use Rattle.rel_session.specs.Node.{Place, Reply}
+use Rattle.rel_session.specs.Node.{Place, at_rest, Reply}
 use Rattle.rel_session.specs.Node.Place.{raw, closed, running, dead}
 use Rattle.rel_session.specs.Run.{Starts, Holds, Executes, Replies, Ending}
 use Rattle.rel_session.specs.Transition.{Transition}
@@ -20,7 +20,7 @@ use Rattle.rel_session.specs.Transition.{Transition}
 abbrev pub acknowledged_at : Place → Events
 acknowledged_at (raw bytes) = []
 acknowledged_at (closed s) = s.known.acknowledged
-acknowledged_at (running events end) = events
+acknowledged_at (running events end ps) = events
 acknowledged_at (dead s) = s.known.acknowledged
 
 -- the store is known there
@@ -38,7 +38,7 @@ abbrev pub Finds : Place → Events → Type 0
 Finds (raw bytes) events =
     (events ≡ []) ⊎ ((list : Releases) × (list_after events ≡ Some list) × IsImageOf bytes list)
 Finds (closed s) events = MayBe s events
-Finds (running events end) found = found ≡ events
+Finds (running events end ps) found = found ≡ events
 Finds (dead s) events = MayBe s events
 
 -- Behind a reply the acknowledged events are those that it found, with its own at the end. A store that is known stays
@@ -98,13 +98,6 @@ LosesNothing {D} v base =
 -- An image of a store stands for the list of a prefix of the accepted events, with every acknowledged one.
 abbrev pub IsOfAccepted : Type 0
 IsOfAccepted = (s : Stored) (image : List ℕ) → IsStoredAs s image → IsOfPrefix s.known image
-
--- where a session may begin on a disk that was handed back there
-abbrev pub at_rest : Place → Place
-at_rest (raw bytes) = raw bytes
-at_rest (closed s) = closed s
-at_rest (running events end) = closed (certain events end)
-at_rest (dead s) = closed s
 
 -- A session begins on the disk that another handed back.
 abbrev pub BeginsWhereOneEnded : {D : Type 0} → Device D → Type 0

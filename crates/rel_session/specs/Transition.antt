@@ -20,9 +20,11 @@ use Rattle.rel_unpack.specs.Source.{Source}
 use Rattle.rel_unpack.specs.Unpacking.{Brought}
 use Rattle.session_input.specs.Commands.{Command}
 use Rattle.relup_command.specs.Answer.{AnswerAt}
-use Rattle.session_input.specs.Commands.Command.{file, create, set_unpacked, install, permanent, remove, reboot_old, boot, start, releases, relup, quit, bad}
-use Rattle.rel_session.specs.Listing.{listing, text_value}
-use Rattle.rel_session.specs.Node.{Place, releases_after, Reply, reply, refused, failed, nothing, done, failed_with, behind}
+use Rattle.session_input.specs.Commands.Command.{file, create, set_unpacked, install, permanent, remove, reboot_old, boot, start, releases, procs, modules, peek, call, relup, quit, bad}
+use Rattle.node_listing.specs.Listing.{listing, text_value}
+use Rattle.node_processes.specs.Answers.{processes_line, modules_line, peek_line, call_line, called}
+use Rattle.node_processes.specs.Processes.{Processes}
+use Rattle.rel_session.specs.Node.{Place, releases_after, just_booted, at_rest, Reply, reply, refused, failed, nothing, done, failed_with, behind}
 use Rattle.rel_session.specs.Node.Place.{raw, closed, running, dead}
 use Rattle.rel_session.specs.Refusals.{Refusal, refusal_of, refusal_line, refusal_for, boot_line}
 use Rattle.rel_session.specs.Refusals.Refusal.{full, exists, dead as dead_node}
@@ -34,10 +36,18 @@ ok_line vsn = codes "ok " ++ (vsn ++ codes "\n")
 abbrev pub done_line : List ℕ → List ℕ
 done_line details = codes "ok" ++ (details ++ codes "\n")
 
+-- what a node that runs answers by its releases and its processes
+abbrev pub told : (Releases → Processes → List ℕ) → Place → List ℕ
+told says (running events end ps) = says (releases_after events) ps
+told says p = refusal_line dead_node
+
 -- the answer to `releases`
 abbrev pub listed : Place → List ℕ
-listed (running events end) = listing (releases_after events)
-listed p = refusal_line dead_node
+listed p = told (λ list ps. listing list) p
+
+-- the answer to a command that asks the processes alone
+abbrev pub asked : (Processes → List ℕ) → Place → List ℕ
+asked says p = told (λ list ps. says ps) p
 
 -- An event that a command brings to a node; and, of the list that it changes, why its files are refused, how many bytes the
 -- body of its record has, and the details of the answer where it is done.
@@ -47,7 +57,7 @@ pub record Change : Type 0 where
   pub size : Releases → ℕ
   pub details : Releases → List ℕ
 
--- What a command comes to, once its words and its files are known: an answer alone, or one of five things that a node does.
+-- What a command comes to, once its words and its files are known: an answer alone, or one of six things that a node does.
 pub data Action : Type 0 where
   answers : List ℕ → Action
   makes_node : Brought → Action
@@ -55,6 +65,7 @@ pub data Action : Type 0 where
   reboots_node : List ℕ → Action
   boots_node : Action
   tells_start : Action
+  calls : List ℕ → List ℕ → ℕ → Action
 
 abbrev pub refuses : Refusal → Action
 refuses why = answers (refusal_line why)
@@ -122,7 +133,7 @@ relup_telling (Ok text) = answers text
 
 -- a command that reads its files only where a node runs
 abbrev pub OnNode : Place → (Action → Type 0) → Action → Type 0
-OnNode (running events end) P does = P does
+OnNode (running events end ps) P does = P does
 OnNode p P does = does ≡ refuses dead_node
 
 -- What each command comes to where the disk stands; `quit` comes to nothing.
@@ -139,6 +150,10 @@ ComesTo source p (reboot_old vsn) does = does ≡ reboots_node vsn
 ComesTo source p boot does = does ≡ boots_node
 ComesTo source p start does = does ≡ tells_start
 ComesTo source p releases does = does ≡ answers (listed p)
+ComesTo source p procs does = does ≡ answers (asked processes_line p)
+ComesTo source p modules does = does ≡ answers (asked modules_line p)
+ComesTo source p (peek app id) does = does ≡ answers (asked (peek_line app id) p)
+ComesTo source p (call app id input) does = does ≡ calls app id input
 ComesTo source p (relup new ups downs) does =
     (found : Result (List ℕ) FilesRefusal) × AnswerAt source new ups downs found × (does ≡ relup_telling found)
 ComesTo source p bad does = does ≡ answers (codes "error session 1 BadCommand\n")
@@ -146,22 +161,24 @@ ComesTo source p quit does = ⊥
 
 -- An event, whose record has a body of so many bytes, is committed where the list takes it, its record fits, and the device
 -- does not fail. P says what is replied then.
-abbrev pub IsCommit : Events → ℕ → Event → ℕ → Result Releases HandlerError → (Reply → Type 0) → Reply → Type 0
-IsCommit events end e size (Err why) P a = a ≡ refused (refusal_of why) (running events end)
-IsCommit events end e size (Ok next) P a =
+abbrev pub IsCommit : Events → ℕ → Processes → Event → ℕ → Result Releases HandlerError → (Reply → Type 0) → Reply → Type 0
+IsCommit events end ps e size (Err why) P a = a ≡ refused (refusal_of why) (running events end ps)
+IsCommit events end ps e size (Ok next) P a =
     (HasSpace end size × (P a ⊎ (a ≡ failed (Some e) (dead (uncertain events end e size)))))
-    ⊎ ((HasSpace end size → ⊥) × (a ≡ refused full (running events end)))
+    ⊎ ((HasSpace end size → ⊥) × (a ≡ refused full (running events end ps)))
 
--- what is replied to a change of this list that was committed
-abbrev pub changed : Events → ℕ → Change → Releases → Reply
-changed events end c list =
-    reply (done_line (c.details list)) (done (c.event ∷ [])) (running (events ++ c.event ∷ []) (end_behind end (c.size list)))
+-- what is replied to a change of this list that was committed; the processes stay
+abbrev pub changed : Events → ℕ → Processes → Change → Releases → Reply
+changed events end ps c list =
+    reply (done_line (c.details list)) (done (c.event ∷ []))
+    (running (events ++ c.event ∷ []) (end_behind end (c.size list)) ps)
 
 -- The files of a change are refused, or the list takes it or refuses it.
-abbrev pub Changes : Events → ℕ → Change → Releases → Option FilesRefusal → Result Releases HandlerError → Reply → Type 0
-Changes events end c list (Some why) taken a = a ≡ refused (refusal_for why) (running events end)
-Changes events end c list None taken a =
-    IsCommit events end c.event (c.size list) taken (λ a. a ≡ changed events end c list) a
+abbrev pub Changes : Events → ℕ → Processes → Change → Releases → Option FilesRefusal → Result Releases HandlerError
+    → Reply → Type 0
+Changes events end ps c list (Some why) taken a = a ≡ refused (refusal_for why) (running events end ps)
+Changes events end ps c list None taken a =
+    IsCommit events end ps c.event (c.size list) taken (λ a. a ≡ changed events end ps c list) a
 
 -- A node is made with a release on a disk with these bytes, and booted, unless its applications are refused or the record
 -- does not fit.
@@ -169,7 +186,8 @@ abbrev pub MakesWith : List ℕ → Bundle → ℕ → Option FilesRefusal → R
 MakesWith bytes p size (Some why) a = a ≡ refused (refusal_for why) (raw bytes)
 MakesWith bytes p size None a =
     (HasSpace first_end size
-    × (a ≡ reply (ok_line p.release.vsn) (done (made p ∷ booting ∷ [])) (running (made p ∷ booting ∷ []) (end_behind first_end size))))
+    × (a ≡ reply (ok_line p.release.vsn) (done (made p ∷ booting ∷ []))
+    (just_booted (made p ∷ booting ∷ []) (end_behind first_end size))))
     ⊎ ((HasSpace first_end size → ⊥) × (a ≡ refused full (raw bytes)))
 
 -- So it is where these bytes hold no store.
@@ -189,7 +207,8 @@ MakesNode p b a = a ≡ refused exists p
 abbrev pub IsBooted : Events → ℕ → Reply → Type 0
 IsBooted events end a =
     (list : Releases) × (list_after (events ++ booting ∷ []) ≡ Some list)
-    × (a ≡ reply (ok_line (version_of (running_release list))) (done (booting ∷ [])) (running (events ++ booting ∷ []) end))
+    × (a ≡ reply (ok_line (version_of (running_release list))) (done (booting ∷ []))
+    (just_booted (events ++ booting ∷ []) end))
 
 -- a boot in which the device failed
 abbrev pub boot_failed : Place → Reply
@@ -212,7 +231,7 @@ BootsStore s a =
 abbrev pub Boots : Place → Reply → Type 0
 Boots (raw bytes) a = BootsBytes bytes a
 Boots (closed s) a = BootsStore s a
-Boots (running events end) a = BootsStore (certain events end) a
+Boots (running events end ps) a = BootsStore (certain events end) a
 Boots (dead s) a = BootsStore s a
 
 -- the store of a node with these events and this list behind a reboot to the release of this version
@@ -220,9 +239,9 @@ abbrev pub rebooted : Events → ℕ → List ℕ → Releases → Stored
 rebooted events end vsn list = certain (events ++ rebooting vsn ∷ []) (end_behind end (change_size (rebooting vsn) list))
 
 -- This list takes a reboot to an old release, or refuses it. Behind the commit the node boots, and that is the answer.
-abbrev pub Reboots : Events → ℕ → List ℕ → Releases → Result Releases HandlerError → Reply → Type 0
-Reboots events end vsn list taken a =
-    IsCommit events end (rebooting vsn) (change_size (rebooting vsn) list) taken
+abbrev pub Reboots : Events → ℕ → Processes → List ℕ → Releases → Result Releases HandlerError → Reply → Type 0
+Reboots events end ps vsn list taken a =
+    IsCommit events end ps (rebooting vsn) (change_size (rebooting vsn) list) taken
     (λ a. (b : Reply) × BootsStore (rebooted events end vsn list) b × (a ≡ behind (rebooting vsn) b)) a
 
 -- what a node starts whose permanent release is this: the version of the runtime system, and its own
@@ -231,39 +250,56 @@ start_versions None = []
 start_versions (Some r) = r.erts ++ (codes " " ++ r.vsn)
 
 -- The start record is read, which is that of the permanent release, or the device failed in it.
-abbrev pub TellsStart : Events → ℕ → Reply → Type 0
-TellsStart events end a =
-    (a ≡ reply (ok_line (start_versions (permanent_release (releases_after events)))) nothing (running events end))
+abbrev pub TellsStart : Events → ℕ → Processes → Reply → Type 0
+TellsStart events end ps a =
+    (a ≡ reply (ok_line (start_versions (permanent_release (releases_after events)))) nothing (running events end ps))
     ⊎ (a ≡ failed None (dead (certain events end)))
 
 -- What the node replies then.
 abbrev pub Acts : Place → Action → Reply → Type 0
 Acts p (answers text) a = a ≡ reply text nothing p
 Acts p (makes_node brought) a = MakesNode p brought a
-Acts (running events end) (changes_node c) a =
+Acts (running events end ps) (changes_node c) a =
     let list = releases_after events in
-    Changes events end c list (c.files list) (commanded c.event list) a
+    Changes events end ps c list (c.files list) (commanded c.event list) a
 Acts p (changes_node c) a = a ≡ refused dead_node p
-Acts (running events end) (reboots_node vsn) a =
-    Reboots events end vsn (releases_after events) (commanded (rebooting vsn) (releases_after events)) a
+Acts (running events end ps) (reboots_node vsn) a =
+    Reboots events end ps vsn (releases_after events) (commanded (rebooting vsn) (releases_after events)) a
 Acts p (reboots_node vsn) a = a ≡ refused dead_node p
 Acts p boots_node a = Boots p a
-Acts (running events end) tells_start a = TellsStart events end a
+Acts (running events end ps) tells_start a = TellsStart events end ps a
 Acts p tells_start a = a ≡ refused dead_node p
+Acts (running events end ps) (calls app id input) a =
+    a ≡ reply (call_line app id input ps) nothing (running events end (called app id input ps))
+Acts p (calls app id input) a = a ≡ refused dead_node p
 
 -- The reply to a command.
 abbrev pub Transition : Source → Place → Command → Reply → Type 0
 Transition source p c a = (does : Action) × ComesTo source p c does × Acts p does a
 
--- What stands in place of a reply where memory was refused within a command, and the session ends: a reboot was committed
--- on a node that runs, and its boot had no memory. Nothing is answered, but the reboot is on the disk: it is acknowledged.
-pub record IsStopped (p : Place) (c : Command) (a : Reply) : Type 0 where
+-- A reboot was committed on a node that runs, and its boot had no memory: the reboot is on the disk, and acknowledged.
+pub record IsRebootAlone (p : Place) (does : Action) (a : Reply) : Type 0 where
   pub events : Events
   pub end : ℕ
+  pub processes : Processes
   pub vsn : List ℕ
-  pub here : p ≡ running events end
-  pub command : c ≡ reboot_old vsn
+  pub here : p ≡ running events end processes
+  pub action : does ≡ reboots_node vsn
   pub list : Releases
   pub taken : commanded (rebooting vsn) (releases_after events) ≡ Ok list
   pub fits : HasSpace end (change_size (rebooting vsn) (releases_after events))
   pub is : a ≡ reply [] (done (rebooting vsn ∷ [])) (closed (rebooted events end vsn (releases_after events)))
+
+-- what is left of a reply whose node is lost: all that it acknowledges is on the disk, but nothing is answered
+abbrev pub without_node : Reply → Reply
+without_node a = reply [] a.outcome (at_rest a.after)
+
+-- What stands in place of the reply where memory was refused behind what an action has written: a reboot had none for its
+-- boot, or a node had none for its processes or its answer.
+pub data StopsWithin (p : Place) (does : Action) (a : Reply) : Type 0 where
+  without_its_boot : IsRebootAlone p does a → StopsWithin p does a
+  without_its_node : (b : Reply) → Acts p does b → a ≡ without_node b → StopsWithin p does a
+
+-- So a command is stopped within, and the session ends.
+abbrev pub IsStopped : Source → Place → Command → Reply → Type 0
+IsStopped source p c a = (does : Action) × ComesTo source p c does × StopsWithin p does a

@@ -1,29 +1,31 @@
 //! What a node answers.
 ghost use Rattle.std.specs.Prelude.{◌≡◌, map, string_bytes, Ok, Err, MatchResult};
 ghost use Rattle.node_command.specs.Files.{told_files};
-ghost use Rattle.rel_handler.specs.State.{IsSound};
 ghost use Rattle.session_input.specs.Commands.{command_of};
 ghost use Rattle.session_input.specs.Commands.Command.{relup};
-ghost use Rattle.rel_session.specs.InMemory.{IsSoundPlace, AsksNode, NeedsNode, Answers, AnswersCommand};
+ghost use Rattle.rel_session.specs.InMemory.{IsSoundNode, IsSoundPlace, AsksNode, NeedsNode, Answers, AnswersCommand};
 ghost use Rattle.rel_session.specs.Transition.{Transition};
 ghost use Rattle.rel_session.specs.declared.place.Place.TheVariants.{Made};
 
+use crate::booted_node::BootedNode;
 use crate::change::{install, make_permanent, remove, set_unpacked};
 use crate::place::{Place, answer_of};
+use crate::processes::{call, list_modules, list_processes, peek};
 use crate::start::start;
 use file_source::Files;
 use node_command::HandlerError;
 use rel_disk::Disk;
-use rel_handler::Handler;
 use rel_unpack::UnpackError;
 use relup_command::relup_answer;
 use session_input::Command;
 use std::alloc::Global;
+use std::sync::Wait;
 
 impl<D: Disk> Place<D> {
     /// Does what the command says, with the files that it names.
-    pub fn answer<F: Files>(
+    pub fn answer<R: Wait, F: Files>(
         self,
+        rt: &R,
         alloc: Global,
         files: &F,
         command: &Command,
@@ -35,10 +37,10 @@ impl<D: Disk> Place<D> {
             (command_of command.now) result.1 self result.0 }
     {
         match command {
-            Command::Create(path) => self.create(alloc, files, path.as_str()),
-            Command::RebootOld(vsn) => self.reboot_old(alloc, vsn.as_str()),
+            Command::Create(path) => self.create(rt, alloc, files, path.as_str()),
+            Command::RebootOld(vsn) => self.reboot_old(rt, alloc, vsn.as_str()),
             Command::Boot => {
-                let (place, line) = self.boot(alloc);
+                let (place, line) = self.boot(rt, alloc);
                 (place, answer_of(line))
             }
             Command::Releases => {
@@ -54,14 +56,19 @@ impl<D: Disk> Place<D> {
             | Command::Install(_)
             | Command::Permanent(_)
             | Command::Remove(_)
-            | Command::Start => self.on_node(alloc, files, command),
+            | Command::Start
+            | Command::Procs
+            | Command::Modules
+            | Command::Peek(_, _)
+            | Command::Call(_, _, _) => self.on_node(rt, alloc, files, command),
             Command::File(_, _) | Command::Quit => unreachable!(),
         }
     }
 
     /// Has the node do what the command says. Where there is none, nothing is done.
-    fn on_node<F: Files>(
+    fn on_node<R: Wait, F: Files>(
         self,
+        rt: &R,
         alloc: Global,
         files: &F,
         command: &Command,
@@ -75,9 +82,9 @@ impl<D: Disk> Place<D> {
     {
         match self {
             Place::Idle(disk) => (Place::Idle(disk), Err(HandlerError::Dead)),
-            Place::Made(mut handler) => {
-                let done = done_by(alloc, &mut handler, files, command);
-                (Place::Made(handler), done)
+            Place::Made(mut node) => {
+                let done = done_by(rt, alloc, &mut node, files, command);
+                (Place::Made(node), done)
             }
         }
     }
@@ -104,28 +111,33 @@ impl<D: Disk> Place<D> {
 }
 
 /// Has a node do what the command says, unless the device has failed it.
-fn done_by<D: Disk, F: Files>(
+fn done_by<D: Disk, R: Wait, F: Files>(
+    rt: &R,
     alloc: Global,
-    handler: &mut Handler<D>,
+    node: &mut BootedNode<D>,
     files: &F,
     command: &Command,
 ) -> Result<String, HandlerError>
-    requires sound { IsSound D.seen D.may_leave handler.old }
+    requires sound { IsSoundNode D.seen D.may_leave node.old }
     requires asked { NeedsNode (command_of command.now) }
-    ensures sound { IsSound D.seen D.may_leave handler.new }
+    ensures sound { IsSoundNode D.seen D.may_leave node.new }
     ensures answered { Answers D.Disk
         (λ p a. Transition (F.gives files.now) p (command_of command.now) a)
-        result (Made handler.old) (Made handler.new) }
+        result (Made node.old) (Made node.new) }
 {
-    if handler.is_dead() {
+    if node.handler.is_dead() {
         return Err(HandlerError::Dead);
     }
     match command {
-        Command::SetUnpacked(path) => set_unpacked(alloc, handler, files, path.as_str()),
-        Command::Install(vsn) => install(alloc, handler, vsn.as_str()),
-        Command::Permanent(vsn) => make_permanent(alloc, handler, vsn.as_str()),
-        Command::Remove(vsn) => remove(alloc, handler, vsn.as_str()),
-        Command::Start => start(alloc, handler),
+        Command::SetUnpacked(path) => set_unpacked(alloc, node, files, path.as_str()),
+        Command::Install(vsn) => install(alloc, node, vsn.as_str()),
+        Command::Permanent(vsn) => make_permanent(alloc, node, vsn.as_str()),
+        Command::Remove(vsn) => remove(alloc, node, vsn.as_str()),
+        Command::Start => start(alloc, node),
+        Command::Procs => list_processes(rt, alloc, node),
+        Command::Modules => list_modules(alloc, node),
+        Command::Peek(app, id) => peek(rt, alloc, node, app.as_str(), id.as_str()),
+        Command::Call(app, id, input) => call(rt, alloc, node, app.as_str(), id.as_str(), *input),
         Command::File(_, _)
         | Command::Create(_)
         | Command::RebootOld(_)

@@ -14,10 +14,12 @@ use rel_disk::Disk;
 use session_input::{Input, SessionError};
 use std::alloc::Global;
 use std::io::{Read, Write};
+use std::sync::Wait;
 
 /// Follows the commands of an input on a disk, and writes each answer as soon as its command was read. A file that isn't given
 /// in the session is read from `files`. The disk comes back with the result.
-pub fn session<D: Disk, F: Files, R: Read + Drop, W: Write + Drop>(
+pub fn session<H: Wait, D: Disk, F: Files, R: Read + Drop, W: Write + Drop>(
+    rt: &H,
     alloc: Global,
     disk: D,
     files: &F,
@@ -59,7 +61,7 @@ pub fn session<D: Disk, F: Files, R: Read + Drop, W: Write + Drop>(
             Ok(None) => return (node.into_disk(), Ok(())),
             Err(error) => return (node.into_disk(), Err(error)),
         };
-        let (next, text) = node.follow(alloc, files, command);
+        let (next, text) = node.follow(rt, alloc, files, command);
         node = next;
         match text {
             Ok(Some(text)) => {

@@ -2,8 +2,8 @@
 //!
 //! The contract of [`session`] is one statement, `IsSession`: the session is a run of transitions over the commands of
 //! its input. Four files tell it, in this order:
-//! - specs/Node: where a disk stands, and what a reply is: an answer, the events that it acknowledges, at most one event
-//!   in doubt, and where the disk stands then;
+//! - specs/Node: where a disk stands, with the processes of a node that runs, and what a reply is: an answer, the events
+//!   that it acknowledges, at most one event in doubt, and where the disk stands then;
 //! - specs/Transition: the replies to each command, from each place;
 //! - specs/Run: how replies lead a disk from place to place, and what a crash leaves at each moment: the list of a prefix
 //!   of the events so far that holds every acknowledged one;
@@ -14,20 +14,26 @@
 //! input that is too long are reported only where one was. At most 16,777,216 bytes of the input are taken, and each answer
 //! is written once its command was read.
 //!
+//! The processes of a node are those of `node_processes`: a boot starts them, a command lists, peeks at or calls them, and a
+//! change of the releases leaves them as they are. Where memory is refused to them, the session ends without an answer, and
+//! what the command has committed is on the disk.
+//!
 //! The functions of [`laws`] say what follows for whole runs. docs/ARCHITECTURE.md tells what a further command takes.
 //!
-//! Only tested: that an answer is written before the next line is read, and that a session goes on where memory is there.
-//! Trusted: the toolchain, `indexmap` and `thiserror`.
+//! A session may wait for slots of its processes, and what is said of it holds where it returns. Only tested: that it does,
+//! that an answer is written before the next line is read, and that a session goes on where memory is there. Trusted: the
+//! toolchain, `atomic_table`, `indexmap` and `thiserror`.
 #![tactic(auto)]
 
 mod answer;
+mod booted_node;
 mod change;
 mod command_loop;
 mod given_files;
 pub mod laws;
-mod listing;
 mod node;
 mod place;
+mod processes;
 mod reboot;
 mod refusal;
 mod start;

@@ -13,6 +13,7 @@ use node_command::HandlerError;
 use rel_disk::Disk;
 use session_input::{Command, GivenFile, SessionError};
 use std::alloc::{AllocError, Global};
+use std::sync::Wait;
 
 /// The node of a session: the disk that it is on, and the files that were given.
 pub struct Node<D: Disk> {
@@ -44,8 +45,9 @@ impl<D: Disk> Node<D> {
 
     /// Does what the command says. A file that wasn't given is read from `base`. The answer is its text, or none where the
     /// session ends.
-    pub fn follow<F: Files>(
+    pub fn follow<R: Wait, F: Files>(
         self,
+        rt: &R,
         alloc: Global,
         base: &F,
         command: Command,
@@ -68,7 +70,7 @@ impl<D: Disk> Node<D> {
                     given: &files,
                     base,
                 };
-                let (place, answer) = place.answer(alloc, &source, &command);
+                let (place, answer) = place.answer(rt, alloc, &source, &command);
                 (Node { place, files }, line_of(alloc, answer))
             }
         }

@@ -1,33 +1,40 @@
 //! Where the node of a session lives.
 ghost use Rattle.std.specs.Prelude.{◌≡◌, ◌⊎◌, false, Ok, Err, string_bytes, IfOk, IsErr, MatchResult};
-ghost use Rattle.rel_handler.specs.State.{is_dead, list_in};
+ghost use Rattle.rel_handler.specs.State.{IsSound, is_dead, list_in};
 ghost use Rattle.node_command.specs.Files.{Brings, IsOfFiles};
 ghost use Rattle.rel_list.specs.Releases.{running};
 ghost use Rattle.rel_unpack.specs.Unpacking.{Brought};
 ghost use Rattle.session_input.specs.Commands.Command.{create};
+ghost use Rattle.node_processes.specs.Fresh.{fresh};
+ghost use Rattle.node_processes.specs.InMemory.{AreSound, processes_in};
+ghost use Rattle.rel_session.specs.InMemory.{IsSoundPlace, IsStarted};
 ghost use Rattle.rel_session.specs.Node.{Place as SomePlace};
 ghost use Rattle.rel_session.specs.Refusals.{boot_line};
-ghost use Rattle.rel_session.specs.Transition.{Transition, Boots, listed, ok_line, version_of};
+ghost use Rattle.rel_session.specs.Transition.{Acts, StopsWithin, listed, ok_line, version_of};
+ghost use Rattle.rel_session.specs.Transition.Action.{boots_node};
 
-use crate::listing::listing;
+use crate::booted_node::BootedNode;
 use crate::refusal::refusal_line;
 use file_source::Files;
 use node_command::{HandlerError, bring_release};
+use node_listing::listing;
+use node_processes::Processes;
 use rel_disk::Disk;
 use rel_handler::{BootError, Handler};
 use rel_list::ReleaseList;
 use std::alloc::{AllocError, Global};
+use std::sync::Wait;
 
 /// A disk, and the node on it if one was made or booted.
 pub enum Place<D: Disk> {
     /// A disk without a node.
     Idle(D),
     /// A node on its disk. It is dead once the device has failed it.
-    Made(Handler<D>),
+    Made(BootedNode<D>),
 }
 
 impl<D: Disk> Place<D> {
-    ghost use Rattle.rel_session.specs.InMemory.{disk_at, IsSoundPlace, IsAt, Answers, TellsReply};
+    ghost use Rattle.rel_session.specs.InMemory.{disk_at, IsSoundPlace, IsAt, AnswersCommand, TellsOrStops};
 
     /// The disk.
     pub fn into_disk(self) -> D
@@ -35,50 +42,48 @@ impl<D: Disk> Place<D> {
     {
         match self {
             Place::Idle(disk) => disk,
-            Place::Made(handler) => handler.into_disk(),
+            Place::Made(node) => node.into_disk(),
         }
     }
 
     /// Makes a node with the release in the file of this path as its permanent one. The answer tells its version.
-    pub fn create<F: Files>(
+    pub fn create<R: Wait, F: Files>(
         self,
+        rt: &R,
         alloc: Global,
         files: &F,
         path: &str,
     ) -> (Place<D>, Result<String, HandlerError>)
         requires { IsSoundPlace D.seen D.may_leave self }
         ensures sound { IsSoundPlace D.seen D.may_leave result.0 }
-        ensures created { Answers D.Disk
-            (λ p a. Transition (F.gives files.now) p (create path.now) a)
+        ensures created { AnswersCommand D.Disk (F.gives files.now) (create path.now)
             result.1 self result.0 }
     {
         let disk = match self {
             Place::Idle(disk) => disk,
-            Place::Made(handler) => {
+            Place::Made(node) => {
                 let why = existing(alloc, files, path);
-                return (Place::Made(handler), Err(why));
+                return (Place::Made(node), Err(why));
             }
         };
         match Handler::create(alloc, disk, files, path) {
             Ok(handler) => {
-                let created = answer_of(running_line(alloc, &handler));
-                (Place::Made(handler), created)
+                let (place, line) = started(rt, alloc, handler);
+                (place, answer_of(line))
             }
             Err((error, disk)) => (Place::Idle(disk), Err(error)),
         }
     }
 
     /// Boots the node. The answer is a line.
-    pub fn boot(self, alloc: Global) -> (Place<D>, Result<String, AllocError>)
+    pub fn boot<R: Wait>(self, rt: &R, alloc: Global) -> (Place<D>, Result<String, AllocError>)
         requires { IsSoundPlace D.seen D.may_leave self }
         ensures sound { IsSoundPlace D.seen D.may_leave result.0 }
-        ensures booted { TellsReply D.Disk Boots result.1 self result.0 }
+        ensures booted { TellsOrStops D.Disk (λ p a. Acts p boots_node a)
+            (λ p a. StopsWithin p boots_node a) result.1 self result.0 }
     {
         match rel_handler::boot(alloc, self.into_disk()) {
-            Ok(handler) => {
-                let line = running_line(alloc, &handler);
-                (Place::Made(handler), line)
-            }
+            Ok(handler) => started(rt, alloc, handler),
             Err((error, disk)) => (Place::Idle(disk), refused_line(alloc, error)),
         }
     }
@@ -88,14 +93,56 @@ impl<D: Disk> Place<D> {
         ensures { IfOk result (λ text.
             (p : SomePlace) → IsAt D.Disk self.now p → string_bytes text ≡ listed p) }
     {
-        let Place::Made(handler) = self else {
+        let Place::Made(node) = self else {
             return refusal_line(alloc, &HandlerError::Dead);
         };
-        match handler.which_releases() {
+        match node.handler.which_releases() {
             Ok(list) => listing(alloc, list),
             Err(error) => refusal_line(alloc, &error),
         }
     }
+}
+
+/// Starts the processes of a node that has just booted. The answer tells its version. Where memory is refused, no node is
+/// left.
+fn started<D: Disk, R: Wait>(
+    rt: &R,
+    alloc: Global,
+    handler: Handler<D>,
+) -> (Place<D>, Result<String, AllocError>)
+    requires sound { IsSound D.seen D.may_leave handler }
+    requires works { is_dead handler ≡ false }
+    ensures sound { IsSoundPlace D.seen D.may_leave result.0 }
+    ensures started { IsStarted handler result.1 result.0 }
+{
+    match begun(rt, alloc, &handler) {
+        Ok((line, processes)) => {
+            let node = BootedNode { handler, processes };
+            (Place::Made(node), Ok(line))
+        }
+        Err(error) => (Place::Idle(handler.into_disk()), Err(error)),
+    }
+}
+
+/// The processes of a node that has just booted, and the line that tells its version.
+fn begun<D: Disk, R: Wait>(
+    rt: &R,
+    alloc: Global,
+    handler: &Handler<D>,
+) -> Result<(String, Processes), AllocError>
+    requires sound { IsSound D.seen D.may_leave handler.now }
+    requires works { is_dead handler.now ≡ false }
+    ensures sound { IfOk result (λ begun. AreSound begun.1) }
+    ensures fresh { IfOk result (λ begun. processes_in begun.1 ≡ fresh (list_in handler.now)) }
+    ensures told { IfOk result (λ begun. string_bytes begun.0
+        ≡ ok_line (version_of (running (list_in handler.now)))) }
+{
+    let Ok(list) = handler.which_releases() else {
+        unreachable!();
+    };
+    let line = ok_line(alloc, running_version(list))?;
+    let processes = Processes::start(rt, alloc, list)?;
+    Ok((line, processes))
 }
 
 /// Why no node is made where there is one: its files are read first.
@@ -116,18 +163,6 @@ pub(crate) fn answer_of(line: Result<String, AllocError>) -> Result<String, Hand
         (λ _. result ≡ Err HandlerError.NoMemory) }
 {
     Ok(line?)
-}
-
-/// The line that tells the version of the release that runs.
-fn running_line<D: Disk>(alloc: Global, handler: &Handler<D>) -> Result<String, AllocError>
-    requires { is_dead handler.now ≡ false }
-    ensures { IfOk result (λ text. string_bytes text
-        ≡ ok_line (version_of (running (list_in handler.now)))) }
-{
-    let Ok(list) = handler.which_releases() else {
-        unreachable!();
-    };
-    ok_line(alloc, running_version(list))
 }
 
 /// The version of the release that runs, and nothing where none does.

@@ -1,30 +1,30 @@
 //! What a node starts.
 ghost use Rattle.std.specs.Prelude.{◌≡◌, ◌++◌, false, codes, string_bytes, IfOk};
-ghost use Rattle.rel_handler.specs.State.{IsSound, is_dead};
-ghost use Rattle.rel_session.specs.InMemory.{Answers};
+ghost use Rattle.rel_handler.specs.State.{is_dead};
+ghost use Rattle.rel_session.specs.InMemory.{IsSoundNode, Answers};
 ghost use Rattle.rel_session.specs.Transition.{Acts, ok_line};
 ghost use Rattle.rel_session.specs.Transition.Action.{tells_start};
 ghost use Rattle.rel_session.specs.declared.place.Place.TheVariants.{Made};
 
+use crate::booted_node::BootedNode;
 use crate::place::answer_of;
 use node_command::HandlerError;
 use rel_disk::Disk;
-use rel_handler::Handler;
 use start_record::Start;
 use std::alloc::{AllocError, Global};
 
 /// What the node starts, as its start record tells it.
 pub(crate) fn start<D: Disk>(
     alloc: Global,
-    handler: &mut Handler<D>,
+    node: &mut BootedNode<D>,
 ) -> Result<String, HandlerError>
-    requires sound { IsSound D.seen D.may_leave handler.old }
-    requires works { is_dead handler.old ≡ false }
-    ensures sound { IsSound D.seen D.may_leave handler.new }
+    requires sound { IsSoundNode D.seen D.may_leave node.old }
+    requires works { is_dead node.old.handler ≡ false }
+    ensures sound { IsSoundNode D.seen D.may_leave node.new }
     ensures told { Answers D.Disk (λ p a. Acts p tells_start a) result
-        (Made handler.old) (Made handler.new) }
+        (Made node.old) (Made node.new) }
 {
-    let start = handler.start(alloc)?;
+    let start = node.handler.start(alloc)?;
     answer_of(start_line(alloc, &start))
 }
 

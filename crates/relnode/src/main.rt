@@ -16,6 +16,7 @@ use rel_session::session;
 use session_input::{Input, SessionError};
 use std::alloc::Global;
 use std::process::ExitCode;
+use std::sync::Wait;
 use std::{env, io};
 
 /// How many bytes the disk in memory holds.
@@ -52,7 +53,7 @@ impl Failure {
 }
 
 fn main(rt: HostRuntime) -> ExitCode {
-    let Err(failure) = run(&rt, rt.alloc()) else {
+    let Err(failure) = run(&rt, &rt, rt.alloc()) else {
         return ExitCode::SUCCESS;
     };
     let text = failure.exit_text();
@@ -61,35 +62,36 @@ fn main(rt: HostRuntime) -> ExitCode {
 }
 
 /// A session on the disk that the arguments name.
-fn run(rt: &HostRuntime, alloc: Global) -> Result<(), Failure> {
-    let Options { store, root } = arguments(rt, alloc)?;
-    let files = RootFiles::new(rt, root);
+fn run<R: Wait>(rt: &R, host: &HostRuntime, alloc: Global) -> Result<(), Failure> {
+    let Options { store, root } = arguments(host, alloc)?;
+    let files = RootFiles::new(host, root);
     match store {
-        Some(path) => run_on_file(rt, alloc, path.as_str(), &files),
+        Some(path) => run_on_file(rt, host, alloc, path.as_str(), &files),
         None => match MemDisk::new(alloc, DISK, LOG) {
-            Ok(disk) => run_on(rt, alloc, disk, &files),
+            Ok(disk) => run_on(rt, host, alloc, disk, &files),
             Err(_) => Err(Failure::Session(SessionError::NoMemory)),
         },
     }
 }
 
 /// A session on the disk over the file of this path.
-fn run_on_file<F: Files>(
-    rt: &HostRuntime,
+fn run_on_file<R: Wait, F: Files>(
+    rt: &R,
+    host: &HostRuntime,
     alloc: Global,
     path: &str,
     files: &F,
 ) -> Result<(), Failure> {
-    match FileDisk::open(rt, alloc, path) {
-        Ok(disk) => run_on(rt, alloc, disk, files),
+    match FileDisk::open(host, alloc, path) {
+        Ok(disk) => run_on(rt, host, alloc, disk, files),
         Err(OpenError::NoMemory) => Err(Failure::Session(SessionError::NoMemory)),
         Err(_) => Err(Failure::Session(SessionError::Read)),
     }
 }
 
 /// The options that the program was given.
-fn arguments(rt: &HostRuntime, alloc: Global) -> Result<Options, Failure> {
-    let Ok(arguments) = env::args(rt) else {
+fn arguments(host: &HostRuntime, alloc: Global) -> Result<Options, Failure> {
+    let Ok(arguments) = env::args(host) else {
         return Err(Failure::BadArguments);
     };
     let words: Vec<String> = match arguments.skip(1).collect(alloc) {
@@ -104,17 +106,18 @@ fn arguments(rt: &HostRuntime, alloc: Global) -> Result<Options, Failure> {
 }
 
 /// A session on standard input and output, on this disk and over these files.
-fn run_on<D: Disk + Drop, F: Files>(
-    rt: &HostRuntime,
+fn run_on<R: Wait, D: Disk + Drop, F: Files>(
+    rt: &R,
+    host: &HostRuntime,
     alloc: Global,
     disk: D,
     files: &F,
 ) -> Result<(), Failure> {
-    let Ok(mut input) = Input::new(alloc, rt.reader()) else {
+    let Ok(mut input) = Input::new(alloc, host.reader()) else {
         return Err(Failure::Session(SessionError::NoMemory));
     };
-    let mut output = CountedWriter::new(io::writer(rt));
-    let (_disk, ended) = session(alloc, disk, files, &mut input, &mut output);
+    let mut output = CountedWriter::new(io::writer(host));
+    let (_disk, ended) = session(rt, alloc, disk, files, &mut input, &mut output);
     match ended {
         Ok(()) => Ok(()),
         Err(error) => Err(Failure::Session(error)),

@@ -1,8 +1,11 @@
 -- The commands of an input.
-use Rattle.std.specs.Prelude.{◌≡◌, ℕ, ◌<◌, ◌≤◌, Bool, List, [], ◌∷◌, ◌++◌, Option, None, Some, length, map, nat_lt, nat_le, ◌==◌, if◌then◌else◌, codes, string_bytes}
+use Rattle.std.specs.Prelude.{◌≡◌, ℕ, ◌<◌, ◌≤◌, ◌^◌, Bool, ◌&&◌, List, [], ◌∷◌, ◌++◌, Option, None, Some, length, map, chars, nat_lt, nat_le, ◌==◌, if◌then◌else◌, codes, string_bytes}
+use Rattle.std.specs.Char.{is_ascii_digit}
+use Rattle.std.specs.Int.{is_in_range}
 use Rattle.std.specs.List.{list_all, slice_split}
 use Rattle.std.specs.Str.{bytes_eq, is_utf8}
-use Rattle.rel_files.specs.Name.{is_text}
+use Rattle.std.specs.Str.Parse.{digits_value}
+use Rattle.rel_files.specs.Name.{is_text, is_name}
 use Rattle.session_input.specs.declared.given.GivenFile.{GivenFile}
 use Rattle.session_input.specs.declared.given.GivenFile.TheVariants as kept
 use Rattle.session_input.specs.declared.command.Command.{Command as CommandInMemory}
@@ -25,7 +28,7 @@ pub data File : Type 0 where
 abbrev pub file_of : List ℕ → File
 file_of bs = if nat_lt most_file (length bs) then too_large else bytes bs
 
--- A command. Paths and versions are texts.
+-- A command. Paths, versions, names of applications and ids are texts.
 pub data Command : Type 0 where
   file : List ℕ → File → Command
   create : List ℕ → Command
@@ -37,6 +40,10 @@ pub data Command : Type 0 where
   boot : Command
   start : Command
   releases : Command
+  procs : Command
+  modules : Command
+  peek : List ℕ → List ℕ → Command
+  call : List ℕ → List ℕ → ℕ → Command
   relup : List ℕ → List (List ℕ) → List (List ℕ) → Command
   quit : Command
   bad : Command
@@ -107,6 +114,39 @@ abbrev pub parse_relup : List (List ℕ) → ParsedLine
 parse_relup (new ∷ ups ∷ downs ∷ []) = whole_command (relup_of (path_of new) (paths_of ups) (paths_of downs))
 parse_relup words = whole_command bad
 
+-- a word that can be the id of a process: 1 to 255 characters, and no byte up to 0x20
+abbrev pub is_id : List ℕ → Bool
+is_id word = is_in_range 1 255 (length (chars word)) && list_all (nat_lt 32) word
+
+-- two words that can name a process: its application, and its id there
+abbrev pub names_process : List ℕ → List ℕ → Bool
+names_process app id = is_name app && is_id id
+
+-- a word of decimal digits alone, at least one, that spell a number below 2 ^ 32
+abbrev pub is_input : List ℕ → Bool
+is_input word = list_all is_ascii_digit word && (nat_lt 0 (length word) && nat_lt (digits_value 10 word) (2 ^ 32))
+
+-- the input that a word is: the number that it spells
+abbrev pub input_of : List ℕ → Option ℕ
+input_of word = if is_input word then Some (digits_value 10 word) else None
+
+-- a command on a process, where each of its words is of its kind
+abbrev pub peek_of : List ℕ → List ℕ → Command
+peek_of app id = if names_process app id then peek app id else bad
+
+abbrev pub call_of : List ℕ → List ℕ → Option ℕ → Command
+call_of app id None = bad
+call_of app id (Some input) = if names_process app id then call app id input else bad
+
+-- what the word of such a command says with the words behind it
+abbrev pub parse_peek : List (List ℕ) → ParsedLine
+parse_peek (app ∷ id ∷ []) = whole_command (peek_of app id)
+parse_peek words = whole_command bad
+
+abbrev pub parse_call : List (List ℕ) → ParsedLine
+parse_call (app ∷ id ∷ input ∷ []) = whole_command (call_of app id (input_of input))
+parse_call words = whole_command bad
+
 -- what the word of a command on a file says with the words behind it
 abbrev pub parse_path_command : List ℕ → List (List ℕ) → ParsedLine
 parse_path_command word words =
@@ -116,14 +156,23 @@ parse_path_command word words =
     else if bytes_eq word (codes "relup") then parse_relup words
     else parse_change word words
 
+-- what the word of a command on a process says with the words behind it
+abbrev pub parse_process_command : List ℕ → List (List ℕ) → ParsedLine
+parse_process_command word words =
+    if bytes_eq word (codes "peek") then parse_peek words
+    else if bytes_eq word (codes "call") then parse_call words
+    else parse_path_command word words
+
 -- what a command's word says with the words behind it
 abbrev pub parse_command : List ℕ → List (List ℕ) → ParsedLine
 parse_command word words =
     if bytes_eq word (codes "boot") then without_words words (whole_command boot)
     else if bytes_eq word (codes "start") then without_words words (whole_command start)
     else if bytes_eq word (codes "releases") then without_words words (whole_command releases)
+    else if bytes_eq word (codes "procs") then without_words words (whole_command procs)
+    else if bytes_eq word (codes "modules") then without_words words (whole_command modules)
     else if bytes_eq word (codes "quit") then without_words words (whole_command quit)
-    else parse_path_command word words
+    else parse_process_command word words
 
 -- what words say
 abbrev pub parse_words : List (List ℕ) → ParsedLine
@@ -185,6 +234,10 @@ command_of (memory.RebootOld v) = reboot_old (string_bytes v)
 command_of memory.Boot = boot
 command_of memory.Start = start
 command_of memory.Releases = releases
+command_of memory.Procs = procs
+command_of memory.Modules = modules
+command_of (memory.Peek a i) = peek (string_bytes a) (string_bytes i)
+command_of (memory.Call a i n) = call (string_bytes a) (string_bytes i) n
 command_of (memory.Relup n u d) = relup (string_bytes n) (map string_bytes u.items) (map string_bytes d.items)
 command_of memory.Quit = quit
 command_of memory.Bad = bad

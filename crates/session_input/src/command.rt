@@ -1,7 +1,7 @@
 //! A command of a session.
 use crate::given::GivenFile;
 
-/// A command of a session. Paths and versions are texts, which are compared byte by byte.
+/// A command of a session. Paths, versions, names of applications and ids are texts, which are compared byte by byte.
 #[derive(Drop)]
 pub enum Command {
     /// Gives the file of a path, in place of one that was given before.
@@ -24,6 +24,14 @@ pub enum Command {
     Start,
     /// Lists the node's releases.
     Releases,
+    /// Lists the node's processes.
+    Procs,
+    /// Lists the modules that the node has loaded.
+    Modules,
+    /// Tells the state of a process: the name of its application, and its id there.
+    Peek(String, String),
+    /// Calls a process: the name of its application, its id there, and the input.
+    Call(String, String, u32),
     /// Makes the relup of the release of a file, up from those of the second files and down to those of the third.
     Relup(String, Vec<String>, Vec<String>),
     /// Ends the session.

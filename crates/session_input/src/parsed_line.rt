@@ -1,13 +1,14 @@
 //! What a line says where a command may stand.
-ghost use Rattle.std.specs.Prelude.{◌≡◌, ℕ, List, map, string_bytes, IfOk};
+ghost use Rattle.std.specs.Prelude.{◌≡◌, ℕ, List, length, map, chars, nat_lt, string_bytes, IfOk};
+ghost use Rattle.std.specs.Char.{is_ascii_digit};
 ghost use Rattle.std.specs.List.{list_all};
 ghost use Rattle.std.specs.Option.{option_map};
-ghost use Rattle.session_input.specs.Commands.{command_of, is_blank as blank, is_path, path_in as path_within, path_of, paths_of, relup_of, version_in as version_of, change_named as named_change};
+ghost use Rattle.session_input.specs.Commands.{command_of, is_blank as blank, is_id, names_process, input_of, peek_of, call_of, is_path, path_in as path_within, path_of, paths_of, relup_of, version_in as version_of, change_named as named_change};
 
 use crate::command::Command;
 use crate::line::Line;
 use crate::words::split_at;
-use rel_files::text::is_version;
+use rel_files::text::{is_name, is_version};
 use std::alloc::{AllocError, Global};
 
 /// How many bytes the line of a command has at most.
@@ -26,7 +27,7 @@ pub enum ParsedLine {
 
 impl ParsedLine {
     ghost use Rattle.session_input.specs.ParsedLine.{parsed_line_of};
-    ghost use Rattle.session_input.specs.Commands.{parse_line, parse_words, parse_command, parse_path_command, parse_relup, parse_change, without_words, with_word, command_of, words_of, most_line};
+    ghost use Rattle.session_input.specs.Commands.{parse_line, parse_words, parse_command, parse_process_command, parse_peek, parse_call, parse_path_command, parse_relup, parse_change, without_words, with_word, command_of, words_of, most_line};
     ghost use Rattle.session_input.specs.Commands.Command.{create, set_unpacked};
     ghost use Rattle.session_input.specs.Commands.ParsedLine.{file_begins, whole_command};
     ghost use Rattle.session_input.specs.Lines.{IsKept};
@@ -74,7 +75,25 @@ impl ParsedLine {
             "boot" => Ok(ParsedLine::without_words(words, Command::Boot)),
             "start" => Ok(ParsedLine::without_words(words, Command::Start)),
             "releases" => Ok(ParsedLine::without_words(words, Command::Releases)),
+            "procs" => Ok(ParsedLine::without_words(words, Command::Procs)),
+            "modules" => Ok(ParsedLine::without_words(words, Command::Modules)),
             "quit" => Ok(ParsedLine::without_words(words, Command::Quit)),
+            _ => ParsedLine::of_process_command(alloc, word, words),
+        }
+    }
+
+    // What the word of a command on a process says with the words behind it.
+    fn of_process_command(
+        alloc: Global,
+        word: &str,
+        words: &[&str],
+    ) -> Result<ParsedLine, AllocError>
+        ensures { IfOk result (λ parsed. parsed_line_of parsed
+            ≡ parse_process_command word.now (map (λ word. word.now) words.now)) }
+    {
+        match word {
+            "peek" => ParsedLine::of_peek(alloc, words),
+            "call" => ParsedLine::of_call(alloc, words),
             _ => ParsedLine::of_path_command(alloc, word, words),
         }
     }
@@ -135,6 +154,30 @@ impl ParsedLine {
     {
         match words {
             [new, ups, downs] => Ok(ParsedLine::Command(relup_in(alloc, new, ups, downs)?)),
+            _ => Ok(ParsedLine::Command(Command::Bad)),
+        }
+    }
+
+    // What the word of a peek says with the words behind it.
+    fn of_peek(alloc: Global, words: &[&str]) -> Result<ParsedLine, AllocError>
+        ensures { IfOk result (λ parsed.
+            parsed_line_of parsed ≡ parse_peek (map (λ word. word.now) words.now)) }
+    {
+        match words {
+            [app, id] => Ok(ParsedLine::Command(peek_of(alloc, app, id)?)),
+            _ => Ok(ParsedLine::Command(Command::Bad)),
+        }
+    }
+
+    // What the word of a call says with the words behind it.
+    fn of_call(alloc: Global, words: &[&str]) -> Result<ParsedLine, AllocError>
+        ensures { IfOk result (λ parsed.
+            parsed_line_of parsed ≡ parse_call (map (λ word. word.now) words.now)) }
+    {
+        match words {
+            [app, id, input] => {
+                Ok(ParsedLine::Command(call_of(alloc, app, id, input_of(input))?))
+            }
             _ => Ok(ParsedLine::Command(Command::Bad)),
         }
     }
@@ -268,6 +311,79 @@ fn version_in(alloc: Global, words: &[&str]) -> Result<Option<String>, AllocErro
         [vsn] if is_version(vsn) => Ok(Some(String::from_str(alloc, vsn)?)),
         _ => Ok(None),
     }
+}
+
+// The peek that these words ask, or a bad command if they can't name a process.
+fn peek_of(alloc: Global, app: &str, id: &str) -> Result<Command, AllocError>
+    ensures { IfOk result (λ command. command_of command ≡ peek_of app.now id.now) }
+{
+    if !names_process(app, id) {
+        return Ok(Command::Bad);
+    }
+    let app = String::from_str(alloc, app)?;
+    let id = String::from_str(alloc, id)?;
+    Ok(Command::Peek(app, id))
+}
+
+// The call that these words and an input ask, or a bad command if they can't name a process or there is no input.
+fn call_of(alloc: Global, app: &str, id: &str, input: Option<u32>) -> Result<Command, AllocError>
+    ensures { IfOk result (λ command. command_of command ≡ call_of app.now id.now input) }
+{
+    let Some(input) = input else {
+        return Ok(Command::Bad);
+    };
+    if !names_process(app, id) {
+        return Ok(Command::Bad);
+    }
+    let app = String::from_str(alloc, app)?;
+    let id = String::from_str(alloc, id)?;
+    Ok(Command::Call(app, id, input))
+}
+
+// Whether they can name a process: its application, and its id there.
+fn names_process(app: &str, id: &str) -> bool
+    ensures { result ≡ names_process app.now id.now }
+{
+    is_name(app) && is_id(id)
+}
+
+// Whether it can be the id of a process: 1 to 255 characters, and no byte up to 0x20.
+fn is_id(word: &str) -> bool
+    ensures { result ≡ is_id word.now }
+{
+    let count = count_characters(word);
+    1 <= count && count <= 255 && has_no_blank(word.as_bytes())
+}
+
+fn count_characters(text: &str) -> usize
+    ensures { result ≡ length (chars text.now) }
+{
+    text.chars().count()
+}
+
+// Whether no byte up to 0x20 stands in it.
+fn has_no_blank(word: &[u8]) -> bool
+    ensures { result ≡ list_all (nat_lt 32) word.now }
+{
+    word.iter().all(|byte| *byte > b' ')
+}
+
+// The input that a word is: the number of 32 bits that it spells, if it is decimal digits alone. A `+`, which `parse` takes,
+// is no digit.
+fn input_of(word: &str) -> Option<u32>
+    ensures { result ≡ input_of word.now }
+{
+    if are_digits(word.as_bytes()) {
+        word.parse().ok()
+    } else {
+        None
+    }
+}
+
+fn are_digits(word: &[u8]) -> bool
+    ensures { result ≡ list_all is_ascii_digit word.now }
+{
+    word.iter().all(|byte| byte.is_ascii_digit())
 }
 
 // Whether there is nothing to see in it.

@@ -1,4 +1,4 @@
-use Rattle.std.proofs.Common.{◌≡◌, ◌++◌, sym, subst, codes, string_bytes}
+use Rattle.std.proofs.Common.{◌≡◌, ◌++◌, refl, sym, subst, codes, string_bytes}
 use Rattle.std.specs.Prelude.{IfOk}
 use Rattle.rel_session.specs.InMemory.{Answers}
 use Rattle.rel_session.specs.Node.{Place, Reply}
@@ -13,16 +13,16 @@ use Rattle.rel_session.proofs.start.start.Goals as goal
 pub returns-in_err-start-clause-told : goal.returns-in_err-start-clause-told
 returns-in_err-start-clause-told g c =
     let laws : IsDevice g.D.Disk = record { reads_an_image = g.met.D.Disk.reads_an_image; counts_now = g.met.D.Disk.counts_now; only_now = g.met.D.Disk.only_now } in
-    let h = c.args.handler.now in
-    let new = c.start.new.self in
+    let n = c.args.node.now in
+    let new = record c.args.node.now { handler = c.start.new.self } in
     let e = c.in_err-start.field-0.0 in
     let Does : Place → Reply → Type 0 = λ p a. Acts p tells_start a in
-    subst (λ r. Answers g.D.Disk Does r (memory.Made h) (memory.Made new)) (sym (told_so c.from_residual.result e c.from_residual.ensures.1))
-    (told_none g.D.Disk laws h new c.requires.works c.in_err-start.ensures.read e c.in_err-start.ensures.refused)
+    subst (λ r. Answers g.D.Disk Does r (memory.Made n) (memory.Made new)) (sym (told_so c.from_residual.result e c.from_residual.ensures.1))
+    (told_none g.D.Disk laws n new c.requires.works refl c.in_err-start.ensures.read e c.in_err-start.ensures.refused)
 
 pub returns-clause-told : goal.returns-clause-told
 returns-clause-told g c =
     let laws : IsDevice g.D.Disk = record { reads_an_image = g.met.D.Disk.reads_an_image; counts_now = g.met.D.Disk.counts_now; only_now = g.met.D.Disk.only_now } in
     let (r, listed, of) = c.in_ok-start.ensures.tells in
-    told g.D.Disk laws c.args.handler.now c.start.new.self c.requires.works c.in_ok-start.ensures.read c.in_ok-start.ensures.works (r, listed) c.start_line.result c.answer_of.result c.answer_of.ensures.same
+    told g.D.Disk laws c.args.node.now (record c.args.node.now { handler = c.start.new.self }) c.requires.works refl c.in_ok-start.ensures.read c.in_ok-start.ensures.works (r, listed) c.start_line.result c.answer_of.result c.answer_of.ensures.same
     (subst (λ v. IfOk c.start_line.result (λ text. string_bytes text ≡ ok_line (v.erts ++ (codes " " ++ v.vsn)))) of c.start_line.ensures)

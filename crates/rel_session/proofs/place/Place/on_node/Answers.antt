@@ -22,4 +22,4 @@ pub returns-in-Made-clause-answered : goal.returns-in-Made-clause-answered
 returns-in-Made-clause-answered g c =
     let laws : IsDevice g.D.Disk = record { reads_an_image = g.met.D.Disk.reads_an_image; counts_now = g.met.D.Disk.counts_now; only_now = g.met.D.Disk.only_now } in
     let Does : Place → Reply → Type 0 = λ p a. Transition (g.F.Files.gives c.args.files.now) p (command_of c.args.command.now) a in
-    from_there g.D.Disk laws Does c.done_by-done.result c.args.self (memory.Made c.in-Made.handler) (memory.Made c.done_by-done.new.handler) c.in-Made.is c.done_by-done.ensures.answered
+    from_there g.D.Disk laws Does c.done_by-done.result c.args.self (memory.Made c.in-Made.node) (memory.Made c.done_by-done.new.node) c.in-Made.is c.done_by-done.ensures.answered

@@ -1,0 +1,127 @@
+-- Processes that begin one after another in a new table stand in its first slots.
+use Rattle.std.proofs.Common.{◌≡◌, ◌≢◌, ℕ, zero, suc, ◌+◌, List, [], ◌∷◌, ◌++◌, length, map, Some, Ok, refl, ap, sym, subst, ◌∙◌, arith, append-nil, append_assoc, length-append, replicate}
+use Rattle.std.specs.Prelude.{slice_get, slice_index_or}
+use Rattle.std.proofs.lemmas.List.{map-append, length-map}
+use Rattle.std.specs.List.{range_with_len}
+use native.Mathlib.Decide.{ℕ_discrete}
+use mathlib.Core.Logic.{dite}
+use Rattle.proc_history.specs.declared.beginning.Beginning.{Beginning}
+use Rattle.proc_history.specs.Histories.{replay}
+use Rattle.proc_history.specs.Values.{begun}
+use Rattle.proc_table.specs.declared.view.View.{View}
+use Rattle.proc_table.specs.declared.pid.Pid.{Pid}
+use Rattle.proc_table.specs.Agrees.{slots}
+use Rattle.proc_table.specs.Free.{BeganLowest}
+use Rattle.proc_table.specs.Parts.{Part as Known, unseen}
+use Rattle.proc_table.specs.Views.{seen, handler_view}
+use Rattle.proc_table.proofs.BeginLemmas.{began_elsewhere, began_there}
+use Rattle.library.specs.Library.{Library}
+use Rattle.rel_check.specs.Modules.{Part, Tables}
+use Rattle.sup_tree.specs.declared.process.StartedProcess.{StartedProcess}
+use Rattle.sup_tree.specs.Laws.{FreeFrom}
+use Rattle.sup_tree.specs.Starts.{beginning_of, process_of, BeganInOrder}
+use Rattle.sup_tree.specs.Tree.{App}
+use Rattle.sup_tree.specs.Walk.{Start}
+use Rattle.sup_tree.proofs.BeginLemmas.{first_slots}
+use Rattle.node_processes.specs.Fresh.{first_value, first_values, first_process, processes_from, app_from, apps_from, beginnings, part_beginnings, part_starts, tables_in}
+use Rattle.node_processes.specs.InMemory.{values_in, process_in, app_in}
+use Rattle.node_processes.specs.Starting.{StartedAll}
+
+-- Each of these began in the slot of its place, and nothing stands behind them.
+pub record HaveBegun (bs : List Beginning) (v : View) : Type 0 where
+  pub free : FreeFrom (length bs) v
+  pub each : (q : ℕ) → replay (seen v q) ≡ first_value (slice_get bs q)
+
+-- what is found behind the end of a list, and within it
+get_last : (bs : List Beginning) (b : Beginning) → slice_get (bs ++ b ∷ []) (length bs) ≡ Some b
+get_last [] b = refl
+get_last (c ∷ bs) b = get_last bs b
+
+get_other : (bs : List Beginning) (b : Beginning) (q : ℕ) → q ≢ length bs → slice_get (bs ++ b ∷ []) q ≡ slice_get bs q
+get_other [] b zero ne = absurd (ne refl)
+get_other [] b (suc q) ne = refl
+get_other (c ∷ bs) b zero ne = refl
+get_other (c ∷ bs) b (suc q) ne = get_other bs b q (λ e. ne (ap suc e))
+
+-- what began last is found behind the others, and a slot that is not its own as before
+value_there : (bs : List Beginning) (b : Beginning) (u : View) (pid : Pid) → pid.slot ≡ length bs → pid.round ≡ 1
+    → replay (seen u pid.slot) ≡ record { round = pid.round; now = Some (begun b) }
+    → (q : ℕ) → q ≡ pid.slot → replay (seen u q) ≡ first_value (slice_get (bs ++ b ∷ []) q)
+value_there bs b u pid slot round there q at =
+    ap (λ k. replay (seen u k)) at ∙ there
+    ∙ ((λ i. record { round = round i; now = Some (begun b) })
+    ∙ sym (ap first_value (ap (slice_get (bs ++ b ∷ [])) (at ∙ slot) ∙ get_last bs b)))
+
+one_begun : (app : List ℕ) (s : Start) (bs : List Beginning) (v u : View) (p : StartedProcess) → HaveBegun bs v
+    → BeganLowest (beginning_of app s) v (Ok p.pid) u → p ≡ process_of s p.pid
+    → (process_in p ≡ first_process (length bs) s) × HaveBegun (bs ++ beginning_of app s ∷ []) u
+one_begun app s bs v u p so_far began is =
+    let b = beginning_of app s in
+    let (at, free) = first_slots.1 app (s ∷ []) (length bs) v u (p ∷ []) so_far.free (u, began, is, refl) in
+    let slot = at.0 in
+    let round = at.1 in
+    let there = began_there b v u p.pid began in (
+      ap process_in is ∙ (λ i. record { id = s.child.id; «module» = s.child.start; slot = slot i; round = round i }),
+      record {
+        free = subst (λ n. FreeFrom n u) (sym (length-append bs (b ∷ []))) free;
+        each = λ q. dite (ℕ_discrete q p.pid.slot)
+            (value_there bs b u p.pid slot round there q)
+            (λ ne. ap (λ (x : Known). replay x.seen) (began_elsewhere b v u p.pid began q ne) ∙ so_far.each q
+            ∙ sym (ap first_value (get_other bs b q (λ e. ne (e ∙ sym slot)))));
+      },
+    )
+
+-- all that an application starts
+all_begun : (app : List ℕ) (ss : List Start) (bs : List Beginning) (v w : View) (ps : List StartedProcess) → HaveBegun bs v → BeganInOrder app ss v ps w
+    → (map process_in ps ≡ processes_from (length bs) ss) × HaveBegun (bs ++ map (beginning_of app) ss) w
+all_begun app [] bs v w [] so_far is = (refl, subst (λ l. HaveBegun l w) (sym (append-nil bs)) (subst (HaveBegun bs) (sym is) so_far))
+all_begun app [] bs v w (p ∷ ps) so_far is = absurd is
+all_begun app (s ∷ ss) bs v w [] so_far is = absurd is
+all_begun app (s ∷ ss) bs v w (p ∷ ps) so_far (u, began, is, later) =
+    let b = beginning_of app s in
+    let one = one_begun app s bs v u p so_far began is in
+    let rest = all_begun app ss (bs ++ b ∷ []) u w ps one.1 later in
+    let longer : length (bs ++ b ∷ []) ≡ suc (length bs) = length-append bs (b ∷ []) ∙ (let e : length bs + 1 ≡ suc (length bs) = omega arith in e) in (
+      (λ i. one.0 i ∷ (rest.0 ∙ ap (λ n. processes_from n ss) longer) i),
+      subst (λ l. HaveBegun l w) (append_assoc bs (b ∷ []) (map (beginning_of app) ss)) rest.1,
+    )
+
+-- all that applications start, one after another
+pub apps_begun : (tables : Tables) (ps : List Part) (bs : List Beginning) (apps apps' : List App) (v w : View) → HaveBegun bs v → StartedAll tables ps apps v apps' w
+    → (map app_in apps' ≡ map app_in apps ++ apps_from (length bs) tables ps) × HaveBegun (bs ++ beginnings tables ps) w
+apps_begun tables [] bs apps apps' v w so_far (same, stays) = (
+  ap (map app_in) same ∙ sym (append-nil (map app_in apps)),
+  subst (λ l. HaveBegun l w) (sym (append-nil bs)) (subst (HaveBegun bs) (sym stays) so_far),
+)
+apps_begun tables (p ∷ ps) bs apps apps' v w so_far (mid, u, started, later) =
+    let name = p.library.app.name in
+    let ss = part_starts tables p in
+    let own = part_beginnings tables p in
+    let here = all_begun name ss bs v u started.processes so_far started.began in
+    let rest = apps_begun tables ps (bs ++ own) mid apps' u w here.1 later in
+    let longer : length (bs ++ own) ≡ length bs + length ss = length-append bs own ∙ ap (λ n. length bs + n) (length-map ss (beginning_of name)) in
+    let one : map app_in mid ≡ map app_in apps ++ app_from (length bs) tables p ∷ [] =
+    ap (map app_in) started.tree ∙ (map-append app_in apps _ ∙ ap (λ qs. map app_in apps ++ record { name = name; processes = qs } ∷ []) here.0) in (
+      rest.0 ∙ ((λ i. one i ++ apps_from (longer i) tables ps) ∙ append_assoc (map app_in apps) (app_from (length bs) tables p ∷ []) (apps_from (length bs + length ss) tables ps)),
+      subst (λ l. HaveBegun l w) (append_assoc bs own (beginnings tables ps)) rest.1,
+    )
+
+unseen_all : (n q : ℕ) → slice_index_or (replicate n unseen) q unseen ≡ unseen
+unseen_all zero q = refl
+unseen_all (suc n) zero = refl
+unseen_all (suc n) (suc q) = unseen_all n q
+
+-- nothing began in a new table
+pub none_begun : HaveBegun [] (handler_view slots)
+none_begun = record { free = first_slots.0; each = λ q. ap (λ (x : Known). replay x.seen) (unseen_all slots q) }
+
+-- the values in all slots
+pub begun_values : (bs : List Beginning) (v : View) → HaveBegun bs v → values_in v ≡ first_values bs
+begun_values bs v begun = (λ i. map (λ q. begun.each q i) (range_with_len 0 slots))
+
+-- So the processes of a node behind a boot are those that begin in a new table.
+pub fresh_so : (ls : List Library) (ps : List Part) (apps : List App) (v w : View) → v ≡ handler_view slots → StartedAll (tables_in ls) ps [] v apps w
+    → (values_in w ≡ first_values (beginnings (tables_in ls) ps)) × (map app_in apps ≡ apps_from 0 (tables_in ls) ps)
+fresh_so ls ps apps v w new started =
+    let begun = apps_begun (tables_in ls) ps [] [] apps (handler_view slots) w none_begun (subst (λ x. StartedAll (tables_in ls) ps [] x apps w) new started) in
+    (begun_values (beginnings (tables_in ls) ps) w begun.1, begun.0)

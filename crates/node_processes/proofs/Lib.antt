@@ -1,0 +1,9 @@
+pub mod ModuleVersions
+pub mod FreshLemmas
+pub mod StartLemmas
+pub mod TableLemmas
+pub mod ReadyLemmas
+pub mod PermanentLemmas
+pub mod SlotLemmas
+pub mod CommandLemmas
+pub mod ModuleLemmas

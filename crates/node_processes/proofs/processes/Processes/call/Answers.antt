@@ -1,0 +1,25 @@
+use Rattle.std.proofs.Common.{◌≡◌, List, ℕ, sym, subst, ◌∙◌, string_bytes}
+use Rattle.std.specs.Result.{IfOk}
+use Rattle.sup_tree.specs.Loaded.{listed_in}
+use Rattle.node_processes.proofs.CommandLemmas.{is_called, call_of_none}
+use Rattle.node_processes.proofs.processes.Processes.call.Goals as goal
+
+pub returns-in-Some-clause-called : goal.returns-in-Some-clause-called
+returns-in-Some-clause-called g c =
+    sym (is_called c.args.app.now c.args.id.now c.args.input c.args.self.now.seat.view _ c.args.self.now.tree (listed_in c.args.self.now.loaded) c.in-Some.pid c.call_alone-tried.result
+    (sym c.find.ensures ∙ c.in-Some.is) c.call_alone-tried.ensures.answer).leaves
+
+pub returns-in-Some-clause-told : goal.returns-in-Some-clause-told
+returns-in-Some-clause-told g c =
+    let called = is_called c.args.app.now c.args.id.now c.args.input c.args.self.now.seat.view _ c.args.self.now.tree (listed_in c.args.self.now.loaded) c.in-Some.pid c.call_alone-tried.result
+    (sym c.find.ensures ∙ c.in-Some.is) c.call_alone-tried.ensures.answer in
+    subst (λ (line : List ℕ). IfOk c.line_of_call.result (λ text. string_bytes text ≡ line)) (sym called.told) c.line_of_call.ensures
+
+pub returns-in-None-clause-called : goal.returns-in-None-clause-called
+returns-in-None-clause-called g c =
+    sym (call_of_none c.args.app.now c.args.id.now c.args.input c.args.self.now.seat.view c.args.self.now.tree (listed_in c.args.self.now.loaded) (sym c.find.ensures ∙ c.in-None.is)).1
+
+pub returns-in-None-clause-told : goal.returns-in-None-clause-told
+returns-in-None-clause-told g c =
+    let none = call_of_none c.args.app.now c.args.id.now c.args.input c.args.self.now.seat.view c.args.self.now.tree (listed_in c.args.self.now.loaded) (sym c.find.ensures ∙ c.in-None.is) in
+    subst (λ (line : List ℕ). IfOk c.from_str.result (λ text. string_bytes text ≡ line)) (sym none.0) c.from_str.ensures.ok

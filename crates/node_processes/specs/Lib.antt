@@ -1,0 +1,6 @@
+pub mod Processes
+pub mod Fresh
+pub mod InMemory
+pub mod Answers
+pub mod ModuleVersions
+pub mod Starting

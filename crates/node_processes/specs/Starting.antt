@@ -1,0 +1,37 @@
+-- Applications that start one after another.
+use Rattle.std.specs.Prelude.{◌≡◌, ℕ, ◌≤◌, List, [], ◌∷◌, length, map, None}
+use Rattle.std.specs.List.{AllByRecursion, sum_by}
+use Rattle.rel_files.specs.Name.{AreDistinct}
+use Rattle.rel_check.specs.Modules.{Part, Tables}
+use Rattle.proc_table.specs.declared.view.View.{View}
+use Rattle.proc_table.specs.Free.{free_count}
+use Rattle.sup_tree.specs.Starts.{AppStarted}
+use Rattle.sup_tree.specs.Tree.{App, app_named}
+use Rattle.sup_tree.specs.Walk.{app_fault}
+use Rattle.node_processes.specs.Fresh.{part_starts}
+
+abbrev pub part_name : Part → List ℕ
+part_name p = p.library.app.name
+
+abbrev pub IsNew : List App → Part → Type 0
+IsNew apps p = app_named (part_name p) apps ≡ None
+
+abbrev pub HasNoFault : Tables → Part → Type 0
+HasNoFault tables p = app_fault tables p.library.app.top ≡ None
+
+-- how many processes they start
+abbrev pub starts_in_all : Tables → List Part → ℕ
+starts_in_all tables ps = sum_by (λ p. length (part_starts tables p)) ps
+
+-- None of them is started or stands twice, nothing is wrong below their tops, and there are slots for all their processes.
+pub record AreReady (tables : Tables) (ps : List Part) (apps : List App) (v : View) : Type 0 where
+  pub new : AllByRecursion (IsNew apps) ps
+  pub distinct : AreDistinct (map part_name ps)
+  pub sound : AllByRecursion (HasNoFault tables) ps
+  pub room : starts_in_all tables ps ≤ free_count v
+
+-- one after another is started
+abbrev pub StartedAll : Tables → List Part → List App → View → List App → View → Type 0
+StartedAll tables [] apps v apps' w = (apps' ≡ apps) × (w ≡ v)
+StartedAll tables (p ∷ ps) apps v apps' w =
+    (mid : List App) × (u : View) × AppStarted (part_name p) p.library.app.top tables apps v mid u × StartedAll tables ps mid u apps' w

@@ -1,0 +1,18 @@
+//! The processes of a node: a boot starts them, and commands list, peek and call them.
+//!
+//! [`Processes`] are seen as what stands in each slot, which applications are started, and which modules are loaded
+//! (specs/Processes). [`Processes::start`] gives what runs right after a boot to a list of releases (specs/Fresh).
+//! [`Processes::list`], [`Processes::list_modules`], [`Processes::peek`] and [`Processes::call`] answer as a session's commands
+//! do, and a call leaves what the table of its process says (specs/Answers). No client but these sits at the table, so nothing
+//! comes between two of them.
+//!
+//! All but `list_modules` wait for slots; nobody else has any. Only tested: that they return, and succeed where memory is there.
+//! Trusted: the toolchain alone, `atomic_table` with it.
+#![tactic(auto)]
+
+mod commands;
+mod look;
+mod processes;
+mod start;
+
+pub use processes::Processes;

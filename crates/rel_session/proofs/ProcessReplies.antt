@@ -1,0 +1,53 @@
+-- What is replied to commands on the processes of a node that runs.
+use Rattle.std.proofs.Common.{◌≡◌, ℕ, ◌≤◌, true, false, List, Result, Ok, Err, sym, ap, ◌∙◌, subst, arith}
+use Rattle.std.specs.Prelude.{IfOk, MatchResult, String, string_bytes}
+use Rattle.std.specs.declared.alloc.AllocError.{AllocError}
+use Rattle.std.specs.declared.alloc.Global.{Global}
+use Rattle.rel_handler.specs.Events.{Events}
+use Rattle.rel_handler.specs.State.{disk_in, is_dead}
+use Rattle.node_command.specs.declared.error.HandlerError.{HandlerError}
+use Rattle.node_command.specs.declared.error.HandlerError.TheVariants as handler_error
+use Rattle.node_processes.specs.InMemory.{processes_in}
+use Rattle.node_processes.specs.Processes.{Processes}
+use Rattle.rel_session.specs.declared.booted_node.BootedNode.{BootedNode}
+use Rattle.rel_session.specs.declared.place.Place.TheVariants as memory
+use Rattle.rel_session.specs.Device.{Device}
+use Rattle.rel_session.specs.InMemory.{IsAt, Replied, Answers}
+use Rattle.rel_session.specs.Node.{Place, Reply, reply, nothing}
+use Rattle.rel_session.specs.Node.Place.{raw, closed, running, dead}
+use Rattle.rel_session.specs.Run.{Moments}
+use Rattle.rel_session.proofs.DeviceLemmas.{IsDevice, still}
+use Rattle.rel_session.proofs.Replies.{moments_of_nothing, tells, answers_line}
+
+never : {A : Type 0} → false ≡ true → A
+never e = absurd cc
+
+-- The processes alone change, by a command that says this of them and leaves these.
+module _ {D : Type 0} (v : Device D) (laws : IsDevice v) (P : Place → Reply → Type 0) (says : Processes → List ℕ) (leaves : Processes → Processes)
+    (right : (events : Events) (end : ℕ) (ps : Processes) → P (running events end ps) (reply (says ps) nothing (running events end (leaves ps))))
+    (n new : BootedNode D) (alive : is_dead n.handler ≡ false) (same : new.handler ≡ n.handler) (left : processes_in new.processes ≡ leaves (processes_in n.processes)) where
+  replies : (p : Place) → IsAt v (memory.Made n) p → Replied v p (λ a. P p a × (a.answer ≡ says (processes_in n.processes))) (memory.Made n) (memory.Made new)
+  replies (raw bytes) at = absurd at
+  replies (closed s) at = absurd at
+  replies (dead s) at = never (sym alive ∙ at.1)
+  replies (running events end ps) (here, living, after, stop, has) =
+      let then : IsAt v (memory.Made new) (running events end (leaves ps)) =
+      subst (λ h. IsAt v (memory.Made (record { handler = h; processes = new.processes })) (running events end (leaves ps))) (sym same) (here, living, after, stop, left ∙ ap leaves has) in
+      let disk : disk_in new.handler ≡ disk_in n.handler = ap disk_in same in
+      record {
+        given = reply (says ps) nothing (running events end (leaves ps));
+        right = (right events end ps, ap says (sym has));
+        at = then;
+        happens = record {
+          moments = subst (λ d. Moments v (running events end ps) nothing (disk_in n.handler) d) (sym disk) (moments_of_nothing v laws (running events end ps) (disk_in n.handler) (disk_in n.handler) here (still v laws (disk_in n.handler)));
+          holds = then.0;
+          cause = λ e. never e;
+          counted = subst (λ d. v.failures (disk_in n.handler) ≤ v.failures d) (sym disk) (omega arith);
+        };
+      }
+
+  pub answers_of_processes : (line : Result (String Global) AllocError) (result : Result (String Global) HandlerError)
+      → MatchResult line (λ text. result ≡ Ok text) (λ _. result ≡ Err handler_error.NoMemory) → IfOk line (λ text. string_bytes text ≡ says (processes_in n.processes))
+      → Answers v P result (memory.Made n) (memory.Made new)
+  answers_of_processes line result is told =
+      answers_line v laws P line result (memory.Made n) (memory.Made new) is (tells v laws P line (says (processes_in n.processes)) (memory.Made n) (memory.Made new) told replies)

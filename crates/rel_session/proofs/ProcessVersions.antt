@@ -1,0 +1,170 @@
+-- Behind each reply the modules of processes have versions.
+use Rattle.std.proofs.Common.{◌≡◌, inl, inr, ℕ, Bool, true, false, List, [], ◌∷◌, ◌++◌, Option, Some, None, Result, Ok, Err, refl, sym, subst}
+use Rattle.std.specs.List.{AllByRecursion}
+use Rattle.library.specs.Library.{IsLibrary}
+use Rattle.rel_list.specs.Releases.{Bundle, Releases}
+use Rattle.rel_list.specs.Event.{Event, list_after, entry}
+use Rattle.rel_list.specs.declared.status.Status.TheVariants.{Permanent}
+use Rattle.rel_list.specs.Event.Event.{reboot_old as rebooting, boot as booting}
+use Rattle.rel_records.proofs.CompletionLemmas.{of_applications}
+use Rattle.rel_handler.specs.Events.{Events, Stored, certain}
+use Rattle.rel_handler.specs.Image.{holds_a_store}
+use Rattle.rel_unpack.specs.Refusal.{Refusal}
+use Rattle.rel_unpack.specs.Source.{Source}
+use Rattle.rel_unpack.specs.Unpacking.{Brought}
+use Rattle.rel_unpack.proofs.BroughtLibraries.{brought_libraries}
+use Rattle.node_command.specs.declared.error.HandlerError.{HandlerError}
+use Rattle.node_command.specs.Files.{Brings, bundle_brought, made_size}
+use Rattle.node_command.specs.Taking.{commanded}
+use Rattle.node_processes.specs.Fresh.{fresh}
+use Rattle.node_processes.specs.Processes.{Processes}
+use Rattle.session_input.specs.Commands.{Command}
+use Rattle.session_input.specs.Commands.Command.{file, create, set_unpacked, install, permanent, remove, reboot_old, boot, start, releases, procs, modules, peek, call, relup, quit, bad}
+use Rattle.rel_session.specs.AnswerLaws.{AreOfFiles, HasVersionsAt, HasModuleVersionsAt}
+use Rattle.rel_session.specs.Node.{Place, Reply, releases_after, list_or_none}
+use Rattle.rel_session.specs.Node.Place.{raw, closed, running, dead}
+use Rattle.rel_session.specs.Transition
+use Rattle.rel_session.specs.Transition.Action.{answers, makes_node, changes_node, reboots_node, boots_node, tells_start, calls}
+use Rattle.node_processes.specs.ModuleVersions.{HaveModuleVersions}
+use Rattle.node_processes.proofs.ModuleVersions.{AreWithLibraries, fresh_versions, called_versions}
+use Rattle.rel_session.proofs.Versions.{OfList, of_image, list_versions, stored_versions, certain_versions}
+
+-- the place behind a reply has such versions
+abbrev KeepsVersions : Reply → Type 0
+KeepsVersions a = HasModuleVersionsAt a.after
+
+versions_as : (a b : Reply) → a ≡ b → KeepsVersions b → KeepsVersions a
+versions_as a b is of = subst KeepsVersions (sym is) of
+
+libraries_of : (es : Releases) → AreOfFiles es → AreWithLibraries es
+libraries_of [] all = tt
+libraries_of (e ∷ es) all = (all.0.1, libraries_of es all.1)
+
+-- a node that has just booted
+booted_versions : (events : Events) (list : Releases) → list_after events ≡ Some list → AreWithLibraries list → HaveModuleVersions (fresh (releases_after events))
+booted_versions events list after have = subst (λ o. HaveModuleVersions (fresh (list_or_none o))) (sym after) (fresh_versions list have)
+
+boots_to : (events : Events) (end : ℕ) → OfList events → (a : Reply) → Transition.IsBooted events end a → KeepsVersions a
+boots_to events end all a (list, after, is) = versions_as a _ is (booted_versions (events ++ booting ∷ []) list after (libraries_of list (list_versions events booting tt all list after)))
+
+boots_store : (s : Stored) → HasVersionsAt (closed s) → (a : Reply) → Transition.BootsStore s a → KeepsVersions a
+boots_store s all a (inl (events, end, has, is)) = boots_to events end (stored_versions s all events end has) a is
+boots_store s all a (inr is) = versions_as a _ is tt
+
+boots : (p : Place) → HasVersionsAt p → (a : Reply) → Transition.Boots p a → KeepsVersions a
+boots (raw x) all a (inl (events, list, end, after, image, is)) =
+    let of = of_image x list image.image_of in
+    boots_to events end (λ l e. let same : list ≡ l = cc in subst AreOfFiles same of) a is
+boots (raw x) all a (inr (inl (why, refusal, is))) = versions_as a _ is tt
+boots (raw x) all a (inr (inr (torn, is))) = versions_as a _ is tt
+boots (closed s) all a is = boots_store s all a is
+boots (running events end ps) all a is = boots_store (certain events end) (certain_versions events end all) a is
+boots (dead s) all a is = boots_store s all a is
+
+-- a commit
+commits : (events : Events) (end : ℕ) (ps : Processes) (e : Event) (size : ℕ) (o : Result Releases HandlerError) (P : Reply → Type 0) → ((a : Reply) → P a → KeepsVersions a) → HaveModuleVersions ps → (a : Reply)
+    → Transition.IsCommit events end ps e size o P a → KeepsVersions a
+commits events end ps e size (Err why) P done versions a is = versions_as a _ is versions
+commits events end ps e size (Ok next) P done versions a (inl (fits, inl is)) = done a is
+commits events end ps e size (Ok next) P done versions a (inl (fits, inr is)) = versions_as a _ is tt
+commits events end ps e size (Ok next) P done versions a (inr (over_it, is)) = versions_as a _ is versions
+
+changes : (events : Events) (end : ℕ) (ps : Processes) (c : Transition.Change) (list : Releases) (f : Option Refusal) (o : Result Releases HandlerError) → HaveModuleVersions ps → (a : Reply)
+    → Transition.Changes events end ps c list f o a → KeepsVersions a
+changes events end ps c list (Some why) o versions a is = versions_as a _ is versions
+changes events end ps c list None o versions a is = commits events end ps c.event (c.size list) o _ (λ a is. versions_as a _ is versions) versions a is
+
+reboots : (events : Events) (end : ℕ) (ps : Processes) (vsn : List ℕ) (list : Releases) (o : Result Releases HandlerError) → OfList events → HaveModuleVersions ps → (a : Reply)
+    → Transition.Reboots events end ps vsn list o a → KeepsVersions a
+reboots events end ps vsn list o all versions =
+    let e = rebooting vsn in
+    let s = Transition.rebooted events end vsn list in
+    commits events end ps e _ o _ (λ a (b, done, is). versions_as a _ is (boots_store s (certain_versions (events ++ e ∷ []) s.end (list_versions events e tt all)) b done)) versions
+
+-- What is brought has libraries, where it isn't refused.
+abbrev BringsLibraries : Brought → Type 0
+BringsLibraries b = b.refusal ≡ None → AllByRecursion IsLibrary b.libraries
+
+makes_with : (x : List ℕ) (p : Bundle) (size : ℕ) (why : Option Refusal) → (why ≡ None → AllByRecursion IsLibrary p.libraries) → (a : Reply) → Transition.MakesWith x p size why a → KeepsVersions a
+makes_with x p size (Some why) of a is = versions_as a _ is tt
+makes_with x p size None of a (inl (fits, is)) = versions_as a _ is (fresh_versions (entry p Permanent ∷ []) (of refl, tt))
+makes_with x p size None of a (inr (over_it, is)) = versions_as a _ is tt
+
+makes_on : (x : List ℕ) (b : Brought) (there : Bool) → BringsLibraries b → (a : Reply) → Transition.MakesOn x b there a → KeepsVersions a
+makes_on x b true of a is = versions_as a _ is tt
+makes_on x b false of a is = makes_with x (bundle_brought b) (made_size b) b.refusal of a is
+
+makes : (p : Place) (b : Brought) → BringsLibraries b → HasModuleVersionsAt p → (a : Reply) → Transition.MakesNode p b a → KeepsVersions a
+makes (raw x) b of versions a (inl is) = makes_on x b (holds_a_store x) of a is
+makes (raw x) b of versions a (inr (torn, is)) = versions_as a _ is tt
+makes (closed s) b of versions a (inl is) = versions_as a _ is tt
+makes (closed s) b of versions a (inr is) = versions_as a _ is tt
+makes (running events end ps) b of versions a is = versions_as a _ is versions
+makes (dead s) b of versions a is = versions_as a _ is tt
+
+-- An action brings libraries where it makes a node.
+abbrev MakesOfLibraries : Transition.Action → Type 0
+MakesOfLibraries (makes_node b) = BringsLibraries b
+MakesOfLibraries does = Unit {0}
+
+of_creation : (source : Source) (path : List ℕ) (brought : Result Brought Refusal) → Brings source path brought → MakesOfLibraries (Transition.creation brought)
+of_creation source path (Err why) brings = tt
+of_creation source path (Ok b) brings = λ free. of_applications b.found.release.apps b.libraries (brought_libraries source path b brings free).0
+
+of_unpacking : (brought : Result Brought Refusal) → MakesOfLibraries (Transition.unpacking brought)
+of_unpacking (Err why) = tt
+of_unpacking (Ok b) = tt
+
+of_telling : (found : Result (List ℕ) Refusal) → MakesOfLibraries (Transition.relup_telling found)
+of_telling (Err why) = tt
+of_telling (Ok text) = tt
+
+of_as : (x y : Transition.Action) → x ≡ y → MakesOfLibraries y → MakesOfLibraries x
+of_as x y is of = subst MakesOfLibraries (sym is) of
+
+comes_of : (source : Source) (p : Place) (c : Command) (does : Transition.Action) → Transition.ComesTo source p c does → MakesOfLibraries does
+comes_of source p (create path) does (found, there, is) = of_as does _ is (of_creation source path found there)
+comes_of source (running events end ps) (set_unpacked path) does (found, there, is) = of_as does _ is (of_unpacking found)
+comes_of source (raw x) (set_unpacked path) does is = of_as does _ is tt
+comes_of source (closed s) (set_unpacked path) does is = of_as does _ is tt
+comes_of source (dead s) (set_unpacked path) does is = of_as does _ is tt
+comes_of source p (relup new ups downs) does (found, there, is) = of_as does _ is (of_telling found)
+comes_of source p (file path f) does is = of_as does _ is tt
+comes_of source p (install vsn) does is = of_as does _ is tt
+comes_of source p (permanent vsn) does is = of_as does _ is tt
+comes_of source p (remove vsn) does is = of_as does _ is tt
+comes_of source p (reboot_old vsn) does is = of_as does _ is tt
+comes_of source p boot does is = of_as does _ is tt
+comes_of source p start does is = of_as does _ is tt
+comes_of source p releases does is = of_as does _ is tt
+comes_of source p procs does is = of_as does _ is tt
+comes_of source p modules does is = of_as does _ is tt
+comes_of source p (peek app id) does is = of_as does _ is tt
+comes_of source p (call app id input) does is = of_as does _ is tt
+comes_of source p bad does is = of_as does _ is tt
+comes_of source p quit does is = absurd is
+
+acts : (p : Place) (does : Transition.Action) → MakesOfLibraries does → HasVersionsAt p → HasModuleVersionsAt p → (a : Reply) → Transition.Acts p does a → KeepsVersions a
+acts p (answers text) of all versions a is = versions_as a _ is versions
+acts p (makes_node b) of all versions a is = makes p b of versions a is
+acts (running events end ps) (changes_node c) of all versions a is = changes events end ps c (releases_after events) (c.files (releases_after events)) (commanded c.event (releases_after events)) versions a is
+acts (raw x) (changes_node c) of all versions a is = versions_as a _ is tt
+acts (closed s) (changes_node c) of all versions a is = versions_as a _ is tt
+acts (dead s) (changes_node c) of all versions a is = versions_as a _ is tt
+acts (running events end ps) (reboots_node vsn) of all versions a is = reboots events end ps vsn (releases_after events) (commanded (rebooting vsn) (releases_after events)) all versions a is
+acts (raw x) (reboots_node vsn) of all versions a is = versions_as a _ is tt
+acts (closed s) (reboots_node vsn) of all versions a is = versions_as a _ is tt
+acts (dead s) (reboots_node vsn) of all versions a is = versions_as a _ is tt
+acts p boots_node of all versions a is = boots p all a is
+acts (running events end ps) tells_start of all versions a (inl is) = versions_as a _ is versions
+acts (running events end ps) tells_start of all versions a (inr is) = versions_as a _ is tt
+acts (raw x) tells_start of all versions a is = versions_as a _ is tt
+acts (closed s) tells_start of all versions a is = versions_as a _ is tt
+acts (dead s) tells_start of all versions a is = versions_as a _ is tt
+acts (running events end ps) (calls app id input) of all versions a is = versions_as a _ is (called_versions app id input ps versions)
+acts (raw x) (calls app id input) of all versions a is = versions_as a _ is tt
+acts (closed s) (calls app id input) of all versions a is = versions_as a _ is tt
+acts (dead s) (calls app id input) of all versions a is = versions_as a _ is tt
+
+pub keeps_versions_of_modules : (source : Source) (p : Place) (c : Command) (a : Reply) → HasVersionsAt p → HasModuleVersionsAt p → Transition.Transition source p c a → HasModuleVersionsAt a.after
+keeps_versions_of_modules source p c a all versions (does, comes, is) = acts p does (comes_of source p c does comes) all versions a is
