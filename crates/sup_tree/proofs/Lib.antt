@@ -4,3 +4,6 @@ pub mod CheckLemmas
 pub mod BeginLemmas
 pub mod LoadedLemmas
 pub mod ListingLemmas
+pub mod SlotLemmas
+pub mod NamedLemmas
+pub mod NotedLemmas

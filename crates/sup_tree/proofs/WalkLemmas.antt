@@ -1,5 +1,5 @@
 -- What is found through a number of supervisors in each other, and through more or fewer.
-use Rattle.std.proofs.Common.{◌≡◌, ℕ, zero, suc, ◌+◌, ◌-◌, ◌<◌, ◌≤◌, List, [], ◌∷◌, ◌++◌, Bool, true, false, cond, length, nat_le, Option, Some, None, Result, Ok, Err, IsErr, IsErrAnd, refl, ap, sym, subst, ◌∙◌, add-zero, add-one, arith, append_assoc, length-append}
+use Rattle.std.proofs.Common.{◌≡◌, ℕ, zero, suc, ◌+◌, ◌-◌, ◌<◌, ◌≤◌, List, [], ◌∷◌, ◌++◌, Bool, true, false, cond, ◌||◌, length, nat_le, is_some, Option, Some, None, Result, Ok, Err, IsErr, IsErrAnd, refl, ap, sym, subst, ◌∙◌, add-zero, add-one, arith, append_assoc, length-append}
 use Rattle.std.specs.List.{flat_map}
 use Rattle.std.specs.Option.{option_or, option_and_then, option_map_or}
 use Rattle.std.proofs.lemmas.Bool.Decides.{nat_tests}
@@ -14,11 +14,12 @@ use Rattle.std.specs.Str.{bytes_eq}
 use Rattle.std.proofs.lemmas.Slice.Eq.{bytes_eq-Decides}
 use Rattle.rel_check.specs.Modules.{Tables}
 use Rattle.rel_check.specs.Walk.{first_of, of_kind, child_table}
-use Rattle.sup_tree.specs.Walk.{Start, StartFault, child_fault, children_fault, child_starts, children_starts, fault_from, starts_from}
+use Rattle.sup_tree.specs.Walk.{Start, StartFault, child_fault, children_fault, child_starts, children_starts, child_supervisors, children_supervisors, fault_from, starts_from, supervisors_from}
 use Rattle.sup_tree.specs.Walk.StartFault.{unsupported}
 use Rattle.sup_tree.specs.declared.error.StartError.{StartError}
 use Rattle.sup_tree.specs.declared.error.StartError.TheVariants.{AlreadyStarted, NoTable, Unsupported, NoSlot, NoMemory}
-use Rattle.sup_tree.specs.InMemory.{noted_in, AreSound, AreIdle, FaultIs, IsCut}
+use Rattle.sup_tree.specs.InMemory.{noted_in, is_noted, AreNoted, AreSound, AreIdle, FaultIs, IsCut}
+use Rattle.sup_tree.specs.Names.{is_among}
 
 -- none of two is there where none is found
 pub or_none : {X : Type 0} (o p : Option X) → option_or o p ≡ None → (o ≡ None) × (p ≡ None)
@@ -54,6 +55,38 @@ so_many_deeper tables n (suc k) cs e =
 pub sound_deeper : (tables : Tables) (n m : ℕ) (cs : List ChildSpec) → n ≤ m → children_fault n tables cs ≡ None → children_fault m tables cs ≡ None
 sound_deeper tables n m cs within e =
     subst (λ k. children_fault k tables cs ≡ None) (let s : n + (m - n) ≡ m = omega (arith, within) in s) (so_many_deeper tables n (m - n) cs e)
+
+all_same : {C X Y : Type 0} (fault : C → Option X) (f g : C → List Y) → ((c : C) → fault c ≡ None → g c ≡ f c) → (cs : List C) → first_of fault cs ≡ None → flat_map g cs ≡ flat_map f cs
+all_same fault f g same [] e = refl
+all_same fault f g same (c ∷ cs) e =
+    let parts = or_none (fault c) (first_of fault cs) e in
+    λ j. same c parts.0 j ++ all_same fault f g same cs parts.1 j
+
+child_same : (fault : List ChildSpec → Option StartFault) (below below' : List ChildSpec → List (List ℕ)) → ((cs : List ChildSpec) → fault cs ≡ None → below' cs ≡ below cs)
+    → (c : ChildSpec) (t : Option Table) → child_fault fault c t ≡ None → child_supervisors below' c t ≡ child_supervisors below c t
+child_same fault below below' same c None e = absurd cc
+child_same fault below below' same c (Some (Worker w)) e = refl
+child_same fault below below' same c (Some (Super s)) e = ap (λ l. c.start ∷ l) (same s.children e)
+
+-- where nothing is wrong there are no more supervisors through one more
+no_deeper : (tables : Tables) (n : ℕ) (cs : List ChildSpec) → children_fault n tables cs ≡ None → children_supervisors (suc n) tables cs ≡ children_supervisors n tables cs
+unfolding children_fault children_supervisors
+no_deeper tables zero cs e = absurd cc
+no_deeper tables (suc n) cs e =
+    all_same (λ (c : ChildSpec). child_fault (children_fault n tables) c (child_table tables c)) (λ (c : ChildSpec). child_supervisors (children_supervisors n tables) c (child_table tables c))
+    (λ (c : ChildSpec). child_supervisors (children_supervisors (suc n) tables) c (child_table tables c))
+    (λ c. child_same (children_fault n tables) (children_supervisors n tables) (children_supervisors (suc n) tables) (no_deeper tables n) c (child_table tables c)) cs e
+
+so_many_same : (tables : Tables) (n k : ℕ) (cs : List ChildSpec) → children_fault n tables cs ≡ None → children_supervisors (n + k) tables cs ≡ children_supervisors n tables cs
+so_many_same tables n zero cs e = ap (λ m. children_supervisors m tables cs) (add-zero n)
+so_many_same tables n (suc k) cs e =
+    ap (λ m. children_supervisors m tables cs) (let s : n + suc k ≡ suc (n + k) = omega arith in s)
+    ∙ (no_deeper tables (n + k) cs (so_many_deeper tables n k cs e) ∙ so_many_same tables n k cs e)
+
+-- where nothing is wrong there are as many supervisors through more
+supervisors_deeper : (tables : Tables) (n m : ℕ) (cs : List ChildSpec) → n ≤ m → children_fault n tables cs ≡ None → children_supervisors m tables cs ≡ children_supervisors n tables cs
+supervisors_deeper tables n m cs within e =
+    ap (λ k. children_supervisors k tables cs) (let s : m ≡ n + (m - n) = omega (arith, within) in s) ∙ so_many_same tables n (m - n) cs e
 
 both_empty : {X : Type 0} (xs ys : List X) → xs ++ ys ≡ [] → (xs ≡ []) × (ys ≡ [])
 both_empty [] ys e = (refl, e)
@@ -102,6 +135,10 @@ deepest tables n cs is = ap (λ m. children_fault m tables cs) is
 pub fault_below : (tables : Tables) (n m : ℕ) (cs : List ChildSpec) → n ≡ m + 1 → children_fault n tables cs ≡ first_of (fault_from m tables) cs
 unfolding children_fault
 fault_below tables n m cs is = ap (λ k. children_fault k tables cs) (is ∙ add-one m)
+
+pub supervisors_below : (tables : Tables) (n m : ℕ) (cs : List ChildSpec) → n ≡ m + 1 → children_supervisors n tables cs ≡ flat_map (supervisors_from m tables) cs
+unfolding children_supervisors
+supervisors_below tables n m cs is = ap (λ k. children_supervisors k tables cs) (is ∙ add-one m)
 
 pub deepest_starts : (tables : Tables) (n : ℕ) (cs : List ChildSpec) → n ≡ 0 → children_starts n tables cs ≡ []
 unfolding children_starts
@@ -172,37 +209,67 @@ nothing_added old (x ∷ xs) new is same = let sum = ap length is ∙ length-app
 abbrev Holds : (P : ℕ → SuperTable → Type 0) → Tables → BTreeMap (Bor (List ℕ)) ℕ → Type 0
 Holds P tables noted = (name : List ℕ) (n : ℕ) (s : SuperTable) → noted_in noted name ≡ Some n → tables name ≡ Some (Super s) → P n s
 
-noted_too : (P : ℕ → SuperTable → Type 0) (tables : Tables) (old new : BTreeMap (Bor (List ℕ)) ℕ) (name : List ℕ) (n : ℕ) (s : SuperTable)
-    → tables name ≡ Some (Super s) → P n s → ((q : List ℕ) → noted_in new q ≡ cond (bytes_eq name q) (Some n) (noted_in old q)) → Holds P tables old → Holds P tables new
-noted_too P tables old new name n s there here is so_far q m t noted at = go (bytes_eq name q) refl (sym (is q) ∙ noted)
+noted_too : (P Q : ℕ → SuperTable → Type 0) (tables : Tables) (old new : BTreeMap (Bor (List ℕ)) ℕ) (name : List ℕ) (n : ℕ) (s : SuperTable)
+    → tables name ≡ Some (Super s) → Q n s → ((m : ℕ) (t : SuperTable) → P m t → Q m t)
+    → ((q : List ℕ) → noted_in new q ≡ cond (bytes_eq name q) (Some n) (noted_in old q)) → Holds P tables old → Holds Q tables new
+noted_too P Q tables old new name n s there here still is so_far q m t noted at = go (bytes_eq name q) refl (sym (is q) ∙ noted)
   where
-    go : (b : Bool) → bytes_eq name q ≡ b → cond b (Some n) (noted_in old q) ≡ Some m → P m t
+    go : (b : Bool) → bytes_eq name q ≡ b → cond b (Some n) (noted_in old q) ≡ Some m → Q m t
     go true same e =
         let q_is : name ≡ q = (bytes_eq-Decides name q).0 same in
         let t_is : s ≡ t = let both = sym there ∙ (ap tables q_is ∙ at) in cc in
         let m_is : n ≡ m = cc in
-        subst (λ k. P k t) m_is (subst (P n) t_is here)
-    go false same e = so_far q m t e at
+        subst (λ k. Q k t) m_is (subst (Q n) t_is here)
+    go false same e = still m t (so_far q m t e at)
+
+-- what was noted is noted still
+noted_still : (old new : BTreeMap (Bor (List ℕ)) ℕ) (name : List ℕ) (n : ℕ) → ((q : List ℕ) → noted_in new q ≡ cond (bytes_eq name q) (Some n) (noted_in old q))
+    → (q : List ℕ) → is_noted old q ≡ true → is_noted new q ≡ true
+noted_still old new name n is q so = ap is_some (is q) ∙ go (bytes_eq name q)
+  where
+    go : (b : Bool) → is_some (cond b (Some n) (noted_in old q)) ≡ true
+    go true = refl
+    go false = so
 
 pub sound_noted : (tables : Tables) (old new : BTreeMap (Bor (List ℕ)) ℕ) (name : List ℕ) (n : ℕ) (s : SuperTable)
-    → tables name ≡ Some (Super s) → children_fault n tables s.children ≡ None → ((q : List ℕ) → noted_in new q ≡ cond (bytes_eq name q) (Some n) (noted_in old q))
-    → AreSound tables old → AreSound tables new
-sound_noted tables = noted_too (λ n s. children_fault n tables s.children ≡ None) tables
+    → tables name ≡ Some (Super s) → children_fault n tables s.children ≡ None → AreNoted old (children_supervisors n tables s.children)
+    → ((q : List ℕ) → noted_in new q ≡ cond (bytes_eq name q) (Some n) (noted_in old q)) → AreSound tables old → AreSound tables new
+sound_noted tables old new name n s there none below is =
+    let still = noted_still old new name n is in
+    noted_too
+    (λ n s. (children_fault n tables s.children ≡ None) × AreNoted old (children_supervisors n tables s.children))
+    (λ n s. (children_fault n tables s.children ≡ None) × AreNoted new (children_supervisors n tables s.children))
+    tables old new name n s there (none, λ q among. still q (below q among)) (λ m t so. (so.0, λ q among. still q (so.1 q among))) is
 
 pub idle_noted : (tables : Tables) (old new : BTreeMap (Bor (List ℕ)) ℕ) (name : List ℕ) (n : ℕ) (s : SuperTable)
     → tables name ≡ Some (Super s) → children_starts n tables s.children ≡ [] → ((q : List ℕ) → noted_in new q ≡ cond (bytes_eq name q) (Some n) (noted_in old q))
     → AreIdle tables old → AreIdle tables new
-idle_noted tables = noted_too (λ n s. children_starts n tables s.children ≡ []) tables
+idle_noted tables old new name n s there none =
+    let idle : ℕ → SuperTable → Type 0 = λ n s. children_starts n tables s.children ≡ [] in
+    noted_too idle idle tables old new name n s there none (λ m t so. so)
 
 -- what is known of a supervisor that is noted
 
 pub known_sound : (tables : Tables) (noted : BTreeMap (Bor (List ℕ)) ℕ) (name : List ℕ) (n : ℕ) (s : SuperTable) → AreSound tables noted → tables name ≡ Some (Super s)
-    → option_map_or (λ m. nat_le m n) (noted_in noted name) false ≡ true → children_fault n tables s.children ≡ None
+    → option_map_or (λ m. nat_le m n) (noted_in noted name) false ≡ true → (children_fault n tables s.children ≡ None) × AreNoted noted (name ∷ children_supervisors n tables s.children)
 known_sound tables noted name n s sound there known = go (noted_in noted name) refl known
   where
-    go : (o : Option ℕ) → noted_in noted name ≡ o → option_map_or (λ m. nat_le m n) o false ≡ true → children_fault n tables s.children ≡ None
+    itself_too : is_noted noted name ≡ true → AreNoted noted (children_supervisors n tables s.children) → AreNoted noted (name ∷ children_supervisors n tables s.children)
+    itself_too itself below q among = by (bytes_eq q name) refl among
+      where
+        by : (b : Bool) → bytes_eq q name ≡ b → (b || is_among q (children_supervisors n tables s.children)) ≡ true → is_noted noted q ≡ true
+        by true same e = ap (is_noted noted) ((bytes_eq-Decides q name).0 same) ∙ itself
+        by false same e = below q e
+
+    go : (o : Option ℕ) → noted_in noted name ≡ o → option_map_or (λ m. nat_le m n) o false ≡ true
+        → (children_fault n tables s.children ≡ None) × AreNoted noted (name ∷ children_supervisors n tables s.children)
     go None is e = absurd cc
-    go (Some m) is e = sound_deeper tables m n s.children (grind (arith, nat_tests)) (sound name m s is there)
+    go (Some m) is e =
+        let within : m ≤ n = grind (arith, nat_tests) in
+        let known = sound name m s is there in (
+          sound_deeper tables m n s.children within known.0,
+          itself_too (ap is_some is) (subst (AreNoted noted) (sym (supervisors_deeper tables m n s.children within known.0)) known.1),
+        )
 
 pub known_idle : (tables : Tables) (noted : BTreeMap (Bor (List ℕ)) ℕ) (name : List ℕ) (n : ℕ) (s : SuperTable) → AreIdle tables noted → tables name ≡ Some (Super s)
     → option_map_or (λ m. nat_le n m) (noted_in noted name) false ≡ true → children_starts n tables s.children ≡ []

@@ -1,4 +1,4 @@
--- Laws of starts and stops.
+-- Laws of starts and stops, and of what is loaded.
 use Rattle.std.specs.Prelude.{◌≡◌, ℕ, suc, ◌+◌, ◌<◌, ◌≤◌, true, List, [], ◌∷◌, length, None, Some}
 use Rattle.mod_table.specs.declared.table.Table.TheVariants.{Super}
 use Rattle.mod_table.specs.Table.{SuperTable}
@@ -10,7 +10,9 @@ use Rattle.proc_table.specs.Views.{seen, handler_view}
 use Rattle.proc_table.specs.Free.{next_in}
 use Rattle.rel_check.specs.Modules.{Tables}
 use Rattle.rel_check.specs.Walk.{missing_below, processes_from, is_within}
+use Rattle.sup_tree.specs.declared.loaded.Loaded.{Loaded}
 use Rattle.sup_tree.specs.declared.process.StartedProcess.{StartedProcess}
+use Rattle.sup_tree.specs.Loaded.{modules_in, module_named, listed_in}
 use Rattle.sup_tree.specs.Walk.{Start, children_fault, children_starts}
 use Rattle.sup_tree.specs.Starts.{beginning_of, BeganInOrder}
 
@@ -43,3 +45,7 @@ FirstSlots = FreeFrom 0 (handler_view slots)
 abbrev pub CheckedStarts : Type 0
 CheckedStarts = (n : ℕ) (tables : Tables) (s : SuperTable) → missing_below n tables (Super s) ≡ None → is_within n tables (Super s) ≡ true
     → (children_fault n tables s.children ≡ None) × (length (children_starts n tables s.children) ≡ processes_from n tables (Super s))
+
+-- What is loaded under a name is what the list of the loaded modules has under it.
+abbrev pub FoundAsListed : Type 0
+FoundAsListed = (l : Loaded) (name : List ℕ) → modules_in l name ≡ module_named name (listed_in l)

@@ -1,4 +1,5 @@
 pub mod Loaded
+pub mod Names
 pub mod Walk
 pub mod InMemory
 pub mod Tree

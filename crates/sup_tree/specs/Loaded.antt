@@ -1,7 +1,9 @@
 -- The modules that are loaded.
-use Rattle.std.specs.Prelude.{ℕ, List, [], ◌∷◌, map, String, string_bytes, slice_index_or, Option, Some, None, if◌then◌else◌}
+use Rattle.std.specs.Prelude.{ℕ, List, [], ◌∷◌, map, not, String, string_bytes, slice_index_or, Option, Some, None, if◌then◌else◌}
 use Rattle.std.specs.declared.alloc.Global.{Global}
 use Rattle.std.specs.BTreeMap.{BTreeMap, get_by_text, insert_entry}
+use Rattle.std.specs.List.{filter}
+use Rattle.std.specs.Map.{lookup}
 use Rattle.std.specs.Cmp.Lexicographic.{slice_cmp}
 use Rattle.std.specs.Option.{option_map, option_or, option_and_then}
 use Rattle.std.specs.Ordering.{nat_cmp}
@@ -63,6 +65,19 @@ modules_in l name = modules_in_map l.modules name
 -- Modules with their names. What is loaded is listed by the bytes of the names.
 abbrev pub NamedModules : Type 0
 NamedModules = List (List ℕ × Module)
+
+-- the module of this name
+abbrev pub module_named : List ℕ → NamedModules → Option Module
+module_named name ms = lookup (bytes_eq name) ms
+
+-- a module is loaded in place of what had its name; where there is none, nothing changes
+abbrev pub with_loaded : Option Module → List ℕ → NamedModules → NamedModules
+with_loaded None name ms = ms
+with_loaded (Some m) name ms = insert_entry (slice_cmp nat_cmp) ms name m
+
+-- the module of this name isn't loaded any more
+abbrev pub without_module : List ℕ → NamedModules → NamedModules
+without_module name ms = filter (λ (m : List ℕ × Module). not (bytes_eq name m.0)) ms
 
 abbrev pub name_and_version : List ℕ × Module → List ℕ × List ℕ
 name_and_version m = (m.0, m.1.vsn)

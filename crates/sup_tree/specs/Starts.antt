@@ -8,7 +8,8 @@ use Rattle.rel_check.specs.Modules.{Tables}
 use Rattle.sup_tree.specs.declared.error.StartError.{StartError}
 use Rattle.sup_tree.specs.declared.error.StartError.TheVariants.{AlreadyStarted, NoTable, Unsupported, NoSlot, NoMemory}
 use Rattle.sup_tree.specs.declared.process.StartedProcess.{StartedProcess}
-use Rattle.sup_tree.specs.Walk.{Start, app_fault, app_starts}
+use Rattle.sup_tree.specs.Names.{is_among, AreNamesWith}
+use Rattle.sup_tree.specs.Walk.{Start, app_fault, app_starts, app_supervisors}
 use Rattle.sup_tree.specs.Walk.StartFault.{no_table, unsupported}
 use Rattle.sup_tree.specs.Tree.{App, app_named}
 
@@ -32,13 +33,15 @@ BeganInOrder app [] v [] w = w ≡ v
 BeganInOrder app (s ∷ ss) v (p ∷ ps) w = (u : View) × BeganLowest (beginning_of app s) v (Ok p.pid) u × (p ≡ process_of s p.pid) × BeganInOrder app ss u ps w
 BeganInOrder app ss v ps w = ⊥
 
--- All that the application starts began, and it is started, behind those that were.
+-- All that the application starts began, and it is started, behind those that were. Its supervisors are kept, each module once.
 pub record AppStarted (name : List ℕ) (top : Option (List ℕ)) (tables : Tables) (apps : List App) (v : View) (apps' : List App) (w : View) : Type 0 where
   pub new : app_named name apps ≡ None
   pub sound : app_fault tables top ≡ None
   pub processes : List StartedProcess
   pub began : BeganInOrder name (app_starts tables top) v processes w
-  pub tree : apps' ≡ apps ++ record { name = name; processes = processes } ∷ []
+  pub supervisors : List (List ℕ)
+  pub kept : AreNamesWith (λ m. is_among m (app_supervisors tables top)) supervisors
+  pub tree : apps' ≡ apps ++ record { name = name; processes = processes; supervisors = supervisors } ∷ []
 
 -- why it isn't started
 abbrev pub IsWhy : StartError → List ℕ → Option (List ℕ) → Tables → List App → View → Type 0

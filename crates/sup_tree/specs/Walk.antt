@@ -1,6 +1,6 @@
 -- What an application starts: the workers below its top, children in order, those of a supervisor before its next sibling
 -- (OTP: supervisor, Principles). A number says how many supervisors in each other the walk goes through at most.
-use Rattle.std.specs.Prelude.{ℕ, zero, suc, List, [], ◌∷◌, Option, Some, None}
+use Rattle.std.specs.Prelude.{ℕ, zero, suc, List, [], ◌∷◌, ◌++◌, Option, Some, None}
 use Rattle.std.specs.List.{flat_map}
 use Rattle.std.specs.Option.{option_or, option_and_then}
 use Rattle.mod_table.specs.declared.table.Table.{Table}
@@ -72,3 +72,31 @@ app_fault tables top = option_or (worker_at_top tables top) (children_fault 8 ta
 -- what it starts
 abbrev pub app_starts : Tables → Option (List ℕ) → List Start
 app_starts tables top = children_starts 8 tables (top_children tables top)
+
+-- a child that is a supervisor, and the supervisors below it
+abbrev pub child_supervisors : (List ChildSpec → List (List ℕ)) → ChildSpec → Option Table → List (List ℕ)
+child_supervisors below c None = []
+child_supervisors below c (Some (Worker w)) = []
+child_supervisors below c (Some (Super s)) = c.start ∷ below s.children
+
+-- the modules of the supervisors among these children and below them; one that others share stands there again for each
+unfoldable pub children_supervisors : ℕ → Tables → List ChildSpec → List (List ℕ)
+children_supervisors zero tables cs = []
+children_supervisors (suc n) tables cs = flat_map (λ (c : ChildSpec). child_supervisors (children_supervisors n tables) c (child_table tables c)) cs
+
+-- those of a child, through so many supervisors in each other
+abbrev pub supervisors_from : ℕ → Tables → ChildSpec → List (List ℕ)
+supervisors_from n tables c = child_supervisors (children_supervisors n tables) c (child_table tables c)
+
+-- the top, where it has the table of a supervisor
+abbrev pub supervisor_itself : List ℕ → Option Table → List (List ℕ)
+supervisor_itself m (Some (Super s)) = m ∷ []
+supervisor_itself m t = []
+
+abbrev pub top_itself : Tables → Option (List ℕ) → List (List ℕ)
+top_itself tables None = []
+top_itself tables (Some m) = supervisor_itself m (tables m)
+
+-- the modules of the supervisors that start with an application: its top, and those below it
+abbrev pub app_supervisors : Tables → Option (List ℕ) → List (List ℕ)
+app_supervisors tables top = top_itself tables top ++ children_supervisors 8 tables (top_children tables top)

@@ -7,7 +7,7 @@ ghost use Rattle.sup_tree.specs.Loaded.{modules_in, tables_of};
 ghost use Rattle.sup_tree.specs.NewProcesses.{AllBegan, new_process_of};
 ghost use Rattle.sup_tree.specs.Starts.{StartsApp};
 
-use crate::walk::{Start, starts_of_app};
+use crate::walk::{Plan, Start, plan_of};
 use crate::{Loaded, StartError, StartedApp, StartedProcess, Tree};
 use app_file::App;
 use proc_table::{Beginning, HandlerSeat, Name, ProcTable};
@@ -44,13 +44,20 @@ impl Tree {
         if self.is_started(app.name.as_str()) {
             return Err(StartError::AlreadyStarted);
         }
-        let starts = starts_of_app(alloc, loaded, app, seat.free_count())?;
+        let Plan {
+            starts,
+            supervisors,
+        } = plan_of(alloc, loaded, app, seat.free_count())?;
         let name = name_of(alloc, app.name.as_str())?;
         let new = new_processes(alloc, app.name.as_str(), starts.as_slice())?;
         let mut processes = Vec::with_capacity(alloc, new.len())?;
         self.apps.reserve(1)?;
         begin_all(rt, table, seat, new, &mut processes);
-        self.apps.push_reserved(StartedApp { name, processes });
+        self.apps.push_reserved(StartedApp {
+            name,
+            processes,
+            supervisors,
+        });
         Ok(())
     }
 }
@@ -79,7 +86,7 @@ fn begin_all<R: Wait>(
     }
 }
 
-fn name_of(alloc: Global, text: &str) -> Result<Name, AllocError>
+pub(crate) fn name_of(alloc: Global, text: &str) -> Result<Name, AllocError>
     ensures { IfOk result (λ name. name ≡ text.now) }
 {
     Ok(Name::new(String::from_str(alloc, text)?))

@@ -12,9 +12,11 @@ pub struct StartedProcess {
     pub pid: Pid,
 }
 
-/// An application that is started, with its processes in the order in which they began.
+/// An application that is started, with its processes in the order in which they began, and the modules of the supervisors that
+/// started with it: each once, in the order of their bytes.
 #[derive(Drop)]
 pub struct StartedApp {
     pub name: Name,
     pub processes: Vec<StartedProcess>,
+    pub supervisors: Vec<Name>,
 }

@@ -27,6 +27,7 @@ impl Tree {
         let StartedApp {
             name: _name,
             processes,
+            supervisors: _supervisors,
         } = self.apps.remove(place);
         end_all(rt, table, seat, processes);
         Ok(())

@@ -1,10 +1,11 @@
 //! The tree of started applications.
 ghost use Rattle.std.specs.Prelude.{◌≡◌, ◌++◌, IfOk, OnOk, is_some, []};
 ghost use Rattle.std.specs.Option.{option_map};
-ghost use Rattle.sup_tree.specs.Tree.{app_of, app_named, app_using, find_process, processes_using};
+ghost use Rattle.sup_tree.specs.Names.{is_among};
+ghost use Rattle.sup_tree.specs.Tree.{app_of, app_named, app_using, find_process, module_among, module_in, processes_using, supervises};
 
 use crate::process::{StartedApp, StartedProcess};
-use proc_table::Pid;
+use proc_table::{Name, Pid};
 use std::alloc::{AllocError, Global};
 use std::marker::Model;
 
@@ -67,6 +68,30 @@ impl Tree {
         Ok(pids)
     }
 
+    /// The module of the process that began in this slot, where one did.
+    pub fn module_in(&self, slot: usize) -> Option<&str>
+        ensures { option_map (λ m. m.now) result ≡ module_in slot self.now }
+    {
+        for app in self.apps.as_slice() {
+            if let Some(module) = module_among(app.processes.as_slice(), slot) {
+                return Some(module);
+            }
+        }
+        None
+    }
+
+    /// Whether a started application has a supervisor of this module.
+    pub fn supervises(&self, module: &str) -> bool
+        ensures { result ≡ supervises «module».now self.now }
+    {
+        for app in self.apps.as_slice() {
+            if is_among(module, app.supervisors.as_slice()) {
+                return true;
+            }
+        }
+        false
+    }
+
     fn app(&self, name: &str) -> Option<&StartedApp>
         ensures { option_map (λ a. app_of a.now) result ≡ app_named name.now self.now }
     {
@@ -90,4 +115,27 @@ fn add_using(pids: &mut Vec<Pid>, app: &StartedApp, module: &str) -> Result<(), 
         }
     }
     Ok(())
+}
+
+// The module of the process among these that began in this slot.
+fn module_among(processes: &[StartedProcess], slot: usize) -> Option<&str>
+    ensures { option_map (λ m. m.now) result ≡ module_among slot processes.now }
+{
+    for process in processes {
+        if process.pid.slot == slot {
+            return Some(process.module.as_str());
+        }
+    }
+    None
+}
+
+fn is_among(name: &str, names: &[Name]) -> bool
+    ensures { result ≡ is_among name.now names.now }
+{
+    for other in names {
+        if name == other.as_str() {
+            return true;
+        }
+    }
+    false
 }

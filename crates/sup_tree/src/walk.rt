@@ -5,19 +5,21 @@ ghost use Rattle.std.specs.Option.{option_map, option_map_or};
 ghost use Rattle.app_file.specs.InMemory.{specification_of};
 ghost use Rattle.mod_table.specs.InMemory.{child_of};
 ghost use Rattle.rel_check.specs.Walk.{child_table};
-ghost use Rattle.sup_tree.specs.InMemory.{AreSound, AreIdle, Reports, Adds, noted_in, start_of, AnswersStarts, TopIs};
+ghost use Rattle.sup_tree.specs.InMemory.{AreSound, AreIdle, NotesAll, Reports, Adds, noted_in, start_of, AnswersPlan, AnswersStarts, TopIs};
 ghost use Rattle.sup_tree.specs.Loaded.{modules_in, tables_of};
-ghost use Rattle.sup_tree.specs.Walk.{children_fault, children_starts, fault_from, starts_from};
+ghost use Rattle.sup_tree.specs.Walk.{children_fault, children_starts, children_supervisors, fault_from, starts_from, supervisors_from};
 
 use crate::StartError;
 use crate::loaded::Loaded;
+use crate::supervisors::supervisors_of;
 use app_file::App;
 use mod_table::{Child, ChildKind, Table, Worker};
+use proc_table::Name;
 use std::alloc::{AllocError, Global};
 use std::collections::BTreeMap;
 
 /// How many supervisors there are in each other at most.
-const MOST_SUPERVISORS: usize = 8;
+pub(crate) const MOST_SUPERVISORS: usize = 8;
 
 /// A process that starts: its child specification, and the table of its module.
 #[derive(Clone, Copy)]
@@ -26,23 +28,46 @@ pub(crate) struct Start<'a> {
     pub(crate) table: &'a Worker,
 }
 
+/// What an application starts: its processes, and the modules of its supervisors.
+#[derive(Drop)]
+pub(crate) struct Plan<'a> {
+    pub(crate) starts: Vec<Start<'a>>,
+    pub(crate) supervisors: Vec<Name>,
+}
+
 // What is known of supervisors, by their modules: through how many in each other. So one that many others share isn't walked
 // through again for each of them.
-type Noted<'a> = BTreeMap<&'a str, usize>;
+pub(crate) type Noted<'a> = BTreeMap<&'a str, usize>;
 
 /// What an application starts, which are no more than so many.
-pub(crate) fn starts_of_app<'a>(
+pub(crate) fn plan_of<'a>(
     alloc: Global,
     loaded: &'a Loaded,
     app: &'a App,
     most: usize,
-) -> Result<Vec<Start<'a>>, StartError<'a>>
-    ensures { AnswersStarts most
+) -> Result<Plan<'a>, StartError<'a>>
+    ensures { AnswersPlan most
         (tables_of (modules_in loaded.now)) (specification_of app.now).top result }
 {
     let children = top_children(loaded, app)?;
-    let mut sound = BTreeMap::new(alloc);
-    check_children(loaded, children, MOST_SUPERVISORS, &mut sound)?;
+    let supervisors = supervisors_of(alloc, loaded, app, children)?;
+    let starts = starts_below(alloc, loaded, children, most)?;
+    Ok(Plan {
+        starts,
+        supervisors,
+    })
+}
+
+// What the children of a top start.
+fn starts_below<'a>(
+    alloc: Global,
+    loaded: &'a Loaded,
+    children: &'a [Child],
+    most: usize,
+) -> Result<Vec<Start<'a>>, StartError<'a>>
+    ensures { AnswersStarts most (children_starts MOST_SUPERVISORS
+        (tables_of (modules_in loaded.now)) (map child_of children.now)) result }
+{
     let mut starts = Vec::new(alloc);
     let mut idle = BTreeMap::new(alloc);
     add_starts(
@@ -70,9 +95,10 @@ fn top_children<'a>(loaded: &'a Loaded, app: &'a App) -> Result<&'a [Child], Sta
     }
 }
 
-// Whether nothing is wrong among the children of a supervisor, nor below them, through so many supervisors in each other.
+// Whether nothing is wrong among the children of a supervisor, nor below them, through so many supervisors in each other. All
+// supervisors that it comes through are noted.
 #[cycle(checks)]
-fn check_children<'a>(
+pub(crate) fn check_children<'a>(
     loaded: &'a Loaded,
     children: &'a [Child],
     depth: usize,
@@ -80,6 +106,8 @@ fn check_children<'a>(
 ) -> Result<(), StartError<'a>>
     requires { AreSound (tables_of (modules_in loaded.now)) sound.old }
     ensures sound { OnOk result (AreSound (tables_of (modules_in loaded.now)) sound.new) }
+    ensures noted { OnOk result (NotesAll (children_supervisors depth
+        (tables_of (modules_in loaded.now)) (map child_of children.now)) sound.old sound.new) }
     ensures fault { Reports result
         (children_fault depth (tables_of (modules_in loaded.now)) (map child_of children.now)) }
 {
@@ -101,6 +129,8 @@ fn check_child<'a>(
 ) -> Result<(), StartError<'a>>
     requires { AreSound (tables_of (modules_in loaded.now)) sound.old }
     ensures sound { OnOk result (AreSound (tables_of (modules_in loaded.now)) sound.new) }
+    ensures noted { OnOk result (NotesAll (supervisors_from depth
+        (tables_of (modules_in loaded.now)) (child_of child.now)) sound.old sound.new) }
     ensures fault { Reports result
         (fault_from depth (tables_of (modules_in loaded.now)) (child_of child.now)) }
 {
@@ -214,7 +244,7 @@ fn was_idle<'a>(idle: &Noted<'a>, name: &'a str, depth: usize) -> bool
 }
 
 // From now on this number is noted of the supervisor.
-fn note<'a>(noted: &mut Noted<'a>, name: &'a str, depth: usize) -> Result<(), AllocError>
+pub(crate) fn note<'a>(noted: &mut Noted<'a>, name: &'a str, depth: usize) -> Result<(), AllocError>
     ensures { OnOk result ((q : List ℕ) → noted_in noted.new q
         ≡ cond (bytes_eq name.now q) (Some depth) (noted_in noted.old q)) }
 {

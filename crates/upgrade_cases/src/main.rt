@@ -9,6 +9,7 @@ mod answers;
 mod appup_texts;
 mod appups;
 mod clients;
+mod loads;
 mod made_relups;
 mod own_calls;
 mod processes;

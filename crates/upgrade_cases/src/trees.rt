@@ -1,6 +1,7 @@
 //! Applications that are started and stopped.
 ghost use Rattle.std.specs.Prelude.{◌≡◌};
 
+use crate::loads::change_loaded;
 use crate::processes::push_pid;
 use crate::steps::take_step;
 use erl_term::read_record;
@@ -11,14 +12,17 @@ use std::alloc::Global;
 use std::rc::Rc;
 use std::sync::Wait;
 use sup_tree::{Loaded, StartError, Tree};
-use text_cases::{Answer, first_word};
+use text_cases::{Answer, first_word, number};
 
 /// Appends what steps at a new table and a new tree answer, with `; ` between them as between the steps. The text is the list of
 /// the terms of libraries, whose modules are loaded, and behind ` | ` the steps.
 ///
 /// - `start APP`, `stop APP`: `ok`, or why not.
 /// - `find APP ID`: the name of the process, or `none`. `using MODULE`: the names of the processes that run it.
+/// - `in SLOT`: the module that the process runs which began there, or `none`. `supervises MODULE`: whether a started application
+///   has a supervisor of it, `yes` or `no`.
 /// - `vsn MODULE`: its version that is loaded, or `none`. `versions`: each module that is loaded, with its version.
+/// - `fetch`, `load`, `remove`, `copy` change what is loaded, as [`change_loaded`] has them.
 /// - Any other step is one of a table, as [`crate::steps::follow_steps`] has them.
 pub(crate) fn follow_tree<R: Wait>(rt: &R, alloc: Global, words: &str, answer: &mut Answer) {
     let Some((terms, steps)) = words.split_once(" | ") else {
@@ -42,10 +46,13 @@ fn follow_with<R: Wait>(
     steps: &str,
     answer: &mut Answer,
 ) {
-    let (Ok(loaded), Ok((table, mut seat))) = (Loaded::of(alloc, libraries), ProcTable::new(alloc))
-    else {
+    let (Ok(mut loaded), Ok((table, mut seat))) = (
+        Loaded::of(alloc, libraries),
+        ProcTable::new(alloc),
+    ) else {
         return answer.note_no_memory();
     };
+    let mut fetched = Loaded::new(alloc);
     let mut tree = Tree::new(alloc);
     for step in steps.split("; ") {
         if !answer.text.is_empty() {
@@ -62,9 +69,16 @@ fn follow_with<R: Wait>(
                 Ok(()) => answer.push("ok"),
                 Err(error) => answer.push_shown(&error),
             },
-            "find" | "using" | "vsn" | "versions" => push_found(
-                alloc, &loaded, &tree, word, rest, answer,
+            "fetch" | "load" | "remove" | "copy" => change_loaded(
+                alloc,
+                libraries,
+                &mut loaded,
+                &mut fetched,
+                step,
+                answer,
             ),
+            "vsn" | "versions" => push_loaded(alloc, &loaded, word, rest, answer),
+            "find" | "using" | "in" | "supervises" => push_found(alloc, &tree, word, rest, answer),
             _ => take_step(rt, alloc, &table, &mut seat, step, answer),
         }
     }
@@ -97,20 +111,20 @@ fn push_start<R: Wait>(
     answer.push("no such application");
 }
 
-fn push_found(
-    alloc: Global,
-    loaded: &Loaded,
-    tree: &Tree,
-    word: &str,
-    name: &str,
-    answer: &mut Answer,
-) {
+fn push_found(alloc: Global, tree: &Tree, word: &str, name: &str, answer: &mut Answer) {
     match word {
         "find" => {
             let (app, id) = first_word(name);
             push_pid(tree.find(app, id), answer);
         }
         "using" => push_using(alloc, tree, name, answer),
+        "in" => answer.push(tree.module_in(number(name)).unwrap_or("none")),
+        _ => answer.push(if tree.supervises(name) { "yes" } else { "no" }),
+    }
+}
+
+fn push_loaded(alloc: Global, loaded: &Loaded, word: &str, name: &str, answer: &mut Answer) {
+    match word {
         "versions" => push_versions(alloc, loaded, answer),
         _ => answer.push(loaded.vsn(name).unwrap_or("none")),
     }

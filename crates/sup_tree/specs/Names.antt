@@ -1,0 +1,16 @@
+-- Names that stand once each.
+use Rattle.std.specs.Prelude.{◌≡◌, ℕ, Bool, List}
+use Rattle.std.specs.Cmp.Lexicographic.{slice_cmp}
+use Rattle.std.specs.List.{list_any}
+use Rattle.std.specs.List.Sorted.{IsStrictlySortedBy}
+use Rattle.std.specs.Ordering.{nat_cmp}
+use Rattle.std.specs.Str.{bytes_eq}
+
+-- whether the name is one of these
+abbrev pub is_among : List ℕ → List (List ℕ) → Bool
+is_among name names = list_any (bytes_eq name) names
+
+-- They are the names for which the test holds, each once, in the order of their bytes.
+pub record AreNamesWith (test : List ℕ → Bool) (names : List (List ℕ)) : Type 0 where
+  pub ordered : IsStrictlySortedBy (slice_cmp nat_cmp) names
+  pub same : (name : List ℕ) → is_among name names ≡ test name
