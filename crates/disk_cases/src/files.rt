@@ -6,8 +6,8 @@ use std::alloc::Global;
 use text_cases::{Answer, number};
 
 /// Each path of a release names the release that its file has, and each path below `lib` is that of
-/// an application without modules. The path `missing` has no file, nor has the application `gone`.
-/// The application `worker` has a worker at its top.
+/// an application without modules. The path `missing` has no file, nor has the application `gone`,
+/// and no release has a relup. The application `worker` has a worker at its top.
 #[derive(Clone, Copy)]
 pub(crate) struct ReleaseFiles;
 
@@ -16,7 +16,8 @@ impl Files for ReleaseFiles {
 
     fn read(&self, alloc: Global, path: &str) -> Result<Vec<u8>, FilesError> {
         match path {
-            "missing" | "lib/gone-1/ebin/gone.app" => Err(FilesError::Missing),
+            "missing" | "relup" | "lib/gone-1/ebin/gone.app" => Err(FilesError::Missing),
+            _ if path.ends_with("/relup") => Err(FilesError::Missing),
             "unreadable" => Err(FilesError::Unreadable),
             "large" => Err(FilesError::TooLarge),
             _ => bytes_at(alloc, path),

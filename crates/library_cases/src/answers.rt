@@ -1,11 +1,11 @@
 //! The answer to a case.
-use crate::{apps, checks, libraries, lists, records, release_files, terms};
+use crate::{apps, checks, kept, libraries, lists, records, release_files, relups, terms};
 use app_file::read_app;
 use rel_files::read_rel;
 use std::alloc::{AllocError, Global};
 use text_cases::Answer;
 
-/// The answer in one of twenty-three modes. A text that can't be read is answered by its fault.
+/// The answer in one of twenty-six modes. A text that can't be read is answered by its fault.
 ///
 /// `terms`: each term of the text, with the places where it begins and ends. `record`: the one term of a record's body.
 /// `print`: that term as it is printed. `prefixes`: how many terms each prefix of the text has.
@@ -17,9 +17,10 @@ use text_cases::Answer;
 /// such a list gives before the first event, and behind the answer to each.
 ///
 /// `bodies`: the list that the bodies of records make, each on a line of its own, or which one is bad. `written`: the body
-/// that the event on the first line writes behind the list of the other lines.
+/// that the event on the first line writes behind the list of the other lines. `kept`: the bodies of the records that bring
+/// releases, and the relups of the list that they make.
 ///
-/// The others are those of the files of a release: of [`libraries`] and of [`checks::push_answer`].
+/// The others are those of the files of a release: of [`libraries`], of [`relups`] and of [`checks::push_answer`].
 pub(crate) fn answer(alloc: Global, mode: &str, text: &[u8]) -> Result<String, AllocError> {
     let mut answer = Answer::new(alloc);
     push_answer(alloc, mode, text, &mut answer);
@@ -49,8 +50,11 @@ fn push_of_text(alloc: Global, mode: &str, text: &str, answer: &mut Answer) {
         "readers" => lists::push_followed(alloc, true, text, answer),
         "bodies" => records::push_behind(alloc, text, "", answer),
         "written" => records::push_written(alloc, text, answer),
+        "kept" => kept::push_kept(alloc, text, answer),
         "differs" => libraries::push_difference(alloc, text, answer),
         "twice" => libraries::push_compared(alloc, text, text, answer),
+        "relup" => relups::push_beside(alloc, text, answer),
+        "scripts" => relups::push_made(alloc, text, answer),
         "release" | "unpack" | "check" => libraries::push_answer(alloc, mode, text, answer),
         _ => checks::push_answer(alloc, mode, text, answer),
     }

@@ -49,6 +49,7 @@ fn bundle_of_term(alloc: Global, list: &ReleaseList, term: &Term) -> Option<Bund
     Some(Bundle {
         release: rel_of_term(alloc, release, 0).ok()?,
         libraries: libraries_in(alloc, list, libraries)?,
+        relup: None,
     })
 }
 

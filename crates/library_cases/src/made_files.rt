@@ -34,6 +34,27 @@ pub(crate) fn push_worker(rows: usize, files: &mut Answer) {
     files.push("]}.\n");
 }
 
+/// A release R without applications, and beside it a relup of this version with a script up and a script down, each of so
+/// many instructions.
+pub(crate) fn push_scripts(up: usize, down: usize, vsn: &str, files: &mut Answer) {
+    files.push("r.rel {release,{\"r\",\"R\"},{erts,\"14.2\"},[]}.\n");
+    files.push_after("relup {\"", vsn);
+    files.push("\",[");
+    push_script(up, files);
+    files.push("],[");
+    push_script(down, files);
+    files.push("]}.\n");
+}
+
+// The entry of a script of this many instructions.
+fn push_script(count: usize, files: &mut Answer) {
+    files.push("{\"A\",[],[point_of_no_return");
+    for _ in 1..count {
+        files.push(",{purge,[]}");
+    }
+    files.push("]}");
+}
+
 // The file of the release, and that of its application up to the modules.
 const BEGUN: &str = r#"r.rel {release,{"r","R"},{erts,"14.2"},[{a,"1"}]}.
 lib/a-1/ebin/a.app {application,a,[{vsn,"1"},{modules,["#;

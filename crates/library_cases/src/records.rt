@@ -18,7 +18,12 @@ pub(crate) fn push_behind(alloc: Global, bodies: &str, words: &str, answer: &mut
     push_behind_lines(alloc, lines.as_slice(), words, answer);
 }
 
-fn push_line(alloc: Global, line: &str, lines: &mut Vec<Vec<u8>>) -> Result<(), AllocError> {
+// Adds the bytes of a line.
+pub(crate) fn push_line(
+    alloc: Global,
+    line: &str,
+    lines: &mut Vec<Vec<u8>>,
+) -> Result<(), AllocError> {
     Ok(lines.push(Vec::from_slice(alloc, line.as_bytes())?)?)
 }
 

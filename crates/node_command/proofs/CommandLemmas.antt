@@ -4,7 +4,7 @@ use Rattle.std.specs.Prelude.{◌||◌, if◌then◌else◌, nat_le}
 use Rattle.std.proofs.lemmas.Bool.Decides.{nat_tests}
 use Rattle.rel_list.specs.declared.fault.ListError.{ListError}
 use Rattle.rel_list.specs.declared.fault.ListError.TheVariants as list
-use Rattle.rel_list.specs.declared.status.Status.TheVariants.{Unpacked, Permanent}
+use Rattle.rel_list.specs.declared.status.Status.TheVariants.{Unpacked}
 use Rattle.rel_list.specs.Releases.{Bundle, Releases, entry, first_different, status_of}
 use Rattle.rel_list.specs.Event.{Event, is_barred, step}
 use Rattle.rel_list.specs.Event.Event.{made, unpacked, installed, made_permanent, removed, reboot_old, boot}
@@ -164,6 +164,7 @@ IsListRefusal told.Dead = ⊥
 IsListRefusal told.Full = ⊥
 IsListRefusal told.Device = ⊥
 IsListRefusal told.Exists = ⊥
+IsListRefusal told.NoMatchingRelup = ⊥
 IsListRefusal (told.LibDiffers app) = ⊥
 IsListRefusal (told.NoTable app) = ⊥
 IsListRefusal (told.BadFile path trouble) = ⊥

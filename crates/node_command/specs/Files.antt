@@ -1,29 +1,33 @@
 -- What a command is given of a release, and what is told of its files.
 use Rattle.std.specs.Prelude.{◌≡◌, ◌≢◌, ℕ, List, length, Option, Some, Result, Err}
-use Rattle.erl_term.specs.Value.{value_of}
+use Rattle.std.specs.Option.{option_map, ForSome}
 use Rattle.erl_term.specs.Within.{IsWithin}
-use Rattle.rel_files.specs.File.{IsReleaseTerm}
-use Rattle.rel_files.specs.Release.{release_of}
-use Rattle.rel_files.specs.declared.reader.RelFile.{RelFile}
 use Rattle.rel_list.specs.Releases.{Bundle, Releases}
-use Rattle.rel_records.specs.Record.{makes, adds, body_of}
+use Rattle.rel_records.specs.Reading.{AreOfRelease}
+use Rattle.rel_records.specs.Record.{FileTerms, makes, adds, body_of}
 use Rattle.rel_records.specs.Writing.{new_libraries, CanBeCarried, IsComplete}
 use Rattle.rel_unpack.specs.declared.error.UnpackError.{UnpackError}
 use Rattle.rel_unpack.specs.declared.error.UnpackError.TheVariants as files
 use Rattle.rel_unpack.specs.Refusal.{Refusal, refusal_of}
+use Rattle.rel_unpack.specs.Relup.{RelupFound}
 use Rattle.rel_unpack.specs.Source.{Source}
 use Rattle.rel_unpack.specs.Unpacking.{Brought, BroughtAt}
 use Rattle.node_command.specs.declared.error.HandlerError.{HandlerError}
 use Rattle.node_command.specs.declared.error.HandlerError.TheVariants.{MissingFile, BadFile, VsnMismatch, LibDiffers, NoTable, TooMany, NoMemory}
 
--- The file's term says its release, and is no deeper than what a file may hold.
-pub record IsRelFile (file : RelFile) : Type 0 where
-  pub says : IsReleaseTerm (value_of file.term) (release_of file.release)
-  pub within : IsWithin 65 (value_of file.term)
-
--- the release that was brought, with its libraries
+-- the release that was brought, with its libraries and its relup
 abbrev pub bundle_brought : Brought → Bundle
-bundle_brought b = record { release = b.found.release; libraries = b.libraries }
+bundle_brought b = record { release = b.found.release; libraries = b.libraries; relup = option_map (λ (f : RelupFound). f.relup) b.relup }
+
+-- the terms of its files
+abbrev pub terms_brought : Brought → FileTerms
+terms_brought b = record { rel = b.found.term; relup = option_map (λ (f : RelupFound). f.term) b.relup }
+
+-- The terms of its files say its release and its relup, and are no deeper than what a file may hold.
+pub record HasFileTerms (b : Brought) : Type 0 where
+  pub says : AreOfRelease (terms_brought b) b.found.release (bundle_brought b).relup
+  pub within : IsWithin 65 b.found.term
+  pub relup_within : ForSome b.relup (λ f. IsWithin 65 f.term)
 
 -- A node may have it: it is complete, and a record can carry its libraries.
 pub record IsWhole (b : Brought) : Type 0 where
@@ -32,10 +36,10 @@ pub record IsWhole (b : Brought) : Type 0 where
 
 -- how many bytes the body of the record has by which a node is made with what was brought, or takes it in
 abbrev pub made_size : Brought → ℕ
-made_size b = length (body_of b.found.term (makes b.found.release b.libraries))
+made_size b = let p = bundle_brought b in length (body_of (terms_brought b) (makes p.release p.libraries p.relup))
 
 abbrev pub unpacked_size : Brought → Releases → ℕ
-unpacked_size b es = length (body_of b.found.term (adds b.found.release (new_libraries es b.libraries)))
+unpacked_size b es = let p = bundle_brought b in length (body_of (terms_brought b) (adds p.release (new_libraries es p.libraries) p.relup))
 
 -- what is told of a release that isn't taken for its files
 abbrev pub told_files : UnpackError → HandlerError
@@ -57,7 +61,7 @@ pub record IsOfFiles (source : Source) (path : List ℕ) (e : HandlerError) : Ty
   pub told : e ≡ told_files error
   pub read : error ≢ files.NoMemory → Brings source path (Err (refusal_of error))
 
--- This refusal of a release for its applications is told so.
+-- This refusal of a release for its other files is told so.
 pub record IsToldAs (refusal : Option Refusal) (e : HandlerError) : Type 0 where
   pub error : UnpackError
   pub told : e ≡ told_files error

@@ -1,3 +1,4 @@
 pub mod Files
 pub mod Place
 pub mod Taking
+pub mod Installing

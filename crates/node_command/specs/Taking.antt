@@ -8,7 +8,7 @@ use Rattle.rel_list.specs.Event.{Event, step}
 use Rattle.rel_list.specs.Event.Event.{made, unpacked}
 use Rattle.rel_list.specs.Refusal.{refusal}
 use Rattle.rel_records.specs.Limits.{most_releases, is_small}
-use Rattle.rel_records.specs.Record.{body_of}
+use Rattle.rel_records.specs.Record.{FileTerms, body_of}
 use Rattle.rel_records.specs.Writing.{record_of}
 use Rattle.node_command.specs.declared.error.HandlerError.{HandlerError}
 use Rattle.node_command.specs.declared.error.HandlerError.TheVariants.{NoSuchRelease, ExistingRelease, AlreadyInstalled, BadStatus, Permanent, Running, TooMany, NoMemory}
@@ -44,6 +44,10 @@ commanded (unpacked p) es =
     if is_small p.release then kept_short (refused_or (refusal (unpacked p) es) (step (unpacked p) es)) else Err TooMany
 commanded e es = refused_or (refusal e es) (step e es)
 
--- How many bytes the body of the record has of an event that brings no release; so any term stands for its release's.
+-- what stands for the terms of files where there are none
+abbrev pub no_terms : FileTerms
+no_terms = record { rel = tuple_of []; relup = None }
+
+-- How many bytes the body of the record has of an event that brings no release.
 unfoldable pub change_size : Event → Releases → ℕ
-change_size e es = length (body_of (tuple_of []) (record_of e es))
+change_size e es = length (body_of no_terms (record_of e es))

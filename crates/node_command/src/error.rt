@@ -47,6 +47,8 @@ pub enum HandlerError {
     Dead,
     /// No memory was left. It says nothing of the command.
     NoMemory,
+    /// No relup has a script from the release that runs to the one that is to be installed.
+    NoMatchingRelup,
     /// A node is on the disk already.
     Exists,
 }
@@ -71,6 +73,7 @@ impl Drop for HandlerError {
             | HandlerError::Full
             | HandlerError::Dead
             | HandlerError::NoMemory
+            | HandlerError::NoMatchingRelup
             | HandlerError::Exists => {}
         }
     }
@@ -96,6 +99,7 @@ impl HandlerError {
             HandlerError::Full => "Full",
             HandlerError::Dead => "Dead",
             HandlerError::NoMemory => "NoMemory",
+            HandlerError::NoMatchingRelup => "NoMatchingRelup",
             HandlerError::Exists => "Exists",
         }
     }

@@ -3,8 +3,10 @@
 //! A release comes from the file of a path and the files of its applications, in a source of files: [`bring_release`] takes
 //! what `rel_unpack` says that the path brings (`Brings`), or is refused for the release's own file (`IsOfFiles`). For its
 //! applications it is refused where the node would take it: [`new_version`] asks a list for its version and its libraries
-//! (`HasNoPlace`), [`unless_refused`] tells what is wrong with their files (`IsToldAs`), [`unpacking_refusal`] says whether
-//! the node has too many releases.
+//! (`HasNoPlace`), [`unless_refused`] tells what is wrong with its other files, or that the node has too many releases
+//! (`IsToldAs`).
+//!
+//! [`find_installation`] gives the script by which a release is installed (`installation`).
 //!
 //! Each command is an event of the list (`step`). `commanded` says what the event makes of a node's list, or why the command
 //! is refused for the list and its limits; `change_size`, `made_size` and `unpacked_size` say how many bytes the body of its
@@ -14,7 +16,9 @@
 #![tactic(auto)]
 
 mod error;
+mod installation;
 mod release;
 
 pub use error::HandlerError;
-pub use release::{bring_release, new_version, unless_refused, unpacking_refusal};
+pub use installation::find_installation;
+pub use release::{NewBundle, bring_release, has_room, new_bundle, new_version, unless_refused};

@@ -1,22 +1,28 @@
 // A release is brought from its files, and asked of a node's list.
 ghost use Rattle.std.specs.Prelude.{◌≡◌, true, string_bytes, None, Ok, Err, IfOk, IfErr, OnOk, MatchOption};
+ghost use Rattle.std.specs.Option.{option_map};
+ghost use Rattle.erl_term.specs.Value.{value_of};
 ghost use Rattle.rel_files.specs.Release.{release_of};
-ghost use Rattle.rel_list.specs.Event.Event.{unpacked};
-ghost use Rattle.rel_list.specs.Releases.{Releases, first_different, status_of};
+ghost use Rattle.rel_list.specs.Keyed.{bundle_of};
+ghost use Rattle.rel_list.specs.Releases.{first_different, status_of};
 ghost use Rattle.rel_records.specs.Limits.{is_small};
-ghost use Rattle.rel_unpack.specs.Unpacking.{brought_of, libraries_of, refusal_in};
-ghost use Rattle.node_command.specs.Files.{Brings, IsOfFiles, IsRelFile, IsToldAs, IsWhole, bundle_brought};
-ghost use Rattle.node_command.specs.Place.{HasNoPlace};
-ghost use Rattle.node_command.specs.Taking.{commanded};
+ghost use Rattle.rel_records.specs.Parts.{files_of};
+ghost use Rattle.rel_unpack.specs.Unpacking.{brought_of, libraries_of};
+ghost use Rattle.relup_file.specs.Relup.{relup_of};
+ghost use Rattle.node_command.specs.Files.{Brings, HasFileTerms, IsOfFiles, IsToldAs, IsWhole, bundle_brought, terms_brought};
+ghost use Rattle.node_command.specs.Place.{HasNoPlace, has_room, own_refusal, refusal_with};
 
 use crate::HandlerError;
+use erl_term::Term;
 use file_source::Files;
-use rel_list::ReleaseList;
+use rel_files::RelFile;
+use rel_list::{Bundle, ReleaseList};
 use rel_records::MOST_RELEASES;
 use rel_unpack::{ApplicationFiles, ReleaseFiles, UnpackError, unpack_release};
+use relup_file::{Relup, RelupFile};
 use std::alloc::Global;
 
-/// The release of a path, and what the files of its applications give. All its files are read.
+/// The release of a path, what the files of its applications give, and its relup. All its files are read.
 ///
 /// Refusals: `MissingFile`, `BadFile`, `TooMany` for the release's own file or its number of applications. `NoMemory` may
 /// come in place of each.
@@ -26,10 +32,9 @@ pub fn bring_release<F: Files>(
     path: &str,
 ) -> Result<ReleaseFiles, HandlerError>
     ensures brought { IfOk result (λ r. Brings (F.gives files.now) path.now (Ok (brought_of r))) }
-    ensures file { IfOk result (λ r. IsRelFile r.file) }
+    ensures terms { IfOk result (λ r. HasFileTerms (brought_of r)) }
     ensures small { IfOk result (λ r. is_small (release_of r.file.release) ≡ true) }
-    ensures whole { IfOk result (λ r. refusal_in r.applications ≡ None
-        → IsWhole (brought_of r)) }
+    ensures whole { IfOk result (λ r. own_refusal (brought_of r) ≡ None → IsWhole (brought_of r)) }
     ensures refused { IfErr result (IsOfFiles (F.gives files.now) path.now) }
 {
     Ok(unpack_release(alloc, files, path)?)
@@ -64,43 +69,88 @@ pub fn new_version(
     Ok(String::from_str(alloc, vsn)?)
 }
 
-/// What was brought, where its applications are not refused.
+/// What was brought, where it isn't refused for its other files.
 ///
-/// Refusals: that of the applications, `MissingFile`, `BadFile`, `VsnMismatch`, `NoTable` or `TooMany`.
-pub fn unless_refused(brought: ReleaseFiles) -> Result<ReleaseFiles, HandlerError>
+/// Refusals, in this order: that of the applications, `MissingFile`, `BadFile`, `VsnMismatch`, `NoTable` or `TooMany`;
+/// `TooMany` where the node has no room for a further release; that of the relup, `BadFile`, `TooMany` or `VsnMismatch`.
+pub fn unless_refused(brought: ReleaseFiles, has_room: bool) -> Result<ReleaseFiles, HandlerError>
     ensures brought { IfOk result (λ r. r ≡ brought) }
-    ensures free { OnOk result (refusal_in brought.applications ≡ None) }
-    ensures refused { IfErr result (IsToldAs (refusal_in brought.applications)) }
+    ensures free { OnOk result (refusal_with has_room (brought_of brought) ≡ None) }
+    ensures refused { IfErr result (IsToldAs (refusal_with has_room (brought_of brought))) }
 {
-    let ReleaseFiles { file, applications } = brought;
-    let ApplicationFiles { libraries, refusal } = applications;
-    match refusal {
-        Some(why) => Err(HandlerError::from(why)),
-        None => Ok(ReleaseFiles {
-            file,
-            applications: ApplicationFiles {
-                libraries,
-                refusal: None,
-            },
-        }),
+    let ReleaseFiles {
+        file,
+        applications: ApplicationFiles { libraries, refusal },
+        relup,
+    } = brought;
+    if let Some(why) = refusal {
+        return Err(HandlerError::from(why));
+    }
+    if !has_room {
+        return Err(HandlerError::TooMany);
+    }
+    let relup = relup?;
+    Ok(ReleaseFiles {
+        file,
+        applications: ApplicationFiles {
+            libraries,
+            refusal: None,
+        },
+        relup: Ok(relup),
+    })
+}
+
+/// Whether a node with this list has room for a further release.
+pub fn has_room(list: &ReleaseList) -> bool
+    ensures { result ≡ has_room list.now }
+{
+    list.len() < MOST_RELEASES
+}
+
+/// A release for a node: with its libraries and its relup, and with the terms of its files, as a record carries them.
+#[derive(Drop)]
+pub struct NewBundle {
+    pub rel: Term,
+    pub relup: Option<Term>,
+    pub bundle: Bundle,
+}
+
+/// What was brought and isn't refused, as a release for a node. It takes no memory.
+pub fn new_bundle(brought: ReleaseFiles) -> NewBundle
+    requires { own_refusal (brought_of brought) ≡ None }
+    ensures bundle { bundle_of result.bundle ≡ bundle_brought (brought_of brought) }
+    ensures terms { files_of result.rel result.relup ≡ terms_brought (brought_of brought) }
+{
+    let ReleaseFiles {
+        file: RelFile { term: rel, release },
+        applications: ApplicationFiles {
+            libraries,
+            refusal: _refusal,
+        },
+        relup,
+    } = brought;
+    let Ok(relup) = relup else {
+        unreachable!();
+    };
+    let (term, relup) = parts_of(relup);
+    NewBundle {
+        rel,
+        relup: term,
+        bundle: Bundle {
+            release,
+            libraries,
+            relup,
+        },
     }
 }
 
-/// Why a node with this list doesn't take in what was brought, if it doesn't: `TooMany`, where the list is as long as a
-/// node's may be.
-pub fn unpacking_refusal(list: &ReleaseList, brought: &ReleaseFiles) -> Option<HandlerError>
-    requires small { is_small (release_of brought.now.file.release) ≡ true }
-    requires fresh { status_of (string_bytes brought.now.file.release.vsn) list.now ≡ None }
-    requires agree { first_different list.now (libraries_of brought.now.applications) ≡ None }
-    ensures { MatchOption result
-        ((es : Releases) × (commanded (unpacked (bundle_brought (brought_of brought.now)))
-        list.now ≡ Ok es))
-        (λ why. commanded (unpacked (bundle_brought (brought_of brought.now))) list.now
-        ≡ Err why) }
+// The term of a relup's file, and the relup.
+fn parts_of(relup: Option<RelupFile>) -> (Option<Term>, Option<Relup>)
+    ensures term { option_map value_of result.0 ≡ option_map (λ f. value_of f.term) relup }
+    ensures relup { option_map relup_of result.1 ≡ option_map (λ f. relup_of f.relup) relup }
 {
-    let _brought = brought;
-    if list.len() >= MOST_RELEASES {
-        return Some(HandlerError::TooMany);
+    match relup {
+        Some(RelupFile { term, relup }) => (Some(term), Some(relup)),
+        None => (None, None),
     }
-    None
 }

@@ -2,19 +2,26 @@
 
 // The lines that give the files of a name.
 //
-// `a.rel`, `b.rel` and `c.rel` are each the file of a release, of version 1 or 2 of `ch_app`. The
-// other names are of two releases in folders, whose `ch_app` has modules: `A` are all files of the
-// first, and each name that begins with `B.` is one of the second's.
+// `a.rel`, `b.rel` and `c.rel` are each the file of a release, of version 1 or 2 of `ch_app`; `a`, `b` and
+// `c` that of one without applications, in a folder of its own. The other names are of three releases
+// in folders, whose `ch_app` has modules: `A` are all files of the first, each name that begins with
+// `B.` is one of the second's, and `C` are the release and the relup of the third, with the
+// application of the second.
 const GIVEN: &[(&str, &str)] = &[
     ("@a.rel", A_REL),
     ("@b.rel", B_REL),
     ("@c.rel", C_REL),
+    ("@a", SMALL_A),
+    ("@b", SMALL_B),
+    ("@c", SMALL_C),
     ("@A", A),
     ("@B.rel", RELEASE_B),
     ("@B.app", APPLICATION_B),
     ("@B.ch_sup", CH_SUP_B),
     ("@B.aux", AUX_B),
     ("@B.ch3", CH3_B),
+    ("@B.relup", RELUP_B),
+    ("@C", C),
 ];
 
 /// The lines for which a line stands: those of its name in [`GIVEN`], or the line alone.
@@ -37,6 +44,18 @@ const B_REL: &str = r#"file b.rel
 
 const C_REL: &str = r#"file c.rel
 {release,{"ch_rel","C"},{erts,"14.2"},[{ch_app,"2"}]}.
+.end"#;
+
+const SMALL_A: &str = r#"file a/r.rel
+{release,{"r","A"},{erts,"1"},[]}.
+.end"#;
+
+const SMALL_B: &str = r#"file b/r.rel
+{release,{"r","B"},{erts,"1"},[]}.
+.end"#;
+
+const SMALL_C: &str = r#"file c/r.rel
+{release,{"r","C"},{erts,"1"},[]}.
 .end"#;
 
 const A: &str = r#"file releases/A/ch_rel.rel
@@ -73,4 +92,15 @@ const AUX_B: &str = r#"file lib/ch_app-2/ebin/aux.mod
 
 const CH3_B: &str = r#"file lib/ch_app-2/ebin/ch3.mod
 {worker,ch3,"2",100,[{add,1,2},{change,"1",[],[{3,103}]},{change,{down,"1"},[],[{103,3}]}]}.
+.end"#;
+
+const RELUP_B: &str = r#"file releases/B/relup
+{"B",[{"A",[],[{load_object_code,{ch_app,"2",[ch3]}},point_of_no_return,{suspend,[ch3]},{load,{ch3,brutal_purge,brutal_purge}},{code_change,up,[{ch3,[]}]},{resume,[ch3]}]}],[{"A",[],[{load_object_code,{ch_app,"1",[ch3]}},point_of_no_return,{suspend,[ch3]},{code_change,down,[{ch3,[]}]},{load,{ch3,brutal_purge,brutal_purge}},{resume,[ch3]}]}]}.
+.end"#;
+
+const C: &str = r#"file releases/C/ch_rel.rel
+{release,{"ch_rel","C"},{erts,"14.2"},[{ch_app,"2"}]}.
+.end
+file releases/C/relup
+{"C",[{"A",[],[{load_object_code,{ch_app,"2",[ch3]}},point_of_no_return,{suspend,[ch3]},{load,{ch3,brutal_purge,brutal_purge}},{code_change,up,[{ch3,[]}]},{resume,[ch3]}]},{"B","same code",[point_of_no_return]}],[{"A",[],[{load_object_code,{ch_app,"1",[ch3]}},point_of_no_return,{suspend,[ch3]},{code_change,down,[{ch3,[]}]},{load,{ch3,brutal_purge,brutal_purge}},{resume,[ch3]}]}]}.
 .end"#;

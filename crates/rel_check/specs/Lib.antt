@@ -5,3 +5,4 @@ pub mod Walk
 pub mod Fault
 pub mod Summary
 pub mod Laws
+pub mod Relup

@@ -13,6 +13,8 @@
 //! that a supervisor within itself passes it, and that a module reported as missing is named in the release; that no name
 //! stands again exactly where names are distinct, and that each module has its own table then.
 //!
+//! [`check_relup`] says whether a release can have the relup that was read for it (specs/Relup).
+//!
 //! Only tested (`rel_check_cases`): that a release is checked where memory is there, and in what time. Trusted: the
 //! toolchain alone.
 #![tactic(auto)]
@@ -22,8 +24,10 @@ mod fault;
 pub mod laws;
 mod modules;
 mod names;
+mod relup;
 mod walk;
 
 pub use check::check_release;
 pub use fault::ReleaseFault;
 pub use names::Named;
+pub use relup::{RelupMismatch, check_relup};

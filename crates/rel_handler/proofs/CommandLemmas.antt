@@ -39,6 +39,7 @@ refused_by_list failures h e size why alive barred = by_why why (subst IsListAns
     by_why told.Full of barred = absurd of
     by_why told.Device of barred = absurd of
     by_why told.Exists of barred = absurd of
+    by_why told.NoMatchingRelup of barred = absurd of
     by_why told.NoMemory of barred = (alive, same)
     by_why told.NoSuchRelease of barred = ((alive, barred), same)
     by_why told.ExistingRelease of barred = ((alive, barred), same)

@@ -9,6 +9,7 @@ use Rattle.rel_unpack.specs.Source.{Source}
 use Rattle.rel_unpack.specs.Unpacking.{Brought}
 use Rattle.rel_handler.specs.Events.{Known, doubted}
 use Rattle.node_command.specs.Files.{bundle_brought, made_size, Brings, IsToldAs}
+use Rattle.node_command.specs.Place.{own_refusal}
 use Rattle.rel_handler.specs.Moments.{Begins, WritesNothing}
 use Rattle.rel_handler.specs.Refusals.{MakingRefused}
 use Rattle.rel_handler.specs.Unpacking.{IsExistingOr, CreationRefused}
@@ -23,7 +24,7 @@ module _ {D : Type 0} (v : Ghosts D) (old now : D) (read : HasOnlyRead v.seen v.
   not_begun k = inl (weakened v.moment v.left_since old now (v.may_leave old) (IsTornFrom (v.may_leave old) 0 1) (λ c left. inl left) read.any_moment)
 
   -- so no node was made
-  pub not_made_of : (source : Source) (path : List ℕ) (b : Brought) → Brings source path (Ok b) → (why e : HandlerError) → IsToldAs b.refusal why
+  pub not_made_of : (source : Source) (path : List ℕ) (b : Brought) → Brings source path (Ok b) → (why e : HandlerError) → IsToldAs (own_refusal b) why
       → IsExistingOr why (v.seen old) (v.failures old) (v.failures now) e → CreationRefused v source path old now e
   not_made_of source path b brings why e of (inl (is, there)) = inr (inr (record {
     brought = b;
@@ -40,4 +41,4 @@ module _ {D : Type 0} (v : Ghosts D) (old now : D) (read : HasOnlyRead v.seen v.
     refused = subst (MakingRefused (v.seen old) (made_size b) (v.failures old) (v.failures now) (WritesNothing v.seen v.may_leave v.moment v.left_since old now)) (sym is) failed;
   }))
   not_made_of source path b brings why e of (inr (inr (is, free))) =
-      inr (inl (record { brought = b; read = brings; free = free; barred = subst (IsToldAs b.refusal) (sym is) of; unwritten = read_alone }))
+      inr (inl (record { brought = b; read = brings; free = free; barred = subst (IsToldAs (own_refusal b)) (sym is) of; unwritten = read_alone }))

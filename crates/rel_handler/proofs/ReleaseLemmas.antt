@@ -12,6 +12,7 @@ use Rattle.rel_handler.specs.Events.{doubted}
 use Rattle.node_command.specs.Files.{bundle_brought, made_size, Brings}
 use Rattle.rel_handler.specs.Start.{start_text}
 use Rattle.rel_handler.specs.Image.{IsImageAt, end_behind, first_end, HasSpace}
+use Rattle.node_command.specs.Place.{own_refusal}
 use Rattle.rel_handler.specs.Moments.{Begins, BeginsAt, WritesNothing}
 use Rattle.rel_handler.specs.Refusals.{MakingRefused}
 use Rattle.rel_handler.specs.State.{disk_in, disk_of, list_in, end_in, start_in, IsSame}
@@ -24,7 +25,7 @@ pub unchanged_handler : {D : Type 0} (h : Handler D) → IsSame h h
 unchanged_handler h = record { disk = refl; list = refl; dead = refl; end = refl }
 
 -- What was made of what the path brings.
-module _ {D : Type 0} (v : Ghosts D) (source : Source) (path : List ℕ) (b : Brought) (read : Brings source path (Ok b)) (free : b.refusal ≡ None) (disk : D) where
+module _ {D : Type 0} (v : Ghosts D) (source : Source) (path : List ℕ) (b : Brought) (read : Brings source path (Ok b)) (free : own_refusal b ≡ None) (disk : D) where
   pub made_so : (r : Result (Handler D) (HandlerError × D)) → IfOk r (λ h. list_in h ≡ entry (bundle_brought b) Permanent ∷ []) → IfOk r (λ h. (c : List ℕ) → v.may_leave (disk_in h) c → IsImageAt c (list_in h) (end_in h))
       → IfOk r (λ h. start_in v.seen h ≡ slot_with (start_text b.found.release)) → OnOk r (HasSpace first_end (made_size b)) → IfOk r (λ h. end_in h ≡ end_behind first_end (made_size b))
       → OnOk r ((at : D) × BeginsAt v.seen v.may_leave v.moment v.left_since (doubted [] (made (bundle_brought b))) disk (disk_of r) at) → IfOk r (IsMade v source path disk)

@@ -8,3 +8,4 @@ pub mod Refusals
 pub mod Moments
 pub mod Unpacking
 pub mod Laws
+pub mod Checking

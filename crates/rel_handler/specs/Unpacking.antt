@@ -11,7 +11,7 @@ use Rattle.rel_unpack.specs.Unpacking.{Brought}
 use Rattle.rel_handler.specs.Commits.{Commits, IsDone}
 use Rattle.rel_handler.specs.Events.{doubted}
 use Rattle.node_command.specs.Files.{Brings, IsOfFiles, IsToldAs, bundle_brought, made_size, unpacked_size}
-use Rattle.node_command.specs.Place.{files_refusal}
+use Rattle.node_command.specs.Place.{files_refusal, own_refusal}
 use Rattle.rel_handler.specs.Start.{start_text}
 use Rattle.rel_handler.specs.Image.{IsImageAt, end_behind, first_end, holds_a_store, HasSpace}
 use Rattle.rel_handler.specs.Moments.{Begins, BeginsAt, WritesNothing}
@@ -49,7 +49,7 @@ pub record IsNotUnpacked {D : Type 0} (v : Ghosts D) (source : Source) (path : L
   pub commits : Commits v (unpacked (bundle_brought brought)) (unpacked_size brought (list_in old)) old new
   pub refused : CommandRefused v.failures (unpacked (bundle_brought brought)) (unpacked_size brought (list_in old)) old new e
 
--- Why no release of the path was taken in: the handler was dead; its file; the files of its applications; or the node.
+-- Why no release of the path was taken in: the handler was dead; its file; its other files; or the node.
 abbrev pub UnpackingRefused : {D : Type 0} → Ghosts D → Source → List ℕ → Handler D → Handler D → HandlerError → Type 0
 UnpackingRefused v source path old new e =
     ((e ≡ Dead) × (is_dead old ≡ true) × IsSame old new)
@@ -61,7 +61,7 @@ UnpackingRefused v source path old new e =
 pub record IsMade {D : Type 0} (v : Ghosts D) (source : Source) (path : List ℕ) (disk : D) (handler : Handler D) : Type 0 where
   pub brought : Brought
   pub read : Brings source path (Ok brought)
-  pub free : brought.refusal ≡ None
+  pub free : own_refusal brought ≡ None
   pub list : list_in handler ≡ entry (bundle_brought brought) Permanent ∷ []
   pub acknowledged : (c : List ℕ) → v.may_leave (disk_in handler) c → IsImageAt c (list_in handler) (end_in handler)
   pub start : start_in v.seen handler ≡ slot_with (start_text brought.found.release)
@@ -70,27 +70,24 @@ pub record IsMade {D : Type 0} (v : Ghosts D) (source : Source) (path : List ℕ
   pub synced : D
   pub begun : BeginsAt v.seen v.may_leave v.moment v.left_since (doubted [] (made (bundle_brought brought))) disk (disk_in handler) synced
 
--- The disk holds no store, and the files of its applications are why no node was made with what the path brings. Nothing was
--- written.
+-- The disk holds no store, and its other files are why no node was made with what the path brings. Nothing was written.
 pub record IsNotBegun {D : Type 0} (v : Ghosts D) (source : Source) (path : List ℕ) (disk now : D) (e : HandlerError) : Type 0 where
   pub brought : Brought
   pub read : Brings source path (Ok brought)
   pub free : holds_a_store (v.seen disk) ≡ false
-  pub barred : IsToldAs brought.refusal e
+  pub barred : IsToldAs (own_refusal brought) e
   pub unwritten : WritesNothing v.seen v.may_leave v.moment v.left_since disk now
 
--- No node was made with what the path brings. But for a store on the disk and a device that failed, its applications are not
--- why. A crash at any moment from the first sync on, if there was one, leaves no store, or one that stands for the list with the
--- release.
+-- No node was made with what the path brings. But for a store on the disk and a device that failed, its files are not why. A
+-- crash at any moment from the first sync on, if there was one, leaves no store, or one that stands for the list with the release.
 pub record IsNotMade {D : Type 0} (v : Ghosts D) (source : Source) (path : List ℕ) (disk now : D) (e : HandlerError) : Type 0 where
   pub brought : Brought
   pub read : Brings source path (Ok brought)
-  pub clear : e ≢ Exists → e ≢ Device → brought.refusal ≡ None
+  pub clear : e ≢ Exists → e ≢ Device → own_refusal brought ≡ None
   pub any_moment : Begins v.seen v.may_leave v.moment v.left_since (doubted [] (made (bundle_brought brought))) disk now
   pub refused : MakingRefused (v.seen disk) (made_size brought) (v.failures disk) (v.failures now) (WritesNothing v.seen v.may_leave v.moment v.left_since disk now) e
 
--- Why no node was made: the release's file or those of its applications, and then nothing was written; or the disk, the store
--- or memory.
+-- Why no node was made: the release's file or its other files, and then nothing was written; or the disk, the store or memory.
 abbrev pub CreationRefused : {D : Type 0} → Ghosts D → Source → List ℕ → D → D → HandlerError → Type 0
 CreationRefused v source path disk now e =
     (IsOfFiles source path e × WritesNothing v.seen v.may_leave v.moment v.left_since disk now)

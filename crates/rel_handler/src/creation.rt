@@ -10,7 +10,8 @@ ghost use Rattle.rel_records.specs.Writing.{record_of};
 ghost use Rattle.rel_store.specs.Contents.{HasOnlyRead};
 ghost use Rattle.rel_store.specs.Layout.{slot_with};
 ghost use Rattle.rel_handler.specs.Events.{doubted};
-ghost use Rattle.node_command.specs.Files.{IsRelFile, IsWhole, bundle_brought, made_size};
+ghost use Rattle.node_command.specs.Files.{HasFileTerms, IsWhole, bundle_brought, made_size};
+ghost use Rattle.node_command.specs.Place.{own_refusal};
 ghost use Rattle.rel_handler.specs.Start.{start_text};
 ghost use Rattle.rel_handler.specs.Image.{IsImageOf, IsImageAt, holds_a_store, end_behind, first_end, HasSpace};
 ghost use Rattle.rel_handler.specs.Moments.{Begins, BeginsAt, WritesNothing};
@@ -22,13 +23,13 @@ ghost use Rattle.rel_list.specs.declared.status.Status.TheVariants.{Permanent};
 
 use crate::Handler;
 use file_source::Files;
-use node_command::{HandlerError, bring_release, unless_refused};
+use node_command::{HandlerError, NewBundle, bring_release, new_bundle, unless_refused};
 use rel_disk::{DeviceFault, Disk};
 use rel_files::Rel;
 use rel_list::{Bundle, Event, ReleaseList};
 use rel_records::made_body;
 use rel_store::{Store, StoreError, holds_a_store};
-use rel_unpack::{ApplicationFiles, ReleaseFiles};
+use rel_unpack::ReleaseFiles;
 use std::alloc::{AllocError, Global};
 
 impl<D: Disk> Handler<D> {
@@ -36,9 +37,9 @@ impl<D: Disk> Handler<D> {
     ///
     /// All files are read first. Refusals, in this order: `MissingFile`, `BadFile`, `TooMany` for the release's file or its
     /// number of applications; `Exists`; `MissingFile`, `BadFile`, `VsnMismatch`, `NoTable`, `TooMany` for the files of the
-    /// applications; `Full`. `NoMemory` may come in place of each. Nothing has been written then. After `Device` the disk has
-    /// no store or the new one, once the first sync has succeeded; before that nothing but its first byte was written. The
-    /// disk comes back with each refusal.
+    /// applications; `BadFile`, `TooMany`, `VsnMismatch` for the relup; `Full`. `NoMemory` may come in place of each. Nothing
+    /// has been written then. After `Device` the disk has no store or the new one, once the first sync has succeeded; before
+    /// that nothing but its first byte was written. The disk comes back with each refusal.
     pub fn create<F: Files>(
         alloc: Global,
         disk: D,
@@ -63,7 +64,7 @@ impl<D: Disk> Handler<D> {
             Ok(brought) => brought,
             Err(error) => return Err((error, disk)),
         };
-        match unless_refused(brought) {
+        match unless_refused(brought, true) {
             Ok(brought) => Handler::make(alloc, disk, brought),
             Err(why) => {
                 let mut disk = disk;
@@ -75,8 +76,9 @@ impl<D: Disk> Handler<D> {
 
     // Makes it with what was brought.
     fn make(alloc: Global, disk: D, brought: ReleaseFiles) -> Result<Handler<D>, (HandlerError, D)>
-        requires file { IsRelFile brought.file }
+        requires terms { HasFileTerms (brought_of brought) }
         requires small { is_small (release_of brought.file.release) ≡ true }
+        requires free { own_refusal (brought_of brought) ≡ None }
         requires whole { IsWhole (brought_of brought) }
         ensures sound { IfOk result (IsSound D.seen D.may_leave) }
         ensures works { IfOk result (λ handler. is_dead handler ≡ false) }
@@ -142,7 +144,8 @@ struct NewNode {
 impl NewNode {
     // All of it, or nothing where memory is refused.
     fn of(alloc: Global, brought: ReleaseFiles) -> Result<NewNode, AllocError>
-        requires file { IsRelFile brought.file }
+        requires terms { HasFileTerms (brought_of brought) }
+        requires free { own_refusal (brought_of brought) ≡ None }
         requires whole { IsWhole (brought_of brought) }
         ensures body { IfOk result (λ new.
             length (string_bytes new.body) ≡ made_size (brought_of brought)) }
@@ -153,15 +156,9 @@ impl NewNode {
         ensures list { IfOk result (λ new.
             new.list ≡ entry (bundle_brought (brought_of brought)) Permanent ∷ []) }
     {
-        let ReleaseFiles { file, applications } = brought;
-        let ApplicationFiles { libraries, refusal } = applications;
-        drop(refusal);
-        let start = start_text(alloc, &file.release)?;
-        let body = made_body(alloc, file.term, libraries.as_slice())?;
-        let bundle = Bundle {
-            release: file.release,
-            libraries,
-        };
+        let NewBundle { rel, relup, bundle } = new_bundle(brought);
+        let start = start_text(alloc, &bundle.release)?;
+        let body = made_body(alloc, rel, bundle.libraries.as_slice(), relup)?;
         let list = list_of(alloc, bundle)?;
         Ok(NewNode { body, start, list })
     }

@@ -1,17 +1,20 @@
 // A node's releases on a disk, and the commands on them.
-ghost use Rattle.std.specs.Prelude.{◌≡◌, true, false, string_bytes, IfOk, IfErr, OnOk, MatchResult};
+ghost use Rattle.std.specs.Prelude.{◌≡◌, true, false, string_bytes, IfOk, IfErr, OnOk, MatchResult, Ok, Err};
 ghost use Rattle.rel_list.specs.Event.Event.{installed, made_permanent, removed, reboot_old};
 ghost use Rattle.rel_list.specs.Releases.{running};
 ghost use Rattle.rel_records.specs.Startable.{AreStartable};
 ghost use Rattle.rel_handler.specs.Commits.{Commits, IsDone};
 ghost use Rattle.rel_handler.specs.Refusals.{CommandRefused};
 ghost use Rattle.rel_handler.specs.State.{disk_in, list_in, is_dead, start_in, version_of, HasStarted, IsSound};
+ghost use Rattle.rel_handler.specs.Checking.{checked};
 ghost use Rattle.node_command.specs.Taking.{change_size};
+ghost use Rattle.relup_script.specs.Search.{found_of};
 
-use node_command::HandlerError;
+use node_command::{HandlerError, find_installation};
 use rel_disk::Disk;
 use rel_list::{Event, ReleaseList};
 use rel_store::Store;
+use relup_script::Found;
 use std::alloc::{AllocError, Global};
 
 /// A node's releases on a disk.
@@ -63,6 +66,18 @@ impl<D: Disk> Handler<D> {
         } else {
             Ok(&self.list)
         }
+    }
+
+    /// The script by which the release of this version would be installed, with the version and the description of its entry
+    /// (OTP: release_handler:check_install_release/1). It takes no memory.
+    ///
+    /// Refusals, in this order: `Dead`, `NoSuchRelease`, `AlreadyInstalled`, `NoMatchingRelup`.
+    pub fn check_install(&self, vsn: &str) -> Result<Found<'_>, HandlerError>
+        ensures { MatchResult result
+            (λ found. checked vsn.now self.now ≡ Ok (found_of found))
+            (λ why. checked vsn.now self.now ≡ Err why) }
+    {
+        find_installation(self.which_releases()?, vsn)
     }
 
     /// Installs a release: it is current until the next boot. At `Ok` that is acknowledged (`done`).

@@ -1,8 +1,9 @@
 //! A node's releases on a disk, under commands that survive a stop at any moment.
 //!
 //! A [`Handler`] keeps the list of a node's releases, and on a disk a store with a record for each change of it. `create`
-//! makes a node, `set_unpacked` brings a further release, `install_release`, `make_permanent`, `remove_release` and
-//! `reboot_old_release` change the list, `boot` reads the node from its disk again, `start` tells what the start record says.
+//! makes a node, `set_unpacked` brings a further release, `check_install` answers the script of an installation (`checked`),
+//! `install_release`, `make_permanent`, `remove_release` and `reboot_old_release` change the list, `boot` reads the node from
+//! its disk again, `start` tells what the start record says.
 //!
 //! Stopped at any moment of a call (of `create` from its first sync on, and then it may also be no store), the disk stands for
 //! the list of a prefix of the accepted events that holds every acknowledged one (`IsOfPrefix`), and a boot of it answers that
@@ -10,9 +11,9 @@
 //! the command's event (`IsDone`). A refusal changes nothing, but after `Device` the handler is dead until the next boot.
 //!
 //! `create` and `set_unpacked` take what `node_command` says that a path brings (`IsMade`, `IsUnpacked`). They are refused
-//! for the release's own file first, for its applications where the node would take it (`IsNotBegun`, `IsBarred`). The list
-//! keeps the libraries of each release. Its record carries those that are new, and a boot gives the list its libraries back
-//! from the records.
+//! for the release's own file first, for its applications and its relup where the node would take it (`IsNotBegun`,
+//! `IsBarred`). The list keeps the libraries of each release, and its relup. The release's record carries the relup and the
+//! libraries that are new, and a boot gives the list both back from the records.
 //!
 //! The start record is that of the permanent release between two calls of a handler that isn't dead (`HasStarted`), and at
 //! each moment that, or the one of the release that was permanent before the last event of the prefix (`HasStart`): a boot

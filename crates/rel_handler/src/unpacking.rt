@@ -6,18 +6,21 @@ ghost use Rattle.rel_list.specs.Releases.{first_different, status_of};
 ghost use Rattle.rel_records.specs.Limits.{is_small};
 ghost use Rattle.rel_unpack.specs.Unpacking.{brought_of, libraries_of};
 ghost use Rattle.rel_handler.specs.Commits.{Commits, IsDone};
-ghost use Rattle.node_command.specs.Files.{IsRelFile, IsWhole, bundle_brought, unpacked_size};
+ghost use Rattle.node_command.specs.Files.{HasFileTerms, IsWhole, bundle_brought, unpacked_size};
+ghost use Rattle.node_command.specs.Place.{has_room, own_refusal};
 ghost use Rattle.rel_handler.specs.Refusals.{CommandRefused};
 ghost use Rattle.rel_handler.specs.State.{is_dead, list_in, start_in, IsSound};
 ghost use Rattle.rel_handler.specs.Unpacking.{IsUnpacked, UnpackingRefused};
 
 use crate::Handler;
 use file_source::Files;
-use node_command::{HandlerError, bring_release, new_version, unless_refused, unpacking_refusal};
+use node_command::{
+    HandlerError, NewBundle, bring_release, has_room, new_bundle, new_version, unless_refused,
+};
 use rel_disk::Disk;
 use rel_list::{Bundle, Event};
 use rel_records::unpacked_body;
-use rel_unpack::{ApplicationFiles, ReleaseFiles};
+use rel_unpack::ReleaseFiles;
 use std::alloc::Global;
 
 impl<D: Disk> Handler<D> {
@@ -26,9 +29,10 @@ impl<D: Disk> Handler<D> {
     /// All files are read first. Refusals, in this order: `Dead`; `MissingFile`, `BadFile`, `TooMany` for the release's file
     /// or its number of applications; `ExistingRelease`; application by application `MissingFile`, `BadFile`,
     /// `VsnMismatch` for its files and `LibDiffers` for the list's library of its name and version; `BadFile`, `NoTable`,
-    /// `TooMany` for the release as a whole; `TooMany` for the node's releases; `Full`. `NoMemory` may come in place of each but the
-    /// first. Nothing has changed then. `Device` comes only where the list allows the release and its record fits; then the
-    /// handler is dead, and the disk stands for its list with the release or without.
+    /// `TooMany` for the release as a whole; `TooMany` for the node's releases; `BadFile`, `TooMany`, `VsnMismatch` for its
+    /// relup; `Full`. `NoMemory` may come in place of each but the first. Nothing has changed then. `Device` comes only where
+    /// the list allows the release and its record fits; then the handler is dead, and the disk stands for its list with the
+    /// release or without.
     pub fn set_unpacked<F: Files>(
         &mut self,
         alloc: Global,
@@ -47,21 +51,23 @@ impl<D: Disk> Handler<D> {
         }
         let brought = bring_release(alloc, files, path)?;
         let vsn = new_version(alloc, &self.list, &brought)?;
-        let brought = unless_refused(brought)?;
+        let brought = unless_refused(brought, has_room(&self.list))?;
         self.take_in(alloc, brought)?;
         Ok(vsn)
     }
 
-    // Takes in what was brought, of a version that isn't listed.
+    // Takes in what was brought, of a version that isn't listed, and for which there is room.
     fn take_in(&mut self, alloc: Global, brought: ReleaseFiles) -> Result<(), HandlerError>
         requires sound { IsSound D.seen D.may_leave self.old }
         requires alive { is_dead self.old ≡ false }
-        requires file { IsRelFile brought.file }
+        requires terms { HasFileTerms (brought_of brought) }
         requires small { is_small (release_of brought.file.release) ≡ true }
         requires fresh { status_of (string_bytes brought.file.release.vsn) (list_in self.old)
             ≡ None }
         requires agree { first_different (list_in self.old) (libraries_of brought.applications)
             ≡ None }
+        requires room { has_room (list_in self.old) ≡ true }
+        requires free { own_refusal (brought_of brought) ≡ None }
         requires whole { IsWhole (brought_of brought) }
         ensures commits { Commits D.Disk (unpacked (bundle_brought (brought_of brought)))
             (unpacked_size (brought_of brought) (list_in self.old)) self.old self.new }
@@ -73,17 +79,21 @@ impl<D: Disk> Handler<D> {
             (unpacked (bundle_brought (brought_of brought)))
             (unpacked_size (brought_of brought) (list_in self.old)) self.old self.new) }
     {
-        if let Some(why) = unpacking_refusal(&self.list, &brought) {
-            return Err(why);
-        }
-        let ReleaseFiles { file, applications } = brought;
-        let ApplicationFiles { libraries, refusal } = applications;
-        drop(refusal);
+        let NewBundle {
+            rel,
+            relup: relup_term,
+            bundle: Bundle {
+                release,
+                libraries,
+                relup,
+            },
+        } = new_bundle(brought);
         let libraries = self.list.share(alloc, libraries)?;
-        let body = unpacked_body(alloc, &self.list, file.term, libraries.as_slice())?;
+        let body = unpacked_body(alloc, &self.list, rel, libraries.as_slice(), relup_term)?;
         let bundle = Bundle {
-            release: file.release,
+            release,
             libraries,
+            relup,
         };
         self.commit(alloc, Event::Unpacked(bundle), body.as_str())
     }

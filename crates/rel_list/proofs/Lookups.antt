@@ -4,7 +4,7 @@ use Rattle.std.specs.declared.alloc.Global.{Global}
 use Rattle.std.specs.declared.hash.BuildHasherDefault.{BuildHasherDefault}
 use Rattle.std.specs.declared.hash.FoldHasher.{FoldHasher}
 use Rattle.std.specs.Map.{lookup, values_of, remove_entry}
-use Rattle.std.specs.Option.{option_map}
+use Rattle.std.specs.Option.{option_and_then, option_map}
 use Rattle.std.specs.Str.{bytes_eq}
 use Rattle.std.specs.String.{string_eq}
 use Rattle.std.proofs.lemmas.List.{map_push}
@@ -12,11 +12,12 @@ use Rattle.std.proofs.lemmas.Map.Text.{hash_map_text_same}
 use Rattle.indexmap.specs.IndexMap.{IndexMap, insert_entry, set_value_at}
 use Rattle.indexmap.proofs.CallerLemmas.{insert_entry-new}
 use Rattle.rel_files.specs.Release.{Release, release_of}
+use Rattle.relup_file.specs.Relup.{relup_of}
 use Rattle.rel_list.specs.declared.listed.ListedRelease.{ListedRelease}
 use Rattle.rel_list.specs.declared.status.Status.{Status}
 use Rattle.rel_list.specs.declared.change.StatusChange.{StatusChange}
 use Rattle.rel_list.specs.Status.{is_current}
-use Rattle.rel_list.specs.Releases.{Entry, status_of, release_at, current}
+use Rattle.rel_list.specs.Releases.{Entry, status_of, release_at, relup_at, current}
 use Rattle.rel_list.specs.Event.{with_statuses, without}
 use Rattle.rel_list.specs.Change.{status_after, changed}
 use Rattle.rel_list.specs.Keyed.{entry_of, entries_in, AreKeyed}
@@ -54,6 +55,17 @@ release_at-entries_in vsn ps keyed =
     ap (option_map (λ (e : Entry). e.release)) (find-entries_in vsn ps keyed) ∙ twice (lookup (λ k. bytes_eq vsn (string_bytes k)) ps)
   where
     twice : (o : Option ListedRelease) → option_map (λ (e : Entry). e.release) (option_map entry_of o) ≡ option_map (λ (l : ListedRelease). release_of l.release) o
+    twice None = refl
+    twice (Some l) = refl
+
+-- and so is its relup
+pub relup_at-entries_in : (vsn : List ℕ) (ps : List (String Global × ListedRelease)) → AreKeyed ps
+    → relup_at vsn (entries_in ps) ≡ option_and_then (λ (l : ListedRelease). option_map relup_of l.relup) (lookup (λ k. bytes_eq vsn (string_bytes k)) ps)
+relup_at-entries_in vsn ps keyed =
+    ap (option_and_then (λ (e : Entry). e.relup)) (find-entries_in vsn ps keyed) ∙ twice (lookup (λ k. bytes_eq vsn (string_bytes k)) ps)
+  where
+    twice : (o : Option ListedRelease)
+        → option_and_then (λ (e : Entry). e.relup) (option_map entry_of o) ≡ option_and_then (λ (l : ListedRelease). option_map relup_of l.relup) o
     twice None = refl
     twice (Some l) = refl
 

@@ -3,19 +3,21 @@ use Rattle.std.specs.Prelude.{◌≡◌, ◌≤◌, List, length, map, string_by
 use Rattle.std.specs.declared.alloc.Global.{Global}
 use Rattle.std.specs.List.{AllByRecursion}
 use Rattle.std.specs.Map.{values_of}
+use Rattle.std.specs.Option.{option_map}
 use Rattle.library.specs.InMemory.{shared_of}
 use Rattle.rel_files.specs.Release.{release_of}
+use Rattle.relup_file.specs.Relup.{relup_of}
 use Rattle.rel_list.specs.declared.bundle.Bundle as declared_bundle
 use Rattle.rel_list.specs.declared.listed.ListedRelease.{ListedRelease}
 use Rattle.rel_list.specs.Releases.{Bundle, Releases, Entry, HasDistinctVersions, of_status}
 use Rattle.rel_list.specs.Status.{is_current}
 
 abbrev pub bundle_of : declared_bundle.Bundle → Bundle
-bundle_of p = record { release = release_of p.release; libraries = map shared_of p.libraries.items }
+bundle_of p = record { release = release_of p.release; libraries = map shared_of p.libraries.items; relup = option_map relup_of p.relup }
 
 -- a release of the list without where it lies in memory
 abbrev pub entry_of : ListedRelease → Entry
-entry_of l = record { release = release_of l.release; libraries = map shared_of l.libraries.items; status = l.status }
+entry_of l = record { release = release_of l.release; libraries = map shared_of l.libraries.items; relup = option_map relup_of l.relup; status = l.status }
 
 -- the entries of a map, in its order
 abbrev pub entries_in : List (String Global × ListedRelease) → Releases

@@ -1,33 +1,36 @@
 -- The releases of a node, each with its status, in order of coming (OTP: release_handler(3)).
 use Rattle.std.specs.Prelude.{◌≡◌, ℕ, Bool, not, List, [], ◌∷◌, map, Option, None, find, filter, is_some}
 use Rattle.std.specs.List.{flat_map}
-use Rattle.std.specs.Option.{option_map, option_or, unwrap_or}
+use Rattle.std.specs.Option.{option_and_then, option_map, option_or, unwrap_or}
 use Rattle.std.specs.Str.{bytes_eq}
 use Rattle.library.specs.Library.{Library, agrees, is_at, library_at}
 use Rattle.rel_files.specs.Release.{Release}
+use Rattle.relup_file.specs.Relup.{RelupForm}
 use Rattle.rel_list.specs.declared.status.Status.{Status}
 use Rattle.rel_list.specs.Status.{is_current, is_permanent}
 
--- a release with the libraries of its applications, in their order (OTP: a release package)
+-- a release with the libraries of its applications, in their order, and its relup, if it has one (OTP: a release package)
 pub record Bundle : Type 0 where
   pub release : Release
   pub libraries : List Library
+  pub relup : Option RelupForm
 
--- a release of the list, with its libraries and its status
+-- a release of the list, with its libraries, its relup and its status
 pub record Entry : Type 0 where
   pub release : Release
   pub libraries : List Library
+  pub relup : Option RelupForm
   pub status : Status
 
 abbrev pub Releases : Type 0
 Releases = List Entry
 
 abbrev pub entry : Bundle → Status → Entry
-entry p s = record { release = p.release; libraries = p.libraries; status = s }
+entry p s = record { release = p.release; libraries = p.libraries; relup = p.relup; status = s }
 
 -- a release of the list without its status
 abbrev pub bundle_in : Entry → Bundle
-bundle_in e = record { release = e.release; libraries = e.libraries }
+bundle_in e = record { release = e.release; libraries = e.libraries; relup = e.relup }
 
 -- the status of the release of this version
 abbrev pub status_of : List ℕ → Releases → Option Status
@@ -36,6 +39,10 @@ status_of vsn es = option_map (λ (e : Entry). e.status) (find (λ e. bytes_eq v
 -- the release of this version
 abbrev pub release_at : List ℕ → Releases → Option Release
 release_at vsn es = option_map (λ (e : Entry). e.release) (find (λ e. bytes_eq vsn e.release.vsn) es)
+
+-- the relup of the release of this version
+abbrev pub relup_at : List ℕ → Releases → Option RelupForm
+relup_at vsn es = option_and_then (λ (e : Entry). e.relup) (find (λ e. bytes_eq vsn e.release.vsn) es)
 
 -- the releases whose status passes a test
 abbrev pub of_status : (Status → Bool) → Releases → Releases

@@ -12,7 +12,7 @@
 //! library differs from the list's of the same name and version (`first_different` finds it). For one that
 //! fits, `share` puts the list's own libraries in place of those that it has already, so that the terms of a
 //! library are in memory once; clauses speak of the values alone. `libs` tells each library once. A library
-//! leaves the list with the last release that names it.
+//! leaves the list with the last release that names it. It keeps the relup of a release too, as it was brought (`relup`).
 //!
 //! The functions of `laws` say of these definitions alone that versions are distinct, that one release is
 //! permanent and at most one is current, that a boot undoes nothing but installations, and that events lead

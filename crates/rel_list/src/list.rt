@@ -7,6 +7,7 @@ use crate::change::StatusChange;
 use crate::{Bundle, Event, ListError, ListedRelease, Status};
 use indexmap::IndexMap;
 use rel_files::Rel;
+use relup_file::Relup;
 use std::alloc::Global;
 use std::marker::Model;
 
@@ -21,12 +22,12 @@ impl Model for ReleaseList {
     ghost use Rattle.rel_list.specs.Releases.{Releases};
     ghost use Rattle.rel_list.specs.Keyed.{entries_in, IsKept};
     ghost use Rattle.std.specs.Coded.{codes};
-    ghost use Rattle.library.specs.Codes.{value_code};
+    ghost use Rattle.library.specs.Codes.{value_code, values_code};
 
     ghost Value = { Releases };
 
     // Of terms, which hold further terms, Rattle finds no code by itself.
-    ghost coded = { Prim.hlevel (codes, value_code) };
+    ghost coded = { Prim.hlevel (codes, value_code, values_code) };
 
     ghost view = { λ l. entries_in l.releases.entries };
 
@@ -35,12 +36,13 @@ impl Model for ReleaseList {
 
 impl ReleaseList {
     ghost use Rattle.rel_list.specs.Event.{event_of, step, boot_changes, with_statuses, list_assigned, without};
-    ghost use Rattle.rel_list.specs.Releases.{entry, permanent, current, running, status_of, release_at, has_current, HasDistinctVersions};
+    ghost use Rattle.rel_list.specs.Releases.{entry, permanent, current, running, status_of, release_at, relup_at, has_current, HasDistinctVersions};
     ghost use Rattle.rel_list.specs.Refusal.{refusal, IsRefusedWith};
     ghost use Rattle.rel_list.specs.Change.{status_after, AssignsNoCurrent};
     ghost use Rattle.rel_list.specs.Status.{runs};
     ghost use Rattle.rel_list.specs.Keyed.{entry_of, bundle_of};
     ghost use Rattle.rel_files.specs.Release.{release_of};
+    ghost use Rattle.relup_file.specs.Relup.{relup_of};
 
     /// A list without releases.
     pub fn new(alloc: Global) -> ReleaseList
@@ -108,11 +110,16 @@ impl ReleaseList {
         ensures memory { IfErr result (λ e. e ≡ ListError.NoMemory) }
         ensures unchanged { OnErr result (self.new ≡ self.old) }
     {
-        let Bundle { release, libraries } = bundle;
+        let Bundle {
+            release,
+            libraries,
+            relup,
+        } = bundle;
         let vsn = String::from_str(alloc, release.vsn.as_str())?;
         let listed = ListedRelease {
             release,
             libraries,
+            relup,
             status,
         };
         self.releases.insert(vsn, listed)?;
@@ -183,6 +190,16 @@ impl ReleaseList {
         ensures { option_map release_of (option_copied result) ≡ release_at vsn.now self.now }
     {
         self.releases.get(vsn).map(|listed| &listed.release)
+    }
+
+    /// The relup of the release of this version, if it has one.
+    pub fn relup(&self, vsn: &str) -> Option<&Relup>
+        ensures { option_map relup_of (option_copied result) ≡ relup_at vsn.now self.now }
+    {
+        match self.releases.get(vsn) {
+            Some(listed) => listed.relup.as_ref(),
+            None => None,
+        }
     }
 
     /// The status of the release of this version.

@@ -37,7 +37,8 @@ impl ReleaseList {
         }
     }
 
-    fn install_refusal(&self, vsn: &str) -> Option<ListError>
+    /// Why it doesn't take an installation of the release of this version.
+    pub fn install_refusal(&self, vsn: &str) -> Option<ListError>
         ensures { result ≡ refusal (installed vsn.now) self.now }
     {
         match self.status(vsn) {

@@ -10,7 +10,7 @@ use Rattle.rel_files.specs.Release.{Application, Release, application_of}
 use Rattle.rel_files.specs.declared.release.RelApp.{RelApp}
 use Rattle.rel_files.proofs.Options.{both, chained, mapped}
 use Rattle.library.specs.Library.{Library, AreLibrariesOf, IsLibrary, agrees, is_at, library_at}
-use Rattle.rel_check.specs.Fault.{release_fault}
+use Rattle.relup_file.specs.Relup.{RelupForm}
 use Rattle.rel_list.specs.Releases.{Bundle, Releases, first_different, libraries_named, library_in}
 use Rattle.rel_list.specs.Event.{booted}
 use Rattle.rel_list.proofs.LibraryLaws.{all_found, libraries-booted, none_differs, own_library}
@@ -164,10 +164,11 @@ are_completed es have (a ∷ apps) ls ks all e =
         (ap (λ o. cond (not (is_some o)) (l ∷ new_libraries es ms) (new_libraries es ms)) (sym (looked_up es a l at) ∙ is) ∙ ap (λ (ks : List Library). l ∷ ks) later.new))
 
 -- What a record brings is complete.
-pub brought_complete : (es : Releases) (r : Release) (ls : List Library) (p : Bundle) → IsOfRecord es r ls p → AreCompleted es r.apps ls p.libraries → IsComplete p
-brought_complete es r ls p of done = record {
+pub brought_complete : (es : Releases) (r : Release) (ls : List Library) (o : Option RelupForm) (p : Bundle) → IsOfRecord es r ls o p → AreCompleted es r.apps ls p.libraries → IsComplete p
+brought_complete es r ls o p of done = record {
   libraries = subst (λ (s : Release). AreLibrariesOf s.apps p.libraries) of.release done.libraries;
-  faultless = subst (λ (s : Release). release_fault s.apps p.libraries ≡ None) of.release of.faultless;
+  faultless = of.faultless;
+  matching = of.matching;
 }
 
 -- the libraries of applications are libraries

@@ -1,10 +1,11 @@
 -- What holds of each release of a list that records make, whatever its status.
-use Rattle.std.proofs.Common.{◌≡◌, ℕ, Bool, true, false, cond, List, [], ◌∷◌, ◌++◌, length, Some, sym, subst, find}
+use Rattle.std.proofs.Common.{◌≡◌, ℕ, Bool, true, false, cond, List, [], ◌∷◌, ◌++◌, length, Option, Some, sym, subst, find}
 use Rattle.std.specs.Prelude.{◌&&◌, nat_lt, if◌then◌else◌}
 use Rattle.std.specs.List.{AllByRecursion}
 use Rattle.std.specs.Str.{bytes_eq}
 use Rattle.erl_term.specs.Value.{Value}
 use Rattle.rel_files.specs.Release.{Release}
+use Rattle.relup_file.specs.Relup.{RelupForm}
 use Rattle.library.specs.Library.{Library}
 use Rattle.rel_list.specs.declared.status.Status.{Status}
 use Rattle.rel_list.specs.declared.status.Status.TheVariants.{Unpacked, Permanent}
@@ -65,14 +66,14 @@ module _ (P : Entry → Type 0) where
         each-assign_all given (list_assigned a.vsn a.status es) next (each-assigned a.vsn a.status es all) rest
 
     -- Where it holds of each release that a record brings, it holds of each of a list that records make.
-    module _ (brings : (word : List ℕ) (v : Value) (es : Releases) (r : Release) (ls : List Library) (p : Bundle) (s : Status) → AllByRecursion P es → Brings word v r ls → IsOfRecord es r ls p → P (entry p s)) where
+    module _ (brings : (word : List ℕ) (v : Value) (es : Releases) (r : Release) (ls : List Library) (o : Option RelupForm) (p : Bundle) (s : Status) → AllByRecursion P es → Brings word v r ls o → IsOfRecord es r ls o p → P (entry p s)) where
       each_behind : (v : Value) (r : Record) (es next : Releases) → Says v r → taken_by r es ≡ Some next → AllByRecursion P es → AllByRecursion P next
-      each_behind v (makes r ls) es next says e all =
-          let (p, of, is) = event_of_record made (is_small r) r ls es next e in
-          each_first p es next is (brings _ v es r ls p Permanent all says of)
-      each_behind v (adds r ls) es next says e all =
-          let (p, of, is) = event_of_record unpacked (is_small r && nat_lt (length es) most_releases) r ls es next e in
-          subst (AllByRecursion P) (pushed_last p es next is) (each-push es (entry p Unpacked) all (brings _ v es r ls p Unpacked all says of))
+      each_behind v (makes r ls o) es next says e all =
+          let (p, of, is) = event_of_record made (is_small r) r ls o es next e in
+          each_first p es next is (brings _ v es r ls o p Permanent all says of)
+      each_behind v (adds r ls o) es next says e all =
+          let (p, of, is) = event_of_record unpacked (is_small r && nat_lt (length es) most_releases) r ls o es next e in
+          subst (AllByRecursion P) (pushed_last p es next is) (each-push es (entry p Unpacked) all (brings _ v es r ls o p Unpacked all says of))
       each_behind v (assigns given) es next says e all = each-assign_all given es next all e
       each_behind v (removes w) es next says e all =
           let (may, is) = chosen (may_be_removed (status_of w es)) (Some (without w es)) next e in

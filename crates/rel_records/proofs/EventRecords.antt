@@ -5,11 +5,9 @@ use Rattle.std.specs.List.{AllByRecursion}
 use Rattle.std.specs.Option.{option_map, option_and_then}
 use Rattle.std.specs.Str.{bytes_eq}
 use Rattle.std.proofs.lemmas.Bool.Decides.{nat_tests}
-use Rattle.rel_files.specs.Release.{Release}
 use Rattle.erl_term.specs.Value.{Value}
 use Rattle.rel_files.proofs.Options.{both}
 use Rattle.library.specs.Library.{Library}
-use Rattle.rel_check.specs.Fault.{release_fault}
 use Rattle.rel_list.specs.declared.status.Status.{Status}
 use Rattle.rel_list.specs.declared.status.Status.TheVariants.{Unpacked, Current, Old, Permanent}
 use Rattle.rel_list.specs.Status.{is_current, is_permanent}
@@ -21,7 +19,7 @@ use Rattle.rel_list.proofs.Orderly.{status_or, is_itself, differs_back, first_di
 use Rattle.rel_records.specs.Limits.{has_one_permanent, is_small, most_releases}
 use Rattle.rel_records.specs.Record.{Assignment, Record, makes, adds, assigns, removes}
 use Rattle.rel_records.specs.Lists.{may_be_assigned, assign_all, completed, if_faultless, brought_by, taken_by, with_one_permanent, assigned, HaveLibraries}
-use Rattle.rel_records.specs.Writing.{is_same, is_changed, assignment_of, changes, new_libraries, record_of, IsWithinLimits, IsOfListed, Tells}
+use Rattle.rel_records.specs.Writing.{is_same, is_changed, assignment_of, changes, new_libraries, record_of, IsComplete, IsWithinLimits, IsOfListed, Tells}
 use Rattle.rel_records.specs.Laws.{IsOfEvent, IsOfOneRelease, RecordsAreOfEvents, RecordsTellEvents}
 use Rattle.rel_records.specs.Reading.{Says}
 use Rattle.library.proofs.TermCases.{are_libraries}
@@ -165,11 +163,10 @@ module _ (e : Event) where
 -- Releases that come in
 
 -- a record brings the release with the libraries that its new ones complete
-abbrev with_libraries : Release → List Library → Option Bundle
-with_libraries r ks = if_faultless (record { release = r; libraries = ks })
-
-brought_whole : (es : Releases) (p : Bundle) (ls : List Library) → completed es p.release.apps ls ≡ Some p.libraries → release_fault p.release.apps p.libraries ≡ None → brought_by es p.release ls ≡ Some p
-brought_whole es p ls found faultless = ap (option_and_then (with_libraries p.release)) found ∙ ap (λ o. if is_some o then None else Some p) faultless
+brought_whole : (es : Releases) (p : Bundle) (ls : List Library) → completed es p.release.apps ls ≡ Some p.libraries → IsComplete p → brought_by es p.release ls p.relup ≡ Some p
+brought_whole es p ls found complete =
+    ap (option_and_then (λ (ks : List Library). if_faultless (record p { libraries = ks }))) found
+    ∙ (λ j. if is_some (complete.faultless j) || is_some (complete.matching j) then None else Some p)
 
 -- nothing bars a release that came in
 unbarred : (p : Bundle) (es next : Releases) → step (unpacked p) es ≡ Some next → (is_some (status_of p.release.vsn es) ≡ false) × (first_different es p.libraries ≡ None)
@@ -182,16 +179,16 @@ unbarred p es next is = by (is_some (status_of p.release.vsn es)) (first_differe
     by true o fresh agree e = absurd cc
 
 comes_in : (p : Bundle) (es next : Releases) → HaveLibraries es → IsWithinLimits (unpacked p) es → step (unpacked p) es ≡ Some next
-    → taken_by (adds p.release (new_libraries es p.libraries)) (booted es) ≡ Some (booted next)
+    → taken_by (adds p.release (new_libraries es p.libraries) p.relup) (booted es) ≡ Some (booted next)
 comes_in p es next have fits is =
     let (fresh, agree) = unbarred p es next is in
     let complete = fits.2 in
-    let brought : brought_by (booted es) p.release (new_libraries es p.libraries) ≡ Some p =
-    brought_whole (booted es) p (new_libraries es p.libraries) (completed_new es have p.release.apps p.libraries complete.libraries agree) complete.faultless in
+    let brought : brought_by (booted es) p.release (new_libraries es p.libraries) p.relup ≡ Some p =
+    brought_whole (booted es) p (new_libraries es p.libraries) (completed_new es have p.release.apps p.libraries complete.libraries agree) complete in
     let enters : is_barred p (booted es) ≡ false =
     (λ k. (listed-with_statuses (λ vsn s. booted_status s) p.release.vsn es ∙ fresh) k || is_some ((first_different-booted es p.libraries ∙ agree) k)) in
-    ap (λ b. if b && nat_lt (length (booted es)) most_releases then arrives (brought_by (booted es) p.release (new_libraries es p.libraries)) else None) fits.0
-    ∙ ap (λ b. if b then arrives (brought_by (booted es) p.release (new_libraries es p.libraries)) else None) short
+    ap (λ b. if b && nat_lt (length (booted es)) most_releases then arrives (brought_by (booted es) p.release (new_libraries es p.libraries) p.relup) else None) fits.0
+    ∙ ap (λ b. if b then arrives (brought_by (booted es) p.release (new_libraries es p.libraries) p.relup) else None) short
     ∙ ap arrives brought
     ∙ ap (λ b. if b then None else Some (booted es ++ entry p Unpacked ∷ [])) enters
     ∙ ap (λ l. Some l) (sym (booted-push es (entry p Unpacked)) ∙ ap booted (pushed_last p es next is))
@@ -203,12 +200,12 @@ comes_in p es next have fits is =
     short = let few = fits.1 in grind (arith, nat_tests, length-booted es)
 
 -- a node's first release
-comes_first : (p : Bundle) (next : Releases) → IsWithinLimits (made p) [] → step (made p) [] ≡ Some next → assigned (makes p.release p.libraries) [] ≡ Some (booted next)
+comes_first : (p : Bundle) (next : Releases) → IsWithinLimits (made p) [] → step (made p) [] ≡ Some next → assigned (makes p.release p.libraries p.relup) [] ≡ Some (booted next)
 comes_first p next fits is =
     let same : entry p Permanent ∷ [] ≡ next = cc is in
     let complete = fits.1 in
-    let brought : brought_by [] p.release p.libraries ≡ Some p = brought_whole [] p p.libraries (completed_first p.release.apps p.libraries complete.libraries) complete.faultless in
-    ap (λ b. with_one_permanent (if b then arrives (brought_by [] p.release p.libraries) else None)) fits.0
+    let brought : brought_by [] p.release p.libraries p.relup ≡ Some p = brought_whole [] p p.libraries (completed_first p.release.apps p.libraries complete.libraries) complete in
+    ap (λ b. with_one_permanent (if b then arrives (brought_by [] p.release p.libraries p.relup) else None)) fits.0
     ∙ ap (λ o. with_one_permanent (arrives o)) brought
     ∙ ap (λ l. Some (booted l)) same
   where
@@ -292,25 +289,25 @@ all_brought p (f ∷ fs) next is = absurd cc
 
 -- A record of a release that comes in or leaves is that of an event.
 of_event : (v : Value) (r : Record) (es next : Releases) → HaveLibraries es → Says v r → IsOfOneRelease r → taken_by r es ≡ Some next → IsOfEvent es next r
-of_event v (makes r ls) es next have says one taken =
-    let (p, of, is) = event_of_record made (is_small r) r ls es next taken in
+of_event v (makes r ls o) es next have says one taken =
+    let (p, of, is) = event_of_record made (is_small r) r ls o es next taken in
     let done = are_completed es have r.apps ls p.libraries (are_libraries says.libs ls says.libraries) of.libraries in
     record {
       event = made p;
       leads = is;
-      fits = (ap is_small (sym of.release) ∙ (chosen (is_small r) (option_and_then (λ (q : Bundle). step (made q) es) (brought_by es r ls)) next taken).0, brought_complete es r ls p of done);
-      own = λ k. makes (sym of.release k) ((sym (all_brought p es next is) ∙ done.new) k);
+      fits = (ap is_small (sym of.release) ∙ (chosen (is_small r) (option_and_then (λ (q : Bundle). step (made q) es) (brought_by es r ls o)) next taken).0, brought_complete es r ls o p of done);
+      own = λ k. makes (sym of.release k) ((sym (all_brought p es next is) ∙ done.new) k) (sym of.relup k);
     }
-of_event v (adds r ls) es next have says one taken =
-    let (p, of, is) = event_of_record unpacked (is_small r && nat_lt (length es) most_releases) r ls es next taken in
+of_event v (adds r ls o) es next have says one taken =
+    let (p, of, is) = event_of_record unpacked (is_small r && nat_lt (length es) most_releases) r ls o es next taken in
     let done = are_completed es have r.apps ls p.libraries (are_libraries says.libs ls says.libraries) of.libraries in
     let (small, few) = both (is_small r) (nat_lt (length es) most_releases)
-    (chosen (is_small r && nat_lt (length es) most_releases) (option_and_then (λ (q : Bundle). step (unpacked q) es) (brought_by es r ls)) next taken).0 in
+    (chosen (is_small r && nat_lt (length es) most_releases) (option_and_then (λ (q : Bundle). step (unpacked q) es) (brought_by es r ls o)) next taken).0 in
     record {
       event = unpacked p;
       leads = is;
-      fits = (ap is_small (sym of.release) ∙ small, below (length es) few, brought_complete es r ls p of done);
-      own = λ k. adds (sym of.release k) (done.new k);
+      fits = (ap is_small (sym of.release) ∙ small, below (length es) few, brought_complete es r ls o p of done);
+      own = λ k. adds (sym of.release k) (done.new k) (sym of.relup k);
     }
 of_event v (removes w) es next have says one taken = record { event = removed w; leads = taken; fits = tt; own = refl }
 of_event v (assigns given) es next have says one taken = absurd one

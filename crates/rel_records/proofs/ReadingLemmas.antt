@@ -17,6 +17,7 @@ use Rattle.rel_files.specs.Parts.{pair_in, is_word, list_in}
 use Rattle.rel_files.specs.Release.{Release}
 use Rattle.rel_files.specs.declared.fault.FileFault.{FileFault}
 use Rattle.rel_files.specs.declared.fault.FileFault.TheVariants as file
+use Rattle.relup_file.specs.Relup.{RelupForm}
 use Rattle.library.specs.Library.{Library}
 use Rattle.library.specs.Reading.{AreOfLibraries, SaysLibrary}
 use Rattle.library.proofs.TermRows.{RowOrNot}
@@ -24,16 +25,16 @@ use Rattle.library.proofs.TermCases.{libraries_or_not}
 use Rattle.rel_records.specs.Parts.{ReleaseParts, parts_in, parts_term, record_read, fault_of_text, fault_of_release}
 use Rattle.rel_records.specs.declared.reading.Record.{Record as RecordInMemory}
 use Rattle.rel_records.specs.Record.{Assignment, Record, makes, adds, assigns, removes}
-use Rattle.rel_records.specs.Reading.{change_of, change_in, assignments_of, version_in, Brings, Says, Spells}
+use Rattle.rel_records.specs.Reading.{change_of, change_in, assignments_of, version_in, Brings, Says, Spells, StandsForRelup}
 use Rattle.rel_records.specs.declared.fault.RecordFault.{RecordFault}
 use Rattle.rel_records.specs.declared.fault.RecordFault.TheVariants.{Bad}
-use Rattle.rel_records.proofs.BodyLemmas.{one_term, one_word, one_rel, one_row, no_change}
-use Rattle.rel_records.proofs.TermLemmas.{SaysOrNot, says_or_not, is_parts_term}
+use Rattle.rel_records.proofs.BodyLemmas.{one_term, one_word, one_rel, one_row, one_last, no_change}
+use Rattle.rel_records.proofs.TermLemmas.{SaysOrNot, says_or_not, StandsOrNot, stands_or_not, is_parts_term}
 
 -- the record is of releases that are there
 abbrev ChangesAlone : Record → Type 0
-ChangesAlone (makes x ls) = ⊥
-ChangesAlone (adds x ls) = ⊥
+ChangesAlone (makes x ls o) = ⊥
+ChangesAlone (adds x ls o) = ⊥
 ChangesAlone r = Unit {0}
 
 -- a change assigns or removes
@@ -52,15 +53,15 @@ changes_only v r e = by_pair (pair_in v) e
     by_pair (Some p) e = neither (is_word (codes "status") p.0) (is_word (codes "removed") p.0) (option_and_then assignments_of (list_in p.1)) (version_in p.1) r e
 
 pub change_says : (v : Value) (r : Record) → change_in v ≡ Some r → Says v r
-change_says v (makes x ls) e = absurd (changes_only v (makes x ls) e)
-change_says v (adds x ls) e = absurd (changes_only v (adds x ls) e)
+change_says v (makes x ls o) e = absurd (changes_only v (makes x ls o) e)
+change_says v (adds x ls o) e = absurd (changes_only v (adds x ls o) e)
 change_says v (assigns given) e = e
 change_says v (removes w) e = e
 
 -- what is said by no release's term and no change is no record
 pub says_none : (v : Value) → None ≡ parts_in v → change_in v ≡ None → (r : Record) → Says v r → ⊥
-says_none v none still (makes x ls) b = cc (none, ap parts_in b.is)
-says_none v none still (adds x ls) b = cc (none, ap parts_in b.is)
+says_none v none still (makes x ls o) b = cc (none, ap parts_in b.is)
+says_none v none still (adds x ls o) b = cc (none, ap parts_in b.is)
 says_none v none still (assigns given) says = cc (still, says)
 says_none v none still (removes w) says = cc (still, says)
 
@@ -71,49 +72,69 @@ SaysRecordOrNot v = ((r : Record) × Says v r) ⊎ ((r : Record) → Says v r �
 -- What the term with these parts doesn't say.
 module _ (p : ReleaseParts) where
   no_change_there : change_in (parts_term p) ≡ None
-  no_change_there = no_change (parts_term p) p.word p.rel p.libs refl
+  no_change_there = no_change (parts_term p) p.word p.rel p.libs p.relup refl
 
   -- a word that is none of the two says none
-  pub no_word : bytes_eq p.word (codes "made") ≡ false → bytes_eq p.word (codes "unpacked") ≡ false → (r : Record) → Says (parts_term p) r → ⊥
-  no_word made unpacked (makes x ls) b = cc (made, ap (λ w. bytes_eq w (codes "made")) (one_word p.word (codes "made") p.rel b.rel p.libs b.libs b.is))
-  no_word made unpacked (adds x ls) b = cc (unpacked, ap (λ w. bytes_eq w (codes "unpacked")) (one_word p.word (codes "unpacked") p.rel b.rel p.libs b.libs b.is))
+  no_word : bytes_eq p.word (codes "made") ≡ false → bytes_eq p.word (codes "unpacked") ≡ false → (r : Record) → Says (parts_term p) r → ⊥
+  no_word made unpacked (makes x ls o) b = cc (made, ap (λ w. bytes_eq w (codes "made")) (one_word b.is))
+  no_word made unpacked (adds x ls o) b = cc (unpacked, ap (λ w. bytes_eq w (codes "unpacked")) (one_word b.is))
   no_word made unpacked (assigns given) says = cc (says, no_change_there)
   no_word made unpacked (removes w) says = cc (says, no_change_there)
 
-  -- nor does one whose release is none
-  pub no_release : ((x : Release) → IsReleaseTerm p.rel x → ⊥) → (r : Record) → Says (parts_term p) r → ⊥
-  no_release never (makes x ls) b = never x (subst (λ t. IsReleaseTerm t x) (sym (one_rel p.word (codes "made") p.rel b.rel p.libs b.libs b.is)) b.release)
-  no_release never (adds x ls) b = never x (subst (λ t. IsReleaseTerm t x) (sym (one_rel p.word (codes "unpacked") p.rel b.rel p.libs b.libs b.is)) b.release)
-  no_release never (assigns given) says = cc (says, no_change_there)
-  no_release never (removes w) says = cc (says, no_change_there)
+  -- nor does one that brings nothing, whatever its word
+  no_record : ((word : List ℕ) (x : Release) (ls : List Library) (o : Option RelupForm) → Brings word (parts_term p) x ls o → ⊥) → (r : Record) → Says (parts_term p) r → ⊥
+  no_record never (makes x ls o) b = never (codes "made") x ls o b
+  no_record never (adds x ls o) b = never (codes "unpacked") x ls o b
+  no_record never (assigns given) says = cc (says, no_change_there)
+  no_record never (removes w) says = cc (says, no_change_there)
 
-  -- nor one of whose libraries one is none
-  pub no_libraries : ((ls : List Library) → AreOfLibraries p.libs ls → ⊥) → (r : Record) → Says (parts_term p) r → ⊥
-  no_libraries never (makes x ls) b = never ls (subst (λ t. AreOfLibraries t ls) (sym (one_row p.word (codes "made") p.rel b.rel p.libs b.libs b.is)) b.libraries)
-  no_libraries never (adds x ls) b = never ls (subst (λ t. AreOfLibraries t ls) (sym (one_row p.word (codes "unpacked") p.rel b.rel p.libs b.libs b.is)) b.libraries)
-  no_libraries never (assigns given) says = cc (says, no_change_there)
-  no_libraries never (removes w) says = cc (says, no_change_there)
+  -- as where its release is none
+  no_release : ((x : Release) → IsReleaseTerm p.rel x → ⊥) → (r : Record) → Says (parts_term p) r → ⊥
+  no_release never = no_record (λ word x ls o b. never x (subst (λ t. IsReleaseTerm t x) (sym (one_rel b.is)) b.release))
+
+  -- or one of its libraries
+  no_libraries : ((ls : List Library) → AreOfLibraries p.libs ls → ⊥) → (r : Record) → Says (parts_term p) r → ⊥
+  no_libraries never = no_record (λ word x ls o b. never ls (subst (λ t. AreOfLibraries t ls) (sym (one_row b.is)) b.libraries))
+
+  -- or its last term stands for no relup and not for none
+  no_relup : ((o : Option RelupForm) → StandsForRelup p.relup o → ⊥) → (r : Record) → Says (parts_term p) r → ⊥
+  no_relup never = no_record (λ word x ls o b. never o (subst (λ t. StandsForRelup t o) (sym (one_last b.is)) b.relup))
 
   -- what it says
-  pub brings : (word : List ℕ) → p.word ≡ word → (x : Release) (ls : List Library) → IsReleaseTerm p.rel x → AreOfLibraries p.libs ls → Brings word (parts_term p) x ls
-  brings word is x ls says are = record { rel = p.rel; libs = p.libs; is = ap (λ w. parts_term (record p { word = w })) is; release = says; libraries = are }
+  brings : (word : List ℕ) → p.word ≡ word → (x : Release) (ls : List Library) (o : Option RelupForm) → IsReleaseTerm p.rel x → AreOfLibraries p.libs ls → StandsForRelup p.relup o → Brings word (parts_term p) x ls o
+  brings word is x ls o says are stands = record {
+    rel = p.rel;
+    libs = p.libs;
+    last = p.relup;
+    is = ap (λ w. parts_term (record p { word = w })) is;
+    release = says;
+    libraries = are;
+    relup = stands;
+  }
+
+  -- it says each record of this kind whose parts it says
+  abbrev SaysEach : (Release → List Library → Option RelupForm → Record) → Type 0
+  SaysEach make = (x : Release) (ls : List Library) (o : Option RelupForm) → IsReleaseTerm p.rel x → AreOfLibraries p.libs ls → StandsForRelup p.relup o → Says (parts_term p) (make x ls o)
 
   parts_say : SaysRecordOrNot (parts_term p)
   parts_say = by_word (bytes_eq p.word (codes "made")) refl (bytes_eq p.word (codes "unpacked")) refl
     where
-      by_libraries : (make : Release → List Library → Record) → ((x : Release) (ls : List Library) → IsReleaseTerm p.rel x → AreOfLibraries p.libs ls → Says (parts_term p) (make x ls))
-          → (x : Release) → IsReleaseTerm p.rel x → RowOrNot SaysLibrary p.libs → SaysRecordOrNot (parts_term p)
-      by_libraries make says x is (inl (ls, are)) = inl (make x ls, says x ls is are)
+      by_relup : (make : Release → List Library → Option RelupForm → Record) → SaysEach make → (x : Release) (ls : List Library) → IsReleaseTerm p.rel x → AreOfLibraries p.libs ls
+          → StandsOrNot p.relup → SaysRecordOrNot (parts_term p)
+      by_relup make says x ls is are (inl (o, stands)) = inl (make x ls o, says x ls o is are stands)
+      by_relup make says x ls is are (inr never) = inr (no_relup never)
+
+      by_libraries : (make : Release → List Library → Option RelupForm → Record) → SaysEach make → (x : Release) → IsReleaseTerm p.rel x → RowOrNot SaysLibrary p.libs → SaysRecordOrNot (parts_term p)
+      by_libraries make says x is (inl (ls, are)) = by_relup make says x ls is are (stands_or_not p.relup)
       by_libraries make says x is (inr never) = inr (no_libraries never)
 
-      by_release : (make : Release → List Library → Record) → ((x : Release) (ls : List Library) → IsReleaseTerm p.rel x → AreOfLibraries p.libs ls → Says (parts_term p) (make x ls))
-          → SaysOrNot p.rel → SaysRecordOrNot (parts_term p)
+      by_release : (make : Release → List Library → Option RelupForm → Record) → SaysEach make → SaysOrNot p.rel → SaysRecordOrNot (parts_term p)
       by_release make says (inl (x, is)) = by_libraries make says x is (libraries_or_not p.libs)
       by_release make says (inr never) = inr (no_release never)
 
       by_word : (a : Bool) → bytes_eq p.word (codes "made") ≡ a → (b : Bool) → bytes_eq p.word (codes "unpacked") ≡ b → SaysRecordOrNot (parts_term p)
-      by_word true is b other = by_release makes (brings (codes "made") ((bytes_eq-Decides p.word (codes "made")).0 is)) (says_or_not p.rel)
-      by_word false is true other = by_release adds (brings (codes "unpacked") ((bytes_eq-Decides p.word (codes "unpacked")).0 other)) (says_or_not p.rel)
+      by_word true is b other = by_release (λ x ls o. makes x ls o) (brings (codes "made") ((bytes_eq-Decides p.word (codes "made")).0 is)) (says_or_not p.rel)
+      by_word false is true other = by_release (λ x ls o. adds x ls o) (brings (codes "unpacked") ((bytes_eq-Decides p.word (codes "unpacked")).0 other)) (says_or_not p.rel)
       by_word false is false other = inr (no_word is other)
 
 says_record_or_not : (v : Value) → SaysRecordOrNot v

@@ -3,6 +3,7 @@ use Rattle.std.proofs.Common.{◌≡◌, ◌⊎◌, inl, inr, ℕ, ◌+◌, true
 use Rattle.erl_term.specs.Value.{Value}
 use Rattle.rel_files.specs.File.{HasVersions}
 use Rattle.rel_files.specs.Release.{Release}
+use Rattle.relup_file.specs.Relup.{RelupForm}
 use Rattle.library.specs.Library.{Library}
 use Rattle.rel_list.specs.declared.status.Status.{Status}
 use Rattle.rel_list.specs.Releases.{Bundle, Releases, Entry}
@@ -48,8 +49,9 @@ pub never_bad : NeverBothRecords
 never_bad bodies es i makes_it is_bad = makes_not_bad bodies es i makes_it is_bad
 
 -- the releases that records bring have the versions of files
-brought_versions : (word : List ℕ) (v : Value) (es : Releases) (r : Release) (ls : List Library) (p : Bundle) (s : Status) → HaveVersions es → Brings word v r ls → IsOfRecord es r ls p → HasVersions p.release
-brought_versions word v es r ls p s all brings of = subst HasVersions of.release brings.release.versions
+brought_versions : (word : List ℕ) (v : Value) (es : Releases) (r : Release) (ls : List Library) (o : Option RelupForm) (p : Bundle) (s : Status)
+    → HaveVersions es → Brings word v r ls o → IsOfRecord es r ls o p → HasVersions p.release
+brought_versions word v es r ls o p s all brings of = subst HasVersions of.release brings.release.versions
 
 pub make_versions : MakeVersions
 make_versions = each_made (λ (e : Entry). HasVersions e.release) (λ e s has. has) brought_versions

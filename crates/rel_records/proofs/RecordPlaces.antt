@@ -1,11 +1,13 @@
 -- What stands behind a record.
 use Rattle.std.proofs.Common.{◌≡◌, ℕ, Bool, true, false, List, [], ◌∷◌, ◌++◌, length, Some, None, Option, refl, sym, ap, ◌∙◌, subst}
-use Rattle.std.specs.Prelude.{◌&&◌, not, is_some, nat_lt, if◌then◌else◌}
+use Rattle.std.specs.Prelude.{◌&&◌, ◌||◌, not, is_some, nat_lt, if◌then◌else◌}
 use Rattle.std.specs.Option.{option_and_then}
 use Rattle.std.specs.Str.{bytes_eq}
 use Rattle.rel_files.specs.Release.{Release}
 use Rattle.rel_files.proofs.Options.{chained}
 use Rattle.library.specs.Library.{Library}
+use Rattle.relup_file.specs.Relup.{RelupForm}
+use Rattle.rel_check.specs.declared.relup.RelupMismatch.{RelupMismatch}
 use Rattle.rel_check.specs.Fault.{Fault, release_fault}
 use Rattle.rel_list.specs.declared.status.Status.{Status}
 use Rattle.rel_list.specs.declared.status.Status.TheVariants.{Unpacked, Current, Old, Permanent}
@@ -15,7 +17,7 @@ use Rattle.rel_list.specs.Event.{Event, entry, is_barred, booted, booted_status,
 use Rattle.rel_list.specs.Event.Event.{made, unpacked}
 use Rattle.rel_records.specs.Limits.{has_one_permanent, is_small, most_releases}
 use Rattle.rel_records.specs.Record.{Assignment, Record, makes, adds, assigns, removes}
-use Rattle.rel_records.specs.Lists.{may_be_assigned, assign_all, brought_by, completed, taken_by, with_one_permanent, assigned, MakesFrom}
+use Rattle.rel_records.specs.Lists.{may_be_assigned, assign_all, brought_by, completed, if_faultless, mismatch_in, taken_by, with_one_permanent, assigned, MakesFrom}
 
 -- a choice that gives a value
 pub chosen : {A : Type 0} (b : Bool) (o : Option A) (x : A) → (if b then o else None) ≡ Some x → (b ≡ true) × (o ≡ Some x)
@@ -97,31 +99,37 @@ booted-without v (e ∷ es) = go (bytes_eq v e.release.vsn) (booted-without v es
     go true rest = refl
     go false rest = ap (λ l. record e { status = booted_status e.status } ∷ l) rest
 
--- What a record brings is its release, with the libraries that the new ones complete.
-pub record IsOfRecord (es : Releases) (r : Release) (ls : List Library) (p : Bundle) : Type 0 where
+-- What a record brings is its release, with the libraries that the new ones complete, and its relup.
+pub record IsOfRecord (es : Releases) (r : Release) (ls : List Library) (o : Option RelupForm) (p : Bundle) : Type 0 where
   pub release : r ≡ p.release
   pub libraries : completed es r.apps ls ≡ Some p.libraries
-  pub faultless : release_fault r.apps p.libraries ≡ None
+  pub relup : o ≡ p.relup
+  pub faultless : release_fault p.release.apps p.libraries ≡ None
+  pub matching : mismatch_in p ≡ None
 
-pub of_record : (es : Releases) (r : Release) (ls : List Library) (p : Bundle) → brought_by es r ls ≡ Some p → IsOfRecord es r ls p
-of_record es r ls p e =
-    let with_release : List Library → Bundle = λ ks. record { release = r; libraries = ks } in
-    let (ks, found, whole) = chained (λ (ks : List Library). if is_some (release_fault r.apps ks) then None else Some (with_release ks)) (completed es r.apps ls) p e in
-    by ks found (release_fault r.apps ks) refl whole
+pub of_record : (es : Releases) (r : Release) (ls : List Library) (o : Option RelupForm) (p : Bundle) → brought_by es r ls o ≡ Some p → IsOfRecord es r ls o p
+of_record es r ls o p e =
+    let (ks, found, whole) = chained (λ (ks : List Library). if_faultless (with_libraries ks)) (completed es r.apps ls) p e in
+    by ks found (release_fault r.apps ks) (mismatch_in (with_libraries ks)) refl refl whole
   where
-    by : (ks : List Library) → completed es r.apps ls ≡ Some ks → (o : Option Fault) → release_fault r.apps ks ≡ o → (if is_some o then None else Some (record { release = r; libraries = ks })) ≡ Some p → IsOfRecord es r ls p
-    by ks found (Some f) is whole = absurd cc
-    by ks found None is whole =
-        let same : record { release = r; libraries = ks } ≡ p = cc whole in
-        record { release = ap (λ (q : Bundle). q.release) same; libraries = found ∙ ap (λ (q : Bundle). Some q.libraries) same; faultless = ap (λ (q : Bundle). release_fault r.apps q.libraries) (sym same) ∙ is }
+    with_libraries : List Library → Bundle
+    with_libraries ks = record { release = r; libraries = ks; relup = o }
+
+    by : (ks : List Library) → completed es r.apps ls ≡ Some ks → (f : Option Fault) (m : Option RelupMismatch) → release_fault r.apps ks ≡ f → mismatch_in (with_libraries ks) ≡ m
+        → (if is_some f || is_some m then None else Some (with_libraries ks)) ≡ Some p → IsOfRecord es r ls o p
+    by ks found None None faultless matching whole =
+        let same : with_libraries ks ≡ p = cc whole in
+        subst (IsOfRecord es r ls o) same (record { release = refl; libraries = found; relup = refl; faultless = faultless; matching = matching })
+    by ks found (Some f) m faultless matching whole = absurd cc
+    by ks found None (Some m) faultless matching whole = absurd cc
 
 -- A record that brings a release is the event that brings it.
-pub event_of_record : (event : Bundle → Event) (b : Bool) (r : Release) (ls : List Library) (es next : Releases) → (if b then option_and_then (λ (p : Bundle). step (event p) es) (brought_by es r ls) else None) ≡ Some next
-    → (p : Bundle) × IsOfRecord es r ls p × (step (event p) es ≡ Some next)
-event_of_record event b r ls es next e =
-    let (kept_limits, stepped) = chosen b (option_and_then (λ (p : Bundle). step (event p) es) (brought_by es r ls)) next e in
-    let (p, brought, is) = chained (λ (p : Bundle). step (event p) es) (brought_by es r ls) next stepped in
-    (p, of_record es r ls p brought, is)
+pub event_of_record : (event : Bundle → Event) (b : Bool) (r : Release) (ls : List Library) (o : Option RelupForm) (es next : Releases)
+    → (if b then option_and_then (λ (p : Bundle). step (event p) es) (brought_by es r ls o) else None) ≡ Some next → (p : Bundle) × IsOfRecord es r ls o p × (step (event p) es ≡ Some next)
+event_of_record event b r ls o es next e =
+    let (kept_limits, stepped) = chosen b (option_and_then (λ (p : Bundle). step (event p) es) (brought_by es r ls o)) next e in
+    let (p, brought, is) = chained (λ (p : Bundle). step (event p) es) (brought_by es r ls o) next stepped in
+    (p, of_record es r ls o p brought, is)
 
 -- a release that comes in is last
 pub pushed_last : (p : Bundle) (es next : Releases) → step (unpacked p) es ≡ Some next → es ++ entry p Unpacked ∷ [] ≡ next
@@ -137,9 +145,9 @@ settled_first p (f ∷ fs) next is = absurd cc
 
 -- no record makes a release current
 pub settled_behind : (r : Record) (es next : Releases) → taken_by r es ≡ Some next → booted es ≡ es → booted next ≡ next
-settled_behind (makes r ls) es next e same = let (p, of, is) = event_of_record made (is_small r) r ls es next e in settled_first p es next is
-settled_behind (adds r ls) es next e same =
-    let (p, of, is) = event_of_record unpacked (is_small r && nat_lt (length es) most_releases) r ls es next e in
+settled_behind (makes r ls o) es next e same = let (p, of, is) = event_of_record made (is_small r) r ls o es next e in settled_first p es next is
+settled_behind (adds r ls o) es next e same =
+    let (p, of, is) = event_of_record unpacked (is_small r && nat_lt (length es) most_releases) r ls o es next e in
     subst (λ l. booted l ≡ l) (pushed_last p es next is) (booted-push es (entry p Unpacked) ∙ ap (λ l. l ++ entry p Unpacked ∷ []) same)
 settled_behind (assigns given) es next e same = booted-assign_all given es next e same
 settled_behind (removes w) es next e same =

@@ -1,9 +1,10 @@
 -- Releases that a boot can start.
-use Rattle.std.proofs.Common.{◌≡◌, ℕ, List, [], ◌∷◌, map, Some, refl, ap, subst, find}
+use Rattle.std.proofs.Common.{◌≡◌, ℕ, List, [], ◌∷◌, map, Option, Some, refl, ap, subst, find}
 use Rattle.erl_term.specs.Value.{Value}
 use Rattle.rel_files.specs.Form.{AppForm, app_form_of}
 use Rattle.rel_files.specs.Name.{AreDistinct}
 use Rattle.rel_files.specs.Release.{Application, Release}
+use Rattle.relup_file.specs.Relup.{RelupForm}
 use Rattle.library.specs.Library.{Library, IsLibrary}
 use Rattle.library.proofs.TermCases.{are_libraries}
 use Rattle.rel_list.specs.declared.status.Status.{Status}
@@ -45,9 +46,10 @@ form_app_names [] = refl
 form_app_names (a ∷ apps) = ap (λ (ns : List (List ℕ)). a.name ∷ ns) (form_app_names apps)
 
 -- what a record brings to startable releases is startable
-brought_startable : (word : List ℕ) (v : Value) (es : Releases) (r : Release) (ls : List Library) (p : Bundle) (s : Status) → AreStartable es → Brings word v r ls → IsOfRecord es r ls p → IsStartable (entry p s)
-brought_startable word v es r ls p s all brings of = record {
-  complete = brought_complete es r ls p of (are_completed es (startable_libraries es all) r.apps ls p.libraries (are_libraries brings.libs ls brings.libraries) of.libraries);
+brought_startable : (word : List ℕ) (v : Value) (es : Releases) (r : Release) (ls : List Library) (o : Option RelupForm) (p : Bundle) (s : Status)
+    → AreStartable es → Brings word v r ls o → IsOfRecord es r ls o p → IsStartable (entry p s)
+brought_startable word v es r ls o p s all brings of = record {
+  complete = brought_complete es r ls o p of (are_completed es (startable_libraries es all) r.apps ls p.libraries (are_libraries brings.libs ls brings.libraries) of.libraries);
   distinct = subst (λ (q : Release). AreDistinct (map (λ (a : Application). a.name) q.apps)) of.release (subst AreDistinct (form_app_names r.apps) brings.release.distinct);
 }
 

@@ -1,7 +1,6 @@
 -- What the term of a record says.
-use Rattle.std.proofs.Common.{◌≡◌, ◌⊎◌, inl, inr, ℕ, true, List, codes, Option, Some, None, refl, sym, ap, ◌∙◌, subst}
-use Rattle.std.specs.Prelude.{if◌then◌else◌}
-use Rattle.std.specs.Option.{option_map}
+use Rattle.std.proofs.Common.{◌≡◌, ◌⊎◌, inl, inr, ℕ, Bool, true, false, List, codes, Option, Some, None, Result, Ok, Err, refl, sym, ap, ◌∙◌, subst}
+use Rattle.std.specs.Option.{option_and_then, option_map}
 use Rattle.std.proofs.lemmas.Slice.Eq.{bytes_eq-Decides}
 use Rattle.erl_term.specs.Value.{Value, Values}
 use Rattle.erl_term.specs.Value.Value.{atom, list, tuple}
@@ -12,12 +11,17 @@ use Rattle.rel_files.specs.Name.{AreDistinct, IsFirstTwice}
 use Rattle.rel_files.specs.Parts.{is_word, four_in, list_in}
 use Rattle.rel_files.specs.Release.{Release}
 use Rattle.rel_files.specs.Sketch.{Sketch, sketch_in, release_in}
-use Rattle.rel_files.proofs.Options.{mapped, chained, passed}
+use Rattle.rel_files.proofs.Options.{mapped, chained}
 use Rattle.rel_files.proofs.Distinct.{distinct_or_twice}
 use Rattle.rel_files.proofs.Outcomes.{sketch_names, form_names, never_both, says}
 use Rattle.rel_files.proofs.Shape.{form_sketch, sketch_in-term}
 use Rattle.rel_files.proofs.Versions.{release_in-form}
+use Rattle.relup_file.specs.Parts.{relup_in}
+use Rattle.relup_file.specs.Relup.{RelupForm}
+use Rattle.relup_file.proofs.RelupLemmas.{from_relup, relup_in-term}
 use Rattle.rel_records.specs.Parts.{ReleaseParts, name_in, parts_in, parts_term, parts_with}
+use Rattle.rel_records.specs.Reading.{StandsForRelup}
+use Rattle.rel_records.specs.Record.{release_term}
 
 -- A term says a release, or none.
 abbrev pub SaysOrNot : Value → Type 0
@@ -60,14 +64,34 @@ list_of_members : (v : Value) (vs : Values) → list_in v ≡ Some vs → v ≡ 
 list_of_members (list ws) vs e = let same : ws ≡ vs = cc in ap list same
 list_of_members v vs e = absurd cc
 
+-- A term stands for a relup or for none, or for neither.
+abbrev pub StandsOrNot : Value → Type 0
+StandsOrNot v = ((o : Option RelupForm) × StandsForRelup v o) ⊎ ((o : Option RelupForm) → StandsForRelup v o → ⊥)
+
+pub stands_or_not : (v : Value) → StandsOrNot v
+stands_or_not v = by_word (is_word (codes "none") v) refl (relup_in v) refl
+  where
+    neither : is_word (codes "none") v ≡ false → (n : ℕ) → relup_in v ≡ Err n → (o : Option RelupForm) → StandsForRelup v o → ⊥
+    neither other n bad None is = cc (other, ap (is_word (codes "none")) is)
+    neither other n bad (Some r) says = cc (bad, relup_in-term v r says)
+
+    by_word : (b : Bool) → is_word (codes "none") v ≡ b → (o : Result RelupForm ℕ) → relup_in v ≡ o → StandsOrNot v
+    by_word true is o read = inl (None, word_term (codes "none") v is)
+    by_word false other (Ok r) read = inl (Some r, from_relup v r read)
+    by_word false other (Err n) read = inr (neither other n read)
+
+-- a word, a list and two terms make the term of a record
+parts_spelled : (m : Value × Value × Value × Value) (word : List ℕ) (vs : Values) → name_in m.0 ≡ Some word → list_in m.2 ≡ Some vs
+    → tuple (value m.0 (value m.1 (value m.2 (value m.3 no_values)))) ≡ release_term word m.1 vs m.3
+parts_spelled m word vs name libs = λ k. tuple (value (atom_named m.0 word name k) (value m.1 (value (list_of_members m.2 vs libs k) (value m.3 no_values))))
+
 -- the parts of a term are those of a record's term
 pub is_parts_term : (v : Value) (p : ReleaseParts) → parts_in v ≡ Some p → v ≡ parts_term p
 is_parts_term v p e =
-    let (m, four, rest) = chained (λ (m : Value × Value × Value × Value). if is_word (codes "none") m.3 then parts_with m.0 m.1 m.2 else None) (four_in v) p e in
-    let (relup, parts) = passed (is_word (codes "none") m.3) (parts_with m.0 m.1 m.2) p rest in
-    let libs_with : List ℕ → Values → ReleaseParts = λ w vs. record { word = w; rel = m.1; libs = vs } in
-    let (s, name, listed) = chained (λ (w : List ℕ). option_map (libs_with w) (list_in m.2)) (name_in m.0) p parts in
-    let (vs, libs, same) = mapped (libs_with s) (list_in m.2) p listed in
-    four_term v m four
-    ∙ (λ k. tuple (value (atom_named m.0 s name k) (value m.1 (value (list_of_members m.2 vs libs k) (value (word_term (codes "none") m.3 relup k) no_values)))))
-    ∙ ap parts_term same
+    let (m, four, rest) = chained (λ (m : Value × Value × Value × Value). option_and_then (λ (word : List ℕ). option_map (parts_with m word) (list_in m.2)) (name_in m.0)) (four_in v) p e in
+    let (word, name, listed) = chained (λ (word : List ℕ). option_map (parts_with m word) (list_in m.2)) (name_in m.0) p rest in
+    let (vs, libs, same) = mapped (parts_with m word) (list_in m.2) p listed in
+    by m word vs four name libs same
+  where
+    by : (m : Value × Value × Value × Value) (word : List ℕ) (vs : Values) → four_in v ≡ Some m → name_in m.0 ≡ Some word → list_in m.2 ≡ Some vs → parts_with m word vs ≡ p → v ≡ parts_term p
+    by m word vs four name libs same = four_term v m four ∙ (parts_spelled m word vs name libs ∙ ap parts_term same)

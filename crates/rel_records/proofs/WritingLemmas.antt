@@ -4,7 +4,7 @@ use Rattle.std.specs.Prelude.{IfOk, OnOk, not, max, if◌then◌else◌}
 use Rattle.std.proofs.Math.Nat.{max-le}
 use Rattle.std.specs.declared.alloc.Global.{Global}
 use Rattle.std.specs.List.{AllByRecursion}
-use Rattle.std.specs.Option.{option_map, option_and_then}
+use Rattle.std.specs.Option.{ForSome, option_map, option_and_then}
 use Rattle.std.specs.Str.{bytes_eq}
 use Rattle.std.proofs.lemmas.Slice.Eq.{bytes_eq-Decides}
 use Rattle.erl_term.specs.Value.{Value, values_of}
@@ -12,11 +12,11 @@ use Rattle.erl_term.specs.Value.Value.{atom}
 use Rattle.erl_term.specs.OneTerm.{HasTerm}
 use Rattle.erl_term.specs.Printing.{is_string, characters_of}
 use Rattle.erl_term.specs.Within.{IsWithin, HasShortNames, HaveShortNames, brackets, most_brackets}
-use Rattle.rel_files.specs.File.{IsReleaseTerm}
 use Rattle.rel_files.specs.Form.{numbers_of, numbers_term, list_of}
 use Rattle.rel_files.specs.Name.{IsVersion}
 use Rattle.rel_files.specs.Release.{Release}
 use Rattle.rel_files.proofs.Texts.{numbers, text_in-numbers}
+use Rattle.relup_file.specs.Relup.{RelupForm}
 use Rattle.library.specs.Library.{Library}
 use Rattle.library.specs.Reading.{AreOfLibraries}
 use Rattle.rel_list.specs.declared.status.Status.{Status}
@@ -29,11 +29,11 @@ use Rattle.rel_list.specs.Event.Event.{made, unpacked, installed, made_permanent
 use Rattle.rel_list.specs.declared.fault.ListError.TheVariants as told
 use Rattle.rel_list.proofs.Orderly.{status_or}
 use Rattle.rel_records.specs.Lists.{HaveVersions}
-use Rattle.rel_records.specs.Reading.{version_in, status_in, assignment_in, assignments_of, change_in, Brings, Says, Spells}
-use Rattle.rel_records.specs.Record.{Assignment, Record, makes, adds, assigns, removes, library_terms, release_term, assignment_term, status_term, removed_term, term_of}
+use Rattle.rel_records.specs.Reading.{version_in, status_in, assignment_in, assignments_of, change_in, AreOfRelease, Brings, Says, Spells}
+use Rattle.rel_records.specs.Record.{Assignment, FileTerms, Record, relup_or_none, makes, adds, assigns, removes, library_terms, release_term, assignment_term, status_term, removed_term, term_of}
 use Rattle.rel_records.specs.Writing.{is_changed, assignment_of, changes, new_libraries, record_of, CanBeCarried, IsOfListed}
 use Rattle.rel_records.proofs.EventRecords.{never_current}
-use Rattle.rel_records.proofs.Within.{length-chars, within-release}
+use Rattle.rel_records.proofs.Within.{length-chars, within-release, within-relup}
 
 -- what always holds holds where a call succeeds
 pub where_ok : {T E P : Type 0} (r : Result T E) → P → OnOk r P
@@ -142,14 +142,14 @@ not_refused v es e = go (status_of v es) e
     go (Some s) e = refl
 
 -- the term of an event's record says it, and is within the limits
-pub record_says : (e : Event) (es : Releases) (rel : Value) → IsOfListed e → refusal e es ≡ None → HaveVersions es → Says (term_of rel (record_of e es)) (record_of e es) × IsWithin 72 (term_of rel (record_of e es))
-record_says (made p) es rel listed allowed all = absurd listed
-record_says (unpacked p) es rel listed allowed all = absurd listed
-record_says (installed v) es rel listed allowed all = (status_says (changes (installed v) es) (changes_written (installed v) es all), within-status (changes (installed v) es))
-record_says (made_permanent v) es rel listed allowed all = (status_says (changes (made_permanent v) es) (changes_written (made_permanent v) es all), within-status (changes (made_permanent v) es))
-record_says (reboot_old v) es rel listed allowed all = (status_says (changes (reboot_old v) es) (changes_written (reboot_old v) es all), within-status (changes (reboot_old v) es))
-record_says boot es rel listed allowed all = (status_says (changes boot es) (changes_written boot es all), within-status (changes boot es))
-record_says (removed v) es rel listed allowed all = (removed_says v (listed_version v es all (not_refused v es allowed)), within-removed v)
+pub record_says : (e : Event) (es : Releases) (files : FileTerms) → IsOfListed e → refusal e es ≡ None → HaveVersions es → Says (term_of files (record_of e es)) (record_of e es) × IsWithin 72 (term_of files (record_of e es))
+record_says (made p) es files listed allowed all = absurd listed
+record_says (unpacked p) es files listed allowed all = absurd listed
+record_says (installed v) es files listed allowed all = (status_says (changes (installed v) es) (changes_written (installed v) es all), within-status (changes (installed v) es))
+record_says (made_permanent v) es files listed allowed all = (status_says (changes (made_permanent v) es) (changes_written (made_permanent v) es all), within-status (changes (made_permanent v) es))
+record_says (reboot_old v) es files listed allowed all = (status_says (changes (reboot_old v) es) (changes_written (reboot_old v) es all), within-status (changes (reboot_old v) es))
+record_says boot es files listed allowed all = (status_says (changes boot es) (changes_written boot es all), within-status (changes boot es))
+record_says (removed v) es files listed allowed all = (removed_says v (listed_version v es all (not_refused v es allowed)), within-removed v)
 
 -- the terms of libraries that can be carried are theirs
 carried_terms : (ls : List Library) → CanBeCarried ls → AreOfLibraries (library_terms ls) ls
@@ -177,25 +177,40 @@ module _ {E : Type 0} (result : Result (String Global) E) (v : Value) where
       go (Ok body) has = record { term = v; text = has; says = says }
       go (Err e) has = tt
 
-  pub change_spelled : (e : Event) (es : Releases) → v ≡ term_of (list_of []) (record_of e es) → IsOfListed e → refusal e es ≡ None → HaveVersions es → ReadsBack → IfOk result (λ body. Spells (string_bytes body) (record_of e es))
-  change_spelled e es is listed allowed all back =
-      let (says, within) = record_says e es (list_of []) listed allowed all in
+  pub change_spelled : (e : Event) (es : Releases) (files : FileTerms) → v ≡ term_of files (record_of e es) → IsOfListed e → refusal e es ≡ None → HaveVersions es → ReadsBack → IfOk result (λ body. Spells (string_bytes body) (record_of e es))
+  change_spelled e es files is listed allowed all back =
+      let (says, within) = record_says e es files listed allowed all in
       spelled_so (record_of e es) (subst (λ t. Says t (record_of e es)) (sym is) says) (subst (IsWithin 72) (sym is) within) back
 
-  -- the term that brings a release with these libraries
-  brings_spelled : (word : List ℕ) (make : Release → Record) (rel : Value) (ls : List Library) → length word ≤ 255 → v ≡ release_term word rel (library_terms ls) → IsWithin 65 rel → CanBeCarried ls
-      → ((r : Release) → Brings word v r ls → Says v (make r)) → ReadsBack → IfOk result (λ body. (r : Release) → IsReleaseTerm rel r → Spells (string_bytes body) (make r))
-  brings_spelled word make rel ls few is within all says back = go result (back (subst (IsWithin 72) (sym is) (within-release word rel ls few within all)))
-    where
-      go : (o : Result (String Global) E) → IfOk o (λ body. HasTerm 72 (string_bytes body) v) → IfOk o (λ body. (r : Release) → IsReleaseTerm rel r → Spells (string_bytes body) (make r))
-      go (Ok body) has = λ r release.
-          record { term = v; text = has; says = says r (record { rel = rel; libs = library_terms ls; is = is; release = release; libraries = carried_terms ls all }) }
-      go (Err e) has = tt
+  -- the term that brings a release of these files with these libraries
+  module _ (files : FileTerms) (ls : List Library) (within : IsWithin 65 files.rel) (all : CanBeCarried ls) (also : ForSome files.relup (IsWithin 65)) (back : ReadsBack) where
+    -- the body spells what such terms say
+    abbrev SpellsAll : (Release → Option RelupForm → Record) → Type 0
+    SpellsAll make = IfOk result (λ body. (r : Release) (o : Option RelupForm) → AreOfRelease files r o → Spells (string_bytes body) (make r o))
 
-  pub made_spelled : (rel : Value) (ls : List Library) → v ≡ release_term (codes "made") rel (library_terms ls) → IsWithin 65 rel → CanBeCarried ls → ReadsBack
-      → IfOk result (λ body. (r : Release) → IsReleaseTerm rel r → Spells (string_bytes body) (makes r ls))
-  made_spelled rel ls is within all back = brings_spelled (codes "made") (λ r. makes r ls) rel ls (omega arith) is within all (λ r b. b) back
+    brings_spelled : (word : List ℕ) (make : Release → Option RelupForm → Record) → length word ≤ 255 → v ≡ release_term word files.rel (library_terms ls) (relup_or_none files.relup)
+        → ((r : Release) (o : Option RelupForm) → Brings word v r ls o → Says v (make r o)) → SpellsAll make
+    brings_spelled word make few is says =
+        go result (back (subst (IsWithin 72) (sym is) (within-release word files.rel ls (relup_or_none files.relup) few within all (within-relup files.relup also))))
+      where
+        brought : (r : Release) (o : Option RelupForm) → AreOfRelease files r o → Brings word v r ls o
+        brought r o are = record {
+          rel = files.rel;
+          libs = library_terms ls;
+          last = relup_or_none files.relup;
+          is = is;
+          release = are.release;
+          libraries = carried_terms ls all;
+          relup = are.relup;
+        }
 
-  pub unpacked_spelled : (rel : Value) (ls : List Library) → v ≡ release_term (codes "unpacked") rel (library_terms ls) → IsWithin 65 rel → CanBeCarried ls → ReadsBack
-      → IfOk result (λ body. (r : Release) → IsReleaseTerm rel r → Spells (string_bytes body) (adds r ls))
-  unpacked_spelled rel ls is within all back = brings_spelled (codes "unpacked") (λ r. adds r ls) rel ls (omega arith) is within all (λ r b. b) back
+        go : (o : Result (String Global) E) → IfOk o (λ body. HasTerm 72 (string_bytes body) v)
+            → IfOk o (λ body. (r : Release) (o : Option RelupForm) → AreOfRelease files r o → Spells (string_bytes body) (make r o))
+        go (Ok body) has = λ r o are. record { term = v; text = has; says = says r o (brought r o are) }
+        go (Err e) has = tt
+
+    pub made_spelled : v ≡ release_term (codes "made") files.rel (library_terms ls) (relup_or_none files.relup) → SpellsAll (λ r o. makes r ls o)
+    made_spelled is = brings_spelled (codes "made") (λ r o. makes r ls o) (omega arith) is (λ r o b. b)
+
+    pub unpacked_spelled : v ≡ release_term (codes "unpacked") files.rel (library_terms ls) (relup_or_none files.relup) → SpellsAll (λ r o. adds r ls o)
+    unpacked_spelled is = brings_spelled (codes "unpacked") (λ r o. adds r ls o) (omega arith) is (λ r o b. b)

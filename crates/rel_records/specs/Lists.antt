@@ -1,11 +1,14 @@
 -- What records make of a list.
-use Rattle.std.specs.Prelude.{◌≡◌, ℕ, ◌+◌, Bool, true, ◌&&◌, not, List, [], ◌∷◌, ◌++◌, length, nat_lt, is_some, if◌then◌else◌, Option, None, Some}
+use Rattle.std.specs.Prelude.{◌≡◌, ℕ, ◌+◌, Bool, true, ◌&&◌, ◌||◌, not, List, [], ◌∷◌, ◌++◌, length, nat_lt, is_some, if◌then◌else◌, Option, None, Some}
 use Rattle.std.specs.List.{AllByRecursion}
 use Rattle.std.specs.Option.{option_map, option_and_then}
 use Rattle.rel_files.specs.File.{HasVersions}
 use Rattle.rel_files.specs.Release.{Application, Release}
 use Rattle.library.specs.Library.{Library, IsLibrary, is_at}
+use Rattle.rel_check.specs.declared.relup.RelupMismatch.{RelupMismatch}
 use Rattle.rel_check.specs.Fault.{release_fault}
+use Rattle.rel_check.specs.Relup.{relup_mismatch}
+use Rattle.relup_file.specs.Relup.{RelupForm}
 use Rattle.rel_list.specs.Releases.{Bundle, Releases, Entry, libraries_named, library_in, status_of}
 use Rattle.rel_list.specs.Status.{is_current}
 use Rattle.rel_list.specs.Event.{step, list_assigned}
@@ -39,19 +42,27 @@ completed es [] [] = Some []
 completed es [] (l ∷ ls) = None
 completed es (a ∷ as') ls = option_and_then (λ n. option_map (λ ks. n.0 ∷ ks) (completed es as' n.1)) (next_library es a ls)
 
--- the bundle, where the release has no fault with its libraries
-abbrev pub if_faultless : Bundle → Option Bundle
-if_faultless p = if is_some (release_fault p.release.apps p.libraries) then None else Some p
+-- why a release can't have the relup that it has
+abbrev pub mismatch_in : Bundle → Option RelupMismatch
+mismatch_in p = option_and_then (relup_mismatch p.release.vsn) p.relup
 
--- what a record with this release and these new libraries brings
-abbrev pub brought_by : Releases → Release → List Library → Option Bundle
-brought_by es r ls = option_and_then (λ ks. if_faultless (record { release = r; libraries = ks })) (completed es r.apps ls)
+-- the release has a fault with its libraries, or can't have its relup
+abbrev pub has_fault : Bundle → Bool
+has_fault p = is_some (release_fault p.release.apps p.libraries) || is_some (mismatch_in p)
+
+-- the bundle, where it has no fault
+abbrev pub if_faultless : Bundle → Option Bundle
+if_faultless p = if has_fault p then None else Some p
+
+-- what a record with this release, these new libraries and this relup brings
+abbrev pub brought_by : Releases → Release → List Library → Option RelupForm → Option Bundle
+brought_by es r ls o = option_and_then (λ ks. if_faultless (record { release = r; libraries = ks; relup = o })) (completed es r.apps ls)
 
 -- what a record makes of a list
 abbrev pub taken_by : Record → Releases → Option Releases
-taken_by (makes r ls) es = if is_small r then option_and_then (λ p. step (made p) es) (brought_by es r ls) else None
-taken_by (adds r ls) es =
-    if is_small r && nat_lt (length es) most_releases then option_and_then (λ p. step (unpacked p) es) (brought_by es r ls) else None
+taken_by (makes r ls o) es = if is_small r then option_and_then (λ p. step (made p) es) (brought_by es r ls o) else None
+taken_by (adds r ls o) es =
+    if is_small r && nat_lt (length es) most_releases then option_and_then (λ p. step (unpacked p) es) (brought_by es r ls o) else None
 taken_by (assigns given) es = assign_all given es
 taken_by (removes v) es = step (removed v) es
 

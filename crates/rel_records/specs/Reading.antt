@@ -2,17 +2,20 @@
 use Rattle.std.specs.Prelude.{◌≡◌, ℕ, List, [], ◌∷◌, codes, if◌then◌else◌, Option, None, Some}
 use Rattle.std.specs.Option.{option_map, option_and_then}
 use Rattle.erl_term.specs.Value.{Value, Values}
+use Rattle.erl_term.specs.Value.Value.{atom}
 use Rattle.erl_term.specs.Value.Values.{no_values, value}
 use Rattle.erl_term.specs.OneTerm.{HasTerm}
 use Rattle.rel_files.specs.File.{IsReleaseTerm}
 use Rattle.rel_files.specs.Parts.{list_in, pair_in, is_word}
 use Rattle.rel_files.specs.Sketch.{text_in}
 use Rattle.rel_files.specs.Release.{Release}
+use Rattle.relup_file.specs.Form.{IsRelupTerm}
+use Rattle.relup_file.specs.Relup.{RelupForm}
 use Rattle.library.specs.Library.{Library}
 use Rattle.library.specs.Reading.{AreOfLibraries}
 use Rattle.rel_list.specs.declared.status.Status.{Status}
 use Rattle.rel_list.specs.declared.status.Status.TheVariants.{Unpacked, Old, Permanent}
-use Rattle.rel_records.specs.Record.{Assignment, Record, makes, adds, assigns, removes, release_term}
+use Rattle.rel_records.specs.Record.{Assignment, FileTerms, Record, makes, adds, assigns, removes, release_term, relup_or_none}
 
 -- the text of a version
 abbrev pub version_in : Value → Option (List ℕ)
@@ -44,18 +47,30 @@ change_of p =
 abbrev pub change_in : Value → Option Record
 change_in v = option_and_then change_of (pair_in v)
 
--- It is the term with this word of a record that brings this release and these libraries.
-pub record Brings (word : List ℕ) (v : Value) (r : Release) (ls : List Library) : Type 0 where
+-- The term stands for this relup. The atom `none` stands for none.
+abbrev pub StandsForRelup : Value → Option RelupForm → Type 0
+StandsForRelup v None = v ≡ atom (codes "none")
+StandsForRelup v (Some r) = IsRelupTerm v r
+
+-- The terms of files say this release and this relup.
+pub record AreOfRelease (files : FileTerms) (r : Release) (o : Option RelupForm) : Type 0 where
+  pub release : IsReleaseTerm files.rel r
+  pub relup : StandsForRelup (relup_or_none files.relup) o
+
+-- It is the term with this word of a record that brings this release, these libraries and this relup.
+pub record Brings (word : List ℕ) (v : Value) (r : Release) (ls : List Library) (o : Option RelupForm) : Type 0 where
   pub rel : Value
   pub libs : Values
-  pub is : v ≡ release_term word rel libs
+  pub last : Value
+  pub is : v ≡ release_term word rel libs last
   pub release : IsReleaseTerm rel r
   pub libraries : AreOfLibraries libs ls
+  pub relup : StandsForRelup last o
 
 -- The term says this record.
 abbrev pub Says : Value → Record → Type 0
-Says v (makes r ls) = Brings (codes "made") v r ls
-Says v (adds r ls) = Brings (codes "unpacked") v r ls
+Says v (makes r ls o) = Brings (codes "made") v r ls o
+Says v (adds r ls o) = Brings (codes "unpacked") v r ls o
 Says v r = change_in v ≡ Some r
 
 -- This body of a store's record spells this record. It is read with 72 brackets open at once.

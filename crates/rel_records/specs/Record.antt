@@ -1,10 +1,11 @@
 -- The records of a store, and the terms that spell them.
-use Rattle.std.specs.Prelude.{ℕ, List, [], ◌∷◌, ◌++◌, map, codes}
+use Rattle.std.specs.Prelude.{ℕ, List, [], ◌∷◌, ◌++◌, map, codes, Option, None, Some}
 use Rattle.erl_term.specs.Value.{Value, Values, values_of}
 use Rattle.erl_term.specs.Value.Value.{atom, list}
 use Rattle.erl_term.specs.Printing.{text_of}
 use Rattle.rel_files.specs.Form.{tuple_of, list_of, numbers_term, numbers_of}
 use Rattle.rel_files.specs.Release.{Release}
+use Rattle.relup_file.specs.Relup.{RelupForm}
 use Rattle.library.specs.Library.{Library, library_term}
 use Rattle.rel_list.specs.declared.status.Status.{Status}
 use Rattle.rel_list.specs.Status.{status_word}
@@ -15,16 +16,26 @@ pub record Assignment : Type 0 where
   pub status : Status
 
 -- What a record says: the node's first release was made, a further one came in unpacked, each with the libraries that are new
--- with it; releases got these statuses one after another; or the release of this version left.
+-- with it and its relup, if it has one; releases got these statuses one after another; or the release of this version left.
 pub data Record : Type 0 where
-  makes : Release → List Library → Record
-  adds : Release → List Library → Record
+  makes : Release → List Library → Option RelupForm → Record
+  adds : Release → List Library → Option RelupForm → Record
   assigns : List Assignment → Record
   removes : List ℕ → Record
 
--- {Word, Rel, Libs, Relup}: so far a release has no relup
-abbrev pub release_term : List ℕ → Value → Values → Value
-release_term word rel libs = tuple_of (atom word ∷ rel ∷ list libs ∷ atom (codes "none") ∷ [])
+-- the terms of a release's files: that of its own, and that of its relup, if it has one
+pub record FileTerms : Type 0 where
+  pub rel : Value
+  pub relup : Option Value
+
+-- the term that stands for a relup: that of its file, or the atom `none`
+abbrev pub relup_or_none : Option Value → Value
+relup_or_none None = atom (codes "none")
+relup_or_none (Some v) = v
+
+-- {Word, Rel, Libs, Relup}
+abbrev pub release_term : List ℕ → Value → Values → Value → Value
+release_term word rel libs relup = tuple_of (atom word ∷ rel ∷ list libs ∷ relup ∷ [])
 
 -- the terms by which a record carries libraries
 abbrev pub library_terms : List Library → Values
@@ -45,16 +56,16 @@ status_term given = pair_term (atom (codes "status")) (list_of (map assignment_t
 abbrev pub removed_term : List ℕ → Value
 removed_term v = pair_term (atom (codes "removed")) (numbers_term (numbers_of v))
 
--- The term in which a command writes a record. A release is written as its file's term, this one.
-abbrev pub term_of : Value → Record → Value
-term_of rel (makes r ls) = release_term (codes "made") rel (library_terms ls)
-term_of rel (adds r ls) = release_term (codes "unpacked") rel (library_terms ls)
-term_of rel (assigns given) = status_term given
-term_of rel (removes v) = removed_term v
+-- The term in which a command writes a record. A release and its relup are written as the terms of their files, these.
+abbrev pub term_of : FileTerms → Record → Value
+term_of files (makes r ls o) = release_term (codes "made") files.rel (library_terms ls) (relup_or_none files.relup)
+term_of files (adds r ls o) = release_term (codes "unpacked") files.rel (library_terms ls) (relup_or_none files.relup)
+term_of files (assigns given) = status_term given
+term_of files (removes v) = removed_term v
 
 -- the body that a command writes: the printed term and a dot
 abbrev pub printed : Value → List ℕ
 printed v = text_of v ++ 46 ∷ []
 
-abbrev pub body_of : Value → Record → List ℕ
-body_of rel r = printed (term_of rel r)
+abbrev pub body_of : FileTerms → Record → List ℕ
+body_of files r = printed (term_of files r)

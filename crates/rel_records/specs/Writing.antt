@@ -10,7 +10,7 @@ use Rattle.rel_list.specs.Releases.{Bundle, Releases, Entry, library_in}
 use Rattle.rel_list.specs.Event.{Event, status_behind, booted_status, booted, step}
 use Rattle.rel_list.specs.Event.Event.{made, unpacked, removed}
 use Rattle.rel_records.specs.Limits.{most_releases, is_small, has_one_permanent}
-use Rattle.rel_records.specs.Lists.{assigned}
+use Rattle.rel_records.specs.Lists.{assigned, mismatch_in}
 use Rattle.rel_records.specs.Record.{Assignment, Record, makes, adds, assigns, removes}
 
 abbrev pub is_same : Status → Status → Bool
@@ -37,10 +37,10 @@ abbrev pub new_libraries : Releases → List Library → List Library
 new_libraries es ls = filter (λ (l : Library). not (is_some (library_in es l.app.name l.app.vsn))) ls
 
 -- The record of an event behind this list. A release is written with its new libraries alone, in the order of its
--- applications; to a node's first release all are new.
+-- applications, and its relup; to a node's first release all libraries are new.
 abbrev pub record_of : Event → Releases → Record
-record_of (made p) es = makes p.release p.libraries
-record_of (unpacked p) es = adds p.release (new_libraries es p.libraries)
+record_of (made p) es = makes p.release p.libraries p.relup
+record_of (unpacked p) es = adds p.release (new_libraries es p.libraries) p.relup
 record_of (removed v) es = removes v
 record_of e es = assigns (changes e es)
 
@@ -50,10 +50,11 @@ IsOfListed (made p) = ⊥
 IsOfListed (unpacked p) = ⊥
 IsOfListed e = Unit {0}
 
--- The release has the libraries of its applications, and no fault with them.
+-- The release has the libraries of its applications, no fault with them, and a relup that it can have, or none.
 pub record IsComplete (p : Bundle) : Type 0 where
   pub libraries : AreLibrariesOf p.release.apps p.libraries
   pub faultless : release_fault p.release.apps p.libraries ≡ None
+  pub matching : mismatch_in p ≡ None
 
 -- a release that the event brings is complete, and the limits are kept
 abbrev pub IsWithinLimits : Event → Releases → Type 0

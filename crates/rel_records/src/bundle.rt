@@ -5,35 +5,48 @@ ghost use Rattle.library.specs.InMemory.{shared_of};
 ghost use Rattle.rel_check.specs.Fault.{release_fault};
 ghost use Rattle.rel_files.specs.Release.{application_of, release_of};
 ghost use Rattle.rel_list.specs.Keyed.{bundle_of};
-ghost use Rattle.rel_records.specs.Lists.{brought_by, completed, next_library};
+ghost use Rattle.relup_file.specs.Relup.{relup_of};
+ghost use Rattle.rel_records.specs.Lists.{brought_by, completed, has_fault, mismatch_in, next_library};
 
 use crate::fault::RecordFault;
+use crate::new_release::NewRelease;
 use library::Library;
-use rel_check::{ReleaseFault, check_release};
-use rel_files::{Rel, RelApp};
+use rel_check::{ReleaseFault, check_release, check_relup};
+use rel_files::RelApp;
 use rel_list::{Bundle, ReleaseList};
 use std::alloc::{AllocError, Global};
 use std::rc::Rc;
 
-// The release with the libraries of its applications, of which these are the new ones, where it has no fault with them.
+// The release with the libraries of its applications and its relup, where it has no fault.
 pub(crate) fn bring(
     alloc: Global,
     list: &ReleaseList,
-    release: Rel,
-    new: &[Rc<Library>],
+    new: NewRelease,
 ) -> Result<Bundle, RecordFault>
-    ensures brought { IfOk result (λ bundle. brought_by list.now (release_of release)
-        (map shared_of new.now) ≡ Some (bundle_of bundle)) }
-    ensures bad { IsErrOf result RecordFault.Bad
-        → brought_by list.now (release_of release) (map shared_of new.now) ≡ None }
+    ensures brought { IfOk result (λ bundle. brought_by list.now (release_of new.release)
+        (map shared_of new.libraries.items) (option_map relup_of new.relup)
+        ≡ Some (bundle_of bundle)) }
+    ensures bad { IsErrOf result RecordFault.Bad → brought_by list.now (release_of new.release)
+        (map shared_of new.libraries.items) (option_map relup_of new.relup) ≡ None }
 {
-    let Some(libraries) = complete(alloc, list, release.apps.as_slice(), new)? else {
+    let Some(libraries) = complete(
+        alloc,
+        list,
+        new.release.apps.as_slice(),
+        new.libraries.as_slice(),
+    )?
+    else {
         return Err(RecordFault::Bad);
     };
-    if has_fault(alloc, release.apps.as_slice(), libraries.as_slice())? {
+    let bundle = Bundle {
+        release: new.release,
+        libraries,
+        relup: new.relup,
+    };
+    if has_fault(alloc, &bundle)? {
         return Err(RecordFault::Bad);
     }
-    Ok(Bundle { release, libraries })
+    Ok(bundle)
 }
 
 // The libraries of applications, in their order, of which these are the new ones. None may be left over.
@@ -91,8 +104,34 @@ fn next_library<'a>(
     }
 }
 
+// Whether the release has a fault with its libraries, or can't have its relup.
+fn has_fault(alloc: Global, bundle: &Bundle) -> Result<bool, AllocError>
+    ensures { IfOk result (λ has. has ≡ has_fault (bundle_of bundle.now)) }
+{
+    let with_libraries = has_release_fault(
+        alloc,
+        bundle.release.apps.as_slice(),
+        bundle.libraries.as_slice(),
+    )?;
+    Ok(with_libraries || has_mismatch(bundle))
+}
+
+// Whether the release can't have its relup.
+fn has_mismatch(bundle: &Bundle) -> bool
+    ensures { result ≡ is_some (mismatch_in (bundle_of bundle.now)) }
+{
+    match &bundle.relup {
+        Some(relup) => check_relup(bundle.release.vsn.as_str(), relup).is_err(),
+        None => false,
+    }
+}
+
 // Whether a release of these applications has a fault with these libraries.
-fn has_fault(alloc: Global, apps: &[RelApp], libraries: &[Rc<Library>]) -> Result<bool, AllocError>
+fn has_release_fault(
+    alloc: Global,
+    apps: &[RelApp],
+    libraries: &[Rc<Library>],
+) -> Result<bool, AllocError>
     ensures { IfOk result (λ has. has ≡ is_some
         (release_fault (map application_of apps.now) (map shared_of libraries.now))) }
 {

@@ -1,11 +1,12 @@
 // Why records aren't taken.
 ghost use Rattle.std.specs.Prelude.{◌≡◌};
 ghost use Rattle.rel_records.specs.declared.fault.RecordFault.TheVariants.{NoMemory};
-ghost use Rattle.rel_records.specs.Parts.{fault_of_text, fault_of_release, fault_of_list};
+ghost use Rattle.rel_records.specs.Parts.{fault_of_text, fault_of_release, fault_of_relup, fault_of_list};
 
 use erl_term::TermFault;
 use rel_files::FileFault;
 use rel_list::ListError;
+use relup_file::RelupFault;
 use std::alloc::AllocError;
 use thiserror::Error;
 
@@ -53,6 +54,17 @@ impl From<FileFault> for RecordFault {
     fn from(fault: FileFault) -> RecordFault {
         match fault {
             FileFault::NoMemory => RecordFault::NoMemory,
+            _ => RecordFault::Bad,
+        }
+    }
+}
+
+impl From<RelupFault> for RecordFault {
+    ghost from_gives = { λ f e. e ≡ fault_of_relup f };
+
+    fn from(fault: RelupFault) -> RecordFault {
+        match fault {
+            RelupFault::NoMemory => RecordFault::NoMemory,
             _ => RecordFault::Bad,
         }
     }

@@ -1,8 +1,8 @@
 //! The records in which a store keeps the list of a node's releases.
 //!
 //! A record says that the node's first release was made, that a further one came in, that releases got other statuses, or
-//! that one left (specs/Record). One that brings a release carries its new libraries alone, those that the list doesn't have.
-//! Its body is a printed term (`body_of`); a body spells one record at most (`Spells`).
+//! that one left (specs/Record). One that brings a release carries its new libraries alone, those that the list doesn't have,
+//! and its relup. Its body is a printed term (`body_of`); a body spells one record at most (`Spells`).
 //!
 //! `read_list` gives the list that records make, each taken as what it says of the list (`Makes`), or the first record that
 //! no command could have written where it stands (`IsBadRecord`). `made_body`, `unpacked_body` and `change_body` print the
@@ -21,6 +21,7 @@ mod fault;
 pub mod laws;
 mod limits;
 mod lists;
+mod new_release;
 mod reading;
 mod writing;
 

@@ -1,23 +1,19 @@
 // What records make of a list.
-ghost use Rattle.std.specs.Prelude.{◌≡◌, ◌⊎◌, ℕ, true, map, None, Some, IsErrOf, IfOk, IfErr, OnOk};
-ghost use Rattle.library.specs.InMemory.{shared_of};
-ghost use Rattle.rel_files.specs.Release.{release_of};
+ghost use Rattle.std.specs.Prelude.{◌≡◌, ◌⊎◌, ℕ, map, None, Some, IsErrOf, IfOk, IfErr, OnOk};
 ghost use Rattle.rel_records.specs.Limits.{has_one_permanent};
 ghost use Rattle.rel_records.specs.Lists.{assign_all, taken_by, assigned, Makes, CannotStand, IsBadRecord};
 ghost use Rattle.rel_records.specs.Parts.{assignment_read, record_read};
 ghost use Rattle.rel_records.specs.Reading.{Spells};
-ghost use Rattle.rel_records.specs.Record.{Record as RecordInSpecs, adds, makes};
+ghost use Rattle.rel_records.specs.Record.{Record as RecordInSpecs};
 
 use crate::assignment::Assignment;
 use crate::bundle::bring;
 use crate::fault::{RecordFault, RecordsError};
 use crate::limits::{MOST_RELEASES, is_small};
+use crate::new_release::NewRelease;
 use crate::reading::{Record, record_in};
-use library::Library;
-use rel_files::Rel;
 use rel_list::{Event, ReleaseList};
 use std::alloc::Global;
-use std::rc::Rc;
 
 // Gives these releases these statuses, one after another.
 fn assign_all(list: &mut ReleaseList, assignments: &[Assignment]) -> Result<(), RecordFault>
@@ -55,48 +51,38 @@ fn change(alloc: Global, list: &mut ReleaseList, said: Record) -> Result<(), Rec
     ensures bad { IsErrOf result RecordFault.Bad → taken_by (record_read said) list.old ≡ None }
 {
     match said {
-        Record::Made(release, new) => make(alloc, list, release, new.as_slice()),
-        Record::Unpacked(release, new) => unpack(alloc, list, release, new.as_slice()),
+        Record::Made(new) => make(alloc, list, new),
+        Record::Unpacked(new) => unpack(alloc, list, new),
         Record::Statuses(assignments) => assign_all(list, assignments.as_slice()),
         Record::Removed(vsn) => Ok(list.accept(alloc, Event::Removed(vsn))?),
     }
 }
 
-// Makes the list with its first release, of which these are the libraries.
-fn make(
-    alloc: Global,
-    list: &mut ReleaseList,
-    release: Rel,
-    new: &[Rc<Library>],
-) -> Result<(), RecordFault>
-    ensures taken { OnOk result (taken_by (makes (release_of release) (map shared_of new.now))
-        list.old ≡ Some list.new) }
+// Makes the list with its first release.
+fn make(alloc: Global, list: &mut ReleaseList, new: NewRelease) -> Result<(), RecordFault>
+    ensures taken { OnOk result
+        (taken_by (record_read (Record.Made new)) list.old ≡ Some list.new) }
     ensures bad { IsErrOf result RecordFault.Bad
-        → taken_by (makes (release_of release) (map shared_of new.now)) list.old ≡ None }
+        → taken_by (record_read (Record.Made new)) list.old ≡ None }
 {
-    if !is_small(&release) {
+    if !is_small(&new.release) {
         return Err(RecordFault::Bad);
     }
-    let bundle = bring(alloc, list, release, new)?;
+    let bundle = bring(alloc, list, new)?;
     Ok(list.accept(alloc, Event::Made(bundle))?)
 }
 
-// Takes in a further release, of whose libraries these are new to the list.
-fn unpack(
-    alloc: Global,
-    list: &mut ReleaseList,
-    release: Rel,
-    new: &[Rc<Library>],
-) -> Result<(), RecordFault>
-    ensures taken { OnOk result (taken_by (adds (release_of release) (map shared_of new.now))
-        list.old ≡ Some list.new) }
+// Takes in a further release.
+fn unpack(alloc: Global, list: &mut ReleaseList, new: NewRelease) -> Result<(), RecordFault>
+    ensures taken { OnOk result
+        (taken_by (record_read (Record.Unpacked new)) list.old ≡ Some list.new) }
     ensures bad { IsErrOf result RecordFault.Bad
-        → taken_by (adds (release_of release) (map shared_of new.now)) list.old ≡ None }
+        → taken_by (record_read (Record.Unpacked new)) list.old ≡ None }
 {
-    if !is_small(&release) || list.len() >= MOST_RELEASES {
+    if !is_small(&new.release) || list.len() >= MOST_RELEASES {
         return Err(RecordFault::Bad);
     }
-    let bundle = bring(alloc, list, release, new)?;
+    let bundle = bring(alloc, list, new)?;
     Ok(list.accept(alloc, Event::Unpacked(bundle))?)
 }
 

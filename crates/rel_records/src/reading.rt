@@ -2,67 +2,26 @@
 ghost use Rattle.std.specs.Prelude.{◌≡◌, None, Some, IsErrOf, IfOk};
 ghost use Rattle.std.specs.Option.{option_map, option_and_then};
 ghost use Rattle.erl_term.specs.Value.{value_of};
-ghost use Rattle.rel_records.specs.Parts.{name_in, parts_in, parts_of, parts_term, parts_with, record_read};
+ghost use Rattle.rel_records.specs.Parts.{parts_of, parts_term, record_read};
 ghost use Rattle.rel_files.specs.Parts.{list_in};
 ghost use Rattle.rel_records.specs.Reading.{assignments_of, change_in, change_of, Says, Spells};
 ghost use Rattle.rel_records.specs.Record.{Record as RecordInSpecs, assigns};
 
 use crate::assignment::{Assignment, assignments_in, version_in};
 use crate::fault::RecordFault;
+use crate::new_release::{NewRelease, ReleaseParts, new_release, parts_in};
 use crate::writing::{MADE, UNPACKED};
 use erl_term::{Term, read_record};
-use library::{Library, libraries_of_terms};
-use rel_files::parts::{four_in, is_word, list_in, pair_in};
-use rel_files::{Rel, rel_of_term};
+use rel_files::parts::{is_word, list_in, pair_in};
 use std::alloc::{AllocError, Global};
-use std::rc::Rc;
 
 // What a record of a store says.
 #[derive(Drop)]
 pub(crate) enum Record {
-    Made(Rel, Vec<Rc<Library>>),
-    Unpacked(Rel, Vec<Rc<Library>>),
+    Made(NewRelease),
+    Unpacked(NewRelease),
     Statuses(Vec<Assignment>),
     Removed(String),
-}
-
-fn name_in(term: &Term) -> Option<&str>
-    ensures { option_map (λ name. name.now) result ≡ name_in (value_of term.now) }
-{
-    match term {
-        Term::Atom(name) => Some(name.as_str()),
-        _ => None,
-    }
-}
-
-// What a record that brings a release is made of.
-#[derive(Clone, Copy)]
-struct ReleaseParts<'a> {
-    word: &'a str,
-    rel: &'a Term,
-    libs: &'a [Term],
-}
-
-fn parts_in(term: &Term) -> Option<ReleaseParts<'_>>
-    ensures { option_map parts_of result ≡ parts_in (value_of term.now) }
-{
-    let (word, rel, libs, relup) = four_in(term)?;
-    if is_word(relup, "none") {
-        parts_with(word, rel, libs)
-    } else {
-        None
-    }
-}
-
-fn parts_with<'a>(word: &'a Term, rel: &'a Term, libs: &'a Term) -> Option<ReleaseParts<'a>>
-    ensures { option_map parts_of result
-        ≡ parts_with (value_of word.now) (value_of rel.now) (value_of libs.now) }
-{
-    Some(ReleaseParts {
-        word: name_in(word)?,
-        rel,
-        libs: list_in(libs)?,
-    })
 }
 
 // The record of `{status, Assignments}` or `{removed, Vsn}`.
@@ -105,14 +64,11 @@ fn release_record(alloc: Global, parts: ReleaseParts<'_>) -> Result<Record, Reco
     if !made && parts.word != UNPACKED {
         return Err(RecordFault::Bad);
     }
-    let release = rel_of_term(alloc, parts.rel, 0)?;
-    let Some(libraries) = libraries_of_terms(alloc, parts.libs)? else {
-        return Err(RecordFault::Bad);
-    };
+    let new = new_release(alloc, parts)?;
     if made {
-        Ok(Record::Made(release, libraries))
+        Ok(Record::Made(new))
     } else {
-        Ok(Record::Unpacked(release, libraries))
+        Ok(Record::Unpacked(new))
     }
 }
 

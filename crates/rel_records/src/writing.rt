@@ -1,20 +1,22 @@
 // The bodies of the records that commands write.
-ghost use Rattle.std.specs.Prelude.{◌≡◌, map, codes, pos, string_bytes, None, IfOk, OnOk};
+ghost use Rattle.std.specs.Prelude.{◌≡◌, map, pos, string_bytes, Option, None, IfOk, OnOk};
+ghost use Rattle.std.specs.Option.{option_map, ForSome};
 ghost use Rattle.erl_term.specs.OneTerm.{HasTerm};
-ghost use Rattle.erl_term.specs.Value.{Value, members_of, value_of};
+ghost use Rattle.erl_term.specs.Value.{members_of, value_of};
 ghost use Rattle.erl_term.specs.Value.Value.{atom, int};
 ghost use Rattle.erl_term.specs.Within.{IsWithin};
-ghost use Rattle.rel_files.specs.File.{IsReleaseTerm};
 ghost use Rattle.rel_files.specs.Form.{list_of, numbers_term, numbers_of};
 ghost use Rattle.rel_files.specs.Release.{Release};
+ghost use Rattle.relup_file.specs.Relup.{RelupForm};
 ghost use Rattle.library.specs.InMemory.{shared_of};
 ghost use Rattle.library.specs.Library.{library_term};
 ghost use Rattle.rel_list.specs.Event.{event_of};
 ghost use Rattle.rel_list.specs.Keyed.{entry_of};
 ghost use Rattle.rel_list.specs.Refusal.{refusal};
 ghost use Rattle.rel_records.specs.Lists.{HaveVersions};
-ghost use Rattle.rel_records.specs.Reading.{Spells};
-ghost use Rattle.rel_records.specs.Record.{makes, adds, release_term, pair_term, assignment_term, term_of, body_of, printed};
+ghost use Rattle.rel_records.specs.Parts.{files_of};
+ghost use Rattle.rel_records.specs.Reading.{AreOfRelease, Spells};
+ghost use Rattle.rel_records.specs.Record.{FileTerms, makes, adds, release_term, relup_or_none, pair_term, assignment_term, term_of, body_of, printed};
 ghost use Rattle.rel_records.specs.Writing.{changes, assignment_of, new_libraries, record_of, CanBeCarried, IsOfListed, Tells};
 
 use erl_term::{Term, print};
@@ -29,38 +31,52 @@ pub(crate) const MADE: &str = "made";
 // The word of the record that brings a further release.
 pub(crate) const UNPACKED: &str = "unpacked";
 
-/// The body of the record that makes a node with the release of this term and these libraries of its applications.
-pub fn made_body(alloc: Global, rel: Term, libraries: &[Rc<Library>]) -> Result<String, AllocError>
+/// The body of the record that makes a node with a release: the term of its file, the libraries of its applications, and the
+/// term of its relup's file, if it has one.
+pub fn made_body(
+    alloc: Global,
+    rel: Term,
+    libraries: &[Rc<Library>],
+    relup: Option<Term>,
+) -> Result<String, AllocError>
     requires rel { IsWithin 65 (value_of rel) }
     requires libraries { CanBeCarried (map shared_of libraries.now) }
-    ensures body { IfOk result (λ body. (r : Release) → string_bytes body
-        ≡ body_of (value_of rel) (makes r (map shared_of libraries.now))) }
-    ensures spells { IfOk result (λ body. (r : Release) → IsReleaseTerm (value_of rel) r
-        → Spells (string_bytes body) (makes r (map shared_of libraries.now))) }
+    requires relup { ForSome relup (λ term. IsWithin 65 (value_of term)) }
+    ensures body { IfOk result (λ body. (r : Release) → (o : Option RelupForm)
+        → string_bytes body
+        ≡ body_of (files_of rel relup) (makes r (map shared_of libraries.now) o)) }
+    ensures spells { IfOk result (λ body. (r : Release) → (o : Option RelupForm)
+        → AreOfRelease (files_of rel relup) r o
+        → Spells (string_bytes body) (makes r (map shared_of libraries.now) o)) }
 {
     let libs = library_terms(alloc, libraries)?;
-    let term = release_term(alloc, MADE, rel, libs)?;
+    let relup = relup_or_none(alloc, relup)?;
+    let term = release_term(alloc, MADE, rel, libs, relup)?;
     body_of(alloc, &term)
 }
 
-/// The body of the record that brings a further release to this list, of this term, with these libraries of its
-/// applications. It carries those that the list doesn't have.
+/// The body of the record that brings a further release to this list: the term of its file, the libraries of its
+/// applications, and the term of its relup's file, if it has one. It carries those libraries that the list doesn't have.
 pub fn unpacked_body(
     alloc: Global,
     list: &ReleaseList,
     rel: Term,
     libraries: &[Rc<Library>],
+    relup: Option<Term>,
 ) -> Result<String, AllocError>
     requires rel { IsWithin 65 (value_of rel) }
     requires libraries { CanBeCarried (map shared_of libraries.now) }
-    ensures body { IfOk result (λ body. (r : Release) → string_bytes body ≡ body_of (value_of rel)
-        (adds r (new_libraries list.now (map shared_of libraries.now)))) }
-    ensures spells { IfOk result (λ body. (r : Release) → IsReleaseTerm (value_of rel) r
-        → Spells (string_bytes body)
-        (adds r (new_libraries list.now (map shared_of libraries.now)))) }
+    requires relup { ForSome relup (λ term. IsWithin 65 (value_of term)) }
+    ensures body { IfOk result (λ body. (r : Release) → (o : Option RelupForm)
+        → string_bytes body ≡ body_of (files_of rel relup)
+        (adds r (new_libraries list.now (map shared_of libraries.now)) o)) }
+    ensures spells { IfOk result (λ body. (r : Release) → (o : Option RelupForm)
+        → AreOfRelease (files_of rel relup) r o → Spells (string_bytes body)
+        (adds r (new_libraries list.now (map shared_of libraries.now)) o)) }
 {
     let libs = new_library_terms(alloc, list, libraries)?;
-    let term = release_term(alloc, UNPACKED, rel, libs)?;
+    let relup = relup_or_none(alloc, relup)?;
+    let term = release_term(alloc, UNPACKED, rel, libs, relup)?;
     body_of(alloc, &term)
 }
 
@@ -69,8 +85,8 @@ pub fn change_body(alloc: Global, list: &ReleaseList, event: &Event) -> Result<S
     requires listed { IsOfListed (event_of event.now) }
     requires allowed { refusal (event_of event.now) list.now ≡ None }
     requires versions { HaveVersions list.now }
-    ensures body { IfOk result (λ body. (rel : Value)
-        → string_bytes body ≡ body_of rel (record_of (event_of event.now) list.now)) }
+    ensures body { IfOk result (λ body. (files : FileTerms)
+        → string_bytes body ≡ body_of files (record_of (event_of event.now) list.now)) }
     ensures spells { IfOk result (λ body.
         Spells (string_bytes body) (record_of (event_of event.now) list.now)) }
 
@@ -94,13 +110,28 @@ fn body_of(alloc: Global, term: &Term) -> Result<String, AllocError>
 }
 
 // The term of the record that brings a release, of these terms.
-fn release_term(alloc: Global, word: &str, rel: Term, libs: Vec<Term>) -> Result<Term, AllocError>
+fn release_term(
+    alloc: Global,
+    word: &str,
+    rel: Term,
+    libs: Vec<Term>,
+    relup: Term,
+) -> Result<Term, AllocError>
     ensures { IfOk result (λ term. value_of term
-        ≡ release_term word.now (value_of rel) (members_of libs.items)) }
+        ≡ release_term word.now (value_of rel) (members_of libs.items) (value_of relup)) }
 {
     let word = atom_term(alloc, word)?;
-    let none = atom_term(alloc, "none")?;
-    Ok(Term::Tuple(vec![in alloc; word, rel, Term::List(libs), none]?))
+    Ok(Term::Tuple(vec![in alloc; word, rel, Term::List(libs), relup]?))
+}
+
+// The term that stands for a relup of this term, or for none.
+fn relup_or_none(alloc: Global, relup: Option<Term>) -> Result<Term, AllocError>
+    ensures { IfOk result (λ term. value_of term ≡ relup_or_none (option_map value_of relup)) }
+{
+    match relup {
+        Some(term) => Ok(term),
+        None => atom_term(alloc, "none"),
+    }
 }
 
 // The terms of libraries.
@@ -137,8 +168,8 @@ fn new_library_terms(
 // The term of the record of an event.
 fn change_term(alloc: Global, releases: &[ListedRelease], event: &Event) -> Result<Term, AllocError>
     requires { IsOfListed (event_of event.now) }
-    ensures { IfOk result (λ term. (rel : Value) → value_of term
-        ≡ term_of rel (record_of (event_of event.now) (map entry_of releases.now))) }
+    ensures { IfOk result (λ term. (files : FileTerms) → value_of term
+        ≡ term_of files (record_of (event_of event.now) (map entry_of releases.now))) }
 {
     if let Event::Removed(vsn) = event {
         let vsn = version_term(alloc, vsn.as_str())?;

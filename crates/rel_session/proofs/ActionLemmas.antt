@@ -7,7 +7,7 @@ use Rattle.erl_term.specs.Lines.{is_one_line}
 use Rattle.rel_files.specs.File.{HasVersions}
 use Rattle.library.specs.Library.{Library}
 use Rattle.node_command.specs.Files.{Brings, bundle_brought}
-use Rattle.node_command.specs.Place.{difference, files_refusal}
+use Rattle.node_command.specs.Place.{difference, files_refusal, has_room, own_refusal, refusal_with}
 use Rattle.node_command.specs.Taking.{commanded}
 use Rattle.node_command.proofs.CommandLemmas.{commanded_step}
 use Rattle.rel_records.proofs.CompletionLemmas.{of_applications}
@@ -16,14 +16,14 @@ use Rattle.node_processes.specs.Answers.{processes_line, modules_line, peek_line
 use Rattle.node_processes.specs.ModuleVersions.{HaveModuleVersions}
 use Rattle.node_processes.specs.Processes.{Processes}
 use Rattle.rel_unpack.proofs.BroughtLibraries.{brought_libraries}
-use Rattle.node_command.proofs.ReleaseLemmas.{told_library}
+use Rattle.node_command.proofs.ReleaseLemmas.{free_so, told_library}
 use Rattle.rel_list.specs.Releases.{Releases, differs, first_different, running as running_release, status_of}
 use Rattle.rel_list.specs.Event.{Event}
 use Rattle.rel_list.specs.Event.Event.{made, unpacked}
 use Rattle.rel_session.specs.AnswerLaws.{HasLinePath, IsOfFiles, HasModuleVersionsAt}
 use Rattle.session_input.specs.Commands.{Command}
-use Rattle.session_input.specs.Commands.Command.{file, create, set_unpacked, install, permanent, remove, reboot_old, boot, start, releases, procs, modules, peek, call, relup, quit, bad}
-use Rattle.rel_unpack.proofs.LineLibraries.{IsLineBrought, good_brought}
+use Rattle.session_input.specs.Commands.Command.{file, create, set_unpacked, check, install, permanent, remove, reboot_old, boot, start, releases, procs, modules, peek, call, relup, quit, bad}
+use Rattle.rel_unpack.proofs.LineBrought.{IsLineBrought, good_brought}
 use Rattle.rel_unpack.proofs.LineOutcomes.{TellsLine, OrNone, IsGood, version_line}
 use Rattle.rel_unpack.proofs.OneOutcome.{one_brought}
 use Rattle.rel_unpack.proofs.SomeOutcome.{some_brought}
@@ -36,10 +36,10 @@ use Rattle.relup_command.proofs.RelupOutcomes.{one_answer, some_answer}
 use Rattle.rel_session.specs.Node.{Place, releases_after}
 use Rattle.rel_session.specs.Node.Place.{raw, closed, running, dead}
 use Rattle.rel_session.specs.Refusals.{refusal_for}
-use Rattle.rel_session.specs.Transition.{Action, ComesTo, OnNode, told, creation, unpacking, relup_telling, version_of}
+use Rattle.rel_session.specs.Transition.{Action, ComesTo, OnNode, check_line, told, creation, unpacking, relup_telling, version_of}
 use Rattle.rel_session.specs.Transition.Action.{answers, makes_node, changes_node, reboots_node, boots_node, tells_start, calls}
 use Rattle.rel_session.proofs.ProcessLines.{processes_whole, modules_whole, peek_whole}
-use Rattle.rel_session.proofs.AnswerLines.{HasLine, IsWhole, refusal_whole, listing_whole, installed_line, translation_whole}
+use Rattle.rel_session.proofs.AnswerLines.{HasLine, IsWhole, check_whole, refusal_whole, listing_whole, installed_line, translation_whole}
 
 -- the kind of a place
 pub data Kind : Type 0 where
@@ -72,6 +72,7 @@ one_action source one p q (file path f) x y kinds is also = inl (is ∙ sym also
 one_action source one p q (create path) x y kinds (found, there, is) (again, there_too, also) = inl (is ∙ ap creation (one_brought source one path found again there there_too) ∙ sym also)
 one_action source one p q (set_unpacked path) x y kinds is also =
     inl (on_node _ x y p q kinds (λ here here_too. here.2 ∙ ap unpacking (one_brought source one path here.0 here_too.0 here.1 here_too.1) ∙ sym here_too.2) is also)
+one_action source one p q (check vsn) x y kinds is also = inr ((λ list ps. check_line vsn list), is, also)
 one_action source one p q (install vsn) x y kinds is also = inl (is ∙ sym also)
 one_action source one p q (permanent vsn) x y kinds is also = inl (is ∙ sym also)
 one_action source one p q (remove vsn) x y kinds is also = inl (is ∙ sym also)
@@ -96,6 +97,7 @@ some_action source each (running events end ps) (set_unpacked path) = let (broug
 some_action source each (raw x) (set_unpacked path) = inr (_, refl)
 some_action source each (closed s) (set_unpacked path) = inr (_, refl)
 some_action source each (dead s) (set_unpacked path) = inr (_, refl)
+some_action source each p (check vsn) = inr (_, refl)
 some_action source each p (install vsn) = inr (_, refl)
 some_action source each p (permanent vsn) = inr (_, refl)
 some_action source each p (remove vsn) = inr (_, refl)
@@ -125,7 +127,7 @@ TellsFilesLine (Some why) = HasLine (refusal_for why)
 -- An action's text ends where its last line does, and the release that it brings to a list is of files.
 abbrev pub IsGoodAction : Action → Type 0
 IsGoodAction (answers text) = IsWhole text
-IsGoodAction (makes_node b) = (b.refusal ≡ None → IsOfFiles (bundle_brought b)) × TellsFilesLine b.refusal
+IsGoodAction (makes_node b) = (own_refusal b ≡ None → IsOfFiles (bundle_brought b)) × TellsFilesLine (own_refusal b)
 IsGoodAction (changes_node c) =
     ((list next : Releases) → c.files list ≡ None → commanded c.event list ≡ Ok next → OfEvent c.event) × ((list : Releases) → TellsFilesLine (c.files list)) × ((list : Releases) → is_one_line (c.details list) ≡ true)
 IsGoodAction (reboots_node vsn) = Unit {0}
@@ -181,11 +183,26 @@ taken_in : (b : Brought) (list next : Releases) → files_refusal b list ≡ Non
 taken_in b list next free allowed =
     let listed = is_some (status_of b.found.release.vsn list) in
     let new = not_barred listed (is_some (first_different list b.libraries)) _ next (commanded_step (unpacked (bundle_brought b)) list next allowed) in
-    unrefused listed (difference b.libraries list) b.refusal new free
+    free_so (has_room list) b (unrefused listed (difference b.libraries list) (refusal_with (has_room list) b) new free)
+
+-- what is told of its files is within a line, whether there is room for it or not
+refusal_line_with : (room : Bool) (b : Brought) → IsLineBrought b → OrNone TellsLine (refusal_with room b)
+refusal_line_with room b good = either b.refusal good.refusal
+  where
+    behind : (room : Bool) → OrNone TellsLine (if room then b.relup_refusal else Some too_many)
+    behind true = good.relup_refusal
+    behind false = tt
+
+    either : (o : Option Refusal) → OrNone TellsLine o → OrNone TellsLine (option_or o (if room then b.relup_refusal else Some too_many))
+    either None told = behind room
+    either (Some why) told = told
 
 good_creation : (source : Source) (path : List ℕ) (brought : Result Brought Refusal) → Brings source path brought → IsGood IsLineBrought brought → IsGoodAction (creation brought)
 good_creation source path (Err why) brings good = refusal_whole (refusal_for why) (told_line why good)
-good_creation source path (Ok b) brings good = (of_files source path b brings good.found.versions, files_line b.refusal good.refusal)
+good_creation source path (Ok b) brings good = (
+  λ free. of_files source path b brings good.found.versions (free_so true b free),
+  files_line (own_refusal b) (refusal_line_with true b good),
+)
 
 good_unpacking : (source : Source) (path : List ℕ) (brought : Result Brought Refusal) → Brings source path brought → IsGood IsLineBrought brought → IsGoodAction (unpacking brought)
 good_unpacking source path (Err why) brings good = refusal_whole (refusal_for why) (told_line why good)
@@ -195,9 +212,9 @@ good_unpacking source path (Ok b) brings good = (
   λ list. version_line b.found.release.vsn good.found.versions.own,
 )
   where
-    unlisted : (list : Releases) (listed : Bool) → TellsFilesLine (if listed then None else option_or (difference b.libraries list) b.refusal)
+    unlisted : (list : Releases) (listed : Bool) → TellsFilesLine (if listed then None else option_or (difference b.libraries list) (refusal_with (has_room list) b))
     unlisted list true = tt
-    unlisted list false = difference_line list b.libraries b.refusal good.libraries good.refusal
+    unlisted list false = difference_line list b.libraries (refusal_with (has_room list) b) good.libraries (refusal_line_with (has_room list) b good)
 
 good_telling : (found : Result (List ℕ) Refusal) → IsGood IsLineAnswer found → IsGoodAction (relup_telling found)
 good_telling (Err why) good = refusal_whole (refusal_for why) (told_line why good)
@@ -217,6 +234,7 @@ good_action source (running events end ps) (set_unpacked path) does line tells (
 good_action source (raw x) (set_unpacked path) does line tells is = good_as does _ is (λ behind. refl)
 good_action source (closed s) (set_unpacked path) does line tells is = good_as does _ is (λ behind. refl)
 good_action source (dead s) (set_unpacked path) does line tells is = good_as does _ is (λ behind. refl)
+good_action source p (check vsn) does line tells is = good_as does _ is (whole_told _ p tells (λ list ps lines. check_whole vsn list))
 good_action source p (install vsn) does line tells is = good_as does _ is ((λ list next free allowed. tt), (λ list. tt), λ list. installed_line (version_of (running_release list)))
 good_action source p (permanent vsn) does line tells is = good_as does _ is ((λ list next free allowed. tt), (λ list. tt), λ list. refl)
 good_action source p (remove vsn) does line tells is = good_as does _ is ((λ list next free allowed. tt), (λ list. tt), λ list. refl)

@@ -12,6 +12,7 @@ use Rattle.node_command.specs.declared.error.HandlerError.TheVariants as handler
 use Rattle.rel_handler.specs.Events.{Events, Stored, certain}
 use Rattle.rel_handler.specs.Image.{holds_a_store}
 use Rattle.node_command.specs.Files.{bundle_brought, made_size}
+use Rattle.node_command.specs.Place.{own_refusal}
 use Rattle.rel_handler.specs.Refusals.{IsBootRefusal}
 use Rattle.node_command.specs.Taking.{commanded}
 use Rattle.node_command.proofs.CommandLemmas.{IsListAnswer, of_command}
@@ -117,6 +118,7 @@ plain_list e es = go (commanded e es) (of_command e es)
     go (Err (handler_error.BadFile path trouble)) of = absurd of
     go (Err (handler_error.MissingFile path)) of = absurd of
     go (Err (handler_error.VsnMismatch path)) of = absurd of
+    go (Err handler_error.NoMatchingRelup) of = absurd of
     go (Err handler_error.Device) of = absurd of
     go (Err handler_error.Full) of = absurd of
     go (Err handler_error.Dead) of = absurd of
@@ -162,7 +164,7 @@ makes_with x p size None a (inr (over_it, is)) = effect_as (created of_bytes p) 
 
 makes_on : (x : List ℕ) (b : Brought) (there : Bool) (a : Reply) → Transition.MakesOn x b there a → HasEffect (created of_bytes (bundle_brought b)) a
 makes_on x b true a is = effect_as (created of_bytes (bundle_brought b)) a _ is refl
-makes_on x b false a is = makes_with x (bundle_brought b) (made_size b) b.refusal a is
+makes_on x b false a is = makes_with x (bundle_brought b) (made_size b) (own_refusal b) a is
 
 makes : (p : Place) (b : Brought) (a : Reply) → Transition.MakesNode p b a → HasEffect (created (kind_of p) (bundle_brought b)) a
 makes (raw x) b a (inl is) = makes_on x b (holds_a_store x) a is

@@ -1,5 +1,5 @@
 -- Where an answer ends in a text.
-use Rattle.std.proofs.Common.{◌≡◌, ℕ, Bool, true, false, not, List, [], ◌∷◌, ◌++◌, length, map, codes, Result, Ok, Err, refl, sym, ap, ◌∙◌, subst, append_assoc}
+use Rattle.std.proofs.Common.{◌≡◌, ℕ, Bool, true, false, not, List, [], ◌∷◌, ◌++◌, length, map, codes, Option, Some, None, Result, Ok, Err, refl, sym, ap, ◌∙◌, subst, append_assoc}
 use Rattle.std.specs.Prelude.{if◌then◌else◌, ◌==◌}
 use Rattle.std.specs.List.{flat_map}
 use Rattle.std.specs.Fmt.{decimal}
@@ -30,11 +30,21 @@ use Rattle.rel_list.specs.declared.status.Status.TheVariants.{Unpacked, Current,
 use Rattle.rel_handler.specs.declared.error.BootError.{BootError}
 use Rattle.rel_handler.specs.declared.error.BootError.TheVariants as boot_error
 use Rattle.rel_unpack.specs.Refusal.{Trouble, trouble_text}
-use Rattle.rel_unpack.specs.Refusal.Trouble.{unreadable, faulty, misshapen}
+use Rattle.rel_unpack.specs.Refusal.Trouble.{unreadable, faulty, faulty_relup, misshapen}
+use Rattle.relup_file.specs.Fault.{relup_fault_text}
+use Rattle.relup_file.specs.declared.fault.RelupFault.{RelupFault}
+use Rattle.relup_file.specs.declared.fault.RelupFault.TheVariants as relup_fault
 use Rattle.node_listing.specs.Listing.{listing, count_line, release_line, text_value, application_value}
-use Rattle.rel_session.specs.Refusals.{Refusal, refusal_line, boot_line}
-use Rattle.rel_session.specs.Refusals.Refusal.{no_such_release, existing_release, already_installed, bad_status, permanent, is_running, lib_differs, bad_file, missing_file, vsn_mismatch, no_table, too_many, device, full, dead, no_memory, exists}
-use Rattle.rel_session.specs.Transition.{ok_line, done_line, installed_details}
+use Rattle.rel_list.specs.declared.fault.ListError.{ListError}
+use Rattle.rel_list.specs.declared.fault.ListError.TheVariants as list_error
+use Rattle.rel_list.specs.Event.Event.{installed}
+use Rattle.rel_list.specs.Refusal.{refusal}
+use Rattle.relup_script.specs.Search.{FoundForm}
+use Rattle.node_command.specs.Installing.{script_to, unless_listed_refusal}
+use Rattle.node_command.specs.Taking.{list_refusal}
+use Rattle.rel_session.specs.Refusals.{Refusal, refusal_of, refusal_line, boot_line}
+use Rattle.rel_session.specs.Refusals.Refusal.{no_such_release, existing_release, already_installed, bad_status, permanent, is_running, lib_differs, bad_file, missing_file, vsn_mismatch, no_table, too_many, no_matching_relup, device, full, dead, no_memory, exists}
+use Rattle.rel_session.specs.Transition.{ok_line, done_line, installed_details, check_line, checked_line}
 
 -- Where a reader of answers stands: at the start of one or of a line of a listing, within such a line, or in the last line.
 pub data Mode : Type 0 where
@@ -107,9 +117,15 @@ fault_plain (duplicate name) = refl
 fault_plain bad_version = refl
 fault_plain out_of_memory = refl
 
+relup_fault_plain : (f : RelupFault) → is_one_line (relup_fault_text f) ≡ true
+relup_fault_plain (relup_fault.BadTerm e) = term_fault_plain e
+relup_fault_plain (relup_fault.BadShape n) = decimal_line n
+relup_fault_plain relup_fault.NoMemory = refl
+
 trouble_plain : (t : Trouble) → is_one_line (trouble_text t) ≡ true
 trouble_plain unreadable = refl
 trouble_plain (faulty f) = fault_plain f
+trouble_plain (faulty_relup f) = relup_fault_plain f
 trouble_plain misshapen = refl
 
 -- the path or the name that a refusal tells is within a line
@@ -142,6 +158,7 @@ refusal_whole (bad_file path t) line behind =
 refusal_whole (missing_file path) line behind = ap (λ t. codes "error handler 9 MissingFile " ++ t) (ends_behind path (codes "\n") line newline behind)
 refusal_whole (vsn_mismatch path) line behind = ap (λ t. codes "error handler 10 VsnMismatch " ++ t) (ends_behind path (codes "\n") line newline behind)
 refusal_whole too_many line behind = refl
+refusal_whole no_matching_relup line behind = refl
 refusal_whole device line behind = refl
 refusal_whole full line behind = refl
 refusal_whole dead line behind = refl
@@ -183,6 +200,28 @@ lines_whole line goes_on (x ∷ xs) n =
 
 pub listing_whole : (es : Releases) → IsWhole (listing es)
 listing_whole es = lines_whole release_line line_of_listing es (length es)
+
+-- the script of an installation, or why there is none
+pub check_whole : (vsn : List ℕ) (es : Releases) → IsWhole (check_line vsn es)
+check_whole vsn es = go (refusal (installed vsn) es) (script_to vsn es)
+  where
+    by_list : (why : ListError) → IsWhole (refusal_line (refusal_of (list_refusal why)))
+    by_list list_error.NoSuchRelease behind = refl
+    by_list list_error.ExistingRelease behind = refl
+    by_list list_error.LibDiffers behind = refl
+    by_list list_error.AlreadyInstalled behind = refl
+    by_list (list_error.BadStatus s) behind = refusal_whole (bad_status s) tt behind
+    by_list list_error.Permanent behind = refl
+    by_list list_error.Running behind = refl
+    by_list list_error.NoMemory behind = refl
+
+    go : (o : Option ListError) (found : Option FoundForm) → IsWhole (checked_line (unless_listed_refusal o found))
+    go (Some why) found = by_list why
+    go None None = λ behind. refl
+    go None (Some f) =
+        let other = text_of (text_value f.other) in
+        done_whole (codes " " ++ (other ++ (codes " " ++ text_of f.descr)))
+        (append_line other (codes " " ++ text_of f.descr) (term_line (text_value f.other)) (term_line f.descr))
 
 -- a relup and `ok`, or why there is none
 term_whole : (u v w : Value) → IsWhole (text_of (triple_term u v w) ++ codes ".\nok\n")

@@ -94,6 +94,7 @@ module _ {D : Type 0} (v : Device D) (laws : IsDevice v) (P : Place â†’ Reply â†
     commits_none handler_error.Permanent (barred, same) = by_list handler_error.Permanent barred same
     commits_none handler_error.Running (barred, same) = by_list handler_error.Running barred same
     commits_none handler_error.TooMany (barred, same) = by_list handler_error.TooMany barred same
+    commits_none handler_error.NoMatchingRelup (barred, same) = by_list handler_error.NoMatchingRelup barred same
     commits_none (handler_error.LibDiffers app) (barred, same) = by_list (handler_error.LibDiffers app) barred same
     commits_none (handler_error.NoTable app) (barred, same) = by_list (handler_error.NoTable app) barred same
     commits_none (handler_error.BadFile path trouble) (barred, same) = by_list (handler_error.BadFile path trouble) barred same

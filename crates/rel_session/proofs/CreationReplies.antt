@@ -10,6 +10,7 @@ use Rattle.node_command.specs.declared.error.HandlerError.TheVariants as handler
 use Rattle.rel_handler.specs.declared.handler.Handler.{Handler}
 use Rattle.rel_handler.specs.Events.{IsStoredAs, Stored}
 use Rattle.node_command.specs.Files.{bundle_brought, made_size, Brings, IsOfFiles}
+use Rattle.node_command.specs.Place.{own_refusal}
 use Rattle.rel_handler.specs.Image.{IsImageOf, holds_a_store, first_end, end_behind, HasSpace}
 use Rattle.rel_handler.specs.Moments.{WritesNothing}
 use Rattle.rel_handler.specs.Refusals.{MakingRefused}
@@ -65,8 +66,8 @@ module _ {D : Type 0} (v : Device D) (laws : IsDevice v) (source : Source) (path
     on_raw : (found : Brought) (bytes : List ℕ) (b : Bool) (a : Reply) → holds_a_store bytes ≡ b → Transition.MakesOn bytes found b a → Transition.MakesNode (raw bytes) found a
     on_raw found bytes b a stored_there makes = inl (subst (λ m. Transition.MakesOn bytes found m a) (sym stored_there) makes)
 
-    -- what is made of applications that are refused or not
-    by_refusal : (found : Brought) (bytes : List ℕ) (o : Option of_files.Refusal) (a : Reply) → found.refusal ≡ o → Transition.MakesWith bytes (bundle_brought found) (made_size found) o a → Transition.MakesOn bytes found false a
+    -- what is made of files that are refused or not
+    by_refusal : (found : Brought) (bytes : List ℕ) (o : Option of_files.Refusal) (a : Reply) → own_refusal found ≡ o → Transition.MakesWith bytes (bundle_brought found) (made_size found) o a → Transition.MakesOn bytes found false a
     by_refusal found bytes o a is makes = subst (λ w. Transition.MakesWith bytes (bundle_brought found) (made_size found) w a) (sym is) makes
 
     store_there : (s : Stored) → ((c : List ℕ) → v.may_leave disk c → IsStoredAs s c) → holds_a_store (v.seen disk) ≡ true
@@ -178,7 +179,7 @@ module _ {D : Type 0} (v : Device D) (laws : IsDevice v) (source : Source) (path
         exists_there stored_there (running events end ps) at = absurd at
         exists_there stored_there (dead s) at = absurd at
 
-        full_there : is_not.brought.refusal ≡ None → holds_a_store (v.seen disk) ≡ false → (HasSpace first_end (made_size found) → ⊥) → (p : Place) → IsAt v (memory.Idle disk) p
+        full_there : own_refusal is_not.brought ≡ None → holds_a_store (v.seen disk) ≡ false → (HasSpace first_end (made_size found) → ⊥) → (p : Place) → IsAt v (memory.Idle disk) p
             → Transition.MakesNode p is_not.brought (refused full p)
         full_there clear stored_there over (raw bytes) at =
             on_raw is_not.brought bytes false (refused full (raw bytes)) (ap holds_a_store (sym at) ∙ stored_there) (by_refusal is_not.brought bytes _ _ clear (inr (over, refl)))
@@ -186,12 +187,13 @@ module _ {D : Type 0} (v : Device D) (laws : IsDevice v) (source : Source) (path
         full_there clear stored_there over (running events end ps) at = absurd at
         full_there clear stored_there over (dead s) at = absurd at
 
-        by_error : (e : HandlerError) → (e ≢ handler_error.Exists → e ≢ handler_error.Device → is_not.brought.refusal ≡ None) → MakingRefused (v.seen disk) (made_size found) (v.failures disk) (v.failures new) (WritesNothing v.seen v.may_leave v.moment v.left_since disk new) e
+        by_error : (e : HandlerError) → (e ≢ handler_error.Exists → e ≢ handler_error.Device → own_refusal is_not.brought ≡ None) → MakingRefused (v.seen disk) (made_size found) (v.failures disk) (v.failures new) (WritesNothing v.seen v.may_leave v.moment v.left_since disk new) e
             → Answers v Creates (Err e) (memory.Idle disk) (memory.Idle new)
         by_error handler_error.Device clear cause = λ p at. inl (device_fails cause p at)
         by_error handler_error.Exists clear (stored_there, u) = λ p at. inl (refuses p exists at u (right_for p _ (exists_there stored_there p at)))
         by_error handler_error.Full clear (stored_there, over, u) = λ p at. inl (refuses p full at u (right_for p _ (full_there (clear (λ e. cc e) (λ e. cc e)) stored_there over p at)))
         by_error handler_error.NoMemory clear u = λ p at. inr (refl, inr (nothing_done u p at))
+        by_error handler_error.NoMatchingRelup clear gone = absurd gone
         by_error handler_error.TooMany clear gone = absurd gone
         by_error handler_error.NoSuchRelease clear gone = absurd gone
         by_error handler_error.ExistingRelease clear gone = absurd gone

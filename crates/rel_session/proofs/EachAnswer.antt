@@ -12,6 +12,7 @@ use Rattle.node_command.specs.declared.error.HandlerError.{HandlerError}
 use Rattle.rel_handler.specs.Events.{Events, certain}
 use Rattle.rel_handler.specs.Image.{IsImageOf, holds_a_store, store_end, first_end, end_behind, HasSpace}
 use Rattle.node_command.specs.Files.{bundle_brought, made_size}
+use Rattle.node_command.specs.Place.{own_refusal}
 use Rattle.rel_handler.specs.Refusals.{IsBootRefusal}
 use Rattle.node_command.specs.Taking.{commanded}
 use Rattle.session_input.specs.Commands.{Command}
@@ -102,7 +103,7 @@ makes_with x p size None = go (fits_or_not first_end size)
 
 makes_on : (x : List ℕ) (b : Brought) (there : Bool) → Has (Transition.MakesOn x b there)
 makes_on x b true = fair_reply _ _ refl refl (of_raw x)
-makes_on x b false = makes_with x (bundle_brought b) (made_size b) b.refusal
+makes_on x b false = makes_with x (bundle_brought b) (made_size b) (own_refusal b)
 
 makes : (p : Place) (found : Brought) → IsFair p → Has (Transition.MakesNode p found)
 makes p found (of_raw x) =

@@ -6,6 +6,7 @@ use Rattle.session_input.specs.Commands.{Command}
 use Rattle.rel_session.specs.Device.{Device}
 use Rattle.session_input.specs.Feed.{Feed}
 use Rattle.node_command.specs.Files.{bundle_brought, made_size}
+use Rattle.node_command.specs.Place.{own_refusal}
 use Rattle.rel_unpack.specs.Refusal.{Refusal}
 use Rattle.rel_unpack.specs.Unpacking.{Brought}
 use Rattle.rel_unpack.specs.Source.{Source}
@@ -38,7 +39,7 @@ makes_with p size None a (inl (fits, is)) = on_empty_as a _ is (inr (record { bu
 makes_with p size None a (inr (over_it, is)) = on_empty_as a _ is (inl (refl, inl refl))
 
 makes : (b : Brought) (a : Reply) → Transition.MakesNode (raw []) b a → OnEmpty a
-makes b a (inl is) = makes_with (bundle_brought b) (made_size b) b.refusal a is
+makes b a (inl is) = makes_with (bundle_brought b) (made_size b) (own_refusal b) a is
 makes b a (inr (torn, is)) = on_empty_as a _ is (inl (refl, inr refl))
 
 boots : (a : Reply) → Transition.BootsBytes [] a → OnEmpty a

@@ -7,6 +7,7 @@ use Rattle.node_command.specs.declared.error.HandlerError.{HandlerError}
 use Rattle.rel_handler.specs.Events.{Events, Stored, certain}
 use Rattle.rel_handler.specs.Image.{holds_a_store}
 use Rattle.node_command.specs.Files.{bundle_brought, made_size}
+use Rattle.node_command.specs.Place.{own_refusal}
 use Rattle.node_command.specs.Taking.{commanded}
 use Rattle.session_input.specs.Commands.{Command}
 use Rattle.rel_session.specs.Device.{Device, HasFailed}
@@ -51,7 +52,7 @@ makes_with bytes p size None a (inr (over, is)) = plain a _ is (inl refl)
 
 makes_on : (bytes : List ℕ) (b : Brought) (there : Bool) (a : Reply) → Transition.MakesOn bytes b there a → IsPlain a
 makes_on bytes b true a is = plain a _ is (inl refl)
-makes_on bytes b false a is = makes_with bytes (bundle_brought b) (made_size b) b.refusal a is
+makes_on bytes b false a is = makes_with bytes (bundle_brought b) (made_size b) (own_refusal b) a is
 
 makes : (p : Place) (found : Brought) (a : Reply) → Transition.MakesNode p found a → IsPlain a
 makes (raw bytes) found a (inl is) = makes_on bytes found (holds_a_store bytes) a is

@@ -57,10 +57,10 @@ none_permanent (e ∷ next) same one = cc same
 
 -- What a record makes of a list, events make of it.
 behind_record : (r : Record) (es next : Releases) → IsOrderly es → booted es ≡ es → (es ≡ []) ⊎ (has_one_permanent es ≡ true) → assigned r es ≡ Some next → Leads es next
-behind_record (makes x ls) es next orderly still one taken =
-    let (p, of, is) = event_of_record made (is_small x) x ls es next (assigned_so (makes x ls) es next taken).0 in one_event (made p) es next is
-behind_record (adds x ls) es next orderly still one taken =
-    let (p, of, is) = event_of_record unpacked (is_small x && nat_lt (length es) most_releases) x ls es next (assigned_so (adds x ls) es next taken).0 in one_event (unpacked p) es next is
+behind_record (makes x ls o) es next orderly still one taken =
+    let (p, of, is) = event_of_record made (is_small x) x ls o es next (assigned_so (makes x ls o) es next taken).0 in one_event (made p) es next is
+behind_record (adds x ls o) es next orderly still one taken =
+    let (p, of, is) = event_of_record unpacked (is_small x && nat_lt (length es) most_releases) x ls o es next (assigned_so (adds x ls o) es next taken).0 in one_event (unpacked p) es next is
 behind_record (removes v) es next orderly still one taken = one_event (removed v) es next (assigned_so (removes v) es next taken).0
 behind_record (assigns given) es next orderly still one taken = by_one one
   where

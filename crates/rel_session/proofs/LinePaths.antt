@@ -12,7 +12,7 @@ use Rattle.rel_list.specs.Event.{list_after}
 use Rattle.rel_handler.specs.Image.{store_end}
 use Rattle.rel_handler.specs.Events.{Events, MayHave, IsStoredAs, certain}
 use Rattle.session_input.specs.Commands.{Command, ParsedLine, parse_line, parse_words, parse_command, parse_process_command, parse_path_command, parse_peek, parse_call, call_of, names_process, input_of, parse_change, change_named, with_word, without_words, path_of, path_in, paths_of, is_path, relup_of, parse_relup, split_at, version_in, is_blank, words_of, is_end, file_of, most_line, put_parsed, commands_of, commands_behind}
-use Rattle.session_input.specs.Commands.Command.{file, create, set_unpacked, install, permanent, remove, reboot_old, boot, start, releases, procs, modules, peek, call, quit, bad}
+use Rattle.session_input.specs.Commands.Command.{file, create, set_unpacked, check, install, permanent, remove, reboot_old, boot, start, releases, procs, modules, peek, call, quit, bad}
 use Rattle.session_input.specs.Commands.ParsedLine.{blank, file_begins, whole_command}
 use Rattle.relup_command.specs.Answer.{AreLinePaths}
 use Rattle.rel_session.specs.Device.{Device}
@@ -98,9 +98,10 @@ either_plain false x y p q = q
 named_plain : (word vsn : List ℕ) → HasLinePath (change_named word vsn)
 named_plain word vsn =
     either_plain (bytes_eq word (codes "install")) (install vsn) _ tt
+    (either_plain (bytes_eq word (codes "check")) (check vsn) _ tt
     (either_plain (bytes_eq word (codes "permanent")) (permanent vsn) _ tt
     (either_plain (bytes_eq word (codes "remove")) (remove vsn) _ tt
-    (either_plain (bytes_eq word (codes "reboot_old")) (reboot_old vsn) bad tt tt)))
+    (either_plain (bytes_eq word (codes "reboot_old")) (reboot_old vsn) bad tt tt))))
 
 change_plain : (word : List ℕ) (words : List (List ℕ)) → IsPlainLine (parse_change word words)
 change_plain word words = version_plain words (λ vsn. whole_command (change_named word vsn)) (named_plain word)

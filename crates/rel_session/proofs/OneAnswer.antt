@@ -11,6 +11,7 @@ use Rattle.node_command.specs.declared.error.HandlerError.{HandlerError}
 use Rattle.rel_handler.specs.Events.{Events, MayHave, certain}
 use Rattle.rel_handler.specs.Image.{holds_a_store, first_end, end_behind}
 use Rattle.node_command.specs.Files.{bundle_brought, made_size}
+use Rattle.node_command.specs.Place.{own_refusal}
 use Rattle.rel_handler.specs.Refusals.{IsBootRefusal}
 use Rattle.node_command.specs.Taking.{commanded}
 use Rattle.session_input.specs.Commands.{Command}
@@ -113,7 +114,7 @@ module _ (a b : Reply) (both : Both a b) where
 
   makes_on : (x : List ℕ) (found : Brought) (m : Bool) → Transition.MakesOn x found m a → Transition.MakesOn x found m b → Same a b
   makes_on x found true is also = as_these a b _ _ is also (refl, refl, same_bytes x)
-  makes_on x found false is also = makes_with x (bundle_brought found) (made_size found) found.refusal is also
+  makes_on x found false is also = makes_with x (bundle_brought found) (made_size found) (own_refusal found) is also
 
   makes : (p q : Place) (found : Brought) → Alike p q → Transition.MakesNode p found a → Transition.MakesNode q found b → Same a b
   makes p q found (same_bytes x) (inl is) (inl also) = makes_on x found (holds_a_store x) is also

@@ -1,10 +1,11 @@
--- What is replied to commands on the processes of a node that runs.
+-- What is replied to commands that ask a node which runs, or change its processes.
 use Rattle.std.proofs.Common.{◌≡◌, ℕ, ◌≤◌, true, false, List, Result, Ok, Err, sym, ap, ◌∙◌, subst, arith}
 use Rattle.std.specs.Prelude.{IfOk, MatchResult, String, string_bytes}
 use Rattle.std.specs.declared.alloc.AllocError.{AllocError}
 use Rattle.std.specs.declared.alloc.Global.{Global}
 use Rattle.rel_handler.specs.Events.{Events}
-use Rattle.rel_handler.specs.State.{disk_in, is_dead}
+use Rattle.rel_handler.specs.State.{disk_in, list_in, is_dead}
+use Rattle.rel_list.specs.Releases.{Releases}
 use Rattle.node_command.specs.declared.error.HandlerError.{HandlerError}
 use Rattle.node_command.specs.declared.error.HandlerError.TheVariants as handler_error
 use Rattle.node_processes.specs.InMemory.{processes_in}
@@ -13,7 +14,7 @@ use Rattle.rel_session.specs.declared.booted_node.BootedNode.{BootedNode}
 use Rattle.rel_session.specs.declared.place.Place.TheVariants as memory
 use Rattle.rel_session.specs.Device.{Device}
 use Rattle.rel_session.specs.InMemory.{IsAt, Replied, Answers}
-use Rattle.rel_session.specs.Node.{Place, Reply, reply, nothing}
+use Rattle.rel_session.specs.Node.{Place, Reply, list_or_none, releases_after, reply, nothing}
 use Rattle.rel_session.specs.Node.Place.{raw, closed, running, dead}
 use Rattle.rel_session.specs.Run.{Moments}
 use Rattle.rel_session.proofs.DeviceLemmas.{IsDevice, still}
@@ -22,11 +23,11 @@ use Rattle.rel_session.proofs.Replies.{moments_of_nothing, tells, answers_line}
 never : {A : Type 0} → false ≡ true → A
 never e = absurd cc
 
--- The processes alone change, by a command that says this of them and leaves these.
-module _ {D : Type 0} (v : Device D) (laws : IsDevice v) (P : Place → Reply → Type 0) (says : Processes → List ℕ) (leaves : Processes → Processes)
-    (right : (events : Events) (end : ℕ) (ps : Processes) → P (running events end ps) (reply (says ps) nothing (running events end (leaves ps))))
+-- The processes alone change, by a command that says this of the releases and of them, and leaves these.
+module _ {D : Type 0} (v : Device D) (laws : IsDevice v) (P : Place → Reply → Type 0) (says : Releases → Processes → List ℕ) (leaves : Processes → Processes)
+    (right : (events : Events) (end : ℕ) (ps : Processes) → P (running events end ps) (reply (says (releases_after events) ps) nothing (running events end (leaves ps))))
     (n new : BootedNode D) (alive : is_dead n.handler ≡ false) (same : new.handler ≡ n.handler) (left : processes_in new.processes ≡ leaves (processes_in n.processes)) where
-  replies : (p : Place) → IsAt v (memory.Made n) p → Replied v p (λ a. P p a × (a.answer ≡ says (processes_in n.processes))) (memory.Made n) (memory.Made new)
+  replies : (p : Place) → IsAt v (memory.Made n) p → Replied v p (λ a. P p a × (a.answer ≡ says (list_in n.handler) (processes_in n.processes))) (memory.Made n) (memory.Made new)
   replies (raw bytes) at = absurd at
   replies (closed s) at = absurd at
   replies (dead s) at = never (sym alive ∙ at.1)
@@ -35,8 +36,8 @@ module _ {D : Type 0} (v : Device D) (laws : IsDevice v) (P : Place → Reply �
       subst (λ h. IsAt v (memory.Made (record { handler = h; processes = new.processes })) (running events end (leaves ps))) (sym same) (here, living, after, stop, left ∙ ap leaves has) in
       let disk : disk_in new.handler ≡ disk_in n.handler = ap disk_in same in
       record {
-        given = reply (says ps) nothing (running events end (leaves ps));
-        right = (right events end ps, ap says (sym has));
+        given = reply (says (releases_after events) ps) nothing (running events end (leaves ps));
+        right = (right events end ps, ap (λ o. says (list_or_none o) ps) after ∙ ap (says (list_in n.handler)) (sym has));
         at = then;
         happens = record {
           moments = subst (λ d. Moments v (running events end ps) nothing (disk_in n.handler) d) (sym disk) (moments_of_nothing v laws (running events end ps) (disk_in n.handler) (disk_in n.handler) here (still v laws (disk_in n.handler)));
@@ -46,8 +47,8 @@ module _ {D : Type 0} (v : Device D) (laws : IsDevice v) (P : Place → Reply �
         };
       }
 
-  pub answers_of_processes : (line : Result (String Global) AllocError) (result : Result (String Global) HandlerError)
-      → MatchResult line (λ text. result ≡ Ok text) (λ _. result ≡ Err handler_error.NoMemory) → IfOk line (λ text. string_bytes text ≡ says (processes_in n.processes))
+  pub answers_of_node : (line : Result (String Global) AllocError) (result : Result (String Global) HandlerError)
+      → MatchResult line (λ text. result ≡ Ok text) (λ _. result ≡ Err handler_error.NoMemory) → IfOk line (λ text. string_bytes text ≡ says (list_in n.handler) (processes_in n.processes))
       → Answers v P result (memory.Made n) (memory.Made new)
-  answers_of_processes line result is told =
-      answers_line v laws P line result (memory.Made n) (memory.Made new) is (tells v laws P line (says (processes_in n.processes)) (memory.Made n) (memory.Made new) told replies)
+  answers_of_node line result is told =
+      answers_line v laws P line result (memory.Made n) (memory.Made new) is (tells v laws P line (says (list_in n.handler) (processes_in n.processes)) (memory.Made n) (memory.Made new) told replies)

@@ -15,11 +15,13 @@ use Rattle.rel_unpack.specs.Unpacking.{Brought}
 use Rattle.rel_unpack.proofs.BroughtLibraries.{brought_libraries}
 use Rattle.node_command.specs.declared.error.HandlerError.{HandlerError}
 use Rattle.node_command.specs.Files.{Brings, bundle_brought, made_size}
+use Rattle.node_command.specs.Place.{own_refusal}
+use Rattle.node_command.proofs.ReleaseLemmas.{free_so}
 use Rattle.node_command.specs.Taking.{commanded}
 use Rattle.node_processes.specs.Fresh.{fresh}
 use Rattle.node_processes.specs.Processes.{Processes}
 use Rattle.session_input.specs.Commands.{Command}
-use Rattle.session_input.specs.Commands.Command.{file, create, set_unpacked, install, permanent, remove, reboot_old, boot, start, releases, procs, modules, peek, call, relup, quit, bad}
+use Rattle.session_input.specs.Commands.Command.{file, create, set_unpacked, check, install, permanent, remove, reboot_old, boot, start, releases, procs, modules, peek, call, relup, quit, bad}
 use Rattle.rel_session.specs.AnswerLaws.{AreOfFiles, HasVersionsAt, HasModuleVersionsAt}
 use Rattle.rel_session.specs.Node.{Place, Reply, releases_after, list_or_none}
 use Rattle.rel_session.specs.Node.Place.{raw, closed, running, dead}
@@ -83,7 +85,7 @@ reboots events end ps vsn list o all versions =
 
 -- What is brought has libraries, where it isn't refused.
 abbrev BringsLibraries : Brought → Type 0
-BringsLibraries b = b.refusal ≡ None → AllByRecursion IsLibrary b.libraries
+BringsLibraries b = own_refusal b ≡ None → AllByRecursion IsLibrary b.libraries
 
 makes_with : (x : List ℕ) (p : Bundle) (size : ℕ) (why : Option Refusal) → (why ≡ None → AllByRecursion IsLibrary p.libraries) → (a : Reply) → Transition.MakesWith x p size why a → KeepsVersions a
 makes_with x p size (Some why) of a is = versions_as a _ is tt
@@ -92,7 +94,7 @@ makes_with x p size None of a (inr (over_it, is)) = versions_as a _ is tt
 
 makes_on : (x : List ℕ) (b : Brought) (there : Bool) → BringsLibraries b → (a : Reply) → Transition.MakesOn x b there a → KeepsVersions a
 makes_on x b true of a is = versions_as a _ is tt
-makes_on x b false of a is = makes_with x (bundle_brought b) (made_size b) b.refusal of a is
+makes_on x b false of a is = makes_with x (bundle_brought b) (made_size b) (own_refusal b) of a is
 
 makes : (p : Place) (b : Brought) → BringsLibraries b → HasModuleVersionsAt p → (a : Reply) → Transition.MakesNode p b a → KeepsVersions a
 makes (raw x) b of versions a (inl is) = makes_on x b (holds_a_store x) of a is
@@ -109,7 +111,7 @@ MakesOfLibraries does = Unit {0}
 
 of_creation : (source : Source) (path : List ℕ) (brought : Result Brought Refusal) → Brings source path brought → MakesOfLibraries (Transition.creation brought)
 of_creation source path (Err why) brings = tt
-of_creation source path (Ok b) brings = λ free. of_applications b.found.release.apps b.libraries (brought_libraries source path b brings free).0
+of_creation source path (Ok b) brings = λ free. of_applications b.found.release.apps b.libraries (brought_libraries source path b brings (free_so true b free)).0
 
 of_unpacking : (brought : Result Brought Refusal) → MakesOfLibraries (Transition.unpacking brought)
 of_unpacking (Err why) = tt
@@ -130,6 +132,7 @@ comes_of source (closed s) (set_unpacked path) does is = of_as does _ is tt
 comes_of source (dead s) (set_unpacked path) does is = of_as does _ is tt
 comes_of source p (relup new ups downs) does (found, there, is) = of_as does _ is (of_telling found)
 comes_of source p (file path f) does is = of_as does _ is tt
+comes_of source p (check vsn) does is = of_as does _ is tt
 comes_of source p (install vsn) does is = of_as does _ is tt
 comes_of source p (permanent vsn) does is = of_as does _ is tt
 comes_of source p (remove vsn) does is = of_as does _ is tt

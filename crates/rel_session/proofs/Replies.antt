@@ -24,7 +24,7 @@ use Rattle.rel_session.specs.declared.booted_node.BootedNode.{BootedNode}
 use Rattle.rel_session.specs.declared.place.Place.{Place as PlaceInMemory}
 use Rattle.rel_session.specs.declared.place.Place.TheVariants as memory
 use Rattle.session_input.specs.Commands.{Command}
-use Rattle.session_input.specs.Commands.Command.{file, create, set_unpacked, install, permanent, remove, reboot_old, boot, start, releases, procs, modules, peek, call, relup, quit, bad}
+use Rattle.session_input.specs.Commands.Command.{file, create, set_unpacked, check, install, permanent, remove, reboot_old, boot, start, releases, procs, modules, peek, call, relup, quit, bad}
 use Rattle.rel_session.specs.Device.{Device, LeavesOnly, HasFailed}
 use Rattle.rel_unpack.specs.Source.{Source}
 use Rattle.rel_session.specs.InMemory.{disk_at, IsAt, Replied, Leads, NothingDone, Answers, TellsReply, TellsOrStops, AnswersOrStops, IsStarted, NeedsNode}
@@ -64,6 +64,7 @@ memory_or_not handler_error.Device = inr (λ e. cc e)
 memory_or_not handler_error.Full = inr (λ e. cc e)
 memory_or_not handler_error.Dead = inr (λ e. cc e)
 memory_or_not handler_error.NoMemory = inl refl
+memory_or_not handler_error.NoMatchingRelup = inr (λ e. cc e)
 memory_or_not handler_error.Exists = inr (λ e. cc e)
 
 module _ {D : Type 0} (v : Device D) (laws : IsDevice v) where
@@ -458,15 +459,19 @@ module _ {D : Type 0} (v : Device D) (laws : IsDevice v) where
   idle_calls app id input (running events end ps) idle = absurd (idle events end ps refl)
   idle_calls app id input (dead s) idle = refl
 
+  idle_told : (says : Releases → Processes → List ℕ) (p : Place) → ((events : Events) (end : ℕ) (ps : Processes) → p ≡ running events end ps → ⊥) → Transition.Acts p (answers (Transition.told says p)) (refused dead_node p)
+  idle_told says (raw bytes) idle = refl
+  idle_told says (closed s) idle = refl
+  idle_told says (running events end ps) idle = absurd (idle events end ps refl)
+  idle_told says (dead s) idle = refl
+
   idle_asked : (says : Processes → List ℕ) (p : Place) → ((events : Events) (end : ℕ) (ps : Processes) → p ≡ running events end ps → ⊥) → Transition.Acts p (answers (Transition.asked says p)) (refused dead_node p)
-  idle_asked says (raw bytes) idle = refl
-  idle_asked says (closed s) idle = refl
-  idle_asked says (running events end ps) idle = absurd (idle events end ps refl)
-  idle_asked says (dead s) idle = refl
+  idle_asked says p idle = idle_told (λ list ps. says ps) p idle
 
   -- So is each command that needs a node.
   pub idle_needs : (source : Source) (c : Command) → NeedsNode c → (p : Place) → ((events : Events) (end : ℕ) (ps : Processes) → p ≡ running events end ps → ⊥) → Transition.Transition source p c (refused dead_node p)
   idle_needs source (set_unpacked path) needs p idle = idle_sets source path p idle
+  idle_needs source (check vsn) needs p idle = (answers (Transition.told (λ list ps. Transition.check_line vsn list) p), refl, idle_told (λ list ps. Transition.check_line vsn list) p idle)
   idle_needs source (install vsn) needs p idle = (changes_node (Transition.installation vsn), refl, idle_changes (Transition.installation vsn) p idle)
   idle_needs source (permanent vsn) needs p idle = (changes_node (Transition.permanence vsn), refl, idle_changes (Transition.permanence vsn) p idle)
   idle_needs source (remove vsn) needs p idle = (changes_node (Transition.removal vsn), refl, idle_changes (Transition.removal vsn) p idle)

@@ -19,10 +19,12 @@ use Rattle.rel_session.specs.Device.{Device}
 use Rattle.node_listing.specs.Listing.{text_value}
 use Rattle.rel_unpack.specs.Source.{Source}
 use Rattle.rel_session.specs.Files.{Files, files_of, files_behind, give, source_of}
-use Rattle.rel_session.specs.InMemory.{IsAt, Replied, Leads, NothingDone, Answers, AnswersAsked, AnswersAction, AnswersCommand, AsksNode, FollowsCommand, IsLine, IsText}
+use Rattle.rel_session.specs.InMemory.{IsAt, Replied, Leads, NothingDone, Answers, AnswersAsked, AnswersTold, AnswersAction, AnswersCommand, AsksNode, FollowsCommand, IsLine, IsText}
 use Rattle.rel_session.specs.Node.{Place, Reply, reply, nothing}
 use Rattle.rel_session.specs.Refusals.{refusal_of, refusal_line}
-use Rattle.rel_session.specs.Transition.{Action, ComesTo, Acts, asked, StopsWithin, IsStopped, Transition, ok_line, installed_line}
+use Rattle.rel_list.specs.Releases.{Releases}
+use Rattle.relup_script.specs.Search.{FoundForm}
+use Rattle.rel_session.specs.Transition.{Action, ComesTo, Acts, asked, checked_line, told as told_by_node, StopsWithin, IsStopped, Transition, ok_line, installed_line}
 use Rattle.rel_session.specs.Transition.Action.{answers}
 use Rattle.rel_session.proofs.DeviceLemmas.{IsDevice}
 use Rattle.rel_session.proofs.Replies.{stays, leaves_all, changes_no_memory, never_stops}
@@ -60,8 +62,11 @@ module _ {D : Type 0} (v : Device D) where
       stops_command given = subst (λ d. AnswersCommand v source d r old new) (sym is) given
 
       -- so it is answered by what it asks of the processes
+      pub tells_node : (says : Releases → Processes → List ℕ) → ((p : Place) → ComesTo source p c (answers (told_by_node says p))) → AnswersTold v says r old new → Answers v (λ p a. Transition source p command a) r old new
+      tells_node says comes given = answers_command (answers_so _ _ (λ p a acts. (answers (told_by_node says p), comes p, acts)) r given)
+
       pub asks_node : (says : Processes → List ℕ) → ((p : Place) → ComesTo source p c (answers (asked says p))) → AnswersAsked v says r old new → Answers v (λ p a. Transition source p command a) r old new
-      asks_node says comes given = answers_command (answers_so _ _ (λ p a acts. (answers (asked says p), comes p, acts)) r given)
+      asks_node says = tells_node (λ list ps. says ps)
 
       module _ (does : Action) (comes : (p : Place) → ComesTo source p c does) where
         pub answers_action : Answers v (λ p a. Acts p does a) r old new → Answers v (λ p a. Transition source p command a) r old new
@@ -106,6 +111,7 @@ module _ {D : Type 0} (v : Device D) where
   files_stay files (asked.File path f) other = absurd (other.0 path f refl)
   files_stay files (asked.Create path) other = refl
   files_stay files (asked.SetUnpacked path) other = refl
+  files_stay files (asked.Check vsn) other = refl
   files_stay files (asked.Install vsn) other = refl
   files_stay files (asked.Permanent vsn) other = refl
   files_stay files (asked.Remove vsn) other = refl
@@ -153,6 +159,14 @@ pub tells_installed : (line : Result (String Global) AllocError) (printed other 
 tells_installed (Err e) printed other told is = tt
 tells_installed (Ok s) printed other told is =
     told ∙ ap (λ t. codes "ok " ++ t) (sym (append_assoc printed (codes " [] []") (codes "\n"))) ∙ ap (λ t. codes "ok " ++ ((t ++ codes " [] []") ++ codes "\n")) is
+
+-- the line of a script
+pub tells_found : (line : Result (String Global) AllocError) (other descr : List ℕ) (f : FoundForm) → IfOk line (λ s. string_bytes s ≡ codes "ok " ++ (other ++ (codes " " ++ (descr ++ codes "\n"))))
+    → other ≡ text_of (text_value f.other) → descr ≡ text_of f.descr → IfOk line (λ s. string_bytes s ≡ checked_line (Ok f))
+tells_found (Err e) other descr f told is has = tt
+tells_found (Ok s) other descr f told is has =
+    told ∙ ap (λ t. codes "ok " ++ t) (sym (append_assoc other (codes " " ++ descr) (codes "\n"))) ∙ ap (λ t. codes "ok " ++ ((t ++ (codes " " ++ descr)) ++ codes "\n")) is
+    ∙ ap (λ t. codes "ok " ++ ((text_of (text_value f.other) ++ (codes " " ++ t)) ++ codes "\n")) has
 
 -- the line of a start
 pub tells_versions : (line : Result (String Global) AllocError) (erts vsn : List ℕ) → IfOk line (λ s. string_bytes s ≡ codes "ok " ++ (erts ++ (codes " " ++ (vsn ++ codes "\n"))))

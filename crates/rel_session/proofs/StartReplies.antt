@@ -110,5 +110,6 @@ module _ {D : Type 0} (v : Device D) (laws : IsDevice v) (n new : BootedNode D) 
   told_none (handler_error.BadFile path trouble) lost = absurd lost
   told_none (handler_error.MissingFile path) lost = absurd lost
   told_none (handler_error.VsnMismatch path) lost = absurd lost
+  told_none handler_error.NoMatchingRelup lost = absurd lost
   told_none handler_error.Full lost = absurd lost
   told_none handler_error.Exists lost = absurd lost

@@ -7,6 +7,7 @@ use Rattle.node_command.specs.declared.error.HandlerError.{HandlerError}
 use Rattle.rel_handler.specs.Events.{Events, Stored, MayHave, certain}
 use Rattle.rel_handler.specs.Image.{holds_a_store}
 use Rattle.node_command.specs.Files.{bundle_brought, made_size}
+use Rattle.node_command.specs.Place.{own_refusal}
 use Rattle.node_command.specs.Taking.{commanded}
 use Rattle.session_input.specs.Commands.{Command}
 use Rattle.rel_list.specs.Releases.{Bundle}
@@ -70,7 +71,7 @@ makes_with bytes p size None a (inr (over, is)) = still_as (raw bytes) _ a is
 
 makes_on : (bytes : List ℕ) (b : Brought) (there : Bool) (a : Reply) → Transition.MakesOn bytes b there a → Keeps (raw bytes) a
 makes_on bytes b true a is = still_as (raw bytes) _ a is
-makes_on bytes b false a is = makes_with bytes (bundle_brought b) (made_size b) b.refusal a is
+makes_on bytes b false a is = makes_with bytes (bundle_brought b) (made_size b) (own_refusal b) a is
 
 -- a failure leaves other bytes, and nothing is known as before
 torn_as : (bytes torn answer : List ℕ) (doubt : Option Event) (a : Reply) → a ≡ reply answer (record { acknowledged = []; in_doubt = doubt; failed = true }) (raw torn) → Keeps (raw bytes) a

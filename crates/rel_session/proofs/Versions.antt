@@ -18,6 +18,7 @@ use Rattle.rel_records.specs.Startable.{AreStartable}
 use Rattle.rel_records.proofs.CompletionLemmas.{of_applications}
 use Rattle.rel_records.proofs.StartableLemmas.{make_startable, startable-of_booted}
 use Rattle.node_command.specs.Files.{bundle_brought, made_size}
+use Rattle.node_command.specs.Place.{own_refusal}
 use Rattle.node_command.proofs.CommandLemmas.{IsListRefusal, IsListAnswer, of_command}
 use Rattle.rel_handler.proofs.Commits.{have_versions}
 use Rattle.rel_handler.proofs.RepairLemmas.{permanent_versions}
@@ -139,6 +140,7 @@ handler_line (handler_error.NoTable app) of behind = absurd of
 handler_line (handler_error.BadFile path trouble) of behind = absurd of
 handler_line (handler_error.MissingFile path) of behind = absurd of
 handler_line (handler_error.VsnMismatch path) of behind = absurd of
+handler_line handler_error.NoMatchingRelup of behind = absurd of
 handler_line handler_error.Device of behind = absurd of
 handler_line handler_error.Full of behind = absurd of
 handler_line handler_error.Dead of behind = absurd of
@@ -172,7 +174,7 @@ makes_with x p size None of told a (inr (over_it, is)) = good_as a _ is ((λ beh
 
 makes_on : (x : List ℕ) (b : Brought) (there : Bool) → IsGoodAction (makes_node b) → (a : Reply) → Transition.MakesOn x b there a → IsGood a
 makes_on x b true good a is = good_as a _ is ((λ behind. refl), tt)
-makes_on x b false good a is = makes_with x (bundle_brought b) (made_size b) b.refusal good.0 good.1 a is
+makes_on x b false good a is = makes_with x (bundle_brought b) (made_size b) (own_refusal b) good.0 good.1 a is
 
 makes : (p : Place) (found : Brought) → IsGoodAction (makes_node found) → HasVersionsAt p → (a : Reply) → Transition.MakesNode p found a → IsGood a
 makes (raw x) found good all a (inl is) = makes_on x found (holds_a_store x) good a is

@@ -3,7 +3,7 @@ use Rattle.std.specs.Prelude.{◌≡◌, ◌≢◌, ◌⊎◌, ℕ, ◌≤◌, t
 use Rattle.std.specs.declared.alloc.Global.{Global}
 use Rattle.std.specs.declared.alloc.AllocError.{AllocError}
 use Rattle.rel_unpack.specs.Source.{Source}
-use Rattle.rel_list.specs.Releases.{running as running_release}
+use Rattle.rel_list.specs.Releases.{Releases, running as running_release}
 use Rattle.rel_list.specs.Event.{list_after}
 use Rattle.rel_handler.specs.declared.handler.Handler.{Handler}
 use Rattle.rel_handler.specs.State.{disk_in, list_in, is_dead, end_in, IsSound}
@@ -17,7 +17,7 @@ use Rattle.rel_session.specs.declared.place.Place.TheVariants as memory
 use Rattle.node_command.specs.declared.error.HandlerError.{HandlerError}
 use Rattle.node_command.specs.declared.error.HandlerError.TheVariants as handler_error
 use Rattle.session_input.specs.Commands.{Command}
-use Rattle.session_input.specs.Commands.Command.{set_unpacked, install, permanent, remove, start, procs, modules, peek, call, quit}
+use Rattle.session_input.specs.Commands.Command.{set_unpacked, check, install, permanent, remove, start, procs, modules, peek, call, quit}
 use Rattle.session_input.specs.declared.command.Command.{Command as CommandInMemory}
 use Rattle.session_input.specs.declared.command.Command.TheVariants as asked
 use Rattle.session_input.specs.declared.given.GivenFile.{GivenFile}
@@ -28,7 +28,7 @@ use Rattle.rel_session.specs.Node.Place.{raw, closed, running, dead}
 use Rattle.rel_session.specs.Refusals.{refusal_of, refusal_line}
 use Rattle.rel_session.specs.Run.{Holds, Happens}
 use Rattle.node_processes.specs.Processes.{Processes}
-use Rattle.rel_session.specs.Transition.{Action, Acts, asked, StopsWithin, Transition, IsStopped, ok_line, version_of}
+use Rattle.rel_session.specs.Transition.{Action, Acts, told, StopsWithin, Transition, IsStopped, ok_line, version_of}
 use Rattle.rel_session.specs.Transition.Action.{answers}
 
 abbrev pub disk_at : {D : Type 0} → PlaceInMemory D → D
@@ -118,10 +118,15 @@ abbrev pub AnswersAction : {D : Type 0} → Device D → Action → Result (Stri
     → PlaceInMemory D → PlaceInMemory D → Type 0
 AnswersAction v does result old new = AnswersOrStops v (λ p a. Acts p does a) (λ p a. StopsWithin p does a) result old new
 
--- So were the processes of a node asked.
+-- So was a node asked for what its releases and its processes say.
+abbrev pub AnswersTold : {D : Type 0} → Device D → (Releases → Processes → List ℕ) → Result (String Global) HandlerError
+    → PlaceInMemory D → PlaceInMemory D → Type 0
+AnswersTold v says result old new = Answers v (λ p a. Acts p (answers (told says p)) a) result old new
+
+-- So were its processes asked.
 abbrev pub AnswersAsked : {D : Type 0} → Device D → (Processes → List ℕ) → Result (String Global) HandlerError
     → PlaceInMemory D → PlaceInMemory D → Type 0
-AnswersAsked v says result old new = Answers v (λ p a. Acts p (answers (asked says p)) a) result old new
+AnswersAsked v says result old new = AnswersTold v (λ list ps. says ps) result old new
 
 -- The handler of a node that has just booted is at this place, with its processes, and this line tells the version that runs;
 -- or memory was refused, and its disk alone is left.
@@ -140,6 +145,7 @@ AsksNode command =
 -- what is done by a node that runs alone, but for a reboot
 abbrev pub NeedsNode : Command → Type 0
 NeedsNode (set_unpacked path) = Unit {0}
+NeedsNode (check vsn) = Unit {0}
 NeedsNode (install vsn) = Unit {0}
 NeedsNode (permanent vsn) = Unit {0}
 NeedsNode (remove vsn) = Unit {0}

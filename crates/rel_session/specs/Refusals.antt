@@ -25,6 +25,7 @@ pub data Refusal : Type 0 where
   vsn_mismatch : List ℕ → Refusal
   no_table : List ℕ → Refusal
   too_many : Refusal
+  no_matching_relup : Refusal
   device : Refusal
   full : Refusal
   dead : Refusal
@@ -45,6 +46,7 @@ refusal_line (missing_file path) = codes "error handler 9 MissingFile " ++ (path
 refusal_line (vsn_mismatch path) = codes "error handler 10 VsnMismatch " ++ (path ++ codes "\n")
 refusal_line (no_table name) = codes "error handler 11 NoTable " ++ (name ++ codes "\n")
 refusal_line too_many = codes "error handler 12 TooMany\n"
+refusal_line no_matching_relup = codes "error handler 13 NoMatchingRelup\n"
 refusal_line device = codes "error handler 16 Device\n"
 refusal_line full = codes "error handler 17 Full\n"
 refusal_line dead = codes "error handler 18 Dead\n"
@@ -65,6 +67,7 @@ refusal_of (handler.MissingFile path) = missing_file (string_bytes path)
 refusal_of (handler.VsnMismatch path) = vsn_mismatch (string_bytes path)
 refusal_of (handler.NoTable name) = no_table (string_bytes name)
 refusal_of handler.TooMany = too_many
+refusal_of handler.NoMatchingRelup = no_matching_relup
 refusal_of handler.Device = device
 refusal_of handler.Full = full
 refusal_of handler.Dead = dead

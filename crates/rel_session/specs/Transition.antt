@@ -12,15 +12,17 @@ use Rattle.node_command.specs.Files.{bundle_brought, made_size, unpacked_size, B
 use Rattle.rel_handler.specs.Events.{Events, Stored, MayHave, certain, uncertain}
 use Rattle.rel_handler.specs.Image.{IsImageAt, holds_a_store, first_end, end_behind, HasSpace}
 use Rattle.rel_handler.specs.Refusals.{IsBootRefusal}
+use Rattle.node_command.specs.Installing.{installation as installation_of}
 use Rattle.node_command.specs.Taking.{commanded, change_size}
-use Rattle.node_command.specs.Place.{files_refusal}
+use Rattle.node_command.specs.Place.{files_refusal, own_refusal}
 pub use Rattle.rel_handler.specs.State.{version_of}
 use Rattle.rel_unpack.specs.Refusal.{Refusal as FilesRefusal}
 use Rattle.rel_unpack.specs.Source.{Source}
 use Rattle.rel_unpack.specs.Unpacking.{Brought}
 use Rattle.session_input.specs.Commands.{Command}
 use Rattle.relup_command.specs.Answer.{AnswerAt}
-use Rattle.session_input.specs.Commands.Command.{file, create, set_unpacked, install, permanent, remove, reboot_old, boot, start, releases, procs, modules, peek, call, relup, quit, bad}
+use Rattle.relup_script.specs.Search.{FoundForm}
+use Rattle.session_input.specs.Commands.Command.{file, create, set_unpacked, check, install, permanent, remove, reboot_old, boot, start, releases, procs, modules, peek, call, relup, quit, bad}
 use Rattle.node_listing.specs.Listing.{listing, text_value}
 use Rattle.node_processes.specs.Answers.{processes_line, modules_line, peek_line, call_line, called}
 use Rattle.node_processes.specs.Processes.{Processes}
@@ -48,6 +50,14 @@ listed p = told (λ list ps. listing list) p
 -- the answer to a command that asks the processes alone
 abbrev pub asked : (Processes → List ℕ) → Place → List ℕ
 asked says p = told (λ list ps. says ps) p
+
+-- the answer to `check`: the version and the description of the script that is found, or why there is none
+abbrev pub checked_line : Result FoundForm HandlerError → List ℕ
+checked_line (Ok f) = done_line (codes " " ++ (text_of (text_value f.other) ++ (codes " " ++ text_of f.descr)))
+checked_line (Err why) = refusal_line (refusal_of why)
+
+abbrev pub check_line : List ℕ → Releases → List ℕ
+check_line vsn list = checked_line (installation_of vsn list)
 
 -- An event that a command brings to a node; and, of the list that it changes, why its files are refused, how many bytes the
 -- body of its record has, and the details of the answer where it is done.
@@ -143,6 +153,7 @@ ComesTo source p (create path) does =
     (brought : Result Brought FilesRefusal) × Brings source path brought × (does ≡ creation brought)
 ComesTo source p (set_unpacked path) does =
     OnNode p (λ does. (brought : Result Brought FilesRefusal) × Brings source path brought × (does ≡ unpacking brought)) does
+ComesTo source p (check vsn) does = does ≡ answers (told (λ list ps. check_line vsn list) p)
 ComesTo source p (install vsn) does = does ≡ changes_node (installation vsn)
 ComesTo source p (permanent vsn) does = does ≡ changes_node (permanence vsn)
 ComesTo source p (remove vsn) does = does ≡ changes_node (removal vsn)
@@ -193,7 +204,7 @@ MakesWith bytes p size None a =
 -- So it is where these bytes hold no store.
 abbrev pub MakesOn : List ℕ → Brought → Bool → Reply → Type 0
 MakesOn bytes b true a = a ≡ refused exists (raw bytes)
-MakesOn bytes b false a = MakesWith bytes (bundle_brought b) (made_size b) b.refusal a
+MakesOn bytes b false a = MakesWith bytes (bundle_brought b) (made_size b) (own_refusal b) a
 
 -- Where the device fails in it, the event is in doubt.
 abbrev pub MakesNode : Place → Brought → Reply → Type 0

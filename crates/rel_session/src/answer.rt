@@ -9,6 +9,7 @@ ghost use Rattle.rel_session.specs.declared.place.Place.TheVariants.{Made};
 
 use crate::booted_node::BootedNode;
 use crate::change::{install, make_permanent, remove, set_unpacked};
+use crate::check::check_install;
 use crate::place::{Place, answer_of};
 use crate::processes::{call, list_modules, list_processes, peek};
 use crate::start::start;
@@ -53,6 +54,7 @@ impl<D: Disk> Place<D> {
                 answer_of(String::from_str(alloc, "error session 1 BadCommand\n")),
             ),
             Command::SetUnpacked(_)
+            | Command::Check(_)
             | Command::Install(_)
             | Command::Permanent(_)
             | Command::Remove(_)
@@ -130,6 +132,7 @@ fn done_by<D: Disk, R: Wait, F: Files>(
     }
     match command {
         Command::SetUnpacked(path) => set_unpacked(alloc, node, files, path.as_str()),
+        Command::Check(vsn) => check_install(alloc, node, vsn.as_str()),
         Command::Install(vsn) => install(alloc, node, vsn.as_str()),
         Command::Permanent(vsn) => make_permanent(alloc, node, vsn.as_str()),
         Command::Remove(vsn) => remove(alloc, node, vsn.as_str()),

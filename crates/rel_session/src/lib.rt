@@ -28,6 +28,7 @@
 mod answer;
 mod booted_node;
 mod change;
+mod check;
 mod command_loop;
 mod given_files;
 pub mod laws;

@@ -25,7 +25,7 @@ use Rattle.rel_unpack.specs.Refusal.{Refusal}
 use Rattle.rel_unpack.specs.Refusal.Refusal.{vsn_mismatch}
 use Rattle.rel_unpack.specs.Release.{ReleaseAt}
 use Rattle.rel_unpack.specs.Source.{Source}
-use Rattle.rel_unpack.specs.Unpacking.{Brought, BroughtAt, UnpackedLibraries, refusal_for}
+use Rattle.rel_unpack.specs.Unpacking.{Brought, BroughtAt, UnpackedLibraries, brought_with, refusal_for}
 use Rattle.rel_unpack.proofs.LineOutcomes.{OrNone}
 
 -- what was taken passed its test
@@ -153,8 +153,8 @@ all_within source (a ∷ apps) (l ∷ ls) why (here, later) = ((read_library sou
 -- What is brought is a release that was found, with the libraries of its applications.
 pub brought_of_files : (source : Source) (path : List ℕ) (b : Brought) → BroughtAt source path (Ok b)
     → ReleaseAt source path (Ok b.found) × UnpackedLibraries source b.found.release.apps b.libraries b.refusal
-brought_of_files source path b (f, found, (ls, why, gives, is)) =
-    let same : b ≡ record { found = f; libraries = ls; refusal = why } = cc in
+brought_of_files source path b (f, found, (ls, why, gives, (read, reads, is))) =
+    let same : b ≡ brought_with f ls why read = cc in
     subst (λ (x : Brought). ReleaseAt source path (Ok x.found) × UnpackedLibraries source x.found.release.apps x.libraries x.refusal) (sym same) (found, gives)
 
 -- where it isn't refused

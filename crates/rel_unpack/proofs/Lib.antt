@@ -1,9 +1,13 @@
 pub mod Turns
 pub mod LibraryTurns
 pub mod Steps
+pub mod RelupPaths
+pub mod RelupSteps
 pub mod OneOutcome
 pub mod SomeOutcome
 pub mod LineOutcomes
 pub mod FileNames
 pub mod LineLibraries
+pub mod LineBrought
 pub mod BroughtLibraries
+pub mod BroughtRelup

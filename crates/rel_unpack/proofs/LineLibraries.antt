@@ -30,10 +30,9 @@ use Rattle.rel_unpack.specs.Paths.{app_path, mod_path}
 use Rattle.rel_unpack.specs.Refusal.{Refusal}
 use Rattle.rel_unpack.specs.Refusal.Refusal.{vsn_mismatch}
 use Rattle.rel_unpack.specs.Source.{Source, FileSays}
-use Rattle.rel_unpack.specs.Release.{Found, ReleaseAt}
-use Rattle.rel_unpack.specs.Unpacking.{Brought, BroughtAt, UnpackedLibraries, WithLibraries, refusal_for}
+use Rattle.rel_unpack.specs.Unpacking.{UnpackedLibraries, refusal_for}
 use Rattle.rel_unpack.proofs.FileNames.{NamesModules, StartsNamed, application_names, table_names}
-use Rattle.rel_unpack.proofs.LineOutcomes.{AreGood, IsLineApplication, IsLineFound, IsLineSpecification, IsSaid, OrNone, TellsLine, app_path_line, folder_line, good_each, good_file, good_outcome, good_release, good_then, good_where_there, name_line, specification_line, tested}
+use Rattle.rel_unpack.proofs.LineOutcomes.{AreGood, IsLineApplication, IsLineSpecification, IsSaid, OrNone, TellsLine, app_path_line, folder_line, good_each, good_file, good_outcome, good_then, good_where_there, name_line, specification_line, tested}
 
 -- what holds of all holds of a member, of two lists of both, and of what each member gives
 module _ {X : Type 0} (P : X → Type 0) where
@@ -225,22 +224,3 @@ good_unpacking source apps ls why lines (read, gives, is) =
     told all (Some w) line f at = line
     told all None line None at = tt
     told all None line (Some f) at = fault_line (parts apps ls) f (parts_line apps ls lines all) at
-
--- What the path of a release brings tells what is within a line.
-pub record IsLineBrought (b : Brought) : Type 0 where
-  pub found : IsLineFound b.found
-  pub libraries : AllByRecursion (λ (l : Library). is_one_line l.app.name ≡ true) b.libraries
-  pub refusal : OrNone TellsLine b.refusal
-
-names_of_libraries : (ls : List Library) → AllByRecursion IsLineLibrary ls → AllByRecursion (λ (l : Library). is_one_line l.app.name ≡ true) ls
-names_of_libraries [] all = tt
-names_of_libraries (l ∷ ls) all = (all.0.own, names_of_libraries ls all.1)
-
-pub good_brought : (source : Source) (path : List ℕ) → is_one_line path ≡ true → AreGood (BroughtAt source path) IsLineBrought
-good_brought source path line =
-    good_then (ReleaseAt source path) (WithLibraries source) IsLineFound IsLineBrought (good_release source path line) rest
-  where
-    rest : (f : Found) → IsLineFound f → AreGood (WithLibraries source f) IsLineBrought
-    rest f lines r (ls, why, gives, is) =
-        let (all, told) = good_unpacking source f.release.apps ls why lines.apps gives in
-        good_outcome IsLineBrought (Ok (record { found = f; libraries = ls; refusal = why })) (record { found = lines; libraries = names_of_libraries ls all; refusal = told }) r is

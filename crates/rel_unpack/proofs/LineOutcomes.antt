@@ -20,7 +20,7 @@ use Rattle.rel_unpack.specs.Order.{Outcome, Then, Each}
 use Rattle.rel_unpack.specs.Paths.{app_path}
 use Rattle.rel_unpack.specs.Refusal.{Refusal}
 use Rattle.rel_unpack.specs.Refusal.Refusal.{missing_file, bad_file, vsn_mismatch, lib_differs, no_table, too_many, no_memory}
-use Rattle.rel_unpack.specs.Refusal.Trouble.{unreadable, faulty, misshapen}
+use Rattle.rel_unpack.specs.Refusal.Trouble.{unreadable, faulty, misshapen, faulty_relup}
 use Rattle.rel_unpack.specs.Release.{Found, ReleaseAt, is_small, rel_form}
 use Rattle.rel_unpack.specs.Source.{Source, Form, HasBytes, HasValue, FileSays, IfThere}
 
@@ -77,6 +77,7 @@ module _ {X : Type 0} (form : Form X) (source : Source) (path : List ℕ) (line 
   good_bytes (bad_file p unreadable) (is, has) = ap is_one_line is ∙ line
   good_bytes (bad_file p (faulty f)) has = absurd has
   good_bytes (bad_file p misshapen) has = absurd has
+  good_bytes (bad_file p (faulty_relup f)) has = absurd has
   good_bytes (vsn_mismatch p) has = absurd has
   good_bytes (lib_differs p) has = absurd has
   good_bytes (no_table p) has = absurd has

@@ -14,15 +14,20 @@ use Rattle.app_file.specs.File.{app_files}
 use Rattle.library.specs.Library.{Library}
 use Rattle.mod_table.specs.File.{mod_files}
 use Rattle.rel_check.specs.Fault.{release_fault}
+use Rattle.rel_check.specs.Relup.{relup_mismatch}
+use Rattle.relup_file.proofs.FileLemmas as relup
+use Rattle.relup_file.specs.File.{IsRelupFault}
+use Rattle.relup_file.specs.declared.fault.RelupFault.{RelupFault}
 use Rattle.rel_unpack.specs.Applications.{AppAt, LibraryAt, LibrariesAt, ModuleAt, TableAt, app_form, is_of, mod_form}
 use Rattle.rel_unpack.specs.Order.{Outcome, Then, Each}
 use Rattle.rel_unpack.specs.Paths.{mod_path}
-use Rattle.rel_unpack.specs.Refusal.{Refusal, Trouble, IsFault, is_missing}
+use Rattle.rel_unpack.specs.Refusal.{Refusal, Trouble, IsFault, IsRelupTrouble, is_missing}
 use Rattle.rel_unpack.specs.Refusal.Refusal.{missing_file, bad_file, vsn_mismatch, lib_differs, no_table, too_many, no_memory}
-use Rattle.rel_unpack.specs.Refusal.Trouble.{unreadable, faulty, misshapen}
+use Rattle.rel_unpack.specs.Refusal.Trouble.{unreadable, faulty, misshapen, faulty_relup}
 use Rattle.rel_unpack.specs.Release.{Found, ReleaseAt, rel_form}
 use Rattle.rel_unpack.specs.Source.{Source, Form, GivesOne, HasBytes, HasValue, FileSays, IfThere}
-use Rattle.rel_unpack.specs.Unpacking.{Brought, BroughtAt, UnpackedLibraries, WithLibraries, refusal_for}
+use Rattle.rel_unpack.specs.Relup.{RelupAt, RelupIn, relup_form, relup_path, unless_mismatch}
+use Rattle.rel_unpack.specs.Unpacking.{BroughtAt, RelupRead, UnpackedLibraries, WithFiles, brought_with, refusal_for}
 
 abbrev pub IsOne : {X : Type 0} → Outcome X → Type 0
 IsOne {X} P = (a b : Result X Refusal) → P a → P b → a ≡ b
@@ -74,6 +79,7 @@ was_read source path (Err (missing_file p)) (is, has) = (Err read.Missing, has, 
 was_read source path (Err (bad_file p unreadable)) (is, has) = (Err read.Unreadable, has, ap (λ q. Err (bad_file q unreadable)) is)
 was_read source path (Err (bad_file p (faulty f))) has = absurd has
 was_read source path (Err (bad_file p misshapen)) has = absurd has
+was_read source path (Err (bad_file p (faulty_relup f))) has = absurd has
 was_read source path (Err (vsn_mismatch p)) has = absurd has
 was_read source path (Err (lib_differs p)) has = absurd has
 was_read source path (Err (no_table p)) has = absurd has
@@ -178,13 +184,32 @@ faults_one : (P : Fault → Type 0) → ((f g : Fault) → P f → P g → f ≡
 faults_one P one (faulty f) (faulty g) has also = ap (λ x. faulty x) (one f g has also)
 faults_one P one unreadable u has also = absurd has
 faults_one P one misshapen u has also = absurd has
+faults_one P one (faulty_relup f) u has also = absurd has
 faults_one P one (faulty f) unreadable has also = absurd also
 faults_one P one (faulty f) misshapen has also = absurd also
+faults_one P one (faulty f) (faulty_relup g) has also = absurd also
 
 some_fault : {A : Type 0} (P : Fault → Type 0) → ((f : Fault) → P f → A) → (t : Trouble) → IsFault P t → A
 some_fault P from (faulty f) has = from f has
 some_fault P from unreadable has = absurd has
 some_fault P from misshapen has = absurd has
+some_fault P from (faulty_relup f) has = absurd has
+
+-- So is a fault of a relup.
+relup_faults_one : (P : RelupFault → Type 0) → ((f g : RelupFault) → P f → P g → f ≡ g) → (t u : Trouble) → IsRelupTrouble P t → IsRelupTrouble P u → t ≡ u
+relup_faults_one P one (faulty_relup f) (faulty_relup g) has also = ap faulty_relup (one f g has also)
+relup_faults_one P one unreadable u has also = absurd has
+relup_faults_one P one (faulty f) u has also = absurd has
+relup_faults_one P one misshapen u has also = absurd has
+relup_faults_one P one (faulty_relup f) unreadable has also = absurd also
+relup_faults_one P one (faulty_relup f) (faulty g) has also = absurd also
+relup_faults_one P one (faulty_relup f) misshapen has also = absurd also
+
+some_relup_fault : {A : Type 0} (P : RelupFault → Type 0) → ((f : RelupFault) → P f → A) → (t : Trouble) → IsRelupTrouble P t → A
+some_relup_fault P from (faulty_relup f) has = from f has
+some_relup_fault P from unreadable has = absurd has
+some_relup_fault P from (faulty f) has = absurd has
+some_relup_fault P from misshapen has = absurd has
 
 -- The kinds of files of a release.
 says_one_release : SaysOne rel_form
@@ -220,6 +245,19 @@ says_one_table = record {
       λ k. record { term = terms k; table = tables k };
   one_trouble = λ bs. faults_one _ (kind.one_fault mod_files bs);
   never_both = λ bs s t says has. some_fault _ (λ e is. kind.never_says_and_fails mod_files bs s.table e (says.0, s.term, says.1, says.2) is) t has;
+}
+
+says_one_relup : SaysOne relup_form
+says_one_relup = record {
+  one_value = λ bs f g says also.
+      let (r, reads, is) = says.0 in
+      let (s, reads_too, is_too) = also.0 in
+      let readings : r ∷ [] ≡ s ∷ [] = one_reading 64 bs (r ∷ []) (s ∷ []) reads reads_too in
+      let terms : f.term ≡ g.term = sym is ∙ (let same : r ≡ s = cc in ap (λ (x : Reading). x.term) same) ∙ is_too in
+      let relups : f.relup ≡ g.relup = relup.says_one bs f.relup g.relup (f.term, says.0, says.1) (g.term, also.0, also.1) in
+      λ k. record { relup = relups k; term = terms k };
+  one_trouble = λ bs. relup_faults_one (IsRelupFault bs) (relup.one_fault bs);
+  never_both = λ bs f t says has. some_relup_fault (IsRelupFault bs) (λ e is. relup.never_both bs f.relup e (f.term, says.0, says.1) is) t has;
 }
 
 pub one_release : (source : Source) → GivesOne source → (path : List ℕ) → IsOne (ReleaseAt source path)
@@ -273,12 +311,23 @@ module _ (source : Source) (one : GivesOne source) where
       let same : told met ls ≡ told met_too ks = λ i. told (refusal i) (libraries i) in
       (libraries, is ∙ same ∙ sym also)
 
-  one_with_libraries : (f : Found) → IsOne (WithLibraries source f)
-  one_with_libraries f r s (ls, why, gives, is) (ks, other, gives_too, also) =
+  -- The same is read of a relup.
+  one_relup : (path vsn : List ℕ) → IsOne (RelupAt source path vsn)
+  one_relup path vsn =
+      let there = relup_path path in
+      one_where_there source one there (RelupIn source there vsn) (one_then (FileSays relup_form source there) _ (one_file relup_form says_one_relup source one there) (λ f. one_outcome _))
+      (tested_there relup_form says_one_relup source one there (λ f r. r ≡ unless_mismatch there f (relup_mismatch vsn f.relup)))
+
+  one_relup_read : (path vsn : List ℕ) (why : Option Refusal) → IsOne (RelupRead source path vsn why)
+  one_relup_read path vsn None = one_relup path vsn
+  one_relup_read path vsn (Some why) = one_outcome (Ok None)
+
+  one_with_files : (path : List ℕ) (f : Found) → IsOne (WithFiles source path f)
+  one_with_files path f r s (ls, why, gives, (read, reads, is)) (ks, other, gives_too, (read_too, reads_too, also)) =
       let (libraries, refusal) = one_unpacking f.release.apps ls ks why other gives gives_too in
-      let brought : List Library → Option Refusal → Result Brought Refusal = λ found met. Ok (record { found = f; libraries = found; refusal = met }) in
-      let same : brought ls why ≡ brought ks other = λ i. brought (libraries i) (refusal i) in
-      is ∙ same ∙ sym also
+      let here : RelupRead source path f.release.vsn why read_too = subst (λ w. RelupRead source path f.release.vsn w read_too) (sym refusal) reads_too in
+      let relups : read ≡ read_too = one_relup_read path f.release.vsn why read read_too reads here in
+      is ∙ (λ i. Ok (brought_with f (libraries i) (refusal i) (relups i))) ∙ sym also
 
   pub one_brought : (path : List ℕ) → IsOne (BroughtAt source path)
-  one_brought path = one_then (ReleaseAt source path) (WithLibraries source) (one_release source one path) one_with_libraries
+  one_brought path = one_then (ReleaseAt source path) (WithFiles source path) (one_release source one path) (one_with_files path)

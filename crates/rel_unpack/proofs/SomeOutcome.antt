@@ -14,15 +14,21 @@ use Rattle.library.specs.Library.{Library, TableTerm}
 use Rattle.mod_table.specs.declared.table.Table.{Table}
 use Rattle.mod_table.specs.File.{mod_files}
 use Rattle.rel_check.specs.Fault.{release_fault}
+use Rattle.relup_file.proofs.FileLemmas as relup
+use Rattle.relup_file.specs.File.{IsRelupFault, SaysRelup}
+use Rattle.relup_file.specs.Relup.{RelupForm}
+use Rattle.relup_file.specs.declared.fault.RelupFault.{RelupFault}
 use Rattle.rel_unpack.specs.Applications.{AppAt, LibraryAt, LibrariesAt, ModuleAt, TableAt, app_form, is_of, mod_form}
 use Rattle.rel_unpack.specs.Order.{Outcome, Then, Each}
 use Rattle.rel_unpack.specs.Paths.{mod_path}
 use Rattle.rel_unpack.specs.Refusal.{Refusal, Trouble, is_missing}
 use Rattle.rel_unpack.specs.Refusal.Refusal.{missing_file, bad_file, vsn_mismatch, too_many}
-use Rattle.rel_unpack.specs.Refusal.Trouble.{unreadable, faulty}
+use Rattle.rel_unpack.specs.Refusal.Trouble.{unreadable, faulty, faulty_relup}
 use Rattle.rel_unpack.specs.Release.{Found, ReleaseAt, rel_form}
 use Rattle.rel_unpack.specs.Source.{Source, Form, GivesEach, FileSays, IfThere}
-use Rattle.rel_unpack.specs.Unpacking.{BroughtAt, UnpackedLibraries, WithLibraries, refusal_for}
+use Rattle.rel_unpack.specs.Relup.{RelupAt, RelupFound, RelupIn, relup_form, relup_path}
+use Rattle.rel_unpack.specs.Unpacking.{BroughtAt, RelupRead, UnpackedLibraries, WithFiles, brought_with, refusal_for}
+use Rattle.rel_unpack.proofs.RelupSteps.{no_relup}
 use Rattle.rel_unpack.proofs.Steps.{missing_path, none_read, none_there}
 
 abbrev pub HasSome : {X : Type 0} → Outcome X → Type 0
@@ -103,6 +109,13 @@ says_some_table bs = go (kind.says_or_fault mod_files bs)
     go (inl (t, (at, v, has, is))) = inl (record { term = v; table = t }, (at, has, is))
     go (inr (f, has)) = inr (faulty f, has)
 
+says_some_relup : SaysSome relup_form
+says_some_relup bs = go (relup.says_or_fault bs)
+  where
+    go : ((r : RelupForm) × SaysRelup bs r) ⊎ ((f : RelupFault) × IsRelupFault bs f) → ((f : RelupFound) × relup_form.says bs f) ⊎ ((t : Trouble) × relup_form.fails bs t)
+    go (inl (r, (term, has, is))) = inl (record { relup = r; term = term }, (has, is))
+    go (inr (f, has)) = inr (faulty_relup f, has)
+
 -- Each path has a release or a refusal, and each application a specification or a refusal.
 pub some_release : (source : Source) → GivesEach source → (path : List ℕ) → HasSome (ReleaseAt source path)
 some_release source each path = some_then (FileSays rel_form source path) _ (some_file rel_form says_some_release source each path) (λ f. some_outcome _)
@@ -140,10 +153,21 @@ module _ (source : Source) (each : GivesEach source) where
       let (ls, met, gives) = some_read apps in
       (ls, option_or met (option_map refusal_for (release_fault apps ls)), (met, gives, refl))
 
-  some_with_libraries : (f : Found) → HasSome (WithLibraries source f)
-  some_with_libraries f =
+  some_relup : (path vsn : List ℕ) → HasSome (RelupAt source path vsn)
+  some_relup path vsn =
+      let there = relup_path path in
+      some_where_there source there (RelupIn source there vsn) (no_relup source there vsn)
+      (some_then (FileSays relup_form source there) _ (some_file relup_form says_some_relup source each there) (λ f. some_outcome _))
+
+  some_relup_read : (path vsn : List ℕ) (why : Option Refusal) → HasSome (RelupRead source path vsn why)
+  some_relup_read path vsn None = some_relup path vsn
+  some_relup_read path vsn (Some why) = some_outcome (Ok None)
+
+  some_with_files : (path : List ℕ) (f : Found) → HasSome (WithFiles source path f)
+  some_with_files path f =
       let (ls, why, gives) = some_unpacking f.release.apps in
-      (Ok (record { found = f; libraries = ls; refusal = why }), (ls, why, gives, refl))
+      let (read, reads) = some_relup_read path f.release.vsn why in
+      (Ok (brought_with f ls why read), (ls, why, gives, (read, reads, refl)))
 
   pub some_brought : (path : List ℕ) → HasSome (BroughtAt source path)
-  some_brought path = some_then (ReleaseAt source path) (WithLibraries source) (some_release source each path) some_with_libraries
+  some_brought path = some_then (ReleaseAt source path) (WithFiles source path) (some_release source each path) (some_with_files path)

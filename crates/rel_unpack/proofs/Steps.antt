@@ -43,15 +43,20 @@ pub none_read : {X : Type 0} (form : Form X) (source : Source) (path p : List �
 none_read form source path p (inl is) = is.1
 none_read form source path p (inr is) = absurd is.2
 
--- and so does a test of what it says.
+-- and so does what is asked of it, where that tells none.
+pub none_behind : {X Y : Type 0} (form : Form X) (source : Source) (path : List ℕ) (Q : X → Outcome Y) → ((x : X) (p : List ℕ) → Q x (Err (missing_file p)) → ⊥) → (p : List ℕ)
+    → Then (FileSays form source path) Q (Err (missing_file p)) → source path (Err Missing)
+none_behind form source path Q never p (inl is) = none_read form source path p is
+none_behind form source path Q never p (inr (x, says, is)) = absurd (never x p is)
+
+-- A test tells none.
 pub none_there : {X : Type 0} (form : Form X) (source : Source) (path : List ℕ) (test : X → Bool) (x : Refusal) → is_missing x ≡ false → (p : List ℕ)
     → Then (FileSays form source path) (λ s r. r ≡ (if test s then Ok s else Err x)) (Err (missing_file p)) → source path (Err Missing)
-none_there {X} form source path test x other p (inl is) = none_read form source path p is
-none_there {X} form source path test x other p (inr (s, says, is)) = absurd (go (test s) is)
+none_there {X} form source path test x other = none_behind form source path (λ s r. r ≡ (if test s then Ok s else Err x)) (λ s p. go s p (test s))
   where
-    go : (b : Bool) → Err (missing_file p) ≡ (if b then Ok s else Err x) → ⊥
-    go true e = absurd cc
-    go false e = let same : missing_file p ≡ x = cc in let is : true ≡ false = ap is_missing same ∙ other in cc
+    go : (s : X) (p : List ℕ) (b : Bool) → Err (missing_file p) ≡ (if b then Ok s else Err x) → ⊥
+    go s p true e = absurd cc
+    go s p false e = let same : missing_file p ≡ x = cc in let is : true ≡ false = ap is_missing same ∙ other in cc
 
 -- A refusal that tells a missing file is that of a path.
 pub missing_path : (e : Refusal) → is_missing e ≡ true → (path : List ℕ) × (e ≡ missing_file path)

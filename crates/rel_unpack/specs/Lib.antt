@@ -4,4 +4,5 @@ pub mod Paths
 pub mod Source
 pub mod Release
 pub mod Applications
+pub mod Relup
 pub mod Unpacking

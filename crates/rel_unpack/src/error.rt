@@ -2,11 +2,13 @@
 ghost use Rattle.std.specs.Prelude.{◌≡◌};
 
 use rel_files::FileFault;
+use relup_file::RelupFault;
 use std::alloc::{AllocError, AllocFailed};
 use std::fmt::{self, Display, Formatter};
 use thiserror::Error;
 
-/// What is wrong with a file that is there. It is shown by its name, and a fault by its place too where it has one.
+/// What is wrong with a file that is there. It is shown by its name, and a fault by its place too where it has one, that of a
+/// relup by the number of its entry.
 #[derive(Debug, Drop)]
 pub enum FileTrouble {
     /// It can't be read.
@@ -15,6 +17,8 @@ pub enum FileTrouble {
     Fault(FileFault),
     /// It hasn't one term, or one that isn't of its kind's shape. This fault has no place.
     Misshapen,
+    /// It is a relup, whose bytes have this fault.
+    Relup(RelupFault),
 }
 
 impl Display for FileTrouble {
@@ -28,6 +32,7 @@ impl Display for FileTrouble {
             FileTrouble::Unreadable => f.write_str("Unreadable"),
             FileTrouble::Fault(fault) => write!(f, "{fault}"),
             FileTrouble::Misshapen => f.write_str("BadShape"),
+            FileTrouble::Relup(fault) => write!(f, "{fault}"),
         }
     }
 }
@@ -43,7 +48,8 @@ pub enum UnpackError {
     /// The file of this path can't be used.
     #[error("BadFile {0} {1}")]
     BadFile(String, FileTrouble),
-    /// The file of this path is of another application, version or module than its path says.
+    /// The file of this path is of another application, version or module than its path says, or a relup of another version
+    /// than its release.
     #[error("VsnMismatch {0}")]
     VsnMismatch(String),
     /// The library of this application and version is there, with another specification or other tables.

@@ -1,10 +1,11 @@
-//! What a release and its files give: its applications with their modules, or the first refusal.
+//! What a release and its files give: its applications with their modules, its relup, or the first refusal.
 //!
 //! [`read_release`] reads a `.rel` file, and [`read_libraries`] the files of its applications; [`unpack_applications`] then
-//! asks the tests over the whole release, and [`unpack_release`] does all of it. Each answers what its definition says
-//! (specs/Release, specs/Applications, specs/Unpacking), or that no memory was left: a file after another is read, up to the
-//! first that isn't taken. The libraries before it are told beside that refusal, so that they can be compared with those that
-//! a node has. The definitions stand over files as a relation between paths and what a read of them gives.
+//! asks the tests over the whole release, [`read_relup_beside`] reads the relup, and [`unpack_release`] does all of it. Each
+//! answers what its definition says (specs/Release, specs/Applications, specs/Relup, specs/Unpacking), or that no memory was
+//! left: a file after another is read, up to the first that isn't taken. The libraries before it are told beside that refusal,
+//! so that they can be compared with those that a node has, and why the relup is refused is told apart. The definitions stand
+//! over files as a relation between paths and what a read of them gives.
 //!
 //! Only tested (`unpack_cases`): that files are read where memory is there. Trusted: the toolchain and `thiserror`.
 #![tactic(auto)]
@@ -13,6 +14,7 @@ mod applications;
 mod error;
 mod paths;
 mod release;
+mod relup;
 mod source;
 mod tables;
 mod unpacking;
@@ -20,5 +22,6 @@ mod unpacking;
 pub use applications::{ApplicationFiles, read_application, read_libraries};
 pub use error::{FileTrouble, UnpackError};
 pub use release::{MOST_APPLICATIONS, is_small, read_release};
+pub use relup::read_relup_beside;
 pub use source::{read_bytes, unless_missing};
 pub use unpacking::{ReleaseFiles, unpack_applications, unpack_release};

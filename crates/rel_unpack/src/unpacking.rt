@@ -1,5 +1,5 @@
 //! What a release brings.
-ghost use Rattle.std.specs.Prelude.{◌≡◌, ◌≢◌, map, IfOk};
+ghost use Rattle.std.specs.Prelude.{◌≡◌, ◌≢◌, map, IfOk, IfSome};
 ghost use Rattle.std.specs.Option.{option_map};
 ghost use Rattle.erl_term.specs.Value.{value_of};
 ghost use Rattle.erl_term.specs.Within.{IsWithin};
@@ -10,16 +10,18 @@ ghost use Rattle.rel_check.specs.declared.fault.ReleaseFault.TheVariants.{NoMemo
 ghost use Rattle.rel_files.specs.Release.{application_of};
 ghost use Rattle.rel_unpack.specs.Order.{Answers};
 ghost use Rattle.rel_unpack.specs.Refusal.{refusal_of};
-ghost use Rattle.rel_unpack.specs.Unpacking.{BroughtAt, UnpackedLibraries, brought_of, libraries_of, refusal_for, refusal_in, twice_in};
+ghost use Rattle.rel_unpack.specs.Unpacking.{BroughtAt, RelupRead, UnpackedLibraries, brought_of, libraries_of, refusal_for, refusal_in, relup_read_of, twice_in};
 
 use crate::applications::{ApplicationFiles, read_libraries};
 use crate::error::{FileTrouble, UnpackError};
 use crate::paths::app_path;
 use crate::release::read_release;
+use crate::relup::read_relup_beside;
 use file_source::Files;
 use library::Library;
 use rel_check::{Named, ReleaseFault, check_release};
 use rel_files::{FileFault, RelApp, RelFile};
+use relup_file::RelupFile;
 use std::alloc::{AllocError, Global};
 use std::rc::Rc;
 
@@ -30,10 +32,13 @@ pub struct ReleaseFiles {
     pub file: RelFile,
     /// What the files of its applications gave.
     pub applications: ApplicationFiles,
+    /// Its relup, if it has one, or why the release is refused for it. That is never `NoMemory`. Where the release is refused
+    /// for its applications, the relup isn't read, and this is none.
+    pub relup: Result<Option<RelupFile>, UnpackError>,
 }
 
-/// The release of a path, and what the files of its applications give, as [`unpack_applications`] answers it. So all files
-/// are read before a release is refused for its applications.
+/// The release of a path, what the files of its applications give, as [`unpack_applications`] answers it, and then its relup,
+/// as [`read_relup_beside`] answers it. So all files are read before a release is refused for one of them.
 pub fn unpack_release<F: Files>(
     alloc: Global,
     files: &F,
@@ -41,10 +46,39 @@ pub fn unpack_release<F: Files>(
 ) -> Result<ReleaseFiles, UnpackError>
     ensures answer { Answers brought_of (BroughtAt (F.gives files.now) path.now) result }
     ensures within { IfOk result (λ r. IsWithin 65 (value_of r.file.term)) }
+    ensures relup_within { IfOk result
+        (λ r. IfSome (brought_of r).relup (λ found. IsWithin 65 found.term)) }
 {
     let file = read_release(alloc, files, path)?;
     let applications = unpack_applications(alloc, files, file.release.apps.as_slice())?;
-    Ok(ReleaseFiles { file, applications })
+    let refusal = &applications.refusal;
+    let relup = relup_unless_refused(alloc, files, path, file.release.vsn.as_str(), refusal)?;
+    Ok(ReleaseFiles {
+        file,
+        applications,
+        relup,
+    })
+}
+
+// What is read of the relup of a release of this version, where it isn't refused for its applications.
+fn relup_unless_refused<F: Files>(
+    alloc: Global,
+    files: &F,
+    path: &str,
+    vsn: &str,
+    refusal: &Option<UnpackError>,
+) -> Result<Result<Option<RelupFile>, UnpackError>, AllocError>
+    ensures { IfOk result (λ read. RelupRead (F.gives files.now) path.now vsn.now
+        (option_map refusal_of refusal.now) (relup_read_of read)) }
+{
+    if refusal.is_some() {
+        return Ok(Ok(None));
+    }
+    match read_relup_beside(alloc, files, path, vsn) {
+        Ok(relup) => Ok(Ok(relup)),
+        Err(UnpackError::NoMemory) => Err(AllocError),
+        Err(why) => Ok(Err(why)),
+    }
 }
 
 /// The libraries of a release's applications, in their order, from their files, as [`read_libraries`] gives them; and then

@@ -34,6 +34,7 @@ pub data Command : Type 0 where
   create : List ℕ → Command
   set_unpacked : List ℕ → Command
   install : List ℕ → Command
+  check : List ℕ → Command
   permanent : List ℕ → Command
   remove : List ℕ → Command
   reboot_old : List ℕ → Command
@@ -80,6 +81,7 @@ with_word (Some word) parsed = parsed word
 abbrev pub change_named : List ℕ → List ℕ → Command
 change_named word vsn =
     if bytes_eq word (codes "install") then install vsn
+    else if bytes_eq word (codes "check") then check vsn
     else if bytes_eq word (codes "permanent") then permanent vsn
     else if bytes_eq word (codes "remove") then remove vsn
     else if bytes_eq word (codes "reboot_old") then reboot_old vsn
@@ -228,6 +230,7 @@ command_of (memory.File p g) = file (string_bytes p) (given_of g)
 command_of (memory.Create p) = create (string_bytes p)
 command_of (memory.SetUnpacked p) = set_unpacked (string_bytes p)
 command_of (memory.Install v) = install (string_bytes v)
+command_of (memory.Check v) = check (string_bytes v)
 command_of (memory.Permanent v) = permanent (string_bytes v)
 command_of (memory.Remove v) = remove (string_bytes v)
 command_of (memory.RebootOld v) = reboot_old (string_bytes v)

@@ -212,6 +212,7 @@ fn change_named(word: &str, vsn: String) -> Command
 {
     match word {
         "install" => Command::Install(vsn),
+        "check" => Command::Check(vsn),
         "permanent" => Command::Permanent(vsn),
         "remove" => Command::Remove(vsn),
         "reboot_old" => Command::RebootOld(vsn),

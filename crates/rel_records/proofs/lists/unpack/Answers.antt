@@ -22,5 +22,5 @@ returns-in_err-accept-clause-bad c = λ bad.
 -- it takes it
 pub returns-clause-taken : goal.returns-clause-taken
 returns-clause-taken c =
-    let may : is_small (release_of c.args.release) && nat_lt (length c.args.list.now) most_releases ≡ true = search rules in
+    let may : is_small (release_of c.args.new.release) && nat_lt (length c.args.list.now) most_releases ≡ true = search rules in
     accepted _ unpacked c.args.list.now _ (bundle_of c.in_ok-bundle.bundle) _ may c.in_ok-bundle.ensures.brought c.in_ok-accept.ensures.accepted

@@ -1,13 +1,13 @@
 use Rattle.std.proofs.Common.{rules, refl, sym, ap, ◌∙◌}
 use Rattle.session_input.specs.Commands.{command_of}
-use Rattle.session_input.specs.Commands.Command.{set_unpacked, install, permanent, remove, start, procs, modules, peek, call}
+use Rattle.session_input.specs.Commands.Command.{set_unpacked, check, install, permanent, remove, start, procs, modules, peek, call}
 use Rattle.node_processes.specs.Answers.{processes_line, modules_line, peek_line}
-use Rattle.rel_session.specs.Transition.{installation, permanence, removal}
+use Rattle.rel_session.specs.Transition.{check_line, installation, permanence, removal}
 use Rattle.rel_session.specs.Transition.Action.{changes_node, tells_start, calls}
 use Rattle.rel_session.specs.declared.place.Place.TheVariants as memory
 use Rattle.rel_session.proofs.DeviceLemmas.{IsDevice}
 use Rattle.rel_session.proofs.Replies.{changes_dead, idle_needs}
-use Rattle.rel_session.proofs.ReplyTexts.{answers_command, answers_action, asks_node}
+use Rattle.rel_session.proofs.ReplyTexts.{answers_command, answers_action, asks_node, tells_node}
 use Rattle.rel_session.proofs.answer.done_by.Goals as goal
 
 pub returns-then-is_dead-clause-answered : goal.returns-then-is_dead-clause-answered
@@ -19,6 +19,12 @@ pub returns-in-SetUnpacked-clause-answered : goal.returns-in-SetUnpacked-clause-
 returns-in-SetUnpacked-clause-answered g c =
     answers_command g.D.Disk (memory.Made c.args.node.now) (memory.Made c.set_unpacked.new.node) (g.F.Files.gives c.args.files.now) (command_of c.args.command.now) (set_unpacked c.as_str.result.now) c.set_unpacked.result
     (ap command_of c.in-SetUnpacked.is ∙ ap (λ s. set_unpacked s) (sym c.as_str.ensures.value)) c.set_unpacked.ensures.unpacked
+
+pub returns-in-Check-clause-answered : goal.returns-in-Check-clause-answered
+returns-in-Check-clause-answered g c =
+    let vsn = c.as_str-in-Check.result.now in
+    tells_node g.D.Disk (memory.Made c.args.node.now) (memory.Made c.check_install.new.node) (g.F.Files.gives c.args.files.now) (command_of c.args.command.now) (check vsn) c.check_install.result
+    (ap command_of c.in-Check.is ∙ ap (λ s. check s) (sym c.as_str-in-Check.ensures.value)) (λ list ps. check_line vsn list) (λ p. refl) c.check_install.ensures.told
 
 pub returns-in-Install-clause-answered : goal.returns-in-Install-clause-answered
 returns-in-Install-clause-answered g c =

@@ -4,7 +4,7 @@ use Rattle.rel_session.specs.Node.{Place, Reply}
 use Rattle.rel_session.specs.Transition.{Acts}
 use Rattle.rel_session.specs.Transition.Action.{calls}
 use Rattle.rel_session.proofs.DeviceLemmas.{IsDevice}
-use Rattle.rel_session.proofs.ProcessReplies.{answers_of_processes}
+use Rattle.rel_session.proofs.ProcessReplies.{answers_of_node}
 use Rattle.rel_session.proofs.processes.call.Goals as goal
 
 pub returns-clause-called : goal.returns-clause-called
@@ -13,5 +13,5 @@ returns-clause-called g c =
     let app = c.args.app.now in
     let id = c.args.id.now in
     let Does : Place → Reply → Type 0 = λ p a. Acts p (calls app id c.args.input) a in
-    answers_of_processes g.D.Disk laws Does (call_line app id c.args.input) (called app id c.args.input) (λ events end ps. refl) c.args.node.now (record c.args.node.now { processes = c.call.new.self }) c.requires.works refl c.call.ensures.called
+    answers_of_node g.D.Disk laws Does (λ list ps. call_line app id c.args.input ps) (called app id c.args.input) (λ events end ps. refl) c.args.node.now (record c.args.node.now { processes = c.call.new.self }) c.requires.works refl c.call.ensures.called
     c.call.result c.answer_of.result c.answer_of.ensures.same c.call.ensures.told

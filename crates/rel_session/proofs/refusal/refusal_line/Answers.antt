@@ -1,7 +1,7 @@
 use Rattle.std.proofs.Common.{◌≡◌, ap, subst, string_bytes}
 use Rattle.std.specs.Prelude.{IfOk}
 use Rattle.rel_session.specs.Refusals.{refusal_of, refusal_line}
-use Rattle.rel_session.proofs.refusal.refusal_line.Goals.{in-NoSuchRelease, in-ExistingRelease, in-AlreadyInstalled, in-Permanent, in-Running, in-TooMany, in-Device, in-Full, in-Dead, in-NoMemory, in-Exists}
+use Rattle.rel_session.proofs.refusal.refusal_line.Goals.{in-NoSuchRelease, in-ExistingRelease, in-AlreadyInstalled, in-Permanent, in-Running, in-TooMany, in-NoMatchingRelup, in-Device, in-Full, in-Dead, in-NoMemory, in-Exists}
 use Rattle.rel_session.proofs.refusal.refusal_line.Goals as goal
 
 pub returns-in-BadStatus : goal.returns-in-BadStatus
@@ -31,6 +31,7 @@ returns c =
       | in-Permanent w ↦ rw w.in-Permanent.is (ap (λ text. text.now) w.line-is)
       | in-Running w ↦ rw w.in-Running.is (ap (λ text. text.now) w.line-is)
       | in-TooMany w ↦ rw w.in-TooMany.is (ap (λ text. text.now) w.line-is)
+      | in-NoMatchingRelup w ↦ rw w.in-NoMatchingRelup.is (ap (λ text. text.now) w.line-is)
       | in-Device w ↦ rw w.in-Device.is (ap (λ text. text.now) w.line-is)
       | in-Full w ↦ rw w.in-Full.is (ap (λ text. text.now) w.line-is)
       | in-Dead w ↦ rw w.in-Dead.is (ap (λ text. text.now) w.line-is)

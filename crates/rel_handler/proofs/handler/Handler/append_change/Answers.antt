@@ -7,7 +7,7 @@ use Rattle.rel_store.specs.State.{records_in}
 use Rattle.rel_handler.specs.Commits.{Commits, IsDone}
 use Rattle.rel_handler.specs.Refusals.{CommandRefused}
 use Rattle.rel_handler.specs.State.{list_in}
-use Rattle.node_command.specs.Taking.{change_size}
+use Rattle.node_command.specs.Taking.{change_size, no_terms}
 use Rattle.node_command.specs.declared.error.HandlerError.TheVariants.{NoMemory}
 use Rattle.rel_handler.proofs.Commits.{all_same, unchanged, have_versions}
 use Rattle.node_command.proofs.Refusals.{refuses_with}
@@ -59,7 +59,7 @@ unfolding change_size
 returns-clause-commits g c =
     let e = event_of c.args.event in
     let h = c.args.self.now in
-    let long : length c.as_str.result.now ≡ change_size e (list_in h) = ap length (c.as_str.ensures.value ∙ c.in_ok-body.ensures.body _) in
+    let long : length c.as_str.result.now ≡ change_size e (list_in h) = ap length (c.as_str.ensures.value ∙ c.in_ok-body.ensures.body no_terms) in
     subst (λ n. Commits g.D.Disk e n h c.append.new.self) long c.append.ensures.commits
 
 pub returns-clause-refused : goal.returns-clause-refused
@@ -67,7 +67,7 @@ unfolding change_size
 returns-clause-refused g c =
     let e = event_of c.args.event in
     let h = c.args.self.now in
-    let long : length c.as_str.result.now ≡ change_size e (list_in h) = ap length (c.as_str.ensures.value ∙ c.in_ok-body.ensures.body _) in
+    let long : length c.as_str.result.now ≡ change_size e (list_in h) = ap length (c.as_str.ensures.value ∙ c.in_ok-body.ensures.body no_terms) in
     subst (λ n. IfErr c.append.result (CommandRefused g.D.Disk.failures e n h c.append.new.self)) long c.append.ensures.refused
 
 pub returns-clause-done : goal.returns-clause-done
@@ -75,5 +75,5 @@ unfolding change_size
 returns-clause-done g c =
     let e = event_of c.args.event in
     let h = c.args.self.now in
-    let long : length c.as_str.result.now ≡ change_size e (list_in h) = ap length (c.as_str.ensures.value ∙ c.in_ok-body.ensures.body _) in
+    let long : length c.as_str.result.now ≡ change_size e (list_in h) = ap length (c.as_str.ensures.value ∙ c.in_ok-body.ensures.body no_terms) in
     subst (λ n. OnOk c.append.result (IsDone g.D.Disk e n h c.append.new.self)) long c.append.ensures.done

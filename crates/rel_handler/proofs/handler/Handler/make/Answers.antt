@@ -11,7 +11,7 @@ use Rattle.rel_handler.proofs.handler.Handler.make.Goals as goal
 
 pub create-requires : goal.create-requires
 create-requires g c =
-    subst (λ text. length text ≤ 127) (sym (c.as_bytes-2.ensures.value ∙ c.in-Ok.ensures.start)) (fits_in_a_slot (bundle_brought (brought_of c.args.brought)).release c.requires.file.says.versions)
+    subst (λ text. length text ≤ 127) (sym (c.as_bytes-2.ensures.value ∙ c.in-Ok.ensures.start)) (fits_in_a_slot (bundle_brought (brought_of c.args.brought)).release c.requires.terms.says.release.versions)
 
 pub create_error-requires : goal.create_error-requires
 create_error-requires g c =
@@ -24,7 +24,7 @@ returns-in-Ok-create-clause-sound g c =
     let spelled = rw (sym c.as_bytes.ensures.value) at c.in-Ok.ensures.spells in
     sound_so g.D.Disk.seen g.D.Disk.may_leave c.in-Ok-create.store c.in-Ok.new.list c.in-Ok-create.ensures.settled (made_new (bundle_brought (brought_of c.args.brought)) c.as_bytes.result.now _ c.in-Ok.new.list (c.requires.small, c.requires.whole.complete) spelled c.in-Ok-create.ensures.records c.in-Ok.ensures.list)
     (λ d now. subst (λ l. IsStarted l d) (sym c.in-Ok.ensures.list)
-    (started_new (bundle_brought (brought_of c.args.brought)) c.as_bytes-2.result.now d c.requires.file.says.versions (c.as_bytes-2.ensures.value ∙ c.in-Ok.ensures.start)
+    (started_new (bundle_brought (brought_of c.args.brought)) c.as_bytes-2.result.now d c.requires.terms.says.release.versions (c.as_bytes-2.ensures.value ∙ c.in-Ok.ensures.start)
     (ap (λ l. start_slot l) (c.in-Ok-create.ensures.settled.durable d now) ∙ c.in-Ok-create.ensures.start)))
 
 pub returns-in-Ok-create-clause-acknowledged : goal.returns-in-Ok-create-clause-acknowledged
@@ -35,13 +35,13 @@ returns-in-Ok-create-clause-acknowledged g c = λ d now.
 pub returns-in-Ok-create-clause-any_moment : goal.returns-in-Ok-create-clause-any_moment
 returns-in-Ok-create-clause-any_moment g c =
     let spelled = rw (sym c.as_bytes.ensures.value) at c.in-Ok.ensures.spells in
-    begins g.D.Disk.seen g.D.Disk.may_leave g.D.Disk.moment g.D.Disk.left_since (bundle_brought (brought_of c.args.brought)) c.as_bytes.result.now c.as_bytes-2.result.now (c.requires.small, c.requires.whole.complete) c.requires.file.says.versions (c.as_bytes-2.ensures.value ∙ c.in-Ok.ensures.start) spelled c.args.disk _ c.in-Ok-create.ensures.any_moment
+    begins g.D.Disk.seen g.D.Disk.may_leave g.D.Disk.moment g.D.Disk.left_since (bundle_brought (brought_of c.args.brought)) c.as_bytes.result.now c.as_bytes-2.result.now (c.requires.small, c.requires.whole.complete) c.requires.terms.says.release.versions (c.as_bytes-2.ensures.value ∙ c.in-Ok.ensures.start) spelled c.args.disk _ c.in-Ok-create.ensures.any_moment
 
 pub returns-in-Ok-create-clause-begun : goal.returns-in-Ok-create-clause-begun
 returns-in-Ok-create-clause-begun g c =
     let spelled = rw (sym c.as_bytes.ensures.value) at c.in-Ok.ensures.spells in
     let (at, begun) = c.in-Ok-create.ensures.begun in
-    (at, begins_at g.D.Disk.seen g.D.Disk.may_leave g.D.Disk.moment g.D.Disk.left_since (bundle_brought (brought_of c.args.brought)) c.as_bytes.result.now c.as_bytes-2.result.now (c.requires.small, c.requires.whole.complete) c.requires.file.says.versions (c.as_bytes-2.ensures.value ∙ c.in-Ok.ensures.start) spelled c.args.disk _ at begun)
+    (at, begins_at g.D.Disk.seen g.D.Disk.may_leave g.D.Disk.moment g.D.Disk.left_since (bundle_brought (brought_of c.args.brought)) c.as_bytes.result.now c.as_bytes-2.result.now (c.requires.small, c.requires.whole.complete) c.requires.terms.says.release.versions (c.as_bytes-2.ensures.value ∙ c.in-Ok.ensures.start) spelled c.args.disk _ at begun)
 
 pub returns-in-Ok-create-clause-start : goal.returns-in-Ok-create-clause-start
 returns-in-Ok-create-clause-start g c = c.in-Ok-create.ensures.start ∙ ap slot_with (c.as_bytes-2.ensures.value ∙ c.in-Ok.ensures.start)
@@ -74,7 +74,7 @@ returns-clause-refused g c =
 pub returns-clause-any_moment : goal.returns-clause-any_moment
 returns-clause-any_moment g c =
     let spelled = rw (sym c.as_bytes.ensures.value) at c.in-Ok.ensures.spells in
-    begins g.D.Disk.seen g.D.Disk.may_leave g.D.Disk.moment g.D.Disk.left_since (bundle_brought (brought_of c.args.brought)) c.as_bytes.result.now c.as_bytes-2.result.now (c.requires.small, c.requires.whole.complete) c.requires.file.says.versions (c.as_bytes-2.ensures.value ∙ c.in-Ok.ensures.start) spelled c.args.disk _ c.in-Err.ensures.any_moment
+    begins g.D.Disk.seen g.D.Disk.may_leave g.D.Disk.moment g.D.Disk.left_since (bundle_brought (brought_of c.args.brought)) c.as_bytes.result.now c.as_bytes-2.result.now (c.requires.small, c.requires.whole.complete) c.requires.terms.says.release.versions (c.as_bytes-2.ensures.value ∙ c.in-Ok.ensures.start) spelled c.args.disk _ c.in-Err.ensures.any_moment
 
 pub returns-in_default-clause-any_moment : goal.returns-in_default-clause-any_moment
 returns-in_default-clause-any_moment g c = nothing_begun g.D.Disk.seen g.D.Disk.may_leave g.D.Disk.moment g.D.Disk.left_since c.args.disk (g.met.D.Disk.only_now c.args.disk) _

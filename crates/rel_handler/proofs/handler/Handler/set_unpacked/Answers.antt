@@ -1,12 +1,13 @@
-use Rattle.std.proofs.Common.{inl, inr, refl, sym, subst, rules}
+use Rattle.std.proofs.Common.{◌≡◌, inl, inr, true, None, refl, sym, ◌∙◌, subst, rules}
 use Rattle.rel_list.specs.Event.Event.{unpacked}
 use Rattle.node_command.specs.Files.{bundle_brought, unpacked_size, IsToldAs}
+use Rattle.node_command.specs.Place.{has_room, refusal_with}
 use Rattle.rel_handler.specs.Unpacking.{UnpackingRefused}
 use Rattle.rel_unpack.specs.Unpacking.{brought_of}
 use Rattle.rel_handler.proofs.PlaceLemmas.{no_place}
 use Rattle.node_command.proofs.Refusals.{refuses_with}
 use Rattle.rel_handler.proofs.Commits.{unchanged}
-use Rattle.node_command.proofs.ReleaseLemmas.{brings_same, still_agree, still_free, still_whole, brought_free, agrees_so}
+use Rattle.node_command.proofs.ReleaseLemmas.{brings_same, still_agree, still_free, still_terms, still_whole, brought_free, agrees_so, room_so}
 use Rattle.rel_handler.proofs.ReleaseLemmas.{unchanged_handler}
 use Rattle.rel_handler.proofs.handler.Handler.set_unpacked.Goals as goal
 
@@ -45,7 +46,7 @@ returns-in_err-brought-2-clause-refused g c =
       read = c.in_ok-brought.ensures.brought;
       alive = c.if-self.false;
       fresh = c.in_ok-vsn.ensures.fresh;
-      barred = subst (λ o. IsToldAs o why) (sym (agrees_so b h.list c.in_ok-vsn.ensures.fresh c.in_ok-vsn.ensures.agree)) c.in_err-brought-2.ensures.refused;
+      barred = subst (λ o. IsToldAs o why) (sym (agrees_so b h.list c.in_ok-vsn.ensures.fresh c.in_ok-vsn.ensures.agree)) (subst (λ r. IsToldAs (refusal_with r b) why) c.has_room.ensures c.in_err-brought-2.ensures.refused);
       same = unchanged_handler h;
     }))))
 
@@ -54,9 +55,20 @@ pub take_in-requires-clause-agree : goal.take_in-requires-clause-agree
 take_in-requires-clause-agree g c =
     still_agree c.args.self.now.list c.in_ok-brought.brought c.in_ok-brought-2.brought c.in_ok-brought-2.ensures.brought c.in_ok-vsn.ensures.agree
 
+pub take_in-requires-clause-terms : goal.take_in-requires-clause-terms
+take_in-requires-clause-terms g c = still_terms c.in_ok-brought.brought c.in_ok-brought-2.brought c.in_ok-brought-2.ensures.brought c.in_ok-brought.ensures.terms
+
+pub take_in-requires-clause-room : goal.take_in-requires-clause-room
+take_in-requires-clause-room g c = sym c.has_room.ensures ∙ (room_so c.has_room.result (brought_of c.in_ok-brought.brought) c.in_ok-brought-2.ensures.free).0
+
+pub take_in-requires-clause-free : goal.take_in-requires-clause-free
+take_in-requires-clause-free g c =
+    still_free true c.in_ok-brought.brought c.in_ok-brought-2.brought c.in_ok-brought-2.ensures.brought (room_so c.has_room.result (brought_of c.in_ok-brought.brought) c.in_ok-brought-2.ensures.free).1
+
 pub take_in-requires-clause-whole : goal.take_in-requires-clause-whole
 take_in-requires-clause-whole g c =
-    still_whole c.in_ok-brought.brought c.in_ok-brought-2.brought c.in_ok-brought-2.ensures.brought c.in_ok-brought.ensures.whole c.in_ok-brought-2.ensures.free
+    still_whole c.in_ok-brought.brought c.in_ok-brought-2.brought c.in_ok-brought-2.ensures.brought c.in_ok-brought.ensures.whole
+    (room_so c.has_room.result (brought_of c.in_ok-brought.brought) c.in_ok-brought-2.ensures.free).1
 
 -- the node refused the release
 pub returns-in_err-take_in-clause-refused : goal.returns-in_err-take_in-clause-refused
@@ -71,7 +83,7 @@ returns-in_err-take_in-clause-refused g c =
     (inr (inr (inr (record {
       brought = brought_of b;
       read = brings_same source c.args.path.now c.in_ok-brought.brought b same c.in_ok-brought.ensures.brought;
-      free = brought_free (brought_of b) h.list (still_agree h.list c.in_ok-brought.brought b same agree) (still_free c.in_ok-brought.brought b same c.in_ok-brought-2.ensures.free);
+      free = brought_free (brought_of b) h.list (still_agree h.list c.in_ok-brought.brought b same agree) (still_free (has_room h.list) c.in_ok-brought.brought b same (subst (λ r. refusal_with r (brought_of c.in_ok-brought.brought) ≡ None) c.has_room.ensures c.in_ok-brought-2.ensures.free));
       commits = c.in_err-take_in.ensures.commits;
       refused = c.in_err-take_in.ensures.refused;
     }))))
@@ -86,7 +98,7 @@ returns-clause-unpacked g c =
     record {
       brought = brought_of b;
       read = brings_same (g.F.Files.gives c.args.files.now) c.args.path.now c.in_ok-brought.brought b same c.in_ok-brought.ensures.brought;
-      free = brought_free (brought_of b) h.list (still_agree h.list c.in_ok-brought.brought b same agree) (still_free c.in_ok-brought.brought b same c.in_ok-brought-2.ensures.free);
+      free = brought_free (brought_of b) h.list (still_agree h.list c.in_ok-brought.brought b same agree) (still_free (has_room h.list) c.in_ok-brought.brought b same (subst (λ r. refusal_with r (brought_of c.in_ok-brought.brought) ≡ None) c.has_room.ensures c.in_ok-brought-2.ensures.free));
       commits = c.in_ok-take_in.ensures.commits;
       done = c.in_ok-take_in.ensures.done;
       works = c.in_ok-take_in.ensures.works;

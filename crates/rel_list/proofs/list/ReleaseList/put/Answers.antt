@@ -11,7 +11,7 @@ invariant_of-self-2 c =
     let unlisted : status_of (string_bytes c.args.bundle.release.vsn) (entries_in c.self.inside.releases.entries) ≡ None =
     ap (status_of (string_bytes c.args.bundle.release.vsn)) c.self.view_is ∙ c.requires.new in
     let put =
-    inserted c.self.inside.releases c.in_ok-vsn.vsn (record { release = c.args.bundle.release; libraries = c.args.bundle.libraries; status = c.args.status }) c.self.invariant.keyed copied unlisted in
+    inserted c.self.inside.releases c.in_ok-vsn.vsn (record { release = c.args.bundle.release; libraries = c.args.bundle.libraries; relup = c.args.bundle.relup; status = c.args.status }) c.self.invariant.keyed copied unlisted in
     let orderly =
     orderly-push (entries_in c.self.inside.releases.entries) (entry (bundle_of c.args.bundle) c.args.status) c.requires.not_current unlisted
     c.self.invariant.orderly in
@@ -26,6 +26,6 @@ returns-clause-added c =
     let unlisted : status_of (string_bytes c.args.bundle.release.vsn) (entries_in c.self.inside.releases.entries) ≡ None =
     ap (status_of (string_bytes c.args.bundle.release.vsn)) c.self.view_is ∙ c.requires.new in
     let put =
-    inserted c.self.inside.releases c.in_ok-vsn.vsn (record { release = c.args.bundle.release; libraries = c.args.bundle.libraries; status = c.args.status }) c.self.invariant.keyed copied unlisted in
+    inserted c.self.inside.releases c.in_ok-vsn.vsn (record { release = c.args.bundle.release; libraries = c.args.bundle.libraries; relup = c.args.bundle.relup; status = c.args.status }) c.self.invariant.keyed copied unlisted in
     ap entries_in (c.in_ok-insert.ensures.entries ∙ put) ∙ entries_in-push _ _ _
     ∙ ap (λ (es : Releases). es ++ entry (bundle_of c.args.bundle) c.args.status ∷ []) c.self.view_is

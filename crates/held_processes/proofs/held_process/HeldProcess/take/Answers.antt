@@ -1,0 +1,23 @@
+use Rattle.std.proofs.Common.{◌≡◌, ◌∙◌, [], subst}
+use Rattle.proc_table.specs.Holds.{Released}
+use Rattle.held_processes.specs.declared.held_process.Hold.{Hold}
+use Rattle.held_processes.specs.declared.held_process.Hold.TheVariants.{UntilPoint, UntilResumed}
+use Rattle.held_processes.specs.Course.Hold.{not_held}
+use Rattle.held_processes.specs.InMemory.{hold_of}
+use Rattle.held_processes.proofs.SlotLemmas.{takes, gives_back}
+use Rattle.held_processes.proofs.held_process.HeldProcess.take.Goals as goal
+
+is_held : (k : Hold) → (hold_of k ≡ not_held) → ⊥
+is_held UntilPoint e = cc
+is_held UntilResumed e = cc
+
+pub returns-in-Ok-clause-taken : goal.returns-in-Ok-clause-taken
+returns-in-Ok-clause-taken g c =
+    takes g.past c.args.pid.slot (hold_of c.args.hold) c.args.seat.now.view c.hold-held.result c.hold-held.new.seat.view c.in-Ok.saved (is_held c.args.hold) c.requires.1.1
+    c.hold-held.ensures.held (c.in-Ok.ensures ∙ c.value.ensures)
+
+pub returns-in-Err-clause-taken : goal.returns-in-Err-clause-taken
+returns-in-Err-clause-taken g c =
+    let at = c.hold-held.ensures.held in
+    gives_back g.past c.args.pid.slot c.args.seat.now.view c.hold-held.result c.hold-held.new.seat.view c.release.new.seat.view c.requires.1.1 at
+    (subst (λ p. Released p [] c.hold-held.new.seat.view c.release.new.seat.view) at.held.slot c.release.ensures.released)

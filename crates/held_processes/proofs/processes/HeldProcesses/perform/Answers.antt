@@ -1,0 +1,63 @@
+use Rattle.std.proofs.Common.{◌<◌, sym, subst, ◌∙◌, arith, None}
+use Rattle.std.proofs.lemmas.List.{get_or_read_under}
+use Rattle.proc_table.specs.Agrees.{slots}
+use Rattle.held_processes.specs.Course.{on_module}
+use Rattle.held_processes.specs.Following.{AllFollow, HeldSlots}
+use Rattle.held_processes.specs.InMemory.{operation_of}
+use Rattle.held_processes.specs.Operations.{up_to, users_of}
+use Rattle.held_processes.specs.Slots.{Steps}
+use Rattle.held_processes.proofs.FollowLemmas.{past_of, at_slot, step_over, step_none, pass_over, none_reached, all_reached, on_user, on_other, failed_at, up_to_here}
+use Rattle.held_processes.proofs.processes.HeldProcesses.perform.Goals as goal
+use Rattle.held_processes.proofs.processes.HeldProcesses.perform.Goals.{then-include+in_ok-perform, else-include}
+
+pub loop-slot-init : goal.loop-slot-init
+loop-slot-init g c =
+    let all : AllFollow g.followed.first g.followed.courses c.self.inside.places.items c.args.seat.now.view =
+    subst (λ (hs : HeldSlots). AllFollow g.followed.first g.followed.courses hs c.args.seat.now.view) (sym c.self.view_is) c.requires.1.1 in
+    (c.requires.1.0, c.len-slot-end.ensures ∙ (c.self.inside.places.ok.0 ∙ all.long), none_reached g.followed.first _ g.followed.courses _ c.args.seat.now.view all)
+
+pub perform-requires : goal.perform-requires
+perform-requires g c κs lives =
+    let all = c.loop-slot.invariant.2 in
+    let inside = subst (λ n. c.loop-slot.slot < n) c.loop-slot.invariant.1 c.loop-slot-test.true in (
+      lives,
+      (
+        c.loop-slot.invariant.0,
+        at_slot g.followed.first g.followed.courses (up_to c.loop-slot.slot (on_module (users_of c.args.users.now.tree.now) c.args.users.now.module.now (operation_of c.args.step) g.followed.courses) g.followed.courses) c.loop-slot.self-inside.places.items c.loop-slot.seat.view c.loop-slot.slot c.index_mut.result.now all inside
+            (up_to_here c.loop-slot.slot (on_module (users_of c.args.users.now.tree.now) c.args.users.now.module.now (operation_of c.args.step) g.followed.courses) g.followed.courses) (get_or_read_under _ c.loop-slot.slot slots _ None c.index_mut.ensures.value inside (sym all.long)),
+      ),
+    )
+
+pub returns-in_err-perform-clause-done : goal.returns-in_err-perform-clause-done
+returns-in_err-perform-clause-done g c =
+    failed_at g.followed.first (users_of c.args.users.now.tree.now) c.args.users.now.module.now (operation_of c.args.step) g.followed.courses c.from_residual.result _ _ c.loop-slot.slot c.from_residual.ensures.0
+    (step_none g.followed.first _ g.followed.courses c.loop-slot.self-inside.places.items c.loop-slot.seat.view c.perform.new.seat.view c.loop-slot.slot c.perform.new.place
+    (subst (λ n. c.loop-slot.slot < n) c.loop-slot.invariant.1 c.loop-slot-test.true) c.loop-slot.invariant.2 c.in_err-perform.ensures.done)
+
+pub loop-slot-preserved : goal.loop-slot-preserved
+loop-slot-preserved g c =
+    let users = users_of c.args.users.now.tree.now in
+    let name = c.args.users.now.module.now in
+    let op = operation_of c.args.step in
+    let cs = g.followed.courses in
+    let slot = c.loop-slot.slot in
+    elim c.if-include.branch [
+      | then-include+in_ok-perform w ↦ rw (w.self-inside-is, w.seat-is) (
+        w.in_ok-perform.ensures.table ∙ c.loop-slot.invariant.0,
+        c.loop-slot.invariant.1,
+        step_over g.followed.first (on_module users name op cs) cs c.loop-slot.self-inside.places.items c.loop-slot.seat.view w.perform.new.seat.view slot w.perform.new.place
+            (subst (λ n. slot < n) c.loop-slot.invariant.1 c.loop-slot-test.true) c.loop-slot.invariant.2
+            (subst (λ d. Steps (past_of g.followed.first cs slot) slot d c.loop-slot.seat.view w.perform.new.place w.perform.new.seat.view) (on_user users name op cs slot (sym w.if-include.ensures))
+            w.in_ok-perform.ensures.done),
+      )
+      | else-include w ↦ rw (w.self-inside-is, w.seat-is) (
+        c.loop-slot.invariant.0,
+        c.loop-slot.invariant.1,
+        pass_over g.followed.first (on_module users name op cs) cs c.loop-slot.self-inside.places.items c.loop-slot.seat.view slot (on_other users name op cs slot (sym w.if-include.ensures))
+            c.loop-slot.invariant.2,
+      )
+    ]
+
+pub returns-clause-done : goal.returns-clause-done
+returns-clause-done g c =
+    all_reached g.followed.first _ g.followed.courses _ c.loop-slot.seat.view c.loop-slot.slot (omega (arith, c.loop-slot.invariant.1, c.loop-slot-test.false)) c.loop-slot.invariant.2

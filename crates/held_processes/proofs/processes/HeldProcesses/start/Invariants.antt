@@ -1,0 +1,4 @@
+use Rattle.held_processes.proofs.processes.HeldProcesses.start.Given as goal
+
+abbrev pub ghost-perform : goal.ghost-perform
+ghost-perform g a = g.followed

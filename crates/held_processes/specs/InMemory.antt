@@ -1,0 +1,47 @@
+-- What stands in memory, as definitions see it.
+use Rattle.std.specs.Prelude.{ℕ, Bool, true, false, Option}
+use Rattle.held_processes.specs.declared.processes.Which.{Which}
+use Rattle.held_processes.specs.declared.processes.Which.TheVariants as which
+use Rattle.held_processes.specs.declared.held_process.Hold.{Hold}
+use Rattle.held_processes.specs.declared.held_process.Hold.TheVariants.{UntilPoint, UntilResumed}
+use Rattle.held_processes.specs.declared.steps.Step.{Step}
+use Rattle.held_processes.specs.declared.steps.Step.TheVariants.{Suspend, Load, Stop, Start}
+use Rattle.held_processes.specs.Course as course
+use Rattle.held_processes.specs.Course.{Courses, Operation, on_all, on_module, runs}
+use Rattle.sup_tree.specs.Tree.{module_in}
+use Rattle.std.specs.Option.{option_map_or}
+use Rattle.held_processes.specs.Following.{HeldForm}
+use Rattle.held_processes.specs.Course.Operation.{suspend, load, resume, stop, start, pass_point}
+use Rattle.held_processes.specs.Operations.{users_of}
+use Rattle.held_processes.specs.Course.Hold.{until_point, until_resumed}
+
+abbrev pub hold_of : Hold → course.Hold
+hold_of UntilPoint = until_point
+hold_of UntilResumed = until_resumed
+
+-- what a step does to a process
+abbrev pub operation_of : Step → Operation
+operation_of (Suspend alloc) = suspend
+operation_of (Load alloc worker keep) = load keep worker.now
+operation_of Stop = stop
+operation_of Start = start
+
+-- whether it asks for memory
+abbrev pub takes_memory : Step → Bool
+takes_memory (Suspend alloc) = true
+takes_memory (Load alloc worker keep) = true
+takes_memory s = false
+
+-- the courses where some processes were let go
+abbrev pub behind_release : Which → Courses → Courses
+behind_release (which.Of users) cs = on_module (users_of users.tree.now) users.module.now resume cs
+behind_release which.UntilPoint cs = on_all pass_point cs
+
+abbrev pub is_until_point : course.Hold → Bool
+is_until_point until_point = true
+is_until_point h = false
+
+-- whether the process of a slot is let go
+abbrev pub is_released : Which → ℕ → Option HeldForm → Bool
+is_released (which.Of users) slot place = runs users.module.now (module_in slot users.tree.now)
+is_released which.UntilPoint slot place = option_map_or (λ (h : HeldForm). is_until_point h.hold) place false

@@ -1,0 +1,7 @@
+pub mod Course
+pub mod Following
+pub mod Codes
+pub mod InMemory
+pub mod Operations
+pub mod Slots
+pub mod Laws

@@ -1,0 +1,299 @@
+//! The processes of all slots.
+ghost use Rattle.std.specs.Prelude.{◌≡◌, ℕ, IfOk, OnErr, true};
+ghost use Rattle.erl_term.specs.Value.{value_of};
+ghost use Rattle.mod_table.specs.InMemory.{old_of};
+ghost use Rattle.proc_table.specs.declared.view.View.{View};
+ghost use Rattle.proc_table.specs.Views.{seen};
+ghost use Rattle.held_processes.specs.Course.{Courses, on_all, on_module, opening};
+ghost use Rattle.held_processes.specs.Course.Operation.{suspend, load, resume, stop, start, pass_point, finish};
+ghost use Rattle.held_processes.specs.Following.{AllFollow, AreLeft, Followed, HoldsNothing};
+ghost use Rattle.held_processes.specs.InMemory.{behind_release, is_released, operation_of, takes_memory};
+ghost use Rattle.held_processes.specs.Operations.{Changes, IsDone, TellsHeldUser, give_up_at, users_of};
+
+use crate::Users;
+use crate::held_process::HeldProcess;
+use crate::steps::{self, NoChange, Step};
+use erl_term::Term;
+use mod_table::{Old, Worker};
+use proc_table::{HandlerSeat, Pid, ProcTable};
+use std::alloc::{AllocError, Global};
+use std::marker::Model;
+use std::sync::Wait;
+
+/// Processes that the handler holds while a script runs, one place for each slot. It ends in [`HeldProcesses::finish`] or
+/// [`HeldProcesses::roll_back`].
+pub struct HeldProcesses {
+    places: Vec<Option<HeldProcess>>,
+}
+
+impl Model for HeldProcesses {
+    ghost use Rattle.proc_history.specs.contracts.value.Value as stored;
+    ghost use Rattle.held_processes.specs.Codes.{slots_code};
+    ghost use Rattle.held_processes.specs.Following.{HeldSlots};
+
+    ghost Value = { HeldSlots };
+
+    ghost coded = { slots_code stored.the_row.coded };
+
+    ghost view = { λ h. h.places.items };
+}
+
+/// Which processes are let go.
+#[derive(Clone, Copy)]
+enum Which<'a> {
+    /// Those of this module.
+    Of(Users<'a>),
+    /// Those that are held for a load.
+    UntilPoint,
+}
+
+impl HeldProcesses {
+    /// Nothing is held.
+    pub fn new(alloc: Global) -> Result<HeldProcesses, AllocError>
+        ensures { IfOk result
+            (λ held. (v : View) → HoldsNothing v → AllFollow v (λ _. opening) held v) }
+    {
+        let mut places = Vec::with_capacity(alloc, Pid::count())?;
+        for _ in 0..Pid::count() {
+            places.push_reserved(None);
+        }
+        Ok(HeldProcesses { places })
+    }
+
+    /// The processes of the module are held until they are resumed. It waits until no client has them. Where memory is
+    /// refused, some of them aren't held.
+    pub fn suspend<R: Wait>(
+        &mut self,
+        rt: &R,
+        alloc: Global,
+        table: &ProcTable,
+        seat: &mut HandlerSeat,
+        users: &Users<'_>,
+    ) -> Result<(), AllocError>
+        ghost followed: { Followed }
+        requires table { seat.old.table ≡ table.now }
+        requires follow { AllFollow followed.first followed.courses self.old seat.old.view }
+        ensures table { seat.new.table ≡ seat.old.table }
+        ensures done { IsDone followed.first (users_of users.now.tree.now) users.now.module.now
+            suspend followed.courses result self.new seat.new.view }
+    {
+        self.perform(rt, table, seat, users, Step::Suspend(alloc))
+    }
+
+    /// The processes of the module get this table. Those that aren't held are held for it, and wait for the point of no return
+    /// if they are to be kept. It waits until no client has them. Where memory is refused, some of them don't have it.
+    pub fn load<R: Wait>(
+        &mut self,
+        rt: &R,
+        alloc: Global,
+        table: &ProcTable,
+        seat: &mut HandlerSeat,
+        users: &Users<'_>,
+        worker: &Worker,
+        keep: bool,
+    ) -> Result<(), AllocError>
+        ghost followed: { Followed }
+        requires table { seat.old.table ≡ table.now }
+        requires follow { AllFollow followed.first followed.courses self.old seat.old.view }
+        ensures table { seat.new.table ≡ seat.old.table }
+        ensures done { IsDone followed.first (users_of users.now.tree.now) users.now.module.now
+            (load keep worker.now) followed.courses result self.new seat.new.view }
+    {
+        self.perform(rt, table, seat, users, Step::Load(alloc, worker, keep))
+    }
+
+    /// The code of the processes of the module that are held is changed. Where one of them has no row for that, those in
+    /// higher slots aren't changed. It takes no memory.
+    pub fn change(&mut self, users: &Users<'_>, old: &Old, extra: &Term) -> Result<(), NoChange>
+        ensures { Changes (users_of users.now.tree.now) users.now.module.now
+            (old_of old.now) (value_of extra.now) self.old result self.new }
+    {
+        for slot in 0..self.places.len() {
+            if users.include(slot) {
+                steps::change(&mut self.places[slot], old, extra)?;
+            }
+        }
+        Ok(())
+    }
+
+    /// Whether a process of the module is held.
+    pub fn holds(&self, users: &Users<'_>) -> bool
+        ensures { TellsHeldUser (users_of users.now.tree.now) users.now.module.now self.now result }
+    {
+        for slot in 0..self.places.len() {
+            if self.places[slot].is_some() && users.include(slot) {
+                return true;
+            }
+        }
+        false
+    }
+
+    /// The processes of the module that are held are let go. It waits for nobody.
+    pub fn resume(&mut self, table: &ProcTable, seat: &mut HandlerSeat, users: &Users<'_>)
+        ghost followed: { Followed }
+        requires table { seat.old.table ≡ table.now }
+        requires follow { AllFollow followed.first followed.courses self.old seat.old.view }
+        ensures table { seat.new.table ≡ seat.old.table }
+        ensures done { AllFollow followed.first (on_module (users_of users.now.tree.now)
+            users.now.module.now resume followed.courses) self.new seat.new.view }
+    {
+        self.release(table, seat, Which::Of(*users));
+    }
+
+    /// The point of no return: the processes that are held for a load are let go. It waits for nobody.
+    pub fn pass_point(&mut self, table: &ProcTable, seat: &mut HandlerSeat)
+        ghost followed: { Followed }
+        requires table { seat.old.table ≡ table.now }
+        requires follow { AllFollow followed.first followed.courses self.old seat.old.view }
+        ensures table { seat.new.table ≡ seat.old.table }
+        ensures done { AllFollow followed.first (on_all pass_point followed.courses)
+            self.new seat.new.view }
+    {
+        self.release(table, seat, Which::UntilPoint);
+    }
+
+    /// The processes of the module are stopped, where they are up. It waits until no client has those that aren't held.
+    pub fn stop<R: Wait>(
+        &mut self,
+        rt: &R,
+        table: &ProcTable,
+        seat: &mut HandlerSeat,
+        users: &Users<'_>,
+    )
+        ghost followed: { Followed }
+        requires table { seat.old.table ≡ table.now }
+        requires follow { AllFollow followed.first followed.courses self.old seat.old.view }
+        ensures table { seat.new.table ≡ seat.old.table }
+        ensures done { AllFollow followed.first (on_module (users_of users.now.tree.now)
+            users.now.module.now stop followed.courses) self.new seat.new.view }
+    {
+        let Ok(()) = self.perform(rt, table, seat, users, Step::Stop) else {
+            unreachable!();
+        };
+    }
+
+    /// The processes of the module are up again, where they were stopped. It waits until no client has those that aren't held.
+    pub fn start<R: Wait>(
+        &mut self,
+        rt: &R,
+        table: &ProcTable,
+        seat: &mut HandlerSeat,
+        users: &Users<'_>,
+    )
+        ghost followed: { Followed }
+        requires table { seat.old.table ≡ table.now }
+        requires follow { AllFollow followed.first followed.courses self.old seat.old.view }
+        ensures table { seat.new.table ≡ seat.old.table }
+        ensures done { AllFollow followed.first (on_module (users_of users.now.tree.now)
+            users.now.module.now start followed.courses) self.new seat.new.view }
+    {
+        let Ok(()) = self.perform(rt, table, seat, users, Step::Start) else {
+            unreachable!();
+        };
+    }
+
+    /// The process of this slot is given up and let go, if it is held. It waits for nobody.
+    pub fn give_up_slot(&mut self, table: &ProcTable, seat: &mut HandlerSeat, slot: usize)
+        ghost followed: { Followed }
+        requires table { seat.old.table ≡ table.now }
+        requires follow { AllFollow followed.first followed.courses self.old seat.old.view }
+        ensures table { seat.new.table ≡ seat.old.table }
+        ensures done { AllFollow followed.first (give_up_at slot followed.courses)
+            self.new seat.new.view }
+    {
+        if slot < self.places.len() {
+            steps::give_up(table, seat, slot, &mut self.places[slot]);
+        }
+    }
+
+    /// The script has ended: what is still held is let go, with what was done to it. It takes no memory and waits for nobody.
+    pub fn finish(self, table: &ProcTable, seat: &mut HandlerSeat)
+        ghost followed: { Followed }
+        requires table { seat.old.table ≡ table.now }
+        requires follow { AllFollow followed.first followed.courses self seat.old.view }
+        ensures table { seat.new.table ≡ seat.old.table }
+        ensures left { AreLeft followed.first (on_all finish followed.courses) seat.new.view }
+    {
+        let HeldProcesses { mut places } = self;
+        while let Some(place) = places.pop() {
+            if let Some(process) = place {
+                process.let_go(table, seat);
+            }
+        }
+        places.destroy_empty();
+    }
+
+    /// The way back: what is still held is given back as it was when it was taken. It takes no memory and waits for nobody. It
+    /// is for courses that only the proof knows, as they are behind an operation that failed.
+    pub fn roll_back(self, table: &ProcTable, seat: &mut HandlerSeat)
+        requires table { seat.old.table ≡ table.now }
+        requires follow { (first : View) × (courses : Courses)
+            × AllFollow first courses self seat.old.view }
+        ensures table { seat.new.table ≡ seat.old.table }
+        ensures left { (first : View) (courses : Courses)
+            → AllFollow first courses self seat.old.view → AreLeft first courses seat.new.view }
+        ensures seen { (p : ℕ) → seen seat.new.view p ≡ seen seat.old.view p }
+    {
+        let HeldProcesses { mut places } = self;
+        while let Some(place) = places.pop() {
+            if let Some(process) = place {
+                process.roll_back(table, seat);
+            }
+        }
+        places.destroy_empty();
+    }
+
+    fn perform<R: Wait>(
+        &mut self,
+        rt: &R,
+        table: &ProcTable,
+        seat: &mut HandlerSeat,
+        users: &Users<'_>,
+        step: Step<'_>,
+    ) -> Result<(), AllocError>
+        ghost followed: { Followed }
+        requires table { seat.old.table ≡ table.now }
+        requires follow { AllFollow followed.first followed.courses self.old seat.old.view }
+        ensures table { seat.new.table ≡ seat.old.table }
+        ensures done { IsDone followed.first (users_of users.now.tree.now) users.now.module.now
+            (operation_of step.entry) followed.courses result self.new seat.new.view }
+        ensures failed { OnErr result (takes_memory step.entry ≡ true) }
+    {
+        for slot in 0..self.places.len() {
+            if users.include(slot) {
+                let pid = Pid { slot, round: 0 };
+                steps::perform(rt, table, seat, pid, &mut self.places[slot], step)?;
+            }
+        }
+        Ok(())
+    }
+
+    fn release(&mut self, table: &ProcTable, seat: &mut HandlerSeat, which: Which<'_>)
+        ghost followed: { Followed }
+        requires table { seat.old.table ≡ table.now }
+        requires follow { AllFollow followed.first followed.courses self.old seat.old.view }
+        ensures table { seat.new.table ≡ seat.old.table }
+        ensures done { AllFollow followed.first (behind_release which.entry followed.courses)
+            self.new seat.new.view }
+    {
+        for slot in 0..self.places.len() {
+            if which.includes(slot, &self.places[slot]) {
+                steps::let_go(table, seat, slot, &mut self.places[slot]);
+            }
+        }
+    }
+}
+
+impl Which<'_> {
+    fn includes(self, slot: usize, place: &Option<HeldProcess>) -> bool
+        ensures { result ≡ is_released self.entry slot place.now }
+    {
+        match self {
+            Which::Of(users) => users.include(slot),
+            Which::UntilPoint => match place {
+                Some(process) => process.waits_for_point(),
+                None => false,
+            },
+        }
+    }
+}

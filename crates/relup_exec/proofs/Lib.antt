@@ -1,0 +1,4 @@
+pub mod CourseLemmas
+pub mod OutcomeLemmas
+pub mod RowLemmas
+pub mod StepLemmas

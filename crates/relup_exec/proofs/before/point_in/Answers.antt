@@ -1,0 +1,35 @@
+use Rattle.std.proofs.Common.{◌+◌, ◌∙◌, ◌∷◌, ◌++◌, take, drop, sym, ap, subst, arith}
+use Rattle.std.proofs.lemmas.List.{length-map, length-take-le, take_all}
+use Rattle.std.specs.List.{AllByRecursion}
+use Rattle.relup_instruction.specs.Instruction.{Instruction, instruction_of, script_of}
+use Rattle.relup_exec.specs.Script.{IsEarly}
+use Rattle.relup_exec.proofs.OutcomeLemmas.{is_the_point, next_is_early, not_all_early}
+use Rattle.relup_exec.proofs.RowLemmas.{all_push, more, parted}
+use Rattle.relup_exec.proofs.before.point_in.Goals as goal
+
+pub returns-then-is_point : goal.returns-then-is_point
+returns-then-is_point c =
+    let script = c.args.script.now in
+    let front = script_of (take c.loop-i.i script) in
+    let point = is_the_point (instruction_of c.index-script-i.result) (sym c.is_point.ensures ∙ c.if-is_point.true) in
+    record {
+      front = front;
+      rest = script_of (drop (c.loop-i.i + 1) script);
+      is = parted instruction_of script c.loop-i.i c.index-script-i.result c.loop-i-test.true c.index-script-i.is ∙ ap (λ (i : Instruction). front ++ (i ∷ script_of (drop (c.loop-i.i + 1) script))) point;
+      early = c.loop-i.invariant;
+      place_is = sym (length-map (take c.loop-i.i script) instruction_of ∙ length-take-le c.loop-i.i script (omega (arith, c.loop-i-test.true)));
+    }
+
+pub loop-i-preserved : goal.loop-i-preserved
+loop-i-preserved c =
+    let script = c.args.script.now in
+    let front = script_of (take c.loop-i.i script) in
+    let i = instruction_of c.index-script-i.result in
+    let parts = parted instruction_of script c.loop-i.i c.index-script-i.result c.loop-i-test.true c.index-script-i.is in
+    let early = next_is_early (script_of script) c.requires front i (script_of (drop (c.loop-i.i + 1) script)) parts c.loop-i.invariant (sym c.is_point.ensures ∙ c.if-is_point.false) in
+    subst (AllByRecursion IsEarly) (sym (more instruction_of script c.loop-i.i c.index-script-i.result c.loop-i-test.true c.index-script-i.is)) (all_push IsEarly front i c.loop-i.invariant early)
+
+pub unreachable-requires : goal.unreachable-requires
+unreachable-requires c =
+    let script = c.args.script.now in
+    not_all_early (script_of script) c.requires (subst (λ is. AllByRecursion IsEarly (script_of is)) (take_all c.loop-i.i script c.loop-i-test.false) c.loop-i.invariant)

@@ -1,0 +1,31 @@
+use Rattle.std.proofs.Common.{rules, ◌≡◌, ◌∙◌, List, ℕ, Option, Some, None, IsSome, refl, sym, ap, subst}
+use Rattle.std.specs.Option.{option_map}
+use Rattle.sup_tree.specs.Loaded.{Module, NamedModules, module_named, modules_in}
+use Rattle.sup_tree.proofs.NamedLemmas.{found_as_listed}
+use Rattle.relup_exec.proofs.StepLemmas.{not_begun}
+use Rattle.relup_exec.specs.Steps.{progress_of}
+use Rattle.relup_exec.proofs.progress.Progress.load.Goals as goal
+
+some_there : (o : Option Module) (vsn : List ℕ) → Some vsn ≡ option_map (λ (m : Module). m.vsn) o → IsSome o
+some_there None vsn e = absurd (cc e)
+some_there (Some m) vsn e = refl
+
+none_there : (o : Option Module) → None ≡ option_map (λ (m : Module). m.vsn) o → o ≡ None
+none_there None e = refl
+none_there (Some m) e = absurd (cc e)
+
+pub load_fetched-requires : goal.load_fetched-requires
+load_fetched-requires g c =
+    let name = c.as_str-module.result.now in
+    let fetched : IsSome (module_named name g.past.run.fetched) = subst (λ (ms : NamedModules). IsSome (module_named name ms)) c.requires.1.1.1.fetched
+    (subst (λ (o : Option Module). IsSome o) (found_as_listed c.args.self.now.fetched name) (some_there (modules_in c.args.self.now.fetched name) c.in-Some.field-0.now c.in-Some.ensures)) in
+    search rules
+
+pub returns-in-None-clause-carried : goal.returns-in-None-clause-carried
+returns-in-None-clause-carried g c =
+    let name = c.as_str-module.result.now in
+    let gone : modules_in c.args.self.now.fetched name ≡ None = none_there (modules_in c.args.self.now.fetched name) c.in-None.ensures in (
+      ap (λ (n : List ℕ). module_named n g.past.run.fetched) (sym c.as_str-module.ensures.value)
+          ∙ (ap (module_named name) (sym c.requires.1.1.1.fetched) ∙ (sym (found_as_listed c.args.self.now.fetched name) ∙ gone)),
+      not_begun g.past (progress_of c.args.self.now) c.args.seat.now.view c.requires.1.1.1,
+    )

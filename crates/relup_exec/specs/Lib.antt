@@ -1,0 +1,5 @@
+pub mod Script
+pub mod Fails
+pub mod Outcome
+pub mod InMemory
+pub mod Steps
