@@ -4,7 +4,8 @@
 //! and get new tables and states in the handler's hand alone (specs/Script says what each instruction does). It answers an
 //! [`Armed`] script exactly where no instruction before the point fails (`armed`), and else the number of the first one that
 //! fails, and why (`refused`, specs/Fails). A script that was refused has added nothing to any history, and holds nothing.
-//! [`Armed::roll_back`] gives all processes back as they were. Both wait for processes that clients have.
+//! [`Armed::roll_back`] gives all processes back as they were. [`run_before`] waits for processes that clients have, a way back
+//! for nobody.
 //!
 //! What stands behind the point isn't carried out yet, so an armed script can only be rolled back.
 //!
