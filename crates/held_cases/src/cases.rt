@@ -2,8 +2,10 @@
 ghost use Rattle.std.specs.Prelude.{◌≡◌};
 ghost use Rattle.held_processes.specs.Following.{HoldsNothing};
 
+use crate::apps::{Restart, restart_app};
 use crate::node::{libraries, new_table, push_calls, push_states};
 use crate::ways::{Upgrade, Way, carry_out};
+use app_file::App;
 use erl_term::{Term, read_record};
 use held_processes::Users;
 use mod_table::Old;
@@ -39,6 +41,7 @@ fn way_of(word: &str) -> Option<Way> {
         "kept" => Some(Way::Kept),
         "alone" => Some(Way::Alone),
         "restarted" => Some(Way::Restarted),
+        "app_restarted" => Some(Way::AppRestarted),
         _ => None,
     }
 }
@@ -62,6 +65,18 @@ fn push_case<R: Wait>(
     };
     let mut tree = Tree::new(alloc);
     match tree.start_app(rt, alloc, &table, &mut seat, &library.app, &loaded) {
+        Ok(()) if way == Way::AppRestarted => push_restart(
+            rt,
+            alloc,
+            &table,
+            &mut seat,
+            &mut tree,
+            &library.app,
+            &loaded,
+            before,
+            behind,
+            answer,
+        ),
         Ok(()) => push_script(
             rt, alloc, &table, &mut seat, &tree, way, before, behind, answer,
         ),
@@ -108,6 +123,40 @@ fn push_script<R: Wait>(
     let mut pass = table.new_pass(seat);
     push_calls(table, &mut pass, pid, before, answer);
     carry_out(rt, table, seat, &mut pass, &upgrade, answer);
+    push_calls(table, &mut pass, pid, behind, answer);
+    push_states(table, &mut pass, answer);
+    table.take_back(seat, pass);
+}
+
+fn push_restart<R: Wait>(
+    rt: &R,
+    alloc: Global,
+    table: &ProcTable,
+    seat: &mut HandlerSeat,
+    tree: &mut Tree,
+    app: &App,
+    loaded: &Loaded,
+    before: &str,
+    behind: &str,
+    answer: &mut Answer,
+)
+    requires table { seat.old.table ≡ table.now }
+    requires nothing { HoldsNothing seat.old.view }
+    ensures { seat.new.table ≡ seat.old.table }
+{
+    let Some(pid) = Pid::new(0, 1) else {
+        return answer.push("no slot");
+    };
+    let whole = Restart {
+        alloc,
+        app,
+        loaded,
+        module: "ch3",
+        pid,
+    };
+    let mut pass = table.new_pass(seat);
+    push_calls(table, &mut pass, pid, before, answer);
+    restart_app(rt, table, seat, &mut pass, tree, &whole, answer);
     push_calls(table, &mut pass, pid, behind, answer);
     push_states(table, &mut pass, answer);
     table.take_back(seat, pass);

@@ -2,6 +2,7 @@
 //! inputs of calls of the first process before the script, and behind ` | ` those behind it.
 #![tactic(auto)]
 
+mod apps;
 mod cases;
 mod node;
 mod ways;

@@ -28,6 +28,8 @@ pub(crate) enum Way {
     Alone,
     /// It stops and starts.
     Restarted,
+    /// It suspends, and stops and starts the application.
+    AppRestarted,
 }
 
 /// A script, and the process that a client calls meanwhile.

@@ -1,9 +1,8 @@
 -- What the handler follows of all slots.
-use Rattle.std.proofs.Common.{◌≡◌, ◌≢◌, ℕ, ◌+◌, ◌<◌, ◌≤◌, true, false, if◌then◌else◌, nat_lt, List, Option, None, Result, Ok, Err, slice_index_or, slice_set, refl, ap, sym, subst, ◌∙◌, arith}
+use Rattle.std.proofs.Common.{◌≡◌, ◌≢◌, ℕ, ◌+◌, ◌<◌, ◌≤◌, true, false, if◌then◌else◌, nat_lt, List, Option, None, slice_index_or, slice_set, refl, ap, sym, subst, ◌∙◌, arith}
 use Rattle.std.proofs.lemmas.Bool.Decides.{nat_tests}
 use Rattle.std.proofs.Math.ListN.{length-set}
 use Rattle.std.proofs.Common.{get_or-set_same, get_or-set_other, subst₂}
-use Rattle.std.specs.Result.{IsErr}
 use native.Mathlib.Decide.{ℕ_discrete}
 use mathlib.Core.Logic.{dite}
 use Rattle.proc_table.specs.declared.view.View.{View}
@@ -11,7 +10,7 @@ use Rattle.proc_table.specs.Agrees.{slots}
 use Rattle.proc_table.specs.Parts.{part_of}
 use Rattle.held_processes.specs.Course.{Courses, Operation, Users, course_after, on_module, runs}
 use Rattle.held_processes.specs.Following.{HeldForm, HeldSlots, Follows, AllFollow}
-use Rattle.held_processes.specs.Operations.{IsDone, part_way, up_to}
+use Rattle.held_processes.specs.Operations.{up_to}
 use Rattle.held_processes.specs.Slots.{SlotPast, IsFollowed, Steps}
 
 -- a slot's past
@@ -102,9 +101,3 @@ on_user users name op cs p is = sym (ap (λ b. if b then course_after op (cs p) 
 
 pub on_other : (users : Users) (name : List ℕ) (op : Operation) (cs : Courses) (p : ℕ) → runs name (users p) ≡ false → on_module users name op cs p ≡ cs p
 on_other users name op cs p is = ap (λ b. if b then course_after op (cs p) else cs p) is
-
--- an operation that failed
-pub failed_at : {X E : Type 0} (first : View) (users : Users) (name : List ℕ) (op : Operation) (cs : Courses) (r : Result X E) (hs : HeldSlots) (v : View) (n : ℕ) → IsErr r
-    → AllFollow first (part_way n users name op cs) hs v → IsDone first users name op cs r hs v
-failed_at first users name op cs (Ok x) hs v n err f = absurd (cc)
-failed_at first users name op cs (Err e) hs v n err f = (n, f)

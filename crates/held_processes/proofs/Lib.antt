@@ -5,3 +5,7 @@ pub mod ChangeLemmas
 pub mod ReleaseLemmas
 pub mod CourseLemmas
 pub mod NothingHeldLemmas
+pub mod AnyLemmas
+pub mod LookLemmas
+pub mod RoundLemmas
+pub mod ApplicationLemmas

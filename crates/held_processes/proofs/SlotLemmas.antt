@@ -1,15 +1,19 @@
 -- A step at one slot leaves the course that the handler follows there.
 use Rattle.std.proofs.Common.{◌≡◌, ℕ, Bool, true, List, [], ◌∷◌, ◌++◌, Option, Some, None, refl, ap, sym, subst, subst₂, ◌∙◌, append-nil, append_assoc}
+use native.Mathlib.Decide.{ℕ_discrete}
+use mathlib.Core.List.{IsPrefix}
+use mathlib.Core.Logic.{dite}
 use Rattle.proc_history.specs.declared.value.Value.{Value}
 use Rattle.mod_table.specs.Table.{WorkerTable}
 use Rattle.proc_history.specs.Events.Event.{given_up, loaded}
 use Rattle.proc_history.specs.Events.{Event, HistoryEntry, ByHandler, IsCall, entry, own}
-use Rattle.proc_history.specs.Histories.{replay, IsLegal}
+use Rattle.proc_history.specs.Histories.{replay, replay_from, IsLegal}
 use Rattle.proc_history.specs.Values.{after, MayCome}
 use Rattle.proc_history.proofs.Beginnings.{event_adds}
 use Rattle.proc_table.specs.declared.view.View.{View}
 use Rattle.proc_table.specs.Calls.{Elsewhere}
 use Rattle.proc_table.specs.Holds.{Holding, Released}
+use Rattle.proc_table.specs.Parts.{Part}
 use Rattle.proc_table.specs.Views.{seen, is_out}
 use Rattle.proc_table.specs.Waits.{HeldAtLast, HeldSince}
 use Rattle.proc_table.proofs.WaitLemmas.{since, elsewhere_left}
@@ -17,7 +21,7 @@ use Rattle.held_processes.specs.Course.{Hold, Course, add, add_alone, added, cou
 use Rattle.held_processes.specs.Course.Operation.{give_up}
 use Rattle.held_processes.specs.Course.Hold.{not_held, until_point, until_resumed}
 use Rattle.held_processes.specs.Following.{AreStrangers, Stand, HeldForm, IsHeld, IsFree}
-use Rattle.held_processes.specs.Slots.{SlotPast, IsFollowed, Steps, dropped, taken}
+use Rattle.held_processes.specs.Slots.{SlotPast, IsFollowed, Steps, dropped, taken, value_with}
 use Rattle.held_processes.proofs.StandLemmas.{stand_more, stand_block}
 
 -- nothing happened
@@ -77,6 +81,12 @@ lets_go past p c v w h f r = record {
   };
   elsewhere = elsewhere_left p c.pending v w r;
 }
+
+-- what the handler had seen stays in front
+pub released_longer : (p : ℕ) (es : List HistoryEntry) (v w : View) → Released p es v w → (q : ℕ) → IsPrefix (seen v q) (seen w q)
+released_longer p es v w r q = dite (ℕ_discrete q p)
+    (λ is. subst (λ z. IsPrefix (seen v z) (seen w z)) (sym is) (es, sym r.seen_is))
+    (λ ne. ([], append-nil (seen v q) ∙ sym (ap (λ (x : Part). x.seen) (r.rest.others q ne))))
 
 -- a process is given back as it was
 pub drops : (past : SlotPast) (p : ℕ) (c : Course) (v w : View) (h : HeldForm) → IsFollowed past p c v (Some h) → Released p [] v w → Steps past p (dropped c) v None w
@@ -140,6 +150,12 @@ gives_back past p v h u w f at r =
     let down = drops past p (taken until_point c) u w _ (followed_then past p c _ v u _ _ f up) r in
     let same : dropped (taken until_point c) ≡ c = λ i. record { hold = sym free.hold i; blocks = c.blocks; pending = sym free.pending i } in
     subst (λ d. Steps past p d v None w) same (then_steps past p _ _ v u w _ _ up down)
+
+-- what is seen of a slot that was held for a look is what stands there
+pub looked_value : (past : SlotPast) (p : ℕ) (v : View) (h : Holding) (u w : View) → IsFollowed past p past.course v None → HeldAtLast p v h u → Released p [] u w → h.value ≡ value_with (seen w p) past.course
+looked_value past p v h u w f at r =
+    let free : IsFree past.course _ = f.follows.at in
+    (since p v h u at).value ∙ (ap replay (sym (r.seen_is ∙ append-nil (seen u p))) ∙ ap (λ (es : List HistoryEntry). replay_from (replay (seen w p)) es) (sym free.pending))
 
 -- an event of a process that is held for it alone
 pub adds_alone : (past : SlotPast) (p : ℕ) (v : View) (h : Holding) (u w : View) (e : Event) → IsFollowed past p past.course v None → HeldAtLast p v h u → ¬ IsCall e → MayCome h.value e

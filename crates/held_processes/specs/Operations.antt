@@ -1,15 +1,18 @@
 -- What an operation on the processes of a module leaves.
-use Rattle.std.specs.Prelude.{◌≡◌, ◌↔◌, ℕ, ◌<◌, ◌==◌, Bool, IsTrue, true, false, List, ◌++◌, nat_lt, if◌then◌else◌, Result, Ok, Err, OnErr}
+use Rattle.std.specs.Prelude.{◌≡◌, ℕ, zero, suc, ◌==◌, Bool, ◌&&◌, ◌||◌, not, true, false, List, nat_lt, is_ok, is_some, if◌then◌else◌, Result, Ok, Err}
 use Rattle.erl_term.specs.Value as term
 use Rattle.mod_table.specs.Table.{OldVersion}
+use Rattle.proc_history.specs.declared.value.Value.{Value}
 use Rattle.proc_history.specs.Changes.{finds_row}
-use Rattle.proc_history.specs.Histories.{replay}
+use Rattle.proc_history.specs.Histories.{replay, replay_from}
+use Rattle.proc_history.specs.Values.{up_at}
 use Rattle.proc_table.specs.declared.view.View.{View}
 use Rattle.proc_table.specs.Agrees.{slots}
 use Rattle.proc_table.specs.Views.{seen}
-use Rattle.held_processes.specs.Course.{Courses, Operation, Users, runs, on_module, if_held, course_after}
+use Rattle.held_processes.specs.Course.{Courses, Hold, Operation, Users, runs, on_module, if_held, course_after}
 use Rattle.held_processes.specs.Course.Operation.{change, give_up}
 use Rattle.sup_tree.specs.Tree.{App, module_in}
+use Rattle.held_processes.specs.declared.steps.Undone.{Undone}
 use Rattle.held_processes.specs.Following.{HeldSlots, AllFollow}
 
 -- who runs which module, by the tree
@@ -24,33 +27,68 @@ up_to n changed cs p = if nat_lt p n then changed p else cs p
 abbrev pub part_way : ℕ → Users → List ℕ → Operation → Courses → Courses
 part_way n users name op cs = up_to n (on_module users name op cs) cs
 
--- The operation was done to each process of the module, or to those in the slots below one in which it failed.
-abbrev pub IsDone : {X E : Type 0} → View → Users → List ℕ → Operation → Courses → Result X E → HeldSlots → View → Type 0
+-- The operation was done to each process of the module, or to those in the slots below the one in which it failed.
+abbrev pub IsDone : {X : Type 0} → View → Users → List ℕ → Operation → Courses → Result X Undone → HeldSlots → View → Type 0
 IsDone first users name op cs (Ok x) hs v = AllFollow first (on_module users name op cs) hs v
-IsDone first users name op cs (Err e) hs v = (n : ℕ) × AllFollow first (part_way n users name op cs) hs v
+IsDone first users name op cs (Err e) hs v = AllFollow first (part_way e.slot users name op cs) hs v
 
--- the process in this slot runs the module, and is held
-pub record IsHeldUser (users : Users) (name : List ℕ) (cs : Courses) (p : ℕ) : Type 0 where
-  pub inside : p < slots
-  pub user : runs name (users p) ≡ true
-  pub held : if_held (cs p).hold true false ≡ true
+-- what stands in each slot
+abbrev pub Values : Type 0
+Values = ℕ → Value
 
--- A process of the module that is held has no row for the change of its code, by what its history leaves with what was done to
--- it since.
-pub record HasNoRow (users : Users) (name : List ℕ) (old : OldVersion) (extra : term.Value) (cs : Courses) (v : View) : Type 0 where
-  pub slot : ℕ
-  pub user : IsHeldUser users name cs slot
-  pub none : finds_row old extra (replay (seen v slot ++ (cs slot).pending)) ≡ false
+-- what the histories leave, as far as the handler has seen them
+abbrev pub values_seen : View → Values
+values_seen v p = replay (seen v p)
+
+-- what stands in a slot: what its history leaves, and what is pending
+abbrev pub now_in : Values → Courses → ℕ → Value
+now_in seen cs p = replay_from (seen p) (cs p).pending
+
+-- whether the test holds of one of so many lowest slots
+abbrev pub any_below : (ℕ → Bool) → ℕ → Bool
+any_below test zero = false
+any_below test (suc n) = any_below test n || test n
+
+abbrev pub any_slot : (ℕ → Bool) → Bool
+any_slot test = any_below test slots
+
+abbrev pub is_held : Hold → Bool
+is_held h = if_held h true false
+
+-- whether the process in this slot runs the module, and is held
+abbrev pub is_held_user : Users → List ℕ → Courses → ℕ → Bool
+is_held_user users name cs p = runs name (users p) && is_held (cs p).hold
+
+-- whether a process of the module is held
+abbrev pub holds_user : Users → List ℕ → Courses → Bool
+holds_user users name cs = any_slot (is_held_user users name cs)
+
+-- whether the code of a process of the module can't be changed: it is held, and has no row for that
+abbrev pub lacks_row_at : OldVersion → term.Value → Values → Users → List ℕ → Courses → ℕ → Bool
+lacks_row_at old extra seen users name cs p = is_held_user users name cs p && not (finds_row old extra (now_in seen cs p))
+
+abbrev pub lacks_row : OldVersion → term.Value → Values → Users → List ℕ → Courses → Bool
+lacks_row old extra seen users name cs = any_slot (lacks_row_at old extra seen users name cs)
+
+-- whether a process of the module is up
+abbrev pub is_up_user : Values → Users → List ℕ → Courses → ℕ → Bool
+is_up_user seen users name cs p = runs name (users p) && is_some (up_at (now_in seen cs p).now)
+
+abbrev pub uses_up : Values → Users → List ℕ → Courses → Bool
+uses_up seen users name cs = any_slot (is_up_user seen users name cs)
+
+-- whether a process of the module stands in a slot
+abbrev pub is_used : Users → List ℕ → Bool
+is_used users name = any_slot (λ p. runs name (users p))
 
 -- What a change leaves, and answers: of each start and courses that were followed.
-abbrev pub Changes : Users → List ℕ → OldVersion → term.Value → HeldSlots → {X E : Type 0} → Result X E → HeldSlots → Type 0
+abbrev pub Changes : Users → List ℕ → OldVersion → term.Value → HeldSlots → {X : Type 0} → Result X Undone → HeldSlots → Type 0
 Changes users name old extra hs r hs' = (first : View) (cs : Courses) (v : View) → AllFollow first cs hs v
-    → IsDone first users name (change old extra) cs r hs' v × OnErr r (HasNoRow users name old extra cs v)
+    → IsDone first users name (change old extra) cs r hs' v × (is_ok r ≡ not (lacks_row old extra (values_seen v) users name cs))
 
 -- whether a process of the module is held, by any start and courses that were followed
 abbrev pub TellsHeldUser : Users → List ℕ → HeldSlots → Bool → Type 0
-TellsHeldUser users name hs b = (first : View) (cs : Courses) (v : View) → AllFollow first cs hs v
-    → (IsTrue b ↔ ((p : ℕ) × IsHeldUser users name cs p))
+TellsHeldUser users name hs b = (first : View) (cs : Courses) (v : View) → AllFollow first cs hs v → b ≡ holds_user users name cs
 
 -- the courses where the process of one slot is given up, if it is held
 abbrev pub give_up_at : ℕ → Courses → Courses

@@ -1,8 +1,11 @@
 -- What a step at one slot leaves.
-use Rattle.std.specs.Prelude.{◌≡◌, ℕ, List, [], Option, Some, None, Result, Ok, Err, IsOk, is_ok}
+use Rattle.std.specs.Prelude.{◌≡◌, ℕ, Bool, true, List, [], Option, Some, None, Result, Ok, Err}
 use Rattle.erl_term.specs.Value as term
 use Rattle.mod_table.specs.Table.{OldVersion}
+use Rattle.proc_history.specs.declared.value.Value.{Value}
 use Rattle.proc_history.specs.Changes.{finds_row}
+use Rattle.proc_history.specs.Events.{HistoryEntry}
+use Rattle.proc_history.specs.Histories.{replay, replay_from}
 use Rattle.proc_history.specs.Events.Event.{changed}
 use Rattle.proc_history.specs.Values.{after}
 use Rattle.proc_table.specs.declared.view.View.{View}
@@ -47,8 +50,12 @@ abbrev pub Takes : {E : Type 0} → SlotPast → ℕ → Hold → View → Resul
 Takes past p k v (Ok h) w = Steps past p (taken k past.course) v (Some h) w
 Takes past p k v (Err e) w = Steps past p past.course v None w
 
--- The code of a process that is held was changed, or found no row. It is what its event makes of it in either case.
-abbrev pub ChangesAt : {X E : Type 0} → OldVersion → term.Value → Option HeldForm → Result X E → Option HeldForm → Type 0
-ChangesAt old extra None r place = IsOk r × (place ≡ None)
-ChangesAt old extra (Some h) r place = (finds_row old extra h.held.value ≡ is_ok r)
+-- Whether the code of a process that is held was changed: it found its row. It is what its event makes of it in either case.
+abbrev pub ChangesAt : OldVersion → term.Value → Option HeldForm → Bool → Option HeldForm → Type 0
+ChangesAt old extra None b place = (b ≡ true) × (place ≡ None)
+ChangesAt old extra (Some h) b place = (finds_row old extra h.held.value ≡ b)
     × (place ≡ Some (record h { held = record { slot = h.held.slot; value = after h.held.value (changed old extra) } }))
+
+-- what stands in a slot with this history, and what is pending there
+abbrev pub value_with : List HistoryEntry → Course → Value
+value_with h c = replay_from (replay h) c.pending

@@ -11,11 +11,15 @@
 //! Where memory is refused, or a change of code finds no row, the operation was done in the slots below one of them, and
 //! everything still follows.
 //!
+//! [`HeldProcesses::start_app`] and [`HeldProcesses::stop_app`] start and stop an application meanwhile (specs/Applications). Where
+//! its processes begin is told by the courses alone: calls of others leave the round of a slot, and whether a process stands there.
+//!
 //! The functions of `laws` say what courses are while no pass is lent, and that before the point of no return there is no block.
 //!
 //! Only tested: that an operation is done where memory is there. Trusted: the toolchain alone.
 #![tactic(auto)]
 
+mod applications;
 mod held_process;
 pub mod laws;
 mod processes;
@@ -23,5 +27,5 @@ mod steps;
 mod users;
 
 pub use processes::HeldProcesses;
-pub use steps::NoChange;
-pub use users::Users;
+pub use steps::Undone;
+pub use users::{AppName, Users};

@@ -8,11 +8,12 @@ ghost use Rattle.held_processes.specs.Course.{Courses, on_all, on_module, openin
 ghost use Rattle.held_processes.specs.Course.Operation.{suspend, load, resume, stop, start, pass_point, finish};
 ghost use Rattle.held_processes.specs.Following.{AllFollow, AreLeft, Followed, HoldsNothing};
 ghost use Rattle.held_processes.specs.InMemory.{behind_release, is_released, operation_of, takes_memory};
-ghost use Rattle.held_processes.specs.Operations.{Changes, IsDone, TellsHeldUser, give_up_at, users_of};
+ghost use Rattle.held_processes.specs.Operations.{Changes, IsDone, TellsHeldUser, give_up_at, users_of, uses_up, values_seen};
+ghost use mathlib.Core.List.{IsPrefix};
 
 use crate::Users;
 use crate::held_process::HeldProcess;
-use crate::steps::{self, NoChange, Step};
+use crate::steps::{self, Step, Undone};
 use erl_term::Term;
 use mod_table::{Old, Worker};
 use proc_table::{HandlerSeat, Pid, ProcTable};
@@ -69,7 +70,7 @@ impl HeldProcesses {
         table: &ProcTable,
         seat: &mut HandlerSeat,
         users: &Users<'_>,
-    ) -> Result<(), AllocError>
+    ) -> Result<(), Undone>
         ghost followed: { Followed }
         requires table { seat.old.table ≡ table.now }
         requires follow { AllFollow followed.first followed.courses self.old seat.old.view }
@@ -91,7 +92,7 @@ impl HeldProcesses {
         users: &Users<'_>,
         worker: &Worker,
         keep: bool,
-    ) -> Result<(), AllocError>
+    ) -> Result<(), Undone>
         ghost followed: { Followed }
         requires table { seat.old.table ≡ table.now }
         requires follow { AllFollow followed.first followed.courses self.old seat.old.view }
@@ -104,13 +105,13 @@ impl HeldProcesses {
 
     /// The code of the processes of the module that are held is changed. Where one of them has no row for that, those in
     /// higher slots aren't changed. It takes no memory.
-    pub fn change(&mut self, users: &Users<'_>, old: &Old, extra: &Term) -> Result<(), NoChange>
+    pub fn change(&mut self, users: &Users<'_>, old: &Old, extra: &Term) -> Result<(), Undone>
         ensures { Changes (users_of users.now.tree.now) users.now.module.now
             (old_of old.now) (value_of extra.now) self.old result self.new }
     {
         for slot in 0..self.places.len() {
-            if users.include(slot) {
-                steps::change(&mut self.places[slot], old, extra)?;
+            if users.include(slot) && !steps::change(&mut self.places[slot], old, extra) {
+                return Err(Undone { slot });
             }
         }
         Ok(())
@@ -123,6 +124,33 @@ impl HeldProcesses {
         for slot in 0..self.places.len() {
             if self.places[slot].is_some() && users.include(slot) {
                 return true;
+            }
+        }
+        false
+    }
+
+    /// Whether a process of the module is up. It adds nothing, and waits until no client has those that aren't held.
+    pub fn any_up<R: Wait>(
+        &self,
+        rt: &R,
+        table: &ProcTable,
+        seat: &mut HandlerSeat,
+        users: &Users<'_>,
+    ) -> bool
+        ghost followed: { Followed }
+        requires table { seat.old.table ≡ table.now }
+        requires follow { AllFollow followed.first followed.courses self.now seat.old.view }
+        ensures table { seat.new.table ≡ seat.old.table }
+        ensures follow { AllFollow followed.first followed.courses self.now seat.new.view }
+        ensures told { result ≡ uses_up (values_seen seat.new.view)
+            (users_of users.now.tree.now) users.now.module.now followed.courses }
+    {
+        for slot in 0..self.places.len() {
+            if users.include(slot) {
+                let pid = Pid { slot, round: 0 };
+                if steps::is_up(rt, table, seat, pid, &self.places[slot]) {
+                    return true;
+                }
             }
         }
         false
@@ -207,12 +235,14 @@ impl HeldProcesses {
     }
 
     /// The script has ended: what is still held is let go, with what was done to it. It takes no memory and waits for nobody.
+    /// What the handler had seen of each slot stays in front (`longer`).
     pub fn finish(self, table: &ProcTable, seat: &mut HandlerSeat)
         ghost followed: { Followed }
         requires table { seat.old.table ≡ table.now }
         requires follow { AllFollow followed.first followed.courses self seat.old.view }
         ensures table { seat.new.table ≡ seat.old.table }
         ensures left { AreLeft followed.first (on_all finish followed.courses) seat.new.view }
+        ensures longer { (p : ℕ) → IsPrefix (seen seat.old.view p) (seen seat.new.view p) }
     {
         let HeldProcesses { mut places } = self;
         while let Some(place) = places.pop() {
@@ -250,7 +280,7 @@ impl HeldProcesses {
         seat: &mut HandlerSeat,
         users: &Users<'_>,
         step: Step<'_>,
-    ) -> Result<(), AllocError>
+    ) -> Result<(), Undone>
         ghost followed: { Followed }
         requires table { seat.old.table ≡ table.now }
         requires follow { AllFollow followed.first followed.courses self.old seat.old.view }
@@ -262,7 +292,10 @@ impl HeldProcesses {
         for slot in 0..self.places.len() {
             if users.include(slot) {
                 let pid = Pid { slot, round: 0 };
-                steps::perform(rt, table, seat, pid, &mut self.places[slot], step)?;
+                match steps::perform(rt, table, seat, pid, &mut self.places[slot], step) {
+                    Ok(()) => {}
+                    Err(_) => return Err(Undone { slot }),
+                }
             }
         }
         Ok(())

@@ -1,17 +1,19 @@
 //! What is done to the process of one slot.
-ghost use Rattle.std.specs.Prelude.{◌≡◌, OnErr, None, Some, true};
+ghost use Rattle.std.specs.Prelude.{◌≡◌, OnErr, None, Some, true, is_some};
 ghost use Rattle.erl_term.specs.Value.{value_of};
 ghost use Rattle.mod_table.specs.InMemory.{old_of};
 ghost use Rattle.held_processes.specs.Course.{add_alone, if_held, course_after};
 ghost use Rattle.held_processes.specs.Course.Operation.{suspend, load, resume, stop, start, give_up};
 ghost use Rattle.held_processes.specs.InMemory.{operation_of, takes_memory};
-ghost use Rattle.held_processes.specs.Slots.{SlotPast, IsFollowed, Steps, StepsBy, ChangesAt};
+ghost use Rattle.held_processes.specs.Slots.{SlotPast, IsFollowed, Steps, StepsBy, ChangesAt, value_with};
+ghost use Rattle.proc_history.specs.Values.{up_at};
+ghost use Rattle.proc_table.specs.Views.{seen};
 ghost use Rattle.proc_history.specs.Events.Event.{loaded, stopped, started};
 
 use crate::held_process::{HeldProcess, Hold};
 use erl_term::Term;
 use mod_table::{Old, Worker};
-use proc_table::{Entry, HandlerSeat, Pid, ProcTable};
+use proc_table::{Entry, HandlerSeat, Pid, ProcTable, Standing, Value};
 use std::alloc::{AllocError, Global};
 use std::mem;
 use std::sync::Wait;
@@ -27,9 +29,11 @@ pub(crate) enum Step<'a> {
     Start,
 }
 
-/// A process of a module that is held has no row for the change of its code.
+/// An operation on the processes of a module failed in this slot. It was done in the slots below.
 #[derive(Clone, Copy)]
-pub struct NoChange;
+pub struct Undone {
+    pub slot: usize,
+}
 
 /// Does a step for the process of the slot.
 pub(crate) fn perform<R: Wait>(
@@ -180,23 +184,50 @@ fn start<R: Wait>(
     }
 }
 
-/// Changes the code of the process, if it is held. Where its table has no row for that, nothing changes.
-pub(crate) fn change(
-    place: &mut Option<HeldProcess>,
-    old: &Old,
-    extra: &Term,
-) -> Result<(), NoChange>
+/// Changes the code of the process, if it is held. It is false, and nothing changes, where its table has no row for that.
+pub(crate) fn change(place: &mut Option<HeldProcess>, old: &Old, extra: &Term) -> bool
     ensures { ChangesAt (old_of old.now) (value_of extra.now) place.old result place.new }
 {
     match place {
-        Some(process) => {
-            if !process.held.change(old, extra) {
-                return Err(NoChange);
-            }
-        }
-        None => {}
+        Some(process) => process.held.change(old, extra),
+        None => true,
     }
-    Ok(())
+}
+
+/// Whether the process of the slot is up. One that isn't held is held for the look alone.
+pub(crate) fn is_up<R: Wait>(
+    rt: &R,
+    table: &ProcTable,
+    seat: &mut HandlerSeat,
+    pid: Pid,
+    place: &Option<HeldProcess>,
+) -> bool
+    ghost past: { SlotPast }
+    requires table { seat.old.table ≡ table.now }
+    requires followed { IsFollowed past pid.slot past.course seat.old.view place.now }
+    ensures table { seat.new.table ≡ seat.old.table }
+    ensures followed { Steps past pid.slot past.course seat.old.view place.now seat.new.view }
+    ensures told { result ≡ is_some
+        (up_at (value_with (seen seat.new.view pid.slot) past.course).now) }
+{
+    match place {
+        Some(process) => is_up_in(process.held.value()),
+        None => {
+            let held = table.hold(rt, seat, pid);
+            let up = is_up_in(held.value());
+            table.release(seat, held, &[]);
+            up
+        }
+    }
+}
+
+fn is_up_in(value: &Value) -> bool
+    ensures { result ≡ is_some (up_at value.entry.now.now) }
+{
+    match &value.now {
+        Some(process) => matches!(process.standing, Standing::Up),
+        None => false,
+    }
 }
 
 /// Lets the process go, if it is held.

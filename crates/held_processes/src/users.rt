@@ -23,3 +23,9 @@ impl Users<'_> {
         }
     }
 }
+
+/// The name of an application.
+#[derive(Clone, Copy)]
+pub struct AppName<'a> {
+    pub name: &'a str,
+}

@@ -1,4 +1,4 @@
-pub mod CourseLemmas
+pub mod RunLemmas
+pub mod QuietLemmas
 pub mod OutcomeLemmas
-pub mod RowLemmas
-pub mod StepLemmas
+pub mod AloneLemmas

@@ -1,5 +1,4 @@
-pub mod Script
-pub mod Fails
 pub mod Outcome
+pub mod Alone
 pub mod InMemory
-pub mod Steps
+pub mod Stepwise

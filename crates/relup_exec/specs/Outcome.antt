@@ -1,19 +1,55 @@
--- What comes of the part of a script that stands before its point of no return.
-use Rattle.std.specs.Prelude.{◌≡◌, ◌≢◌, ℕ, ◌<◌, List, [], ◌∷◌, ◌++◌, length}
+-- What comes of a script: up to its point of no return, and behind it.
+use Rattle.std.specs.Prelude.{◌≡◌, ℕ, ◌+◌, Bool, true, false, ◌&&◌, not, List, [], ◌∷◌, ◌++◌, length}
 use Rattle.std.specs.List.{AllByRecursion}
-use Rattle.proc_history.specs.Histories.{IsLegal}
+use mathlib.Core.List.{IsPrefix}
 use Rattle.proc_table.specs.declared.view.View.{View}
-use Rattle.proc_table.specs.Agrees.{slots}
 use Rattle.proc_table.specs.Views.{seen}
 use Rattle.relup_instruction.specs.Instruction.{Instruction}
 use Rattle.relup_instruction.specs.Instruction.Instruction.{point_of_no_return}
+use Rattle.relup_script.specs.Script.{is_point}
 use Rattle.sup_tree.specs.Loaded.{NamedModules}
 use Rattle.sup_tree.specs.Tree.{App}
-use Rattle.held_processes.specs.Course.{Courses}
-use Rattle.held_processes.specs.Course.Hold.{not_held}
-use Rattle.held_processes.specs.Following.{HeldSlots, AllFollow, AreUntouched}
-use Rattle.relup_exec.specs.Script.{IsEarly, Site, Run, began, early_run}
-use Rattle.relup_exec.specs.Fails.{Cause, CanRunAll, Fails, IsInstructionAt}
+use Rattle.held_processes.specs.Course.{Courses, on_all}
+use Rattle.held_processes.specs.Course.Operation.{finish}
+use Rattle.held_processes.specs.Following.{HeldSlots, AllFollow, AreLeft, AreUntouched}
+use Rattle.held_processes.specs.Operations.{values_seen}
+use Rattle.script_steps.specs.Script.{Site, Run, began, courses_within, run_after}
+use Rattle.script_steps.specs.Fault.{Cause}
+use Rattle.script_steps.specs.Steps.{IsLate}
+use Rattle.script_steps.specs.Steps.{HasNoFault, IsEarly, IsFault, Past}
+
+-- What the handler had seen when a script began, and which applications were started then.
+pub record Start : Type 0 where
+  pub first : View
+  pub apps : List App
+
+abbrev pub began_at : Site → Start → Run
+began_at s start = began s start.apps (values_seen start.first)
+
+-- Whether the next instruction stands before the point of no return, by whether these began before it.
+abbrev pub still_early : Bool → List Instruction → Bool
+still_early early [] = early
+still_early early (i ∷ is) = still_early (early && not (is_point i)) is
+
+-- what instructions do one after another, the point of no return among them
+abbrev pub run_through : Site → Bool → List Instruction → Run → Run
+run_through s early [] r = r
+run_through s early (i ∷ is) r = run_through s (early && not (is_point i)) is (run_after s early i r)
+
+-- what was done behind these, from the first instruction on
+abbrev pub run_behind : Site → Start → List Instruction → Run
+run_behind s start is = run_through s true is (began_at s start)
+
+abbrev pub past_behind : Site → Start → List Instruction → Past
+past_behind s start is = record { first = start.first; run = run_behind s start is }
+
+-- None of these failed.
+abbrev pub RanAll : Site → View → Bool → List Instruction → Run → Type 0
+RanAll s first early [] r = Unit {0}
+RanAll s first early (i ∷ is) r = HasNoFault s first r i × RanAll s first (early && not (is_point i)) is (run_after s early i r)
+
+abbrev pub Ran : Site → Start → List Instruction → Type 0
+Ran s start is = RanAll s start.first true is (began_at s start)
 
 -- A script that has come to its point of no return. place: how many instructions stand before the point. next: what is loaded
 -- once the script has ended well.
@@ -29,41 +65,57 @@ pub record IsPointAt (script : List Instruction) (place : ℕ) : Type 0 where
   pub rest : List Instruction
   pub is : script ≡ front ++ (point_of_no_return ∷ rest)
   pub early : AllByRecursion IsEarly front
+  pub late : AllByRecursion IsLate rest
   pub place_is : place ≡ length front
 
 -- What is held can go back as it was when the handler's view was `first`: no block stands in a history.
 abbrev pub CanGoBack : View → HeldSlots → View → Type 0
 CanGoBack first hs v = (courses : Courses) × AllFollow first courses hs v × ((p : ℕ) → (courses p).blocks ≡ [])
 
--- what was done before the point
-abbrev pub run_behind : Site → List App → List Instruction → Run
-run_behind s apps is = early_run s is (began s apps)
+-- All before the point was done, and nothing of it stands in a history yet. No application was started or stopped.
+pub record IsArmed (s : Site) (start : Start) (script : List Instruction) (a : ArmedForm) (v : View) : Type 0 where
+  pub point : IsPointAt script a.place
+  pub ran : Ran s start point.front
+  pub fetched : a.fetched ≡ (run_behind s start point.front).fetched
+  pub next : a.next ≡ (run_behind s start point.front).modules
+  pub apps : (run_behind s start point.front).apps ≡ start.apps
+  pub follow : AllFollow start.first (run_behind s start point.front).courses a.held v
+  pub quiet : (p : ℕ) → ((run_behind s start point.front).courses p).blocks ≡ []
 
--- All before the point was done, and nothing of it stands in a history yet.
-pub record IsArmed (s : Site) (apps : List App) (script : List Instruction) (first : View) (a : ArmedForm) (v : View) : Type 0 where
-  pub front : List Instruction
+-- the instruction with this number, and those in front of it
+pub record IsInstructionAt (script : List Instruction) (number : ℕ) (front : List Instruction) (i : Instruction) : Type 0 where
   pub rest : List Instruction
-  pub is : script ≡ front ++ (point_of_no_return ∷ rest)
-  pub early : AllByRecursion IsEarly front
-  pub place : a.place ≡ length front
-  pub fetched : a.fetched ≡ (run_behind s apps front).fetched
-  pub next : a.next ≡ (run_behind s apps front).modules
-  pub can_run : CanRunAll s front (began s apps)
-  pub follow : AllFollow first (run_behind s apps front).courses a.held v
-  pub quiet : (p : ℕ) → ((run_behind s apps front).courses p).blocks ≡ []
-
--- What was done to the processes that are held may stand behind what the handler knows of their histories: so each change of code
--- finds its row.
-abbrev pub CanStand : Courses → View → Type 0
-CanStand cs v = (p : ℕ) → p < slots → (cs p).hold ≢ not_held → IsLegal (seen v p ++ (cs p).pending)
+  pub is : script ≡ front ++ (i ∷ rest)
+  pub counted : number ≡ length front + 1
 
 -- An instruction before the point is the first that fails, and nothing was added to any history.
-pub record IsRefused (s : Site) (apps : List App) (script : List Instruction) (first : View) (number : ℕ) (c : Cause) (v : View) : Type 0 where
+pub record IsRefused (s : Site) (start : Start) (script : List Instruction) (number : ℕ) (c : Cause) (v : View) : Type 0 where
   pub front : List Instruction
   pub instruction : Instruction
   pub at : IsInstructionAt script number front instruction
   pub early : AllByRecursion IsEarly front
-  pub can_run : CanRunAll s front (began s apps)
-  pub legal : CanStand (run_behind s apps front).courses v
-  pub fails : Fails s (run_behind s apps front) instruction c v
-  pub untouched : AreUntouched first v
+  pub ran : Ran s start front
+  pub fails : IsFault start.first s v (run_behind s start front) instruction c
+  pub untouched : AreUntouched start.first v
+
+-- The whole script was carried out: its blocks stand in the histories, and this is loaded and started.
+pub record IsFinished (s : Site) (start : Start) (script : List Instruction) (loaded : NamedModules) (apps : List App) (v : View) : Type 0 where
+  pub ran : Ran s start script
+  pub loaded_is : loaded ≡ (run_behind s start script).modules
+  pub apps_are : apps ≡ (run_behind s start script).apps
+  pub left : AreLeft start.first (on_all finish (run_behind s start script).courses) v
+
+-- An instruction behind the point is the first that fails. What was held is let go with what was done to it by then: by those in
+-- front, and by this one for so many of its modules and for the next in the slots below this.
+pub record IsBroken (s : Site) (start : Start) (script : List Instruction) (number : ℕ) (c : Cause) (v : View) : Type 0 where
+  pub front : List Instruction
+  pub instruction : Instruction
+  pub at : IsInstructionAt script number front instruction
+  pub late : still_early true front ≡ false
+  pub ran : Ran s start front
+  pub then_view : View
+  pub fails : IsFault start.first s then_view (run_behind s start front) instruction c
+  pub modules : ℕ
+  pub slot : ℕ
+  pub left : AreLeft start.first (on_all finish (courses_within s false instruction modules slot (run_behind s start front))) v
+  pub longer : (p : ℕ) → IsPrefix (seen then_view p) (seen v p)

@@ -1,25 +1,30 @@
 //! A script up to its point of no return.
-ghost use Rattle.std.specs.Prelude.{◌≡◌, IfErr, IfOk, true, []};
+ghost use Rattle.std.specs.Prelude.{◌≡◌, IfErr, IfOk};
 ghost use Rattle.std.specs.List.{AllByRecursion};
 ghost use Rattle.held_processes.specs.Following.{HoldsNothing};
-ghost use Rattle.proc_table.specs.declared.view.View.{View};
-ghost use Rattle.relup_exec.specs.Fails.{CallFails};
-ghost use Rattle.relup_exec.specs.InMemory.{armed_of, cause_of, site_of};
-ghost use Rattle.relup_exec.specs.Outcome.{IsArmed, IsPointAt, IsRefused};
-ghost use Rattle.relup_exec.specs.Script.{IsEarly};
-ghost use Rattle.relup_exec.specs.Steps.{CarriesOut, HasDone, Past, RunsAll, past_behind, progress_of};
-ghost use Rattle.relup_instruction.specs.Instruction.{call_of, instruction_of, script_of};
-ghost use Rattle.relup_script.specs.Script.{IsRunnable, is_error, is_point};
+ghost use Rattle.script_steps.specs.InMemory.{cause_of, site_of};
+ghost use Rattle.relup_exec.specs.Outcome.{IsArmed, IsPointAt, IsRefused, Start};
+ghost use Rattle.relup_exec.specs.InMemory.{armed_of};
+ghost use Rattle.relup_exec.specs.Stepwise.{HasBegun, RunsAll, start_at};
+ghost use Rattle.script_steps.specs.Steps.{IsEarly, progress_of};
+ghost use Rattle.relup_instruction.specs.Instruction.{instruction_of, script_of};
+ghost use Rattle.relup_script.specs.Script.{IsRunnable, is_point};
 
 use crate::armed::Armed;
-use crate::fetch::fetch;
-use crate::progress::Progress;
-use crate::{Cause, Refused, Site};
 use proc_table::HandlerSeat;
-use relup_instruction::{Call, Instr};
+use relup_instruction::Instr;
+use script_steps::{Cause, Failure, Progress, Site};
 use std::alloc::Global;
 use std::sync::Wait;
 use sup_tree::Tree;
+
+/// A script of which an instruction failed.
+#[derive(Drop)]
+pub struct Refused {
+    /// The number of the instruction, counted from 1.
+    pub instr: usize,
+    pub cause: Cause,
+}
 
 /// Carries out a script up to its point of no return. Where an instruction fails, all processes that were held by then go back
 /// as they were. It waits for processes that clients have. Out of memory before the first instruction is reported of it.
@@ -35,10 +40,11 @@ pub fn run_before<R: Wait>(
     requires free { HoldsNothing seat.old.view }
     requires runnable { IsRunnable (script_of script.now) }
     ensures table { seat.new.table ≡ seat.old.table }
-    ensures armed { IfOk result (λ a. IsArmed (site_of site.now) tree.now (script_of script.now)
-        seat.old.view (armed_of a) seat.new.view) }
-    ensures refused { IfErr result (λ e. IsRefused (site_of site.now) tree.now
-        (script_of script.now) seat.old.view e.instr (cause_of e.cause) seat.new.view) }
+    ensures armed { IfOk result (λ a. IsArmed (site_of site.now)
+        (start_at seat.old.view tree.now) (script_of script.now) (armed_of a) seat.new.view) }
+    ensures refused { IfErr result (λ e. IsRefused (site_of site.now)
+        (start_at seat.old.view tree.now) (script_of script.now)
+        e.instr (cause_of e.cause) seat.new.view) }
 {
     let place = point_in(script);
     let Ok(mut progress) = Progress::new(alloc, site) else {
@@ -47,7 +53,7 @@ pub fn run_before<R: Wait>(
             cause: Cause::NoMemory,
         });
     };
-    match progress.run(rt, alloc, site, seat, tree, &script[..place]) {
+    match run_early(rt, alloc, site, seat, tree, &mut progress, &script[..place]) {
         Ok(()) => Ok(Armed { place, progress }),
         Err(refused) => {
             progress.roll_back(site.table, seat);
@@ -75,79 +81,34 @@ fn is_point(instr: &Instr) -> bool
     matches!(instr, Instr::PointOfNoReturn)
 }
 
-impl Progress {
-    // Carries out these instructions, one after another.
-    fn run<R: Wait>(
-        &mut self,
-        rt: &R,
-        alloc: Global,
-        site: &Site<'_>,
-        seat: &mut HandlerSeat,
-        tree: &Tree,
-        instrs: &[Instr],
-    ) -> Result<(), Refused>
-        ghost first: { View }
-        requires table { seat.old.table ≡ site.now.table.now }
-        requires early { AllByRecursion IsEarly (script_of instrs.now) }
-        requires done { HasDone (past_behind (site_of site.now) tree.now first [])
-            (progress_of self.old) seat.old.view }
-        ensures table { seat.new.table ≡ seat.old.table }
-        ensures ran { RunsAll (site_of site.now) tree.now first (script_of instrs.now)
-            result (progress_of self.new) seat.new.view }
-    {
-        for (i, instr) in instrs.iter().enumerate() {
-            let before = &instrs[..i];
-            if let Err(cause) = self.carry_out(rt, alloc, site, seat, tree, before, instr) {
-                return Err(Refused {
-                    instr: i + 1,
-                    cause,
-                });
-            }
-        }
-        Ok(())
-    }
-
-    // Carries out an instruction. By those before it the caller's proof names what was done.
-    fn carry_out<R: Wait>(
-        &mut self,
-        rt: &R,
-        alloc: Global,
-        site: &Site<'_>,
-        seat: &mut HandlerSeat,
-        tree: &Tree,
-        _before: &[Instr],
-        instr: &Instr,
-    ) -> Result<(), Cause>
-        ghost past: { Past }
-        requires table { seat.old.table ≡ site.now.table.now }
-        requires tree { past.run.apps ≡ tree.now }
-        requires early { IsEarly (instruction_of instr.now) }
-        requires done { HasDone past (progress_of self.old) seat.old.view }
-        ensures table { seat.new.table ≡ seat.old.table }
-        ensures carried { CarriesOut (site_of site.now) past (instruction_of instr.now)
-            result (progress_of self.new) seat.new.view }
-    {
-        match instr {
-            Instr::LoadObjectCode(modules) => fetch(alloc, site, &mut self.fetched, modules),
-            Instr::Suspend(suspensions) => self.suspend(rt, alloc, site, seat, tree, suspensions),
-            Instr::Load(purging) => self.load(rt, alloc, site, seat, tree, purging),
-            Instr::CodeChange(conversion) => self.change_code(alloc, site, tree, conversion),
-            Instr::Apply(call) => Err(raise(call)),
-            _ => unreachable!(),
-        }
-    }
-}
-
-// The cause of an error that the script raises.
-fn raise(call: &Call) -> Cause
-    requires { is_error (call_of call.now) ≡ true }
-    ensures { CallFails (call_of call.now) (cause_of result) }
+// Carries out these instructions, one after another.
+fn run_early<R: Wait>(
+    rt: &R,
+    alloc: Global,
+    site: &Site<'_>,
+    seat: &mut HandlerSeat,
+    tree: &Tree,
+    progress: &mut Progress,
+    instrs: &[Instr],
+) -> Result<(), Refused>
+    ghost start: { Start }
+    requires table { seat.old.table ≡ site.now.table.now }
+    requires early { AllByRecursion IsEarly (script_of instrs.now) }
+    requires begun { HasBegun (site_of site.now) start
+        (progress_of progress.old) tree.now seat.old.view }
+    ensures table { seat.new.table ≡ seat.old.table }
+    ensures ran { RunsAll (site_of site.now) start (script_of instrs.now)
+        result (progress_of progress.new) tree.now seat.new.view }
 {
-    let Some(term) = call.args.first() else {
-        unreachable!();
-    };
-    match term.clone() {
-        Ok(term) => Cause::Raised(term),
-        Err(_) => Cause::NoMemory,
+    for (i, instr) in instrs.iter().enumerate() {
+        let before = &instrs[..i];
+        let done = progress.carry_out_early(rt, alloc, site, seat, tree, before, instr);
+        if let Err(Failure { cause, .. }) = done {
+            return Err(Refused {
+                instr: i + 1,
+                cause,
+            });
+        }
     }
+    Ok(())
 }

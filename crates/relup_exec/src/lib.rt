@@ -1,28 +1,27 @@
 //! Scripts of relups, carried out on the processes of a node (OTP: release_handler(3), appup(4)).
 //!
-//! [`run_before`] carries out a script up to its point of no return: modules are fetched from libraries, processes are held,
-//! and get new tables and states in the handler's hand alone (specs/Script says what each instruction does). It answers an
-//! [`Armed`] script exactly where no instruction before the point fails (`armed`), and else the number of the first one that
-//! fails, and why (`refused`, specs/Fails). A script that was refused has added nothing to any history, and holds nothing.
-//! [`Armed::roll_back`] gives all processes back as they were. [`run_before`] waits for processes that clients have, a way back
-//! for nobody.
+//! [`run_before`] carries out a script up to its point of no return, one instruction after another (`script_steps`). It answers
+//! an [`Armed`] script exactly where no instruction before the point fails (`armed`), and else the number of the first one that
+//! fails, and why (`refused`). A script that was refused has added nothing to any history, and holds nothing.
+//! [`Armed::roll_back`] gives all processes back as they were. [`Armed::run_after`] carries out what stands behind the point:
+//! where all is done, the blocks of the script stand in the histories, each whole, and what is loaded and started is what the
+//! script says (`finished`); else the first instruction that fails is told, and what was held is let go with the changes made so
+//! far (`broken`). All but the way back wait for processes that clients have.
 //!
-//! What stands behind the point isn't carried out yet, so an armed script can only be rolled back.
+//! The law `a_script_alone_has_one_outcome` says that while no pass is lent a script has one outcome, memory aside: the one that
+//! `outcome` (specs/Alone) gives by what stood in the slots.
 //!
-//! Only tested: that a script is armed where memory is there. Trusted: the toolchain alone.
+//! No command installs a release by its script yet.
+//!
+//! Only tested: that a script is carried out where memory is there. Trusted: the toolchain alone.
 #![tactic(auto)]
 
+mod after;
 mod armed;
 mod before;
-mod cause;
-mod change;
-mod fetch;
-mod load;
-mod progress;
-mod site;
-mod suspend;
+pub mod laws;
 
+pub use after::Failed;
 pub use armed::Armed;
-pub use before::run_before;
-pub use cause::{Cause, Refused};
-pub use site::Site;
+pub use before::{Refused, run_before};
+pub use script_steps::{Cause, Site};

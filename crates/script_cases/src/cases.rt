@@ -2,12 +2,15 @@
 ghost use Rattle.std.specs.Prelude.{◌≡◌};
 ghost use Rattle.held_processes.specs.Following.{HoldsNothing};
 ghost use Rattle.relup_instruction.specs.Instruction.{script_of};
+ghost use Rattle.relup_exec.specs.Outcome.{Start};
 ghost use Rattle.relup_script.specs.Script.{IsRunnable};
 
-use crate::node::{push_call, push_calls, release_list, running_libraries, script};
+use crate::node::{
+    other_libraries, push_call, push_calls, release_list, running_libraries, script,
+};
 use proc_table::{HandlerSeat, Pass, Pid, ProcTable};
 use rel_list::ReleaseList;
-use relup_exec::{Refused, Site, run_before};
+use relup_exec::{Cause, Site, run_before};
 use relup_instruction::Instr;
 use relup_script::check;
 use std::alloc::{AllocError, Global};
@@ -16,8 +19,10 @@ use sup_tree::{Loaded, Tree};
 use text_cases::Answer;
 
 /// The text is the inputs of calls of the process of `ch3`, a script, and inputs of further calls, with ` | ` between them. The
-/// answer is what the calls answer, whether the script can't be run, is refused, or is armed, then what a call is answered while
-/// it is armed, and, once it was rolled back, what the further calls answer.
+/// answer is what the calls answer, whether the script can't be run, is refused, or is armed, and then, by the mode: `before`,
+/// what a call is answered while it is armed, and, once it was rolled back, what the further calls answer; `whole`, which
+/// instruction behind the point fails, or that the script is done and which modules are loaded then, and what the further calls
+/// answer.
 pub(crate) fn answer<R: Wait>(
     rt: &R,
     alloc: Global,
@@ -27,18 +32,20 @@ pub(crate) fn answer<R: Wait>(
     let mut answer = Answer::new(alloc);
     let words = str::from_utf8(text).unwrap_or("");
     match mode {
-        "before" => push_case(rt, alloc, words, &mut answer),
+        "before" => push_case(rt, alloc, Mode::Before, words, &mut answer),
+        "whole" => push_case(rt, alloc, Mode::Whole, words, &mut answer),
         _ => answer.push("no such mode"),
     }
     answer.finish()
 }
 
-fn push_case<R: Wait>(rt: &R, alloc: Global, words: &str, answer: &mut Answer) {
+fn push_case<R: Wait>(rt: &R, alloc: Global, mode: Mode, words: &str, answer: &mut Answer) {
     let (inputs, rest) = words.split_once(" | ").unwrap_or((words, ""));
     let (terms, behind) = rest.split_once(" | ").unwrap_or((rest, ""));
     match (script(alloc, terms), release_list(alloc)) {
         (Some(script), Some(list)) => {
             let case = Case {
+                mode,
                 script: script.as_slice(),
                 inputs,
                 behind,
@@ -49,9 +56,17 @@ fn push_case<R: Wait>(rt: &R, alloc: Global, words: &str, answer: &mut Answer) {
     }
 }
 
+/// How far a script is carried out.
+#[derive(Clone, Copy)]
+enum Mode {
+    Before,
+    Whole,
+}
+
 /// A script, and the calls around it.
 #[derive(Clone, Copy)]
 struct Case<'a> {
+    mode: Mode,
     script: &'a [Instr],
     inputs: &'a str,
     behind: &'a str,
@@ -64,8 +79,11 @@ fn push_with_list<R: Wait>(
     case: &Case<'_>,
     answer: &mut Answer,
 ) {
-    let (Some(libraries), Ok((table, mut seat))) = (running_libraries(alloc), ProcTable::new(alloc))
-    else {
+    let (Some(libraries), Some(target), Ok((table, mut seat))) = (
+        running_libraries(alloc),
+        other_libraries(alloc),
+        ProcTable::new(alloc),
+    ) else {
         return answer.note_no_memory();
     };
     let Ok(loaded) = Loaded::of(alloc, libraries.as_slice()) else {
@@ -76,33 +94,17 @@ fn push_with_list<R: Wait>(
     };
     let mut tree = Tree::new(alloc);
     match tree.start_app(rt, alloc, &table, &mut seat, &library.app, &loaded) {
-        Ok(()) => push_started(
-            rt, alloc, &table, list, &loaded, &mut seat, &tree, case, answer,
-        ),
+        Ok(()) => {
+            let site = Site {
+                table: &table,
+                list,
+                target: target.as_slice(),
+                loaded: &loaded,
+            };
+            push_script(rt, alloc, &site, &mut seat, &mut tree, case, answer);
+        }
         Err(error) => answer.push_shown(&error),
     }
-}
-
-fn push_started<R: Wait>(
-    rt: &R,
-    alloc: Global,
-    table: &ProcTable,
-    list: &ReleaseList,
-    loaded: &Loaded,
-    seat: &mut HandlerSeat,
-    tree: &Tree,
-    case: &Case<'_>,
-    answer: &mut Answer,
-)
-    requires table { seat.old.table ≡ table.now }
-    requires nothing { HoldsNothing seat.old.view }
-{
-    let site = Site {
-        table,
-        list,
-        loaded,
-    };
-    push_script(rt, alloc, &site, seat, tree, case, answer);
 }
 
 fn push_script<R: Wait>(
@@ -110,7 +112,7 @@ fn push_script<R: Wait>(
     alloc: Global,
     site: &Site<'_>,
     seat: &mut HandlerSeat,
-    tree: &Tree,
+    tree: &mut Tree,
     case: &Case<'_>,
     answer: &mut Answer,
 )
@@ -123,15 +125,37 @@ fn push_script<R: Wait>(
     let mut pass = site.table.new_pass(seat);
     push_calls(site.table, &mut pass, pid, case.inputs, answer);
     answer.push(", ");
-    match check(case.script) {
-        Ok(()) => push_outcome(rt, alloc, site, seat, tree, &mut pass, case.script, answer),
-        Err(fault) => answer.push_shown(&fault),
-    }
+    push_outcome(rt, alloc, site, seat, tree, &mut pass, case, answer);
     push_calls(site.table, &mut pass, pid, case.behind, answer);
     site.table.take_back(seat, pass);
 }
 
 fn push_outcome<R: Wait>(
+    rt: &R,
+    alloc: Global,
+    site: &Site<'_>,
+    seat: &mut HandlerSeat,
+    tree: &mut Tree,
+    pass: &mut Pass,
+    case: &Case<'_>,
+    answer: &mut Answer,
+)
+    requires table { seat.old.table ≡ site.now.table.now }
+    requires nothing { HoldsNothing seat.old.view }
+    requires pass_table { pass.old.table ≡ site.now.table.now }
+    ensures table { seat.new.table ≡ seat.old.table }
+    ensures pass_table { pass.new.table ≡ pass.old.table }
+{
+    match (check(case.script), case.mode) {
+        (Ok(()), Mode::Before) => {
+            push_before(rt, alloc, site, seat, tree, pass, case.script, answer);
+        }
+        (Ok(()), Mode::Whole) => push_whole(rt, alloc, site, seat, tree, case.script, answer),
+        (Err(fault), _) => answer.push_shown(&fault),
+    }
+}
+
+fn push_before<R: Wait>(
     rt: &R,
     alloc: Global,
     site: &Site<'_>,
@@ -156,13 +180,55 @@ fn push_outcome<R: Wait>(
             }
             armed.roll_back(site.table, seat);
         }
-        Err(refused) => push_refused(alloc, &refused, answer),
+        Err(refused) => push_stopped(alloc, "refused ", refused.instr, &refused.cause, answer),
     }
 }
 
-fn push_refused(alloc: Global, refused: &Refused, answer: &mut Answer) {
-    answer.push("refused ");
-    answer.push_number(refused.instr as u64);
+// What the handler had seen and what was started at first is known to the proof.
+fn push_whole<R: Wait>(
+    rt: &R,
+    alloc: Global,
+    site: &Site<'_>,
+    seat: &mut HandlerSeat,
+    tree: &mut Tree,
+    script: &[Instr],
+    answer: &mut Answer,
+)
+    ghost start: { Start }
+    requires table { seat.old.table ≡ site.now.table.now }
+    requires nothing { HoldsNothing seat.old.view }
+    requires runnable { IsRunnable (script_of script.now) }
+    requires first { seat.old.view ≡ start.first }
+    requires apps { tree.old ≡ start.apps }
+    ensures table { seat.new.table ≡ seat.old.table }
+{
+    match run_before(rt, alloc, site, seat, tree, script) {
+        Ok(armed) => match armed.run_after(rt, alloc, site, seat, tree, script) {
+            Ok(loaded) => push_loaded(alloc, &loaded, answer),
+            Err(failed) => push_stopped(alloc, "failed ", failed.instr, &failed.cause, answer),
+        },
+        Err(refused) => push_stopped(alloc, "refused ", refused.instr, &refused.cause, answer),
+    }
+}
+
+fn push_loaded(alloc: Global, loaded: &Loaded, answer: &mut Answer) {
+    answer.push("done:");
+    match loaded.versions(alloc) {
+        Ok(versions) => {
+            for (name, vsn) in versions.as_slice() {
+                answer.push(" ");
+                answer.push(name);
+                answer.push(" ");
+                answer.push(vsn);
+            }
+        }
+        Err(_) => answer.note_no_memory(),
+    }
+}
+
+fn push_stopped(alloc: Global, how: &str, instr: usize, cause: &Cause, answer: &mut Answer) {
+    answer.push(how);
+    answer.push_number(instr as u64);
     answer.push(" ");
-    answer.push_made(&refused.cause.text(alloc));
+    answer.push_made(&cause.text(alloc));
 }

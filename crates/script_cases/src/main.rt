@@ -1,5 +1,5 @@
-//! The program `script_cases`: what becomes of scripts up to their points of no return, a case a line. The mode is `before`, and
-//! [`answer`] says what its text is.
+//! The program `script_cases`: what becomes of scripts, a case a line. The modes are `before`, up to the point of no return and
+//! back, and `whole`; [`answer`] says what a text is.
 #![tactic(auto)]
 
 mod cases;

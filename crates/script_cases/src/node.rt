@@ -24,6 +24,11 @@ pub(crate) fn running_libraries(alloc: Global) -> Option<Vec<Rc<Library>>> {
     libraries(alloc, RUNNING)
 }
 
+/// Those of the release to which scripts lead.
+pub(crate) fn other_libraries(alloc: Global) -> Option<Vec<Rc<Library>>> {
+    libraries(alloc, OTHER)
+}
+
 fn libraries(alloc: Global, text: &[u8]) -> Option<Vec<Rc<Library>>> {
     let term = read_record(alloc, text).ok()?;
     libraries_of_terms(alloc, list_in(&term)?).ok()?

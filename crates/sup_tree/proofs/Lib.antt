@@ -7,3 +7,4 @@ pub mod ListingLemmas
 pub mod SlotLemmas
 pub mod NamedLemmas
 pub mod NotedLemmas
+pub mod NamesInOrder

@@ -31,7 +31,7 @@ found_as_listed l name = lookup-read _ (bytes_eq name) _ module_in (λ k. is_eq-
 
 -- one more module is loaded
 
-same_name : (name q : List ℕ) → slice_cmp nat_cmp name q ≡ Equal → name ≡ q
+pub same_name : (name q : List ℕ) → slice_cmp nat_cmp name q ≡ Equal → name ≡ q
 same_name name q is = (bytes_eq-Decides name q).0 (sym (is_eq-slice_cmp name q) ∙ ap is_eq is)
 
 apart : (name q : List ℕ) → slice_cmp nat_cmp name q ≡ Greater → bytes_eq name q ≡ false
@@ -63,7 +63,7 @@ module_named-insert_entry (e ∷ es) name q m = go (slice_cmp nat_cmp name e.0) 
         ∙ cond_swapped (bytes_eq q e.0) (bytes_eq q name) e.1 m (module_named q es)
         (λ same. ap (λ n. bytes_eq n e.0) ((bytes_eq-Decides q name).0 same) ∙ apart name e.0 is)
 
-itself : (name : List ℕ) → bytes_eq name name ≡ true
+pub itself : (name : List ℕ) → bytes_eq name name ≡ true
 itself name = (bytes_eq-Decides name name).1 refl
 
 -- a module that is loaded is what is loaded under its name

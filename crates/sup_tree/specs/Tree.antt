@@ -3,7 +3,7 @@ use Rattle.std.specs.Prelude.{ℕ, ◌==◌, Bool, List, [], ◌∷◌, map, Opt
 use Rattle.std.proofs.Common.{refl}
 use Rattle.std.specs.Coded.{Coded, coded×, coded_ℕ, coded_list, code_by}
 use Rattle.std.specs.List.{find, filter, flat_map, list_any}
-use Rattle.std.specs.Option.{option_map, option_and_then}
+use Rattle.std.specs.Option.{option_map, option_map_or, option_and_then}
 use Rattle.std.specs.Str.{bytes_eq}
 use Rattle.proc_table.specs.declared.pid.Pid.{Pid}
 use Rattle.sup_tree.specs.Names.{is_among}
@@ -31,6 +31,10 @@ is_named name a = bytes_eq a.name name
 -- the application of this name, if it is started
 abbrev pub app_named : List ℕ → List App → Option App
 app_named name apps = find (is_named name) apps
+
+-- its processes, in the order in which they began; none where it isn't started
+abbrev pub processes_of : List ℕ → List App → List StartedProcess
+processes_of name apps = option_map_or (λ (a : App). a.processes) (app_named name apps) []
 
 -- all but that one
 abbrev pub without : List ℕ → List App → List App

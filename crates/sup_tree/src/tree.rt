@@ -2,7 +2,7 @@
 ghost use Rattle.std.specs.Prelude.{◌≡◌, ◌++◌, IfOk, OnOk, is_some, []};
 ghost use Rattle.std.specs.Option.{option_map};
 ghost use Rattle.sup_tree.specs.Names.{is_among};
-ghost use Rattle.sup_tree.specs.Tree.{app_of, app_named, app_using, find_process, module_among, module_in, processes_using, supervises};
+ghost use Rattle.sup_tree.specs.Tree.{app_of, app_named, app_using, find_process, module_among, module_in, processes_of, processes_using, supervises};
 
 use crate::process::{StartedApp, StartedProcess};
 use proc_table::{Name, Pid};
@@ -42,6 +42,16 @@ impl Tree {
         ensures { result ≡ is_some (app_named app.now self.now) }
     {
         self.app(app).is_some()
+    }
+
+    /// The processes of the application, in the order in which they began; none where it isn't started.
+    pub fn processes(&self, app: &str) -> &[StartedProcess]
+        ensures { result.now ≡ processes_of app.now self.now }
+    {
+        match self.app(app) {
+            Some(app) => app.processes.as_slice(),
+            None => &[],
+        }
     }
 
     /// The process of this application with this id, where there is one.

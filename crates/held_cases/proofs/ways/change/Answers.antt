@@ -9,9 +9,8 @@ end-requires g c = (c.requires.0, (c.in-Ok.ensures g.followed.first g.followed.c
 
 pub roll_back-requires-clause-follow : goal.roll_back-requires-clause-follow
 roll_back-requires-clause-follow g c =
-    let upgrade = c.args.upgrade.now in
-    let part = (c.in-Err.ensures g.followed.first g.followed.courses c.args.seat.now.view c.requires.1).0 in (
+    let upgrade = c.args.upgrade.now in (
       g.followed.first,
-      part_way part.0 (users_of upgrade.users.tree.now) upgrade.users.module.now (change (old_of upgrade.old.now) (value_of upgrade.extra.now)) g.followed.courses,
-      part.1,
+      part_way c.in-Err.field-0.slot (users_of upgrade.users.tree.now) upgrade.users.module.now (change (old_of upgrade.old.now) (value_of upgrade.extra.now)) g.followed.courses,
+      (c.in-Err.ensures g.followed.first g.followed.courses c.args.seat.now.view c.requires.1).0,
     )

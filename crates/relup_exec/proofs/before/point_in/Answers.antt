@@ -1,22 +1,27 @@
-use Rattle.std.proofs.Common.{◌+◌, ◌∙◌, ◌∷◌, ◌++◌, take, drop, sym, ap, subst, arith}
+use Rattle.std.proofs.Common.{◌≡◌, ◌+◌, ◌∙◌, ◌∷◌, ◌++◌, take, drop, sym, ap, subst, arith}
 use Rattle.std.proofs.lemmas.List.{length-map, length-take-le, take_all}
 use Rattle.std.specs.List.{AllByRecursion}
 use Rattle.relup_instruction.specs.Instruction.{Instruction, instruction_of, script_of}
-use Rattle.relup_exec.specs.Script.{IsEarly}
-use Rattle.relup_exec.proofs.OutcomeLemmas.{is_the_point, next_is_early, not_all_early}
-use Rattle.relup_exec.proofs.RowLemmas.{all_push, more, parted}
+use Rattle.relup_instruction.specs.Instruction.Instruction.{point_of_no_return}
+use Rattle.script_steps.specs.Steps.{IsEarly}
+use Rattle.script_steps.proofs.RowLemmas.{all_push, more, parted}
+use Rattle.relup_exec.proofs.RunLemmas.{is_the_point, late_behind, next_is_early, not_all_early}
 use Rattle.relup_exec.proofs.before.point_in.Goals as goal
 
 pub returns-then-is_point : goal.returns-then-is_point
 returns-then-is_point c =
     let script = c.args.script.now in
     let front = script_of (take c.loop-i.i script) in
+    let rest = script_of (drop (c.loop-i.i + 1) script) in
     let point = is_the_point (instruction_of c.index-script-i.result) (sym c.is_point.ensures ∙ c.if-is_point.true) in
+    let is : script_of script ≡ front ++ (point_of_no_return ∷ rest) =
+    parted instruction_of script c.loop-i.i c.index-script-i.result c.loop-i-test.true c.index-script-i.is ∙ ap (λ (i : Instruction). front ++ (i ∷ rest)) point in
     record {
       front = front;
-      rest = script_of (drop (c.loop-i.i + 1) script);
-      is = parted instruction_of script c.loop-i.i c.index-script-i.result c.loop-i-test.true c.index-script-i.is ∙ ap (λ (i : Instruction). front ++ (i ∷ script_of (drop (c.loop-i.i + 1) script))) point;
+      rest = rest;
+      is = is;
       early = c.loop-i.invariant;
+      late = late_behind c.requires.before c.requires.after front rest c.requires.early c.requires.late c.loop-i.invariant (sym c.requires.is ∙ is);
       place_is = sym (length-map (take c.loop-i.i script) instruction_of ∙ length-take-le c.loop-i.i script (omega (arith, c.loop-i-test.true)));
     }
 

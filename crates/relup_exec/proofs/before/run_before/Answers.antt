@@ -1,40 +1,44 @@
-use Rattle.std.proofs.Common.{◌≡◌, ℕ, [], ◌∷◌, ◌∙◌, List, take, sym, ap, subst}
+use Rattle.std.proofs.Common.{◌≡◌, ◌∷◌, ◌∙◌, refl, true, List, take, sym, ap, subst}
 use Rattle.std.proofs.lemmas.List.{take-map, take_at}
 use Rattle.std.specs.List.{AllByRecursion}
 use Rattle.relup_instruction.specs.declared.instruction.Instr.{Instr}
 use Rattle.relup_instruction.specs.Instruction.{instruction_of, script_of}
 use Rattle.relup_instruction.specs.Instruction.Instruction.{point_of_no_return}
-use Rattle.relup_exec.specs.InMemory.{cause_of, site_of}
-use Rattle.relup_exec.specs.Outcome.{IsPointAt}
-use Rattle.relup_exec.specs.Script.{IsEarly}
-use Rattle.relup_exec.specs.Steps.{HasDone, past_behind, progress_of}
+use Rattle.script_steps.specs.InMemory.{cause_of, site_of}
+use Rattle.relup_exec.specs.Outcome.{IsPointAt, run_behind}
+use Rattle.script_steps.specs.Script.{courses_within}
+use Rattle.script_steps.specs.Steps.{IsEarly, progress_of}
+use Rattle.relup_exec.specs.Stepwise.{HasBegun, start_at}
 use Rattle.relup_exec.proofs.OutcomeLemmas.{armed_well, refused_at_first, refused_well}
 use Rattle.relup_exec.proofs.before.run_before.Goals as goal
 
 -- what stands in front of the point
-front_is : (script : List Instr) (place : ℕ) (point : IsPointAt (script_of script) place) → script_of (take place script) ≡ point.front
+front_is : (script : List Instr) (place : _) (point : IsPointAt (script_of script) place) → script_of (take place script) ≡ point.front
 front_is script place point =
     sym (take-map instruction_of place script) ∙ (ap (take place) point.is ∙ take_at point.front (point_of_no_return ∷ point.rest) place (sym point.place_is))
 
-pub run-requires : goal.run-requires
-run-requires g c =
+pub run_early-requires : goal.run_early-requires
+run_early-requires g c =
     let early : AllByRecursion IsEarly (script_of (take c.point_in-place.result c.args.script.now)) =
     subst (AllByRecursion IsEarly) (sym (front_is c.args.script.now c.point_in-place.result c.point_in-place.ensures)) c.point_in-place.ensures.early in
-    let done : HasDone (past_behind (site_of c.args.site.now) c.args.tree.now c.args.seat.now.view []) (progress_of c.in-Ok.progress) c.args.seat.now.view = c.in-Ok.ensures c.args.seat.now.view c.args.tree.now c.requires.free in
-    λ κs live. (live, (c.requires.table, (early, done)))
+    let begun : HasBegun (site_of c.args.site.now) (start_at c.args.seat.now.view c.args.tree.now) (progress_of c.in-Ok.progress) c.args.tree.now c.args.seat.now.view =
+    c.in-Ok.ensures c.args.seat.now.view c.args.tree.now c.requires.free in
+    λ κs live. (live, (c.requires.table, (early, begun)))
 
 pub returns-in-Err-clause-refused : goal.returns-in-Err-clause-refused
 returns-in-Err-clause-refused g c =
+    let s = site_of c.args.site.now in
     let v = c.args.seat.now.view in
+    let start = start_at v c.args.tree.now in
     let stopped = c.in-Err.ensures.ran in
-    refused_well (site_of c.args.site.now) c.args.tree.now (script_of c.args.script.now) v c.point_in-place.result (script_of (take c.point_in-place.result c.args.script.now)) c.in-Err.refused.instr (cause_of c.in-Err.refused.cause) c.run.new.self.held c.run.new.seat.view c.roll_back.new.seat.view
+    refused_well s start (script_of c.args.script.now) c.point_in-place.result (script_of (take c.point_in-place.result c.args.script.now)) c.in-Err.refused.instr (cause_of c.in-Err.refused.cause) c.run_early.new.progress.held c.run_early.new.seat.view c.roll_back.new.seat.view
     c.point_in-place.ensures (front_is c.args.script.now c.point_in-place.result c.point_in-place.ensures) stopped c.roll_back.ensures.seen
-    (c.roll_back.ensures.left v stopped.partly.courses stopped.partly.follow)
+    (c.roll_back.ensures.left v (courses_within s true stopped.instruction stopped.modules stopped.slot (run_behind s start stopped.front)) stopped.partly)
 
 pub returns-in_default-clause-refused : goal.returns-in_default-clause-refused
 returns-in_default-clause-refused g c = refused_at_first (site_of c.args.site.now) c.args.tree.now (script_of c.args.script.now) c.args.seat.now.view c.requires.runnable c.requires.free
 
-pub returns-in-Ok-run-clause-armed : goal.returns-in-Ok-run-clause-armed
-returns-in-Ok-run-clause-armed g c =
-    armed_well (site_of c.args.site.now) c.args.tree.now (script_of c.args.script.now) c.args.seat.now.view c.point_in-place.result (script_of (take c.point_in-place.result c.args.script.now)) (progress_of c.run.new.self) c.run.new.seat.view
-    c.point_in-place.ensures (front_is c.args.script.now c.point_in-place.result c.point_in-place.ensures) c.in-Ok-run.ensures.ran.0 c.in-Ok-run.ensures.ran.1
+pub returns-in-Ok-run_early-clause-armed : goal.returns-in-Ok-run_early-clause-armed
+returns-in-Ok-run_early-clause-armed g c =
+    armed_well (site_of c.args.site.now) (start_at c.args.seat.now.view c.args.tree.now) (script_of c.args.script.now) c.point_in-place.result (script_of (take c.point_in-place.result c.args.script.now)) (progress_of c.run_early.new.progress) c.args.tree.now c.run_early.new.seat.view
+    c.point_in-place.ensures (front_is c.args.script.now c.point_in-place.result c.point_in-place.ensures) refl c.in-Ok-run_early.ensures.ran.0 c.in-Ok-run_early.ensures.ran.1

@@ -1,15 +1,20 @@
-use Rattle.std.proofs.Common.{◌≡◌, vec_len}
+use Rattle.std.proofs.Common.{◌≡◌, ℕ, ◌<◌, false, vec_len}
 use Rattle.erl_term.specs.Value.{value_of}
 use Rattle.mod_table.specs.InMemory.{old_of}
 use Rattle.proc_table.specs.declared.view.View.{View}
 use Rattle.held_processes.specs.Course.{Courses}
 use Rattle.held_processes.specs.Course.Operation.{change}
 use Rattle.held_processes.specs.Following.{AllFollow}
-use Rattle.held_processes.specs.Operations.{part_way, users_of}
+use Rattle.held_processes.specs.Operations.{lacks_row_at, part_way, users_of, values_seen}
 use Rattle.held_processes.proofs.processes.HeldProcesses.change.Given as goal
 
 abbrev pub invariant-loop-slot : goal.invariant-loop-slot
 invariant-loop-slot l =
+    let users = users_of l.users.tree.now in
+    let name = l.users.module.now in
+    let old = old_of l.old in
+    let extra = value_of l.extra in
     (l.slot-end ≡ vec_len l.self-inside.places)
     × ((first : View) (cs : Courses) (v : View) → AllFollow first cs l.fn.self v
-    → AllFollow first (part_way l.slot (users_of l.users.tree.now) l.users.module.now (change (old_of l.old) (value_of l.extra)) cs) l.self-inside.places.items v)
+    → AllFollow first (part_way l.slot users name (change old extra) cs) l.self-inside.places.items v
+    × ((p : ℕ) → p < l.slot → lacks_row_at old extra (values_seen v) users name cs p ≡ false))

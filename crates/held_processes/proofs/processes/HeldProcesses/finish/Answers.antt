@@ -1,4 +1,5 @@
-use Rattle.std.proofs.Common.{◌++◌, ◌∷◌, [], refl, ap, sym, subst, ◌∙◌, Option}
+use Rattle.std.proofs.Common.{◌++◌, ◌∷◌, [], refl, ap, sym, subst, ◌∙◌, Option, append-nil}
+use Rattle.proc_history.proofs.Prefixes.{prefix_trans}
 use Rattle.held_processes.specs.Following.{AllFollow, HeldForm, HeldSlots}
 use Rattle.held_processes.proofs.ReleaseLemmas.{all_going, all_ended, ends_free, ends_held, finish_keeps_free, finish_let_go, may_end}
 use Rattle.held_processes.proofs.processes.HeldProcesses.finish.Goals as goal
@@ -8,6 +9,7 @@ loop-place-init g c = (
   refl,
   all_going g.followed.first g.followed.courses _ c.self.inside.places.items c.args.seat.now.view
       (subst (λ (hs : HeldSlots). AllFollow g.followed.first g.followed.courses hs c.args.seat.now.view) (sym c.self.view_is) c.requires.1),
+  λ p. ([], append-nil _),
 )
 
 pub loop-place-preserved : goal.loop-place-preserved
@@ -15,6 +17,7 @@ loop-place-preserved g c = (
   c.loop-place.invariant.0,
   ends_free g.followed.first g.followed.courses _ c.loop-place.places.items c.pop.new.self.items c.loop-place.seat.view finish_keeps_free
       (c.in-Some.ensures.items ∙ ap (λ (x : Option HeldForm). c.pop.new.self.items ++ x ∷ []) c.in_default-place.is) c.loop-place.invariant.1,
+  c.loop-place.invariant.2,
 )
 
 pub let_go-requires : goal.let_go-requires
@@ -32,6 +35,7 @@ loop-place-preserved-in-Some-place g c =
           c.loop-place.invariant.1
           (finish_let_go g.followed.first g.followed.courses c.loop-place.places.items c.pop.new.self.items c.in-Some-place.process c.loop-place.seat.view c.let_go.new.seat.view is c.loop-place.invariant.1
           c.let_go.ensures.gone),
+      λ p. prefix_trans _ _ _ (c.loop-place.invariant.2 p) (c.let_go.ensures.longer p),
     )
 
 pub returns-clause-left : goal.returns-clause-left

@@ -6,9 +6,9 @@ use Rattle.held_processes.specs.Following.{AllFollow, HeldSlots}
 use Rattle.held_processes.specs.InMemory.{operation_of}
 use Rattle.held_processes.specs.Operations.{up_to, users_of}
 use Rattle.held_processes.specs.Slots.{Steps}
-use Rattle.held_processes.proofs.FollowLemmas.{past_of, at_slot, step_over, step_none, pass_over, none_reached, all_reached, on_user, on_other, failed_at, up_to_here}
+use Rattle.held_processes.proofs.FollowLemmas.{past_of, at_slot, step_over, step_none, pass_over, none_reached, all_reached, on_user, on_other, up_to_here}
 use Rattle.held_processes.proofs.processes.HeldProcesses.perform.Goals as goal
-use Rattle.held_processes.proofs.processes.HeldProcesses.perform.Goals.{then-include+in_ok-perform, else-include}
+use Rattle.held_processes.proofs.processes.HeldProcesses.perform.Goals.{then-include+in-Ok, else-include}
 
 pub loop-slot-init : goal.loop-slot-init
 loop-slot-init g c =
@@ -28,11 +28,10 @@ perform-requires g c κs lives =
       ),
     )
 
-pub returns-in_err-perform-clause-done : goal.returns-in_err-perform-clause-done
-returns-in_err-perform-clause-done g c =
-    failed_at g.followed.first (users_of c.args.users.now.tree.now) c.args.users.now.module.now (operation_of c.args.step) g.followed.courses c.from_residual.result _ _ c.loop-slot.slot c.from_residual.ensures.0
-    (step_none g.followed.first _ g.followed.courses c.loop-slot.self-inside.places.items c.loop-slot.seat.view c.perform.new.seat.view c.loop-slot.slot c.perform.new.place
-    (subst (λ n. c.loop-slot.slot < n) c.loop-slot.invariant.1 c.loop-slot-test.true) c.loop-slot.invariant.2 c.in_err-perform.ensures.done)
+pub returns-in-Err-clause-done : goal.returns-in-Err-clause-done
+returns-in-Err-clause-done g c =
+    step_none g.followed.first _ g.followed.courses c.loop-slot.self-inside.places.items c.loop-slot.seat.view c.perform.new.seat.view c.loop-slot.slot c.perform.new.place
+    (subst (λ n. c.loop-slot.slot < n) c.loop-slot.invariant.1 c.loop-slot-test.true) c.loop-slot.invariant.2 c.in-Err.ensures.done
 
 pub loop-slot-preserved : goal.loop-slot-preserved
 loop-slot-preserved g c =
@@ -42,13 +41,13 @@ loop-slot-preserved g c =
     let cs = g.followed.courses in
     let slot = c.loop-slot.slot in
     elim c.if-include.branch [
-      | then-include+in_ok-perform w ↦ rw (w.self-inside-is, w.seat-is) (
-        w.in_ok-perform.ensures.table ∙ c.loop-slot.invariant.0,
+      | then-include+in-Ok w ↦ rw (w.self-inside-is, w.seat-is) (
+        w.in-Ok.ensures.table ∙ c.loop-slot.invariant.0,
         c.loop-slot.invariant.1,
         step_over g.followed.first (on_module users name op cs) cs c.loop-slot.self-inside.places.items c.loop-slot.seat.view w.perform.new.seat.view slot w.perform.new.place
             (subst (λ n. slot < n) c.loop-slot.invariant.1 c.loop-slot-test.true) c.loop-slot.invariant.2
             (subst (λ d. Steps (past_of g.followed.first cs slot) slot d c.loop-slot.seat.view w.perform.new.place w.perform.new.seat.view) (on_user users name op cs slot (sym w.if-include.ensures))
-            w.in_ok-perform.ensures.done),
+            w.in-Ok.ensures.done),
       )
       | else-include w ↦ rw (w.self-inside-is, w.seat-is) (
         c.loop-slot.invariant.0,

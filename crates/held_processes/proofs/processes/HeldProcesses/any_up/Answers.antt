@@ -1,0 +1,80 @@
+use Rattle.std.proofs.Common.{◌≡◌, ◌<◌, ◌≤◌, ◌&&◌, ◌∙◌, ℕ, Bool, Option, refl, ap, ap₂, sym, subst, arith, None, length, slice_index_or}
+use Rattle.std.proofs.lemmas.List.{get_or_read_under}
+use Rattle.proc_table.specs.Agrees.{slots}
+use Rattle.held_processes.specs.Following.{HeldForm, HeldSlots}
+use Rattle.held_processes.specs.Operations.{is_up_user, users_of, values_seen}
+use Rattle.held_processes.proofs.AnyLemmas.{any_found, any_none}
+use Rattle.held_processes.proofs.FollowLemmas.{at_slot}
+use Rattle.held_processes.proofs.LookLemmas.{looked_at, looked_none, not_user}
+use Rattle.held_processes.proofs.processes.HeldProcesses.any_up.Goals as goal
+use Rattle.held_processes.proofs.processes.HeldProcesses.any_up.Goals.{then-include+else-is_up, else-include}
+
+-- what is read of a place is what stands there
+there : (hs all : HeldSlots) (slot : ℕ) (place : Option HeldForm) → all ≡ hs → slot < slots → length hs ≡ slots → place ≡ slice_index_or all slot place → place ≡ slice_index_or hs slot None
+there hs all slot place is inside long read =
+    get_or_read_under hs slot slots place None (read ∙ ap (λ (l : HeldSlots). slice_index_or l slot place) is) inside (sym long)
+
+pub loop-slot-init : goal.loop-slot-init
+loop-slot-init g c = (
+  c.requires.1.0,
+  c.len-slot-end.ensures ∙ (c.self.inside.places.ok.0 ∙ (ap (λ (l : HeldSlots). length l) c.self.view_is ∙ c.requires.1.1.long)),
+  c.requires.1.1,
+  λ p below. absurd (omega (arith, below)),
+)
+
+pub is_up-requires : goal.is_up-requires
+is_up-requires g c κs lives =
+    let all = c.loop-slot.invariant.2 in
+    let inside = subst (λ n. c.loop-slot.slot < n) c.loop-slot.invariant.1 c.loop-slot-test.true in (
+      lives,
+      (
+        c.loop-slot.invariant.0,
+        at_slot g.followed.first g.followed.courses g.followed.courses c.args.self.now c.loop-slot.seat.view c.loop-slot.slot c.index.result.now all inside refl
+            (there c.args.self.now c.self.inside.places.items c.loop-slot.slot c.index.result.now c.self.view_is inside all.long c.index.ensures),
+      ),
+    )
+
+pub returns-then-is_up-clause-told : goal.returns-then-is_up-clause-told
+returns-then-is_up-clause-told g c =
+    let inside = subst (λ n. c.loop-slot.slot < n) c.loop-slot.invariant.1 c.loop-slot-test.true in
+    sym (any_found (is_up_user (values_seen c.is_up.new.seat.view) (users_of c.args.users.now.tree.now) c.args.users.now.module.now g.followed.courses) slots c.loop-slot.slot inside
+    (ap₂ (λ (a b : Bool). a && b) (sym c.if-include.ensures) (sym c.if-is_up.ensures.told)))
+
+pub returns-then-is_up-clause-follow : goal.returns-then-is_up-clause-follow
+returns-then-is_up-clause-follow g c =
+    let all = c.loop-slot.invariant.2 in
+    let inside = subst (λ n. c.loop-slot.slot < n) c.loop-slot.invariant.1 c.loop-slot-test.true in
+    looked_at g.followed.first g.followed.courses c.args.self.now c.loop-slot.seat.view c.is_up.new.seat.view c.loop-slot.slot c.index.result.now all
+    (there c.args.self.now c.self.inside.places.items c.loop-slot.slot c.index.result.now c.self.view_is inside all.long c.index.ensures) c.if-is_up.ensures.followed
+
+pub loop-slot-preserved : goal.loop-slot-preserved
+loop-slot-preserved g c =
+    let users = users_of c.args.users.now.tree.now in
+    let name = c.args.users.now.module.now in
+    let cs = g.followed.courses in
+    let slot = c.loop-slot.slot in
+    let all = c.loop-slot.invariant.2 in
+    let none = c.loop-slot.invariant.3 in
+    let inside = subst (λ n. slot < n) c.loop-slot.invariant.1 c.loop-slot-test.true in
+    elim c.if-include.branch [
+      | then-include+else-is_up w ↦ rw w.seat-is (
+        w.if-is_up.ensures.table ∙ c.loop-slot.invariant.0,
+        c.loop-slot.invariant.1,
+        looked_at g.followed.first cs c.args.self.now c.loop-slot.seat.view w.is_up.new.seat.view slot w.index.result.now all
+            (there c.args.self.now c.self.inside.places.items slot w.index.result.now c.self.view_is inside all.long w.index.ensures) w.if-is_up.ensures.followed,
+        looked_none users name cs c.loop-slot.seat.view w.is_up.new.seat.view slot w.if-is_up.ensures.followed.elsewhere.others none
+            (ap₂ (λ (a b : Bool). a && b) (sym w.if-include.ensures) (sym w.if-is_up.ensures.told)),
+      )
+      | else-include w ↦ rw w.seat-is (
+        c.loop-slot.invariant.0,
+        c.loop-slot.invariant.1,
+        all,
+        looked_none users name cs c.loop-slot.seat.view c.loop-slot.seat.view slot (λ q ne. refl) none (not_user users name cs c.loop-slot.seat.view slot (sym w.if-include.ensures)),
+      )
+    ]
+
+pub returns-clause-told : goal.returns-clause-told
+returns-clause-told g c =
+    let far : slots ≤ c.loop-slot.slot = omega (arith, c.loop-slot-test.false, c.loop-slot.invariant.1) in
+    sym (any_none (is_up_user (values_seen c.loop-slot.seat.view) (users_of c.args.users.now.tree.now) c.args.users.now.module.now g.followed.courses) slots
+    (λ p inside. c.loop-slot.invariant.3 p (omega (arith, inside, far))))

@@ -1,0 +1,17 @@
+use Rattle.std.proofs.Common.{◌≡◌, ℕ, ◌<◌, false}
+use Rattle.proc_table.specs.Agrees.{slots}
+use Rattle.held_processes.specs.Following.{AllFollow}
+use Rattle.held_processes.specs.Operations.{is_up_user, users_of, values_seen}
+use Rattle.held_processes.proofs.FollowLemmas.{past_of}
+use Rattle.held_processes.proofs.processes.HeldProcesses.any_up.Given as goal
+
+abbrev pub ghost-is_up : goal.ghost-is_up
+ghost-is_up g a = past_of g.followed.first g.followed.courses a.pid.slot
+
+-- none of the slots so far has a process of the module that is up
+abbrev pub invariant-loop-slot : goal.invariant-loop-slot
+invariant-loop-slot g l =
+    (l.seat.table ≡ l.table)
+    × (l.slot-end ≡ slots)
+    × AllFollow g.followed.first g.followed.courses l.self l.seat.view
+    × ((p : ℕ) → p < l.slot → is_up_user (values_seen l.seat.view) (users_of l.users.tree.now) l.users.module.now g.followed.courses p ≡ false)

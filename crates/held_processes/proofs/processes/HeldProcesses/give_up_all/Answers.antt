@@ -1,0 +1,10 @@
+use Rattle.std.proofs.Common.{refl, ◌∙◌}
+use Rattle.held_processes.proofs.ApplicationLemmas.{one_more_given_up}
+use Rattle.held_processes.proofs.processes.HeldProcesses.give_up_all.Goals as goal
+
+pub loop-place-preserved : goal.loop-place-preserved
+loop-place-preserved g c = (
+  c.give_up_one.ensures.table ∙ c.loop-place.invariant.0,
+  refl,
+  one_more_given_up g.followed.first c.give_up_one.new.self c.give_up_one.new.seat.view c.args.processes.now c.loop-place.place g.followed.courses c.loop-place-test.true c.give_up_one.ensures.done,
+)

@@ -1,0 +1,10 @@
+use Rattle.app_file.specs.InMemory.{specification_of}
+use Rattle.sup_tree.specs.Loaded.{modules_in, tables_of}
+use Rattle.held_processes.proofs.ApplicationLemmas.{starts_in}
+use Rattle.held_processes.proofs.processes.HeldProcesses.start_app.Goals as goal
+
+pub returns-clause-started : goal.returns-clause-started
+returns-clause-started g c =
+    let it = specification_of c.args.app.now in
+    starts_in g.followed c.args.self.now c.args.seat.now.view c.args.tree.now it.name it.top (tables_of (modules_in c.args.loaded.now)) c.start_app.result c.start_app.new.self c.start_app.new.seat.view
+    c.requires.1.1 c.knows.ensures.known.legal c.start_app.ensures.started

@@ -1,0 +1,105 @@
+//! Applications that start and stop while processes are held.
+ghost use Rattle.std.specs.Prelude.{◌≡◌, ◌<◌, length, slice_index_or};
+ghost use Rattle.app_file.specs.InMemory.{specification_of};
+ghost use Rattle.held_processes.specs.Applications.{StartsIn, held_ended, scene_at, with_stopped};
+ghost use Rattle.held_processes.specs.Following.{AllFollow, Followed};
+ghost use Rattle.held_processes.specs.Operations.{give_up_at};
+ghost use Rattle.sup_tree.specs.Loaded.{modules_in, tables_of};
+ghost use Rattle.sup_tree.specs.Tree.{pids_of};
+ghost use Rattle.sup_tree.specs.declared.process.StartedProcess.{StartedProcess as Process};
+
+use crate::{AppName, HeldProcesses};
+use app_file::App;
+use proc_table::{HandlerSeat, ProcTable};
+use std::alloc::Global;
+use std::sync::Wait;
+use sup_tree::{Loaded, StartError, StartedProcess, Tree};
+
+impl HeldProcesses {
+    /// Starts the application, beside the processes that are held (OTP: application:start/1). Where it answers an error, nothing
+    /// was done. It waits for the slots.
+    pub fn start_app<'a, R: Wait>(
+        &self,
+        rt: &R,
+        alloc: Global,
+        table: &ProcTable,
+        seat: &mut HandlerSeat,
+        tree: &mut Tree,
+        app: &'a App,
+        loaded: &'a Loaded,
+    ) -> Result<(), StartError<'a>>
+        ghost followed: { Followed }
+        requires table { seat.old.table ≡ table.now }
+        requires follow { AllFollow followed.first followed.courses self.now seat.old.view }
+        ensures table { seat.new.table ≡ seat.old.table }
+        ensures started { StartsIn followed.first (specification_of app.now).name
+            (specification_of app.now).top (tables_of (modules_in loaded.now))
+            (scene_at followed tree.old) result tree.new self.now seat.new.view }
+    {
+        seat.knows();
+        tree.start_app(rt, alloc, table, seat, app, loaded)
+    }
+
+    /// Stops the application, if it is started: those of its processes that are held are given up and let go, then the others
+    /// are given up, the last first (OTP: application:stop/1). It waits for the slots, and takes no memory.
+    pub fn stop_app<R: Wait>(
+        &mut self,
+        rt: &R,
+        table: &ProcTable,
+        seat: &mut HandlerSeat,
+        tree: &mut Tree,
+        app: &AppName<'_>,
+    )
+        ghost followed: { Followed }
+        requires table { seat.old.table ≡ table.now }
+        requires follow { AllFollow followed.first followed.courses self.old seat.old.view }
+        ensures table { seat.new.table ≡ seat.old.table }
+        ensures apps { tree.new
+            ≡ (with_stopped app.now.name.now (scene_at followed tree.old)).apps }
+        ensures stopped { AllFollow followed.first
+            (with_stopped app.now.name.now (scene_at followed tree.old)).courses
+            self.new seat.new.view }
+    {
+        self.give_up_all(table, seat, tree.processes(app.name));
+        let _ = tree.stop_app(rt, table, seat, app.name);
+    }
+
+    // Those of the processes that are held are given up and let go.
+    fn give_up_all(
+        &mut self,
+        table: &ProcTable,
+        seat: &mut HandlerSeat,
+        processes: &[StartedProcess],
+    )
+        ghost followed: { Followed }
+        requires table { seat.old.table ≡ table.now }
+        requires follow { AllFollow followed.first followed.courses self.old seat.old.view }
+        ensures table { seat.new.table ≡ seat.old.table }
+        ensures done { AllFollow followed.first
+            (held_ended (pids_of processes.now) followed.courses) self.new seat.new.view }
+    {
+        for place in 0..processes.len() {
+            self.give_up_one(table, seat, processes, place);
+        }
+    }
+
+    // The process at this place among these is given up and let go, if it is held.
+    fn give_up_one(
+        &mut self,
+        table: &ProcTable,
+        seat: &mut HandlerSeat,
+        processes: &[StartedProcess],
+        place: usize,
+    )
+        ghost followed: { Followed }
+        requires table { seat.old.table ≡ table.now }
+        requires inside { place < length processes.now }
+        requires follow { AllFollow followed.first followed.courses self.old seat.old.view }
+        ensures table { seat.new.table ≡ seat.old.table }
+        ensures done { (d : Process) → AllFollow followed.first
+            (give_up_at (slice_index_or processes.now place d).pid.slot followed.courses)
+            self.new seat.new.view }
+    {
+        self.give_up_slot(table, seat, processes[place].pid.slot);
+    }
+}

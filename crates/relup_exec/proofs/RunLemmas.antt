@@ -1,0 +1,120 @@
+-- Instructions of a script one after another, the point of no return among them.
+use Rattle.std.proofs.Common.{◌≡◌, Bool, true, false, ◌&&◌, not, List, [], ◌∷◌, ◌++◌, length, ◌<◌, arith, refl, sym, ap, subst, ◌∙◌, ◌⊎◌, inl, inr, ⊎_elim, Option, Some, None, is_some, if◌then◌else◌}
+use Rattle.std.specs.List.{AllByRecursion}
+use Rattle.proc_table.specs.declared.view.View.{View}
+use Rattle.relup_instruction.specs.Instruction.{ChangeForm, Instruction}
+use Rattle.relup_instruction.specs.Instruction.Instruction.{apply, code_change, point_of_no_return}
+use Rattle.relup_script.specs.Script.{IsRunnable, is_point}
+use Rattle.library.specs.Library.{Library}
+use Rattle.relup_instruction.specs.declared.instruction.Direction.{Direction}
+use Rattle.sup_tree.specs.Tree.{app_named}
+use Rattle.held_processes.specs.Applications.{with_started}
+use Rattle.script_steps.specs.Script.AppCall.{starts, stops, idle}
+use Rattle.script_steps.specs.Script.{AppCall, Run, Site, app_call, called_after, changed, changed_once, mode_of, run_after, scene_of, started_from, tables_among, target_library, with_scene}
+use Rattle.relup_exec.specs.Outcome.{RanAll, run_through, still_early}
+use Rattle.script_steps.specs.Steps.{IsLate}
+use Rattle.script_steps.specs.Steps.{HasNoFault, IsEarly}
+use Rattle.script_steps.proofs.RowLemmas.{all_middle}
+
+-- one instruction more
+pub run_push : (s : Site) (e : Bool) (is : List Instruction) (i : Instruction) (r : Run) → run_through s e (is ++ i ∷ []) r ≡ run_after s (still_early e is) i (run_through s e is r)
+run_push s e [] i r = refl
+run_push s e (k ∷ is) i r = run_push s (e && not (is_point k)) is i (run_after s e k r)
+
+pub ran_push : (s : Site) (first : View) (e : Bool) (is : List Instruction) (i : Instruction) (r : Run) → RanAll s first e is r → HasNoFault s first (run_through s e is r) i → RanAll s first e (is ++ i ∷ []) r
+ran_push s first e [] i r ran one = (one, tt)
+ran_push s first e (k ∷ is) i r ran one = (ran.0, ran_push s first (e && not (is_point k)) is i (run_after s e k r) ran.1 one)
+
+pub still_push : (e : Bool) (is : List Instruction) (i : Instruction) → still_early e (is ++ i ∷ []) ≡ (still_early e is && not (is_point i))
+still_push e [] i = refl
+still_push e (k ∷ is) i = still_push (e && not (is_point k)) is i
+
+-- what may stand before the point isn't the point
+pub not_the_point : (i : Instruction) → IsEarly i → is_point i ≡ false
+not_the_point point_of_no_return early = absurd (cc early)
+not_the_point i early = refl
+
+pub still_before : (is : List Instruction) → AllByRecursion IsEarly is → still_early true is ≡ true
+still_before [] early = refl
+still_before (i ∷ is) early = ap (λ b. still_early (not b) is) (not_the_point i early.0) ∙ still_before is early.1
+
+-- behind the point
+pub still_behind : (is : List Instruction) → still_early false is ≡ false
+still_behind [] = refl
+still_behind (i ∷ is) = still_behind is
+
+pub behind_point : (front rest : List Instruction) (e : Bool) → still_early e (front ++ (point_of_no_return ∷ rest)) ≡ false
+behind_point [] rest true = still_behind rest
+behind_point [] rest false = still_behind rest
+behind_point (i ∷ front) rest e = behind_point front rest (e && not (is_point i))
+
+pub is_the_point : (i : Instruction) → is_point i ≡ true → i ≡ point_of_no_return
+is_the_point point_of_no_return e = refl
+is_the_point i e = absurd (cc e)
+
+early_or_point : (before after front : List Instruction) (i : Instruction) (rest : List Instruction) → AllByRecursion IsEarly before → AllByRecursion IsEarly front
+    → before ++ (point_of_no_return ∷ after) ≡ front ++ (i ∷ rest) → IsEarly i ⊎ (i ≡ point_of_no_return)
+early_or_point [] after [] i rest early so_far e = inr (sym (cc e))
+early_or_point [] after (f ∷ fs) i rest early so_far e =
+    let same : point_of_no_return ≡ f = cc e in
+    let wrong : IsEarly point_of_no_return = subst IsEarly (sym same) so_far.0 in absurd (cc wrong)
+early_or_point (b ∷ bs) after [] i rest early so_far e = let same : b ≡ i = cc e in inl (subst IsEarly same early.0)
+early_or_point (b ∷ bs) after (f ∷ fs) i rest early so_far e = early_or_point bs after fs i rest early.1 so_far.1 (cc e)
+
+-- the next instruction, which isn't the point, may stand before it
+pub next_is_early : (script : List Instruction) (runnable : IsRunnable script) (front : List Instruction) (i : Instruction) (rest : List Instruction) → script ≡ front ++ (i ∷ rest)
+    → AllByRecursion IsEarly front → is_point i ≡ false → IsEarly i
+next_is_early script runnable front i rest parts so_far other =
+    ⊎_elim (λ early. early) (λ is. absurd (cc (sym other ∙ ap is_point is)))
+    (early_or_point runnable.before runnable.after front i rest runnable.early so_far (sym runnable.is ∙ parts))
+
+-- not all may stand before the point
+pub not_all_early : (script : List Instruction) → IsRunnable script → AllByRecursion IsEarly script → ⊥
+not_all_early script runnable all =
+    let wrong : IsEarly point_of_no_return = all_middle IsEarly runnable.before point_of_no_return runnable.after (subst (AllByRecursion IsEarly) runnable.is all) in
+    cc wrong
+
+-- behind the first point stands what stands behind the point of a script that can be run
+pub late_behind : (before after front rest : List Instruction) → AllByRecursion IsEarly before → AllByRecursion IsLate after → AllByRecursion IsEarly front
+    → before ++ (point_of_no_return ∷ after) ≡ front ++ (point_of_no_return ∷ rest) → AllByRecursion IsLate rest
+late_behind [] after [] rest early late so_far e = let same : after ≡ rest = cc e in subst (AllByRecursion IsLate) same late
+late_behind [] after (f ∷ fs) rest early late so_far e =
+    let same : point_of_no_return ≡ f = cc e in
+    let wrong : IsEarly point_of_no_return = subst IsEarly (sym same) so_far.0 in absurd (cc wrong)
+late_behind (b ∷ bs) after [] rest early late so_far e =
+    let same : b ≡ point_of_no_return = cc e in
+    let wrong : IsEarly point_of_no_return = subst IsEarly same early.0 in absurd (cc wrong)
+late_behind (b ∷ bs) after (f ∷ fs) rest early late so_far e = late_behind bs after fs rest early.1 late so_far.1 (cc e)
+
+-- an instruction behind so many more than those before the point may stand behind it
+pub late_at : (front rest done more : List Instruction) (i : Instruction) → AllByRecursion IsLate rest → front ++ (point_of_no_return ∷ rest) ≡ done ++ (i ∷ more) → length front < length done → IsLate i
+late_at front rest [] more i late e far = absurd (omega (arith, far))
+late_at [] rest (d ∷ done) more i late e far = (let same : rest ≡ done ++ (i ∷ more) = cc e in all_middle IsLate done i more (subst (AllByRecursion IsLate) same late))
+late_at (f ∷ front) rest (d ∷ done) more i late e far = late_at front rest done more i late (cc e) (omega (arith, far))
+
+changed_values : (s : Site) (mode : Direction) (cs : List ChangeForm) (r : Run) → (changed s mode cs r).values ≡ r.values
+changed_values s mode [] r = refl
+changed_values s mode (c ∷ cs) r = changed_values s mode cs (changed_once s mode c r)
+
+either_values : (b : Bool) (r q : Run) → q.values ≡ r.values → (if b then r else q).values ≡ r.values
+either_values true r q same = refl
+either_values false r q same = same
+
+started_values : (l : Option Library) (r : Run) → (started_from l r).values ≡ r.values
+started_values None r = refl
+started_values (Some l) r = either_values (is_some (app_named l.app.name r.apps)) r (with_scene r (with_started l.app.name l.app.top (tables_among r.modules) (scene_of r))) refl
+
+called_values : (s : Site) (c : AppCall) (r : Run) → (called_after s c r).values ≡ r.values
+called_values s (starts name) r = started_values (target_library s name) r
+called_values s (stops name) r = refl
+called_values s idle r = refl
+
+pub step_values : (s : Site) (e : Bool) (i : Instruction) (r : Run) → (run_after s e i r).values ≡ r.values
+step_values s e (code_change c) r = changed_values s (mode_of c.mode) c.changes r
+step_values s e (apply c) r = called_values s (app_call c) r
+step_values s e i r = refl
+
+-- what stood in the slots at first is kept
+pub through_values : (s : Site) (e : Bool) (is : List Instruction) (r : Run) → (run_through s e is r).values ≡ r.values
+through_values s e [] r = refl
+through_values s e (i ∷ is) r = through_values s (e && not (is_point i)) is (run_after s e i r) ∙ step_values s e i r

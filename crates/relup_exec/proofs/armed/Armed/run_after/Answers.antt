@@ -1,0 +1,105 @@
+use Rattle.std.proofs.Common.{◌≡◌, ◌+◌, ◌∙◌, ◌∷◌, ◌++◌, ◌&&◌, not, [], true, false, List, ℕ, length, length-append, take, drop, sym, ap, subst, arith, append_assoc}
+use Rattle.std.proofs.lemmas.List.{length-map, length-take-le, take_at, take-map}
+use Rattle.relup_instruction.specs.declared.instruction.Instr.{Instr}
+use Rattle.relup_instruction.specs.Instruction.{Instruction, instruction_of, script_of}
+use Rattle.relup_instruction.specs.Instruction.Instruction.{point_of_no_return}
+use Rattle.relup_script.specs.Script.{is_point}
+use Rattle.sup_tree.specs.Tree.{App}
+use Rattle.held_processes.specs.Course.{on_all}
+use Rattle.held_processes.specs.Course.Operation.{pass_point}
+use Rattle.held_processes.specs.Following.{AllFollow}
+use Rattle.script_steps.specs.InMemory.{site_of}
+use Rattle.script_steps.specs.Steps.{IsLate}
+use Rattle.relup_exec.specs.Outcome.{IsPointAt, Ran, past_behind, run_behind, still_early}
+use Rattle.relup_exec.specs.InMemory.{armed_of}
+use Rattle.script_steps.specs.Steps.{HasDone, ProgressForm, progress_of}
+use Rattle.relup_exec.proofs.OutcomeLemmas.{point_passed, run_more}
+use Rattle.script_steps.proofs.RowLemmas.{more, parted}
+use Rattle.relup_exec.proofs.RunLemmas.{behind_point, late_at, still_push}
+use Rattle.relup_exec.proofs.armed.Armed.run_after.Goals as goal
+
+-- what stands in front of the point, and that with it
+front_is : (script : List Instr) (place : ℕ) (point : IsPointAt (script_of script) place) → script_of (take place script) ≡ point.front
+front_is script place point =
+    sym (take-map instruction_of place script) ∙ (ap (take place) point.is ∙ take_at point.front (point_of_no_return ∷ point.rest) place (sym point.place_is))
+
+point_is : (script : List Instr) (place : ℕ) (point : IsPointAt (script_of script) place) → script_of (take (place + 1) script) ≡ point.front ++ point_of_no_return ∷ []
+point_is script place point =
+    let front = point.front ++ point_of_no_return ∷ [] in
+    sym (take-map instruction_of (place + 1) script)
+    ∙ (ap (take (place + 1)) (point.is ∙ sym (append_assoc point.front (point_of_no_return ∷ []) point.rest))
+    ∙ take_at front point.rest (place + 1) (length-append point.front (point_of_no_return ∷ []) ∙ ap (λ n. n + 1) (sym point.place_is)))
+
+pub let_pass-requires : goal.let_pass-requires
+let_pass-requires g c =
+    let armed = c.requires.1.1.0 in (
+      c.requires.1.0,
+      subst (λ (is : List Instruction). AllFollow g.start.first (run_behind (site_of c.args.site.now) g.start is).courses c.args.self.progress.held c.args.seat.now.view)
+          (sym (front_is c.args.script.now c.args.self.place armed.point)) armed.follow,
+    )
+
+pub loop-i-init : goal.loop-i-init
+loop-i-init g c =
+    let s = site_of c.args.site.now in
+    let script = c.args.script.now in
+    let place = c.args.self.place in
+    let armed = c.requires.1.1.0 in
+    let front = point_is script place armed.point in
+    let follow = subst (λ (is : List Instruction). AllFollow g.start.first (on_all pass_point (run_behind s g.start is).courses) c.let_pass.new.held c.let_pass.new.seat.view) (front_is script place armed.point)
+    c.let_pass.ensures.passed in
+    let passed = point_passed s g.start (script_of script) (armed_of c.args.self) c.let_pass.new.held c.args.seat.now.view c.let_pass.new.seat.view armed follow in
+    let a : ProgressForm = record { held = c.let_pass.new.held; fetched = (armed_of c.args.self).fetched; next = (armed_of c.args.self).next } in (
+      c.let_pass.ensures.table ∙ c.requires.1.0,
+      omega arith,
+      ap (still_early true) front ∙ behind_point armed.point.front [] true,
+      subst (Ran s g.start) (sym front) passed.0,
+      subst (λ (is : List Instruction). HasDone (past_behind s g.start is) a c.args.tree.now c.let_pass.new.seat.view) (sym front)
+          (subst (λ (tree : List App). HasDone (past_behind s g.start (armed.point.front ++ point_of_no_return ∷ [])) a tree c.let_pass.new.seat.view) (sym c.requires.1.1.1) passed.1),
+    )
+
+pub carry_out_late-done-requires : goal.carry_out_late-done-requires
+carry_out_late-done-requires g c =
+    let script = c.args.script.now in
+    let armed = c.requires.1.1.0 in
+    let so_far = script_of (take c.loop-i.i script) in
+    let i = instruction_of c.index-script-i.result in
+    let parts = parted instruction_of script c.loop-i.i c.index-script-i.result c.loop-i-test.true c.index-script-i.is in
+    let long : length so_far ≡ c.loop-i.i = length-map (take c.loop-i.i script) instruction_of ∙ length-take-le c.loop-i.i script (omega (arith, c.loop-i-test.true)) in
+    let late : IsLate i = late_at armed.point.front armed.point.rest so_far (script_of (drop (c.loop-i.i + 1) script)) i armed.point.late (sym armed.point.is ∙ parts)
+    (omega (arith, long, c.loop-i.invariant.1, armed.point.place_is)) in
+    λ κs live. (live, (c.loop-i.invariant.0, (late, c.loop-i.invariant.4)))
+
+pub loop-i-preserved : goal.loop-i-preserved
+loop-i-preserved g c =
+    let s = site_of c.args.site.now in
+    let script = c.args.script.now in
+    let so_far = script_of (take c.loop-i.i script) in
+    let i = instruction_of c.index-script-i.result in
+    let grown = more instruction_of script c.loop-i.i c.index-script-i.result c.loop-i-test.true c.index-script-i.is in
+    let done = run_more s g.start false so_far i (progress_of c.carry_out_late-done.new.self) c.carry_out_late-done.new.tree c.carry_out_late-done.new.seat.view c.loop-i.invariant.2 c.loop-i.invariant.3 c.in_default.ensures.carried in (
+      c.carry_out_late-done.ensures.table ∙ c.loop-i.invariant.0,
+      omega (arith, c.loop-i.invariant.1),
+      ap (still_early true) grown ∙ (still_push true so_far i ∙ ap (λ e. e && not (is_point i)) c.loop-i.invariant.2),
+      subst (Ran s g.start) (sym grown) done.0,
+      subst (λ (is : List Instruction). HasDone (past_behind s g.start is) (progress_of c.carry_out_late-done.new.self) c.carry_out_late-done.new.tree c.carry_out_late-done.new.seat.view) (sym grown) done.1,
+    )
+
+pub returns-in-Err-clause-broken : goal.returns-in-Err-clause-broken
+returns-in-Err-clause-broken g c =
+    let script = c.args.script.now in
+    let so_far = script_of (take c.loop-i.i script) in
+    let parts = parted instruction_of script c.loop-i.i c.index-script-i.result c.loop-i-test.true c.index-script-i.is in
+    let long : length so_far ≡ c.loop-i.i = length-map (take c.loop-i.i script) instruction_of ∙ length-take-le c.loop-i.i script (omega (arith, c.loop-i-test.true)) in
+    record {
+      front = so_far;
+      instruction = instruction_of c.index-script-i.result;
+      at = record { rest = script_of (drop (c.loop-i.i + 1) script); is = parts; counted = ap (λ n. n + 1) (sym long) };
+      late = c.loop-i.invariant.2;
+      ran = c.loop-i.invariant.3;
+      then_view = c.carry_out_late-done.new.seat.view;
+      fails = c.in-Err.ensures.carried.0;
+      modules = c.in-Err.failure.modules;
+      slot = c.in-Err.failure.slot;
+      left = c.close.ensures.left;
+      longer = c.close.ensures.longer;
+    }

@@ -1,5 +1,0 @@
-use Rattle.relup_exec.specs.Steps.{followed_in}
-use Rattle.relup_exec.proofs.progress.Progress.give_table.Given as goal
-
-abbrev pub ghost-load : goal.ghost-load
-ghost-load g a = followed_in g.past

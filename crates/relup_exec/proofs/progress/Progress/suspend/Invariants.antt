@@ -1,5 +1,0 @@
-use Rattle.relup_exec.specs.Steps.{followed_in}
-use Rattle.relup_exec.proofs.progress.Progress.suspend.Given as goal
-
-abbrev pub ghost-hold_all : goal.ghost-hold_all
-ghost-hold_all g a = followed_in g.past

@@ -1,0 +1,35 @@
+-- What is known between the instructions of a script.
+use Rattle.std.specs.Prelude.{ℕ, true, List, [], Result, Ok, Err}
+use Rattle.proc_table.specs.declared.view.View.{View}
+use Rattle.relup_instruction.specs.Instruction.{Instruction}
+use Rattle.sup_tree.specs.Tree.{App}
+use Rattle.held_processes.specs.Following.{HeldSlots, AllFollow}
+use Rattle.relup_exec.specs.declared.before.Refused.{Refused}
+use Rattle.script_steps.specs.Script.{Site, courses_within}
+use Rattle.script_steps.specs.Fault.{Cause}
+use Rattle.script_steps.specs.InMemory.{cause_of}
+use Rattle.relup_exec.specs.Outcome.{IsInstructionAt, Ran, Start, past_behind, run_behind}
+use Rattle.script_steps.specs.Steps.{HasDone, IsFault, ProgressForm}
+
+abbrev pub start_at : View → List App → Start
+start_at v apps = record { first = v; apps = apps }
+
+-- nothing was done yet
+abbrev pub HasBegun : Site → Start → ProgressForm → List App → View → Type 0
+HasBegun s start a tree v = HasDone (past_behind s start []) a tree v
+
+-- Of these instructions the one with this number is the first that fails. It was done in part.
+pub record IsStopped (s : Site) (start : Start) (is : List Instruction) (number : ℕ) (c : Cause) (hs : HeldSlots) (v : View) : Type 0 where
+  pub front : List Instruction
+  pub instruction : Instruction
+  pub at : IsInstructionAt is number front instruction
+  pub ran : Ran s start front
+  pub fails : IsFault start.first s v (run_behind s start front) instruction c
+  pub modules : ℕ
+  pub slot : ℕ
+  pub partly : AllFollow start.first (courses_within s true instruction modules slot (run_behind s start front)) hs v
+
+-- All were carried out, or one fails.
+abbrev pub RunsAll : {X : Type 0} → Site → Start → List Instruction → Result X Refused → ProgressForm → List App → View → Type 0
+RunsAll s start is (Ok x) a tree v = Ran s start is × HasDone (past_behind s start is) a tree v
+RunsAll s start is (Err e) a tree v = IsStopped s start is e.instr (cause_of e.cause) a.held v

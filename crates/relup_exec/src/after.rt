@@ -1,0 +1,128 @@
+//! A script behind its point of no return.
+ghost use Rattle.std.specs.Prelude.{◌≡◌, ℕ, IfErr, IfOk};
+ghost use mathlib.Core.List.{IsPrefix};
+ghost use Rattle.held_processes.specs.Course.{on_all};
+ghost use Rattle.held_processes.specs.Course.Operation.{finish, pass_point};
+ghost use Rattle.held_processes.specs.Following.{AllFollow, AreLeft, Followed};
+ghost use Rattle.proc_table.specs.Views.{seen};
+ghost use Rattle.script_steps.specs.InMemory.{cause_of, site_of};
+ghost use Rattle.relup_exec.specs.Outcome.{IsArmed, IsBroken, IsFinished, Start};
+ghost use Rattle.relup_exec.specs.InMemory.{armed_of};
+ghost use Rattle.relup_instruction.specs.Instruction.{script_of};
+ghost use Rattle.sup_tree.specs.Loaded.{listed_in};
+
+use crate::armed::Armed;
+use held_processes::HeldProcesses;
+use proc_table::HandlerSeat;
+use relup_instruction::Instr;
+use script_steps::{Cause, Failure, Progress, Site};
+use std::alloc::Global;
+use std::sync::Wait;
+use sup_tree::{Loaded, Tree};
+
+/// A script of which an instruction behind the point of no return failed.
+#[derive(Drop)]
+pub struct Failed {
+    /// The number of the instruction, counted from 1.
+    pub instr: usize,
+    pub cause: Cause,
+}
+
+impl Armed {
+    /// Carries out the script from its point of no return on, and answers what is loaded then. Where an instruction fails,
+    /// what was held is let go with the changes made so far. It waits for processes that clients have.
+    pub fn run_after<R: Wait>(
+        self,
+        rt: &R,
+        alloc: Global,
+        site: &Site<'_>,
+        seat: &mut HandlerSeat,
+        tree: &mut Tree,
+        script: &[Instr],
+    ) -> Result<Loaded, Failed>
+        ghost start: { Start }
+        requires table { seat.old.table ≡ site.now.table.now }
+        requires armed { IsArmed (site_of site.now) start (script_of script.now)
+            (armed_of self) seat.old.view }
+        requires tree { tree.old ≡ start.apps }
+        ensures table { seat.new.table ≡ seat.old.table }
+        ensures finished { IfOk result (λ loaded. IsFinished (site_of site.now) start
+            (script_of script.now) (listed_in loaded) tree.new seat.new.view) }
+        ensures broken { IfErr result (λ e. IsBroken (site_of site.now) start
+            (script_of script.now) e.instr (cause_of e.cause) seat.new.view) }
+    {
+        let Armed {
+            place,
+            mut progress,
+        } = self;
+        let_pass(site, seat, &mut progress.held, &script[..place]);
+        for i in place + 1..script.len() {
+            let before = &script[..i];
+            let instr = &script[i];
+            let done = progress.carry_out_late(rt, alloc, site, seat, tree, before, instr);
+            if let Err(failure) = done {
+                let Progress {
+                    held,
+                    fetched: _fetched,
+                    next: _next,
+                } = progress;
+                close(held, site, seat, before, instr, &failure);
+                let Failure { cause, .. } = failure;
+                return Err(Failed {
+                    instr: i + 1,
+                    cause,
+                });
+            }
+        }
+        let Progress {
+            held,
+            fetched: _done,
+            next,
+        } = progress;
+        end(held, site, seat, script);
+        Ok(next)
+    }
+}
+
+// The point of no return: what is held for a load alone is let go. By the instructions before it the caller's proof names what
+// was done.
+fn let_pass(site: &Site<'_>, seat: &mut HandlerSeat, held: &mut HeldProcesses, _before: &[Instr])
+    ghost followed: { Followed }
+    requires table { seat.old.table ≡ site.now.table.now }
+    requires follow { AllFollow followed.first followed.courses held.old seat.old.view }
+    ensures table { seat.new.table ≡ seat.old.table }
+    ensures passed { AllFollow followed.first (on_all pass_point followed.courses)
+        held.new seat.new.view }
+{
+    held.pass_point(site.table, seat);
+}
+
+// An instruction failed: what is still held is let go. By its arguments the caller's proof names what was done.
+fn close(
+    held: HeldProcesses,
+    site: &Site<'_>,
+    seat: &mut HandlerSeat,
+    _before: &[Instr],
+    _instr: &Instr,
+    _failure: &Failure,
+)
+    ghost followed: { Followed }
+    requires table { seat.old.table ≡ site.now.table.now }
+    requires follow { AllFollow followed.first followed.courses held seat.old.view }
+    ensures table { seat.new.table ≡ seat.old.table }
+    ensures left { AreLeft followed.first (on_all finish followed.courses) seat.new.view }
+    ensures longer { (p : ℕ) → IsPrefix (seen seat.old.view p) (seen seat.new.view p) }
+{
+    held.finish(site.table, seat);
+}
+
+// The script has ended: what is still held is let go.
+fn end(held: HeldProcesses, site: &Site<'_>, seat: &mut HandlerSeat, _script: &[Instr])
+    ghost followed: { Followed }
+    requires table { seat.old.table ≡ site.now.table.now }
+    requires follow { AllFollow followed.first followed.courses held seat.old.view }
+    ensures table { seat.new.table ≡ seat.old.table }
+    ensures left { AreLeft followed.first (on_all finish followed.courses) seat.new.view }
+{
+    held.finish(site.table, seat);
+}

@@ -1,0 +1,98 @@
+-- What steps make of the courses of processes, and where they fail.
+use Rattle.std.proofs.Common.{◌≡◌, ℕ, zero, suc, ◌<◌, Bool, true, List, [], ◌∷◌, ◌++◌, length, if◌then◌else◌, refl, ap, subst, ◌∙◌, Option, Some, None, slice_index_or, arith}
+use Rattle.mod_table.specs.Table.{OldVersion, WorkerTable}
+use Rattle.proc_history.specs.Events.{HistoryEntry}
+use Rattle.proc_table.specs.Agrees.{slots}
+use Rattle.proc_table.specs.Parts.{part_of}
+use Rattle.proc_table.specs.Views.{seen}
+use Rattle.proc_table.specs.declared.view.View.{View}
+use Rattle.std.proofs.lemmas.Bool.{le-ltb}
+use Rattle.held_processes.specs.Course.{Course, Courses, Operation, Users, on_module}
+use Rattle.held_processes.specs.Course.Operation.{suspend, load, change}
+use Rattle.held_processes.specs.Following.{AllFollow, Follows, HeldSlots, Stand}
+use Rattle.held_processes.specs.Laws.{IsPending}
+use Rattle.held_processes.specs.Operations.{part_way}
+use Rattle.held_processes.proofs.CourseLemmas.{module_adds_no_block, part_way_adds_no_block}
+use Rattle.relup_instruction.specs.declared.instruction.Direction.{Direction}
+use Rattle.relup_instruction.specs.Instruction as instruction
+use Rattle.relup_instruction.specs.Instruction.{ChangeForm, Instruction}
+use Rattle.sup_tree.specs.Loaded.{module_named}
+use Rattle.script_steps.specs.Script.{Run, Site, change_courses, change_within, changed, changed_once, changed_within, courses_within, each_within, load_within, mode_of, old_version, on_each, suspended_in, users_in, worker_in}
+use Rattle.script_steps.specs.Steps.{IsSeen, SameBlocks}
+
+-- courses that are the same in each slot are followed alike
+pub follow_same : (first : View) (cs ds : Courses) (hs : HeldSlots) (v : View) → ((p : ℕ) → p < slots → cs p ≡ ds p) → AllFollow first cs hs v → AllFollow first ds hs v
+follow_same first cs ds hs v same f = record {
+  handler = f.handler;
+  count = f.count;
+  lent = f.lent;
+  long = f.long;
+  each = λ p inside. subst (λ (c : Course). Follows first.lent p (part_of first.parts p) c (part_of v.parts p) (slice_index_or hs p None)) (same p inside) (f.each p inside);
+}
+
+-- what was followed was seen
+pub seen_of : (first : View) (r : Run) (cs : Courses) (hs : HeldSlots) (v : View) → SameBlocks r.courses cs → AllFollow first cs hs v → IsSeen first r v
+seen_of first r cs hs v same f = λ p inside. subst (λ (bs : List (List HistoryEntry)). Stand first.lent (seen first p) bs (seen v p)) (same p) (f.each p inside).stand
+
+-- in no slot yet
+pub none_within : (users : Users) (name : List ℕ) (op : Operation) (cs : Courses) → (p : ℕ) → part_way 0 users name op cs p ≡ cs p
+none_within users name op cs p = ap (λ (b : Bool). if b then on_module users name op cs p else cs p) (le-ltb p 0 (omega arith))
+
+pub change_none_within : (name : List ℕ) (old : Option OldVersion) (c : ChangeForm) (users : Users) (cs : Courses) → (p : ℕ) → change_within name old c 0 users cs p ≡ cs p
+change_none_within name None c users cs p = refl
+change_none_within name (Some old) c users cs p = none_within users name (change old c.extra) cs p
+
+-- the operation on one module more
+pub each_push : (op : Operation) (names : List (List ℕ)) (n : List ℕ) (users : Users) (cs : Courses)
+    → on_each op (names ++ n ∷ []) users cs ≡ on_module users n op (on_each op names users cs)
+each_push op [] n users cs = refl
+each_push op (m ∷ ms) n users cs = each_push op ms n users (on_module users m op cs)
+
+-- it failed for one of the modules
+pub each_stopped : (op : Operation) (front : List (List ℕ)) (n : List ℕ) (rest : List (List ℕ)) (slot : ℕ) (users : Users) (cs : Courses)
+    → each_within op (front ++ (n ∷ rest)) (length front) slot users cs ≡ part_way slot users n op (on_each op front users cs)
+each_stopped op [] n rest slot users cs = refl
+each_stopped op (m ∷ front) n rest slot users cs = each_stopped op front n rest slot users (on_module users m op cs)
+
+pub changed_push : (s : Site) (mode : Direction) (cs : List ChangeForm) (c : ChangeForm) (r : Run) → changed s mode (cs ++ c ∷ []) r ≡ changed_once s mode c (changed s mode cs r)
+changed_push s mode [] c r = refl
+changed_push s mode (d ∷ cs) c r = changed_push s mode cs c (changed_once s mode d r)
+
+-- one of the changes of code failed
+pub changed_stopped : (s : Site) (mode : Direction) (front : List ChangeForm) (c : ChangeForm) (rest : List ChangeForm) (slot : ℕ) (r : Run)
+    → changed_within s mode (front ++ (c ∷ rest)) (length front) slot r
+    ≡ change_within c.name (old_version s mode c.name (changed s mode front r)) c slot (users_in (changed s mode front r)) (changed s mode front r).courses
+changed_stopped s mode [] c rest slot r = refl
+changed_stopped s mode (d ∷ front) c rest slot r = changed_stopped s mode front c rest slot (changed_once s mode d r)
+
+-- None of this adds a block.
+each_within_same : (op : Operation) (names : List (List ℕ)) (n slot : ℕ) (users : Users) (cs : Courses) → IsPending op → SameBlocks cs (each_within op names n slot users cs)
+each_within_same op [] n slot users cs is p = refl
+each_within_same op (m ∷ ms) zero slot users cs is p = part_way_adds_no_block slot users m op cs is p
+each_within_same op (m ∷ ms) (suc n) slot users cs is p =
+    each_within_same op ms n slot users (on_module users m op cs) is p ∙ module_adds_no_block users m op cs is p
+
+load_within_same : (name : List ℕ) (w : Option WorkerTable) (slot : ℕ) (users : Users) (cs : Courses) → SameBlocks cs (load_within true name w slot users cs)
+load_within_same name None slot users cs p = refl
+load_within_same name (Some w) slot users cs p = part_way_adds_no_block slot users name (load true w) cs tt p
+
+change_same : (name : List ℕ) (old : Option OldVersion) (c : ChangeForm) (users : Users) (cs : Courses) → SameBlocks cs (change_courses name old c users cs)
+change_same name None c users cs p = refl
+change_same name (Some old) c users cs p = module_adds_no_block users name (change old c.extra) cs tt p
+
+change_within_same : (name : List ℕ) (old : Option OldVersion) (c : ChangeForm) (slot : ℕ) (users : Users) (cs : Courses) → SameBlocks cs (change_within name old c slot users cs)
+change_within_same name None c slot users cs p = refl
+change_within_same name (Some old) c slot users cs p = part_way_adds_no_block slot users name (change old c.extra) cs tt p
+
+pub changed_within_same : (s : Site) (mode : Direction) (cs : List ChangeForm) (n slot : ℕ) (r : Run) → SameBlocks r.courses (changed_within s mode cs n slot r)
+changed_within_same s mode [] n slot r p = refl
+changed_within_same s mode (c ∷ cs) zero slot r p = change_within_same c.name (old_version s mode c.name r) c slot (users_in r) r.courses p
+changed_within_same s mode (c ∷ cs) (suc n) slot r p =
+    changed_within_same s mode cs n slot (changed_once s mode c r) p ∙ change_same c.name (old_version s mode c.name r) c (users_in r) r.courses p
+
+-- what an instruction did that failed before the point of no return
+pub within_adds_no_block : (s : Site) (i : Instruction) (n slot : ℕ) (r : Run) → SameBlocks r.courses (courses_within s true i n slot r)
+within_adds_no_block s (instruction.Instruction.suspend ss) n slot r p = each_within_same suspend (suspended_in ss) n slot (users_in r) r.courses tt p
+within_adds_no_block s (instruction.Instruction.load f) n slot r p = load_within_same f.name (worker_in (module_named f.name r.fetched)) slot (users_in r) r.courses p
+within_adds_no_block s (instruction.Instruction.code_change c) n slot r p = changed_within_same s (mode_of c.mode) c.changes n slot r p
+within_adds_no_block s i n slot r p = refl

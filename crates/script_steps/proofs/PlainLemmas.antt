@@ -1,0 +1,59 @@
+-- Operations that don't fail, on the processes of one module after another.
+use Rattle.std.proofs.Common.{◌≡◌, ℕ, ◌<◌, ◌+◌, List, String, map, take, length, get_or, string_bytes, refl, sym, ap, subst, ◌∙◌, Ok, false, None}
+use Rattle.std.specs.declared.alloc.Global.{Global}
+use Rattle.proc_table.specs.declared.view.View.{View}
+use Rattle.held_processes.specs.Course.{Courses, Operation, Users, on_module}
+use Rattle.held_processes.specs.Following.{AllFollow, HeldSlots}
+use Rattle.held_processes.specs.Operations.{users_of, values_seen}
+use Rattle.relup_instruction.specs.Instruction.{Instruction}
+use Rattle.relup_instruction.specs.Instruction.Instruction.{purge}
+use Rattle.sup_tree.specs.Tree.{App}
+use Rattle.script_steps.specs.declared.release.Plain.{Plain}
+use Rattle.script_steps.specs.declared.release.Plain.TheVariants.{Resume, Stop, Start}
+use Rattle.script_steps.specs.Fault.{fault}
+use Rattle.script_steps.specs.Plain.{plain_instruction, plain_operation}
+use Rattle.script_steps.specs.Script.{Run, Site, on_each, run_after, with_courses}
+use Rattle.script_steps.specs.Steps.{CarriesOut, HasDone, Past, ProgressForm}
+use Rattle.script_steps.proofs.CourseLemmas.{each_push}
+use Rattle.script_steps.proofs.RowLemmas.{more}
+use Rattle.script_steps.proofs.StepLemmas.{seen_in}
+
+-- it is done to the processes of one module more
+pub done_more : (op : Operation) (names : List (String Global)) (i : ℕ) (n : String Global) (m : List ℕ) (users : Users) (cs : Courses) → i < length names → n ≡ get_or names i n → m ≡ string_bytes n
+    → on_each op (map string_bytes (take (i + 1) names)) users cs ≡ on_module users m op (on_each op (map string_bytes (take i names)) users cs)
+done_more op names i n m users cs within at named =
+    let before = map string_bytes (take i names) in
+    ap (λ (ns : List (List ℕ)). on_each op ns users cs) (more string_bytes names i n within at)
+    ∙ (each_push op before (string_bytes n) users cs ∙ ap (λ (name : List ℕ). on_module users name op (on_each op before users cs)) (sym named))
+
+-- none of them fails
+plain_is_sound : (s : Site) (plain : Plain) (names : List (List ℕ)) (v : View) (r : Run) → fault s (values_seen v) r (plain_instruction plain names) ≡ None
+plain_is_sound s Resume names v r = refl
+plain_is_sound s Stop names v r = refl
+plain_is_sound s Start names v r = refl
+
+plain_run : (s : Site) (plain : Plain) (names : List (List ℕ)) (r : Run) → run_after s false (plain_instruction plain names) r ≡ with_courses r (on_each (plain_operation plain) names)
+plain_run s Resume names r = refl
+plain_run s Stop names r = refl
+plain_run s Start names r = refl
+
+pub plain_carried : (s : Site) (past : Past) (plain : Plain) (names : List (List ℕ)) (a : ProgressForm) (hs : HeldSlots) (tree : List App) (v w : View) → HasDone past a tree v
+    → AllFollow past.first (on_each (plain_operation plain) names (users_of tree) past.run.courses) hs w
+    → CarriesOut {X = Unit {0}} s past false (plain_instruction plain names) (Ok tt) (record a { held = hs }) tree w
+plain_carried s past plain names a hs tree v w done follow = (
+  (v, seen_in past a tree v done, plain_is_sound s plain names v past.run),
+  subst (λ (r : Run). HasDone (record past { run = r }) (record a { held = hs }) tree w) (sym (plain_run s plain names past.run))
+      (record {
+        follow = subst (λ (apps : List App). AllFollow past.first (on_each (plain_operation plain) names (users_of apps) past.run.courses) hs w) done.apps follow;
+        fetched = done.fetched;
+        next = done.next;
+        apps = done.apps;
+        values = done.values;
+      }),
+)
+
+-- nothing is done for old code
+pub nothing_purged : (s : Site) (past : Past) (i : Instruction) (names : List (List ℕ)) (a : ProgressForm) (tree : List App) (v : View) → i ≡ purge names → HasDone past a tree v
+    → CarriesOut {X = Unit {0}} s past false i (Ok tt) a tree v
+nothing_purged s past i names a tree v is done =
+    subst (λ (j : Instruction). CarriesOut {X = Unit {0}} s past false j (Ok tt) a tree v) (sym is) ((v, seen_in past a tree v done, refl), done)

@@ -1,0 +1,319 @@
+-- What a step leaves, of what its parts leave.
+use Rattle.std.proofs.Common.{◌≡◌, ℕ, ◌<◌, ◌+◌, Bool, true, false, not, List, [], ◌∷◌, ◌++◌, map, take, drop, length, get_or, if◌then◌else◌, refl, sym, ap, subst, ◌∙◌, Option, Some, None, IsSome, is_ok, unwrap_or, Result, Ok, Err, IsErrAnd, arith}
+use Rattle.library.specs.Library.{Library}
+use Rattle.mod_table.specs.Table.{OldVersion}
+use Rattle.proc_table.specs.declared.view.View.{View}
+use Rattle.std.proofs.lemmas.List.{length-map, length-take-le}
+use Rattle.held_processes.specs.Course as course
+use Rattle.held_processes.specs.Course.{Courses, Operation, Users, on_module}
+use Rattle.held_processes.specs.declared.steps.Undone.{Undone}
+use Rattle.held_processes.specs.Following.{AllFollow, HeldSlots}
+use Rattle.held_processes.specs.Operations.{Changes, IsDone, TellsHeldUser, Values, holds_user, lacks_row, part_way, users_of, values_seen}
+use Rattle.relup_instruction.specs.declared.instruction.Direction.{Direction}
+use Rattle.relup_instruction.specs.declared.instruction.Direction.TheVariants.{Up}
+use Rattle.relup_instruction.specs.declared.instruction.Suspension.{Suspension}
+use Rattle.relup_instruction.specs.Instruction.{ChangeForm, ConversionForm, FetchForm, PurgingForm, SuspensionForm, suspension_of}
+use Rattle.relup_instruction.specs.Instruction.Instruction.{load_object_code, suspend, load, code_change}
+use Rattle.sup_tree.specs.Loaded.{Module, NamedModules, library_modules, module_named, with_loaded}
+use Rattle.sup_tree.specs.Tree.{App}
+use Rattle.script_steps.specs.declared.cause.Failure.{Failure}
+use Rattle.script_steps.specs.Fault.{Cause, change_fault, fetch_fault, is_stuck, load_fault, table_fault}
+use Rattle.script_steps.specs.Fault.Cause.{no_change, no_memory, not_fetched}
+use Rattle.script_steps.specs.InMemory.{cause_of}
+use Rattle.script_steps.specs.Script.{Run, Site, change_courses, change_within, changed, changed_once, changed_within, each_within, fetched_from, fetched_of, library_for, load_within, mode_of, old_version, on_each, suspended_in, users_in, worker_in}
+use Rattle.script_steps.specs.Steps.{AreDone, CarriesOut, ChangesOnce, GivesTable, HasDone, IsCause, IsCauseIn, IsSeen, Past, ProgressForm, followed_in}
+use Rattle.script_steps.proofs.CourseLemmas.{change_none_within, changed_push, changed_stopped, changed_within_same, each_push, each_stopped, follow_same, seen_of}
+use Rattle.script_steps.proofs.RowLemmas.{more, parted}
+
+-- what was done was seen
+pub seen_in : (past : Past) (a : ProgressForm) (tree : List App) (v : View) → HasDone past a tree v → IsSeen past.first past.run v
+seen_in past a tree v done = seen_of past.first past.run past.run.courses a.held v (λ p. refl) done.follow
+
+pub cause_seen : (first v : View) (r : Run) (o : Option Cause) (c : Cause) → IsCause o c → IsSeen first r v → IsCauseIn first v r o c
+cause_seen first v r o no_memory is all = tt
+cause_seen first v r o c is all = (is, all)
+
+-- want of memory may be answered of anything
+pub memory_in : (first v : View) (r : Run) (o : Option Cause) (c : Cause) → c ≡ no_memory → IsCauseIn first v r o c
+memory_in first v r o c is = subst (λ (k : Cause). IsCauseIn first v r o k) (sym is) tt
+
+-- the processes of all modules are suspended, or memory was refused
+pub suspended : (s : Site) (past : Past) (early : Bool) (ss : List SuspensionForm) (r : Result (Unit {0}) Failure) (a : ProgressForm) (tree : List App) (hs : HeldSlots) (v w : View) → HasDone past a tree v
+    → AreDone (followed_in past) (users_of tree) course.Operation.suspend (suspended_in ss) r hs w
+    → CarriesOut s past early (suspend ss) r (record a { held = hs }) tree w
+suspended s past early ss (Ok x) a tree hs v w done did = (
+  (v, seen_in past a tree v done, refl),
+  record {
+    follow = subst (λ (as' : List App). AllFollow past.first (on_each course.Operation.suspend (suspended_in ss) (users_of as') past.run.courses) hs w) done.apps did;
+    fetched = done.fetched;
+    next = done.next;
+    apps = done.apps;
+    values = done.values;
+  },
+)
+suspended s past early ss (Err e) a tree hs v w done did = (
+  memory_in past.first w past.run None (cause_of e.cause) did.0,
+  subst (λ (as' : List App). AllFollow past.first (each_within course.Operation.suspend (suspended_in ss) e.modules e.slot (users_of as') past.run.courses) hs w) done.apps did.1,
+)
+
+names_of : (fs : List SuspensionForm) (f : SuspensionForm) (gs : List SuspensionForm) → suspended_in (fs ++ (f ∷ gs)) ≡ suspended_in fs ++ (f.name ∷ suspended_in gs)
+names_of [] f gs = refl
+names_of (g ∷ fs) f gs = ap (λ (ns : List (List ℕ)). g.name ∷ ns) (names_of fs f gs)
+
+-- processes of one more module are suspended
+pub suspended_more : (ss : List Suspension) (i : ℕ) (s : Suspension) (users : Users) (cs : Courses) → i < length ss → s ≡ get_or ss i s
+    → on_each course.Operation.suspend (suspended_in (map suspension_of (take (i + 1) ss))) users cs
+    ≡ on_module users (suspension_of s).name course.Operation.suspend (on_each course.Operation.suspend (suspended_in (map suspension_of (take i ss))) users cs)
+suspended_more ss i s users cs within at =
+    ap (λ (fs : List SuspensionForm). on_each course.Operation.suspend (suspended_in fs) users cs) (more suspension_of ss i s within at)
+    ∙ (ap (λ (ns : List (List ℕ)). on_each course.Operation.suspend ns users cs) (names_of (map suspension_of (take i ss)) (suspension_of s) [])
+    ∙ each_push course.Operation.suspend (suspended_in (map suspension_of (take i ss))) (suspension_of s).name users cs)
+
+-- those of one module aren't
+pub suspended_within : (ss : List Suspension) (i : ℕ) (s : Suspension) (slot : ℕ) (users : Users) (cs : Courses) → i < length ss → s ≡ get_or ss i s
+    → each_within course.Operation.suspend (suspended_in (map suspension_of ss)) i slot users cs
+    ≡ part_way slot users (suspension_of s).name course.Operation.suspend (on_each course.Operation.suspend (suspended_in (map suspension_of (take i ss))) users cs)
+suspended_within ss i s slot users cs within at =
+    let front = suspended_in (map suspension_of (take i ss)) in
+    let rest = map suspension_of (drop (i + 1) ss) in
+    let long : length front ≡ i = length-map (map suspension_of (take i ss)) (λ (x : SuspensionForm). x.name) ∙ (length-map (take i ss) suspension_of ∙ length-take-le i ss (omega (arith, within))) in
+    ap (λ (fs : List SuspensionForm). each_within course.Operation.suspend (suspended_in fs) i slot users cs) (parted suspension_of ss i s within at)
+    ∙ (ap (λ (ns : List (List ℕ)). each_within course.Operation.suspend ns i slot users cs) (names_of (map suspension_of (take i ss)) (suspension_of s) rest)
+    ∙ (ap (λ (n : ℕ). each_within course.Operation.suspend (front ++ ((suspension_of s).name ∷ suspended_in rest)) n slot users cs) (sym long)
+    ∙ each_stopped course.Operation.suspend front (suspension_of s).name (suspended_in rest) slot users cs))
+
+pub fetched_push : (l : Library) (ns : List (List ℕ)) (n : List ℕ) (ms : NamedModules) → fetched_of l (ns ++ n ∷ []) ms ≡ with_loaded (library_modules l n) n (fetched_of l ns ms)
+fetched_push l [] n ms = refl
+fetched_push l (m ∷ ns) n ms = fetched_push l ns n (with_loaded (library_modules l m) m ms)
+
+-- modules were fetched
+pub fetched_well : (s : Site) (past : Past) (early : Bool) (f : FetchForm) (a : ProgressForm) (ms : NamedModules) (tree : List App) (v : View) → HasDone past a tree v
+    → (fetch_fault (library_for s f) f.modules ≡ None) × (ms ≡ fetched_from (library_for s f) f.modules a.fetched)
+    → CarriesOut {X = Unit {0}} s past early (load_object_code f) (Ok tt) (record a { fetched = ms }) tree v
+fetched_well s past early f a ms tree v done did = (
+  (v, seen_in past a tree v done, did.0),
+  record {
+    follow = done.follow;
+    fetched = did.1 ∙ ap (fetched_from (library_for s f) f.modules) done.fetched;
+    next = done.next;
+    apps = done.apps;
+    values = done.values;
+  },
+)
+
+-- a module that was fetched is loaded, unless its processes can't get its table
+load_fault_is : (o : Option Module) (users : Users) (name : List ℕ) → IsSome o → load_fault o users name ≡ table_fault (worker_in o) users name
+load_fault_is None users name there = absurd (cc there)
+load_fault_is (Some m) users name there = refl
+
+-- its processes got its table
+pub loaded_well : (s : Site) (past : Past) (early : Bool) (p : PurgingForm) (a : ProgressForm) (n : List ℕ) (hs : HeldSlots) (got before next : NamedModules) (tree : List App) (v w : View)
+    → n ≡ p.name → IsSome (module_named p.name past.run.fetched) → HasDone past a tree v → GivesTable {X = Unit {0}} past early n (Ok tt) hs w
+    → got ≡ a.fetched → before ≡ a.next → next ≡ with_loaded (module_named n got) n before
+    → CarriesOut {X = Unit {0}} s past early (load p) (Ok tt) (record { held = hs; fetched = got; next = next }) tree w
+loaded_well s past early p a n hs got before next tree v w named there done given same kept loaded =
+    let its : GivesTable {X = Unit {0}} past early p.name (Ok tt) hs w = subst (λ (m : List ℕ). GivesTable {X = Unit {0}} past early m (Ok tt) hs w) named given in
+    let fetched : got ≡ past.run.fetched = same ∙ done.fetched in
+    let modules : before ≡ past.run.modules = kept ∙ done.next in (
+      (v, seen_in past a tree v done, load_fault_is (module_named p.name past.run.fetched) (users_in past.run) p.name there ∙ its.0),
+      record {
+        follow = its.1;
+        fetched = fetched;
+        next = loaded ∙ (λ j. with_loaded (module_named (named j) (fetched j)) (named j) (modules j));
+        apps = done.apps;
+        values = done.values;
+      },
+    )
+
+-- it wasn't fetched
+pub load_of_nothing : (s : Site) (past : Past) (early : Bool) (p : PurgingForm) (e : Failure) (a : ProgressForm) (tree : List App) (v : View)
+    → module_named p.name past.run.fetched ≡ None → HasDone past a tree v → cause_of e.cause ≡ not_fetched
+    → CarriesOut {X = Unit {0}} s past early (load p) (Err e) a tree v
+load_of_nothing s past early p e a tree v none done is = (
+  subst (λ (c : Cause). IsCauseIn past.first v past.run (load_fault (module_named p.name past.run.fetched) (users_in past.run) p.name) c) (sym is)
+      (ap (λ (o : Option Module). load_fault o (users_in past.run) p.name) none, seen_in past a tree v done),
+  subst (λ (o : Option Module). AllFollow past.first (load_within early p.name (worker_in o) e.slot (users_in past.run) past.run.courses) a.held v) (sym none) done.follow,
+)
+
+not_true : (b : Bool) → true ≡ not b → b ≡ false
+not_true true e = absurd (cc e)
+not_true false e = refl
+
+not_false : (b : Bool) → false ≡ not b → b ≡ true
+not_false true e = refl
+not_false false e = absurd (cc e)
+
+-- why a single change of code fails
+abbrev once_fault : Bool → Option Cause
+once_fault b = if b then Some no_change else None
+
+stuck_by : (s : Site) (mode : Direction) (c : ChangeForm) (seen : Values) (r : Run) (o : Option OldVersion) (b : Bool) → old_version s mode c.name r ≡ o → is_stuck o c seen r ≡ b
+    → change_fault s mode (c ∷ []) seen r ≡ once_fault b
+stuck_by s mode c seen r o b there stuck = ap (λ (q : Option OldVersion). once_fault (is_stuck q c seen r)) there ∙ ap once_fault stuck
+
+-- a version to change from, by the name of the module
+version_by : (s : Site) (mode : Direction) (n m : List ℕ) (r : Run) (o : Option OldVersion) → n ≡ m → old_version s mode n r ≡ o → old_version s mode m r ≡ o
+version_by s mode n m r o named there = ap (λ (k : List ℕ). old_version s mode k r) (sym named) ∙ there
+
+-- what a change comes to, by what is in the tree
+changes_by : (past : Past) (c : ChangeForm) (tree : List App) (n : List ℕ) (old : OldVersion) (a : ProgressForm) (hs : HeldSlots) (v : View) (r q : Result (Unit {0}) Undone) → n ≡ c.name
+    → HasDone past a tree v → Changes (users_of tree) n old c.extra a.held r hs → r ≡ q
+    → IsDone past.first (users_in past.run) c.name (course.Operation.change old c.extra) past.run.courses q hs v
+    × (is_ok q ≡ not (lacks_row old c.extra (values_seen v) (users_in past.run) c.name past.run.courses))
+changes_by past c tree n old a hs v r q named done changes is =
+    let at_q : Changes (users_of tree) n old c.extra a.held q hs = subst (λ (x : Result (Unit {0}) Undone). Changes (users_of tree) n old c.extra a.held x hs) is changes in
+    let here : Changes (users_in past.run) n old c.extra a.held q hs = subst (λ (as' : List App). Changes (users_of as') n old c.extra a.held q hs) done.apps at_q in
+    let its : Changes (users_in past.run) c.name old c.extra a.held q hs = subst (λ (m : List ℕ). Changes (users_in past.run) m old c.extra a.held q hs) named here in
+    its past.first past.run.courses v done.follow
+
+pub changed_by_row : (s : Site) (past : Past) (mode : Direction) (number : ℕ) (c : ChangeForm) (tree : List App) (n : List ℕ) (old : OldVersion) (a : ProgressForm) (hs : HeldSlots) (v : View) (r : Result (Unit {0}) Undone)
+    → n ≡ c.name → old_version s mode n past.run ≡ Some old → HasDone past a tree v → Changes (users_of tree) n old c.extra a.held r hs → r ≡ Ok tt
+    → ChangesOnce {X = Unit {0}} s past mode number c (Ok tt) (record a { held = hs }) tree v
+changed_by_row s past mode number c tree n old a hs v r named there done changes is =
+    let did = changes_by past c tree n old a hs v r (Ok tt) named done changes is in
+    let its = version_by s mode n c.name past.run (Some old) named there in (
+      stuck_by s mode c (values_seen v) past.run (Some old) false its (not_true (lacks_row old c.extra (values_seen v) (users_in past.run) c.name past.run.courses) did.1),
+      record {
+        follow = subst (λ (o : Option OldVersion). AllFollow past.first (change_courses c.name o c (users_in past.run) past.run.courses) hs v) (sym its) did.0;
+        fetched = done.fetched;
+        next = done.next;
+        apps = done.apps;
+        values = done.values;
+      },
+    )
+
+pub changed_without_row : (s : Site) (past : Past) (mode : Direction) (number : ℕ) (c : ChangeForm) (tree : List App) (n : List ℕ) (old : OldVersion) (a : ProgressForm) (hs : HeldSlots) (v : View) (r : Result (Unit {0}) Undone) (e : Undone) (k : Failure)
+    → n ≡ c.name → old_version s mode n past.run ≡ Some old → HasDone past a tree v → Changes (users_of tree) n old c.extra a.held r hs → r ≡ Err e
+    → cause_of k.cause ≡ no_change → k.modules ≡ number → k.slot ≡ e.slot
+    → ChangesOnce {X = Unit {0}} s past mode number c (Err k) (record a { held = hs }) tree v
+changed_without_row s past mode number c tree n old a hs v r e k named there done changes is cause counted at =
+    let did = changes_by past c tree n old a hs v r (Err e) named done changes is in
+    let its = version_by s mode n c.name past.run (Some old) named there in
+    let stuck = stuck_by s mode c (values_seen v) past.run (Some old) true its (not_false (lacks_row old c.extra (values_seen v) (users_in past.run) c.name past.run.courses) did.1) in (
+      subst (λ (x : Cause). IsCause (change_fault s mode (c ∷ []) (values_seen v) past.run) x) (sym cause) stuck,
+      counted,
+      subst (λ (o : Option OldVersion). AllFollow past.first (change_within c.name o c k.slot (users_in past.run) past.run.courses) hs v) (sym its)
+          (subst (λ (m : ℕ). AllFollow past.first (part_way m (users_in past.run) c.name (course.Operation.change old c.extra) past.run.courses) hs v) (sym at) did.0),
+    )
+
+told_of : (past : Past) (c : ChangeForm) (tree : List App) (n : List ℕ) (a : ProgressForm) (v : View) (b : Bool) → n ≡ c.name → HasDone past a tree v → TellsHeldUser (users_of tree) n a.held b
+    → b ≡ holds_user (users_in past.run) c.name past.run.courses
+told_of past c tree n a v b named done told =
+    let here : TellsHeldUser (users_in past.run) n a.held b = subst (λ (as' : List App). TellsHeldUser (users_of as') n a.held b) done.apps told in
+    let its : TellsHeldUser (users_in past.run) c.name a.held b = subst (λ (m : List ℕ). TellsHeldUser (users_in past.run) m a.held b) named here in
+    its past.first past.run.courses v done.follow
+
+-- nothing of a change was done
+not_changed : (s : Site) (past : Past) (mode : Direction) (c : ChangeForm) (k : Failure) (a : ProgressForm) (tree : List App) (v : View) → HasDone past a tree v → k.slot ≡ 0
+    → AllFollow past.first (change_within c.name (old_version s mode c.name past.run) c k.slot (users_in past.run) past.run.courses) a.held v
+not_changed s past mode c k a tree v done at =
+    follow_same past.first past.run.courses (change_within c.name (old_version s mode c.name past.run) c k.slot (users_in past.run) past.run.courses) a.held v
+    (λ p inside. sym (ap (λ (m : ℕ). change_within c.name (old_version s mode c.name past.run) c m (users_in past.run) past.run.courses p) at
+    ∙ change_none_within c.name (old_version s mode c.name past.run) c (users_in past.run) past.run.courses p)) done.follow
+
+-- there is no version to change from, and a process is held
+pub held_without_version : (s : Site) (past : Past) (mode : Direction) (number : ℕ) (c : ChangeForm) (tree : List App) (n : List ℕ) (k : Failure) (a : ProgressForm) (v : View) (b : Bool) → n ≡ c.name
+    → old_version s mode n past.run ≡ None → HasDone past a tree v → TellsHeldUser (users_of tree) n a.held b → b ≡ true
+    → cause_of k.cause ≡ no_change → k.modules ≡ number → k.slot ≡ 0 → ChangesOnce {X = Unit {0}} s past mode number c (Err k) a tree v
+held_without_version s past mode number c tree n k a v b named none done told is_held cause counted at =
+    let stuck = stuck_by s mode c (values_seen v) past.run None true (version_by s mode n c.name past.run None named none) (sym (told_of past c tree n a v b named done told) ∙ is_held) in
+    (subst (λ (x : Cause). IsCause (change_fault s mode (c ∷ []) (values_seen v) past.run) x) (sym cause) stuck, counted, not_changed s past mode c k a tree v done at)
+
+-- there is none, and no process is held
+pub free_without_version : (s : Site) (past : Past) (mode : Direction) (number : ℕ) (c : ChangeForm) (tree : List App) (n : List ℕ) (a : ProgressForm) (v : View) (b : Bool) → n ≡ c.name
+    → old_version s mode n past.run ≡ None → HasDone past a tree v → TellsHeldUser (users_of tree) n a.held b → b ≡ false
+    → ChangesOnce {X = Unit {0}} s past mode number c (Ok tt) a tree v
+free_without_version s past mode number c tree n a v b named none done told is_free =
+    let its = version_by s mode n c.name past.run None named none in (
+      stuck_by s mode c (values_seen v) past.run None false its (sym (told_of past c tree n a v b named done told) ∙ is_free),
+      record {
+        follow = subst (λ (o : Option OldVersion). AllFollow past.first (change_courses c.name o c (users_in past.run) past.run.courses) a.held v) (sym its) done.follow;
+        fetched = done.fetched;
+        next = done.next;
+        apps = done.apps;
+        values = done.values;
+      },
+    )
+
+-- without a mode it is up
+pub mode_is : (m : Option Direction) → unwrap_or m Up ≡ mode_of m
+mode_is None = refl
+mode_is (Some d) = refl
+
+-- what was done behind some of the changes
+abbrev pub past_changes : Site → Direction → List ChangeForm → Past → Past
+past_changes s mode cs past = record past { run = changed s mode cs past.run }
+
+behind_first : (b : Bool) (o p q : Option Cause) → (o ≡ None → p ≡ q) → (if b then Some no_change else o) ≡ None → (if b then Some no_change else p) ≡ q
+behind_first true o p q others e = absurd (cc e)
+behind_first false o p q others e = others e
+
+-- behind changes that can be made, the others
+pub fault_behind : (s : Site) (mode : Direction) (front rest : List ChangeForm) (seen : Values) (r : Run) → change_fault s mode front seen r ≡ None
+    → change_fault s mode (front ++ rest) seen r ≡ change_fault s mode rest seen (changed s mode front r)
+fault_behind s mode [] rest seen r none = refl
+fault_behind s mode (c ∷ cs) rest seen r none =
+    let next = changed_once s mode c r in
+    behind_first (is_stuck (old_version s mode c.name r) c seen r) (change_fault s mode cs seen next) (change_fault s mode (cs ++ rest) seen next) (change_fault s mode rest seen (changed s mode cs next))
+    (fault_behind s mode cs rest seen next) none
+
+-- the first that fails tells why
+first_fails : (b : Bool) (o : Option Cause) (k : Cause) → IsCause (if b then Some no_change else None) k → IsCause (if b then Some no_change else o) k
+first_fails true o k is = is
+first_fails false o no_memory is = tt
+first_fails false o k is = absurd (cc is)
+
+-- one more change was made
+pub changed_more : (s : Site) (past : Past) (mode : Direction) (number : ℕ) (front : List ChangeForm) (c : ChangeForm) (all : List ChangeForm) (a : ProgressForm) (tree : List App) (v : View) → all ≡ front ++ c ∷ []
+    → change_fault s mode front (values_seen v) past.run ≡ None → ChangesOnce {X = Unit {0}} s (past_changes s mode front past) mode number c (Ok tt) a tree v
+    → (change_fault s mode all (values_seen v) past.run ≡ None) × HasDone (past_changes s mode all past) a tree v
+changed_more s past mode number front c all a tree v grown none once = (
+  ap (λ (cs : List ChangeForm). change_fault s mode cs (values_seen v) past.run) grown ∙ (fault_behind s mode front (c ∷ []) (values_seen v) past.run none ∙ once.0),
+  subst (λ (cs : List ChangeForm). HasDone (past_changes s mode cs past) a tree v) (sym grown)
+      (subst (λ (r : Run). HasDone (record past { run = r }) a tree v) (sym (changed_push s mode front c past.run)) once.1),
+)
+
+-- all changes were made
+pub all_changed : (s : Site) (past : Past) (early : Bool) (conversion : ConversionForm) (mode : Direction) (cs : List ChangeForm) (b a : ProgressForm) (tree : List App) (v : View) → mode ≡ mode_of conversion.mode
+    → cs ≡ conversion.changes → HasDone past b tree v → (change_fault s mode cs (values_seen v) past.run ≡ None) × HasDone (past_changes s mode cs past) a tree v
+    → CarriesOut {X = Unit {0}} s past early (code_change conversion) (Ok tt) a tree v
+all_changed s past early conversion mode cs b a tree v moded whole done did = (
+  (v, seen_in past b tree v done, sym (λ j. change_fault s (moded j) (whole j) (values_seen v) past.run) ∙ did.0),
+  subst (λ (m : Direction). HasDone (record past { run = changed s m conversion.changes past.run }) a tree v) moded
+      (subst (λ (ds : List ChangeForm). HasDone (record past { run = changed s mode ds past.run }) a tree v) whole did.1),
+)
+
+-- one of the changes can't be made
+pub change_stops : (s : Site) (past : Past) (early : Bool) (conversion : ConversionForm) (mode : Direction) (number : ℕ) (front : List ChangeForm) (c : ChangeForm) (rest : List ChangeForm) (e : Failure) (a : ProgressForm) (tree : List App) (v : View)
+    → mode ≡ mode_of conversion.mode → conversion.changes ≡ front ++ (c ∷ rest) → length front ≡ number → change_fault s mode front (values_seen v) past.run ≡ None
+    → ChangesOnce {X = Unit {0}} s (past_changes s mode front past) mode number c (Err e) a tree v
+    → CarriesOut {X = Unit {0}} s past early (code_change conversion) (Err e) a tree v
+change_stops s past early conversion mode number front c rest e a tree v moded parts long none once =
+    let seen = values_seen v in
+    let behind = changed s mode front past.run in
+    let why : IsCause (change_fault s mode (front ++ (c ∷ rest)) seen past.run) (cause_of e.cause) =
+    subst (λ (o : Option Cause). IsCause o (cause_of e.cause)) (sym (fault_behind s mode front (c ∷ rest) seen past.run none))
+    (first_fails (is_stuck (old_version s mode c.name behind) c seen behind) (change_fault s mode rest seen (changed_once s mode c behind)) (cause_of e.cause) once.0) in
+    let at : changed_within s mode (front ++ (c ∷ rest)) e.modules e.slot past.run ≡ change_within c.name (old_version s mode c.name behind) c e.slot (users_in behind) behind.courses =
+    ap (λ (n : ℕ). changed_within s mode (front ++ (c ∷ rest)) n e.slot past.run) (once.1 ∙ sym long) ∙ changed_stopped s mode front c rest e.slot past.run in
+    let its : AllFollow past.first (changed_within s mode (front ++ (c ∷ rest)) e.modules e.slot past.run) a.held v = subst (λ (cs : Courses). AllFollow past.first cs a.held v) (sym at) once.2 in
+    let follow : AllFollow past.first (changed_within s (mode_of conversion.mode) conversion.changes e.modules e.slot past.run) a.held v =
+    subst (λ (m : Direction). AllFollow past.first (changed_within s m conversion.changes e.modules e.slot past.run) a.held v) moded
+    (subst (λ (cs : List ChangeForm). AllFollow past.first (changed_within s mode cs e.modules e.slot past.run) a.held v) (sym parts) its) in (
+      cause_seen past.first v past.run (change_fault s (mode_of conversion.mode) conversion.changes seen past.run) (cause_of e.cause)
+          (subst (λ (m : Direction). IsCause (change_fault s m conversion.changes seen past.run) (cause_of e.cause)) moded
+          (subst (λ (cs : List ChangeForm). IsCause (change_fault s mode cs seen past.run) (cause_of e.cause)) (sym parts) why))
+          (seen_of past.first past.run (changed_within s (mode_of conversion.mode) conversion.changes e.modules e.slot past.run) a.held v
+          (changed_within_same s (mode_of conversion.mode) conversion.changes e.modules e.slot past.run) follow),
+      follow,
+    )
+
+-- and that is passed on
+pub change_passes : {X : Type 0} (s : Site) (past : Past) (early : Bool) (conversion : ConversionForm) (mode : Direction) (number : ℕ) (front : List ChangeForm) (c : ChangeForm) (rest : List ChangeForm) (e : Failure) (r : Result X Failure) (a : ProgressForm) (tree : List App) (v : View)
+    → mode ≡ mode_of conversion.mode → conversion.changes ≡ front ++ (c ∷ rest) → length front ≡ number → change_fault s mode front (values_seen v) past.run ≡ None
+    → ChangesOnce {X = Unit {0}} s (past_changes s mode front past) mode number c (Err e) a tree v → IsErrAnd r (λ k. k ≡ e)
+    → CarriesOut s past early (code_change conversion) r a tree v
+change_passes s past early conversion mode number front c rest e (Ok x) a tree v moded parts long none once passed = absurd passed
+change_passes {X} s past early conversion mode number front c rest e (Err k) a tree v moded parts long none once passed =
+    subst (λ (q : Failure). CarriesOut {X = X} s past early (code_change conversion) (Err q) a tree v) (sym passed)
+    (change_stops s past early conversion mode number front c rest e a tree v moded parts long none once)

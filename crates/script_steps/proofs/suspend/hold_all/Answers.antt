@@ -1,0 +1,22 @@
+use Rattle.std.proofs.Common.{◌∙◌, refl, sym, subst}
+use Rattle.held_processes.specs.Course.{Courses}
+use Rattle.held_processes.specs.Following.{AllFollow}
+use Rattle.held_processes.specs.Operations.{users_of}
+use Rattle.script_steps.proofs.StepLemmas.{suspended_more, suspended_within}
+use Rattle.script_steps.proofs.suspend.hold_all.Goals as goal
+
+pub returns-in-Err-clause-done : goal.returns-in-Err-clause-done
+returns-in-Err-clause-done g c = (
+  refl,
+  subst (λ (cs : Courses). AllFollow g.followed.first cs c.hold_next.new.held c.hold_next.new.seat.view)
+      (sym (suspended_within c.args.suspensions.now c.loop-i.i c.index-suspensions-i.result c.in-Err.undone.slot (users_of c.args.tree.now) g.followed.courses c.loop-i-test.true c.index-suspensions-i.is))
+      c.in-Err.ensures.done,
+)
+
+pub loop-i-preserved : goal.loop-i-preserved
+loop-i-preserved g c = (
+  c.hold_next.ensures.table ∙ c.loop-i.invariant.0,
+  subst (λ (cs : Courses). AllFollow g.followed.first cs c.hold_next.new.held c.hold_next.new.seat.view)
+      (sym (suspended_more c.args.suspensions.now c.loop-i.i c.index-suspensions-i.result (users_of c.args.tree.now) g.followed.courses c.loop-i-test.true c.index-suspensions-i.is))
+      c.in_default.ensures.done,
+)

@@ -1,0 +1,207 @@
+-- What the instructions of a script do, one after another (OTP: appup(4), low-level instructions): which modules are fetched, which
+-- are loaded, which applications are started, and the course of each process.
+use Rattle.std.specs.Prelude.{ℕ, zero, suc, Bool, List, [], ◌∷◌, map, is_some, Option, Some, None, codes, if◌then◌else◌}
+use Rattle.std.specs.List.{find}
+use Rattle.std.specs.Option.{option_map, option_and_then, option_or}
+use Rattle.std.specs.Str.{bytes_eq}
+use Rattle.erl_term.specs.Value.{Values as Terms}
+use Rattle.erl_term.specs.Value.Value.{atom}
+use Rattle.erl_term.specs.Value.Values.{value}
+use Rattle.mod_table.specs.declared.table.Table.{Table}
+use Rattle.mod_table.specs.declared.table.Table.TheVariants.{Worker}
+use Rattle.mod_table.specs.Table.{OldVersion, WorkerTable}
+use Rattle.mod_table.specs.Table.OldVersion.{up, down}
+use Rattle.library.specs.Library.{Library}
+use Rattle.rel_check.specs.Modules.{Tables}
+use Rattle.rel_list.specs.Releases.{Releases, library_in}
+use Rattle.relup_instruction.specs.declared.instruction.Direction.{Direction}
+use Rattle.relup_instruction.specs.declared.instruction.Direction.TheVariants.{Up, Down}
+use Rattle.relup_instruction.specs.Instruction.{FetchForm, SuspensionForm, ChangeForm, CallForm, Instruction}
+use Rattle.relup_instruction.specs.Instruction.Instruction.{load_object_code, point_of_no_return, suspend, load, code_change, resume, remove, stop, start, apply}
+use Rattle.sup_tree.specs.Loaded.{Module, NamedModules, library_modules, module_named, with_loaded, without_module}
+use Rattle.sup_tree.specs.Tree.{App, app_named}
+use Rattle.held_processes.specs.Applications.{Scene, with_started, with_stopped}
+use Rattle.held_processes.specs.Course as course
+use Rattle.held_processes.specs.Course.{Courses, Operation, Users, opening, on_module, on_all}
+use Rattle.held_processes.specs.Operations.{Values, part_way, users_of}
+
+-- Where a script runs: the node's releases, from whose libraries modules are fetched; the libraries of the release to which it
+-- leads; and what was loaded when it began.
+pub record Site : Type 0 where
+  pub releases : Releases
+  pub target : List Library
+  pub loaded : NamedModules
+
+-- What was done so far: the modules that were fetched, those that are loaded, the started applications, and what was done to the
+-- process in each slot, where this stood when the script began.
+pub record Run : Type 0 where
+  pub fetched : NamedModules
+  pub modules : NamedModules
+  pub apps : List App
+  pub values : Values
+  pub courses : Courses
+
+-- nothing was done yet
+abbrev pub began : Site → List App → Values → Run
+began s apps values = record { fetched = []; modules = s.loaded; apps = apps; values = values; courses = λ p. opening }
+
+abbrev pub users_in : Run → Users
+users_in r = users_of r.apps
+
+abbrev pub with_courses : Run → (Users → Courses → Courses) → Run
+with_courses r f = record r { courses = f (users_in r) r.courses }
+
+-- these modules of a library, in place of those of their names
+abbrev pub fetched_of : Library → List (List ℕ) → NamedModules → NamedModules
+fetched_of l [] ms = ms
+fetched_of l (n ∷ ns) ms = fetched_of l ns (with_loaded (library_modules l n) n ms)
+
+abbrev pub fetched_from : Option Library → List (List ℕ) → NamedModules → NamedModules
+fetched_from None names ms = ms
+fetched_from (Some l) names ms = fetched_of l names ms
+
+-- the library that an instruction fetches from
+abbrev pub library_for : Site → FetchForm → Option Library
+library_for s f = library_in s.releases f.app f.vsn
+
+-- the table of a worker
+abbrev pub worker_table : Option Table → Option WorkerTable
+worker_table (Some (Worker w)) = Some w
+worker_table t = None
+
+abbrev pub worker_in : Option Module → Option WorkerTable
+worker_in m = worker_table (option_and_then (λ (n : Module). n.table) m)
+
+-- each process of a module gets the table of a worker; nothing is done to one where another kind is loaded
+abbrev pub load_courses : Bool → List ℕ → Option WorkerTable → Users → Courses → Courses
+load_courses keep name None users cs = cs
+load_courses keep name (Some w) users cs = on_module users name (course.Operation.load keep w) cs
+
+-- the module that was fetched is loaded
+abbrev pub loaded_after : Bool → List ℕ → Option Module → Run → Run
+loaded_after keep name m r = with_courses (record r { modules = with_loaded m name r.modules }) (load_courses keep name (worker_in m))
+
+-- the version of a module
+abbrev pub version_in : List ℕ → NamedModules → Option (List ℕ)
+version_in name ms = option_map (λ (m : Module). m.vsn) (module_named name ms)
+
+-- What code is changed from: going up, the version that was loaded when the script began; going down, to the version that was
+-- fetched, or else to the loaded one.
+abbrev pub old_version : Site → Direction → List ℕ → Run → Option OldVersion
+old_version s Up name r = option_map up (version_in name s.loaded)
+old_version s Down name r = option_map down (option_or (version_in name r.fetched) (version_in name r.modules))
+
+abbrev pub change_courses : List ℕ → Option OldVersion → ChangeForm → Users → Courses → Courses
+change_courses name None c users cs = cs
+change_courses name (Some old) c users cs = on_module users name (course.Operation.change old c.extra) cs
+
+-- one change of code
+abbrev pub changed_once : Site → Direction → ChangeForm → Run → Run
+changed_once s mode c r = with_courses r (change_courses c.name (old_version s mode c.name r) c)
+
+-- several, one after another
+abbrev pub changed : Site → Direction → List ChangeForm → Run → Run
+changed s mode [] r = r
+changed s mode (c ∷ cs) r = changed s mode cs (changed_once s mode c r)
+
+-- without a mode it is up
+abbrev pub mode_of : Option Direction → Direction
+mode_of None = Up
+mode_of (Some d) = d
+
+-- an operation on the processes of several modules, one module after another
+abbrev pub on_each : Operation → List (List ℕ) → Users → Courses → Courses
+on_each op [] users cs = cs
+on_each op (n ∷ ns) users cs = on_each op ns users (on_module users n op cs)
+
+-- the modules whose processes are suspended
+abbrev pub suspended_in : List SuspensionForm → List (List ℕ)
+suspended_in ss = map (λ (x : SuspensionForm). x.name) ss
+
+-- What a call does to applications. Those that load and unload them, and all others, do nothing.
+pub data AppCall : Type 0 where
+  starts : List ℕ → AppCall
+  stops : List ℕ → AppCall
+  idle : AppCall
+
+abbrev pub first_atom : Terms → List ℕ
+first_atom (value (atom a) vs) = a
+first_atom vs = []
+
+abbrev pub app_call : CallForm → AppCall
+app_call c =
+    if bytes_eq c.name (codes "application")
+    then (if bytes_eq c.function (codes "start") then starts (first_atom c.args)
+    else if bytes_eq c.function (codes "stop") then stops (first_atom c.args) else idle)
+    else idle
+
+-- the library of an application of the release to which the script leads
+abbrev pub target_library : Site → List ℕ → Option Library
+target_library s name = find (λ (l : Library). bytes_eq l.app.name name) s.target
+
+-- the tables of these modules
+abbrev pub tables_among : NamedModules → Tables
+tables_among ms name = option_and_then (λ (m : Module). m.table) (module_named name ms)
+
+abbrev pub scene_of : Run → Scene
+scene_of r = record { values = r.values; apps = r.apps; courses = r.courses }
+
+abbrev pub with_scene : Run → Scene → Run
+with_scene r s = record r { apps = s.apps; courses = s.courses }
+
+-- an application of this library is started, unless it is
+abbrev pub started_from : Option Library → Run → Run
+started_from None r = r
+started_from (Some l) r =
+    if is_some (app_named l.app.name r.apps) then r
+    else with_scene r (with_started l.app.name l.app.top (tables_among r.modules) (scene_of r))
+
+abbrev pub called_after : Site → AppCall → Run → Run
+called_after s (starts name) r = started_from (target_library s name) r
+called_after s (stops name) r = with_scene r (with_stopped name (scene_of r))
+called_after s idle r = r
+
+-- What an instruction does that doesn't fail. Before the point of no return a load keeps what it holds until the point.
+abbrev pub run_after : Site → Bool → Instruction → Run → Run
+run_after s early (load_object_code f) r = record r { fetched = fetched_from (library_for s f) f.modules r.fetched }
+run_after s early point_of_no_return r = with_courses r (λ users. on_all course.Operation.pass_point)
+run_after s early (suspend ss) r = with_courses r (on_each course.Operation.suspend (suspended_in ss))
+run_after s early (load p) r = loaded_after early p.name (module_named p.name r.fetched) r
+run_after s early (code_change c) r = changed s (mode_of c.mode) c.changes r
+run_after s early (resume names) r = with_courses r (on_each course.Operation.resume names)
+run_after s early (remove p) r = record r { modules = without_module p.name r.modules }
+run_after s early (stop names) r = with_courses r (on_each course.Operation.stop names)
+run_after s early (start names) r = with_courses r (on_each course.Operation.start names)
+run_after s early (apply c) r = called_after s (app_call c) r
+run_after s early i r = r
+
+-- these, one after another
+abbrev pub runs_after : Site → Bool → List Instruction → Run → Run
+runs_after s early [] r = r
+runs_after s early (i ∷ is) r = runs_after s early is (run_after s early i r)
+
+-- an operation that was done to the processes of so many of these modules, and of the next one to those in the slots below this
+abbrev pub each_within : Operation → List (List ℕ) → ℕ → ℕ → Users → Courses → Courses
+each_within op [] n slot users cs = cs
+each_within op (m ∷ ms) zero slot users cs = part_way slot users m op cs
+each_within op (m ∷ ms) (suc n) slot users cs = each_within op ms n slot users (on_module users m op cs)
+
+abbrev pub load_within : Bool → List ℕ → Option WorkerTable → ℕ → Users → Courses → Courses
+load_within keep name None slot users cs = cs
+load_within keep name (Some w) slot users cs = part_way slot users name (course.Operation.load keep w) cs
+
+abbrev pub change_within : List ℕ → Option OldVersion → ChangeForm → ℕ → Users → Courses → Courses
+change_within name None c slot users cs = cs
+change_within name (Some old) c slot users cs = part_way slot users name (course.Operation.change old c.extra) cs
+
+abbrev pub changed_within : Site → Direction → List ChangeForm → ℕ → ℕ → Run → Courses
+changed_within s mode [] n slot r = r.courses
+changed_within s mode (c ∷ cs) zero slot r = change_within c.name (old_version s mode c.name r) c slot (users_in r) r.courses
+changed_within s mode (c ∷ cs) (suc n) slot r = changed_within s mode cs n slot (changed_once s mode c r)
+
+-- The courses where an instruction failed: it was done for so many of its modules, and for the next one in the slots below this.
+abbrev pub courses_within : Site → Bool → Instruction → ℕ → ℕ → Run → Courses
+courses_within s early (suspend ss) n slot r = each_within course.Operation.suspend (suspended_in ss) n slot (users_in r) r.courses
+courses_within s early (load p) n slot r = load_within early p.name (worker_in (module_named p.name r.fetched)) slot (users_in r) r.courses
+courses_within s early (code_change c) n slot r = changed_within s (mode_of c.mode) c.changes n slot r
+courses_within s early i n slot r = r.courses

@@ -1,0 +1,116 @@
+-- What the steps of a script leave to each other.
+use Rattle.std.specs.Prelude.{◌≡◌, ℕ, ◌<◌, Bool, ◌&&◌, IsTrue, List, [], ◌∷◌, Option, None, Some, Result, Ok, Err}
+use Rattle.proc_table.specs.declared.view.View.{View}
+use Rattle.proc_table.specs.Agrees.{slots}
+use Rattle.proc_table.specs.Views.{seen}
+use Rattle.library.specs.Library.{Library}
+use Rattle.relup_instruction.specs.declared.instruction.Direction.{Direction}
+use Rattle.relup_instruction.specs.Instruction.{ChangeForm, Instruction}
+use Rattle.relup_script.specs.Script.{is_supported, may_follow, may_precede}
+use Rattle.sup_tree.specs.Loaded.{NamedModules, listed_in, module_named}
+use Rattle.sup_tree.specs.Tree.{App}
+use Rattle.held_processes.specs.Course.{Courses, Operation, Users}
+use Rattle.held_processes.specs.Following.{Followed, HeldSlots, AllFollow, Stand}
+use Rattle.held_processes.specs.Operations.{values_seen}
+use Rattle.script_steps.specs.declared.cause.Cause as declared
+use Rattle.script_steps.specs.declared.cause.Failure.{Failure}
+use Rattle.script_steps.specs.declared.progress.Progress.{Progress}
+use Rattle.script_steps.specs.Script.{Site, Run, change_within, changed_once, courses_within, each_within, fetched_from, load_courses, load_within, old_version, on_each, run_after, users_in, worker_in}
+use Rattle.script_steps.specs.Fault.{Cause, change_fault, fault, fetch_fault, table_fault}
+use Rattle.script_steps.specs.Fault.Cause.{no_memory}
+use Rattle.script_steps.specs.InMemory.{cause_of}
+
+-- The instruction may stand before the point of no return.
+abbrev pub IsEarly : Instruction → Type 0
+IsEarly i = IsTrue (is_supported i && may_precede i)
+
+-- It may stand behind it.
+abbrev pub IsLate : Instruction → Type 0
+IsLate i = IsTrue (is_supported i && may_follow i)
+
+-- what a script holds and has fetched so far, and what is loaded once it has ended well
+pub record ProgressForm : Type 0 where
+  pub held : HeldSlots
+  pub fetched : NamedModules
+  pub next : NamedModules
+
+abbrev pub progress_of : Progress → ProgressForm
+progress_of p = record { held = p.held; fetched = listed_in p.fetched; next = listed_in p.next }
+
+-- what the handler's view was when a script began, and what was done since
+pub record Past : Type 0 where
+  pub first : View
+  pub run : Run
+
+abbrev pub followed_in : Past → Followed
+followed_in past = record { first = past.first; courses = past.run.courses }
+
+-- Of each slot the handler has seen the history up to here.
+abbrev pub IsSeen : View → Run → View → Type 0
+IsSeen first r v = (p : ℕ) → p < slots → Stand first.lent (seen first p) (r.courses p).blocks (seen v p)
+
+-- Nothing makes the instruction fail, in histories that the handler had seen.
+abbrev pub HasNoFault : Site → View → Run → Instruction → Type 0
+HasNoFault s first r i = (v : View) × IsSeen first r v × (fault s (values_seen v) r i ≡ None)
+
+-- The cause is this one, if any; or it is out of memory.
+abbrev pub IsCause : Option Cause → Cause → Type 0
+IsCause o no_memory = Unit {0}
+IsCause o c = o ≡ Some c
+
+-- So it is, in histories that the handler has seen.
+abbrev pub IsCauseIn : View → View → Run → Option Cause → Cause → Type 0
+IsCauseIn first v r o no_memory = Unit {0}
+IsCauseIn first v r o c = (o ≡ Some c) × IsSeen first r v
+
+-- The cause is that of the fault, in the histories that the handler has seen; or it is out of memory.
+abbrev pub IsFault : View → Site → View → Run → Instruction → Cause → Type 0
+IsFault first s v r i c = IsCauseIn first v r (fault s (values_seen v) r i) c
+
+-- What is held, fetched and started is what was done.
+pub record HasDone (past : Past) (a : ProgressForm) (tree : List App) (v : View) : Type 0 where
+  pub follow : AllFollow past.first past.run.courses a.held v
+  pub fetched : a.fetched ≡ past.run.fetched
+  pub next : a.next ≡ past.run.modules
+  pub apps : tree ≡ past.run.apps
+  pub values : past.run.values ≡ values_seen past.first
+
+-- The instruction was carried out, or fails; then it was done in part.
+abbrev pub CarriesOut : {X : Type 0} → Site → Past → Bool → Instruction → Result X Failure → ProgressForm → List App → View → Type 0
+CarriesOut s past early i (Ok x) a tree v =
+    HasNoFault s past.first past.run i × HasDone (record past { run = run_after s early i past.run }) a tree v
+CarriesOut s past early i (Err e) a tree v =
+    IsFault past.first s v past.run i (cause_of e.cause)
+    × AllFollow past.first (courses_within s early i e.modules e.slot past.run) a.held v
+
+-- The courses have the same blocks: nothing was added to a history.
+abbrev pub SameBlocks : Courses → Courses → Type 0
+SameBlocks cs ds = (p : ℕ) → (ds p).blocks ≡ (cs p).blocks
+
+-- The operation was done to the processes of all these modules, or to some of them, since memory was refused.
+abbrev pub AreDone : {X : Type 0} → Followed → Users → Operation → List (List ℕ) → Result X Failure → HeldSlots → View → Type 0
+AreDone followed users op names (Ok x) hs v = AllFollow followed.first (on_each op names users followed.courses) hs v
+AreDone followed users op names (Err e) hs v =
+    (cause_of e.cause ≡ no_memory) × AllFollow followed.first (each_within op names e.modules e.slot users followed.courses) hs v
+
+-- The modules of a library were fetched, or they can't be.
+abbrev pub Fetches : {X : Type 0} → Option Library → List (List ℕ) → NamedModules → Result X declared.Cause → NamedModules → Type 0
+Fetches l names ms (Ok x) ms' = (fetch_fault l names ≡ None) × (ms' ≡ fetched_from l names ms)
+Fetches l names ms (Err e) ms' = IsCause (fetch_fault l names) (cause_of e)
+
+-- The processes of a module got the table of a worker that was fetched, if any was; or they, or some of them, can't get it.
+abbrev pub GivesTable : {X : Type 0} → Past → Bool → List ℕ → Result X Failure → HeldSlots → View → Type 0
+GivesTable past early name (Ok x) hs v =
+    (table_fault (worker_in (module_named name past.run.fetched)) (users_in past.run) name ≡ None)
+    × AllFollow past.first (load_courses early name (worker_in (module_named name past.run.fetched)) (users_in past.run) past.run.courses) hs v
+GivesTable past early name (Err e) hs v =
+    IsCauseIn past.first v past.run (table_fault (worker_in (module_named name past.run.fetched)) (users_in past.run) name) (cause_of e.cause)
+    × AllFollow past.first (load_within early name (worker_in (module_named name past.run.fetched)) e.slot (users_in past.run) past.run.courses) hs v
+
+-- The change of code was made, or can't be made, behind so many others.
+abbrev pub ChangesOnce : {X : Type 0} → Site → Past → Direction → ℕ → ChangeForm → Result X Failure → ProgressForm → List App → View → Type 0
+ChangesOnce s past mode number c (Ok x) a tree v =
+    (change_fault s mode (c ∷ []) (values_seen v) past.run ≡ None) × HasDone (record past { run = changed_once s mode c past.run }) a tree v
+ChangesOnce s past mode number c (Err e) a tree v =
+    IsCause (change_fault s mode (c ∷ []) (values_seen v) past.run) (cause_of e.cause) × (e.modules ≡ number)
+    × AllFollow past.first (change_within c.name (old_version s mode c.name past.run) c e.slot (users_in past.run) past.run.courses) a.held v

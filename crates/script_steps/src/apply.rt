@@ -1,0 +1,204 @@
+//! `apply`: applications are started and stopped, or the script itself raises an error (OTP: application(3), erlang:error/1).
+ghost use Rattle.std.specs.Prelude.{◌≡◌, ◌||◌, IsTrue, Some, false};
+ghost use Rattle.std.specs.Option.{option_map};
+ghost use Rattle.erl_term.specs.Value.{members_of};
+ghost use Rattle.library.specs.InMemory.{library_of, shared_of};
+ghost use Rattle.relup_instruction.specs.Instruction.{call_of};
+ghost use Rattle.relup_instruction.specs.Instruction.Instruction.{apply};
+ghost use Rattle.relup_script.specs.Script.{is_application, is_error};
+ghost use Rattle.script_steps.specs.Apps.{CallsApp, StartsFrom, app_call_of, start_cause};
+ghost use Rattle.script_steps.specs.InMemory.{cause_of, site_of};
+ghost use Rattle.script_steps.specs.Script.{app_call, called_after, first_atom, target_library};
+ghost use Rattle.script_steps.specs.Script.AppCall.{stops};
+ghost use Rattle.script_steps.specs.Steps.{CarriesOut, HasDone, Past, progress_of};
+
+use crate::progress::Progress;
+use crate::raise::raise;
+use crate::{Cause, Failure, Site};
+use erl_term::Term;
+use held_processes::AppName;
+use library::Library;
+use proc_table::HandlerSeat;
+use relup_instruction::Call;
+use std::alloc::Global;
+use std::rc::Rc;
+use std::sync::Wait;
+use sup_tree::{StartError, Tree};
+
+// What a call does to applications. Those that load and unload them do nothing.
+enum AppCall<'a> {
+    Starts(&'a str),
+    Stops(&'a str),
+    Idle,
+}
+
+impl Progress {
+    // A call on an application, or an error that the script raises.
+    pub(crate) fn apply<R: Wait>(
+        &mut self,
+        rt: &R,
+        alloc: Global,
+        site: &Site<'_>,
+        seat: &mut HandlerSeat,
+        tree: &mut Tree,
+        call: &Call,
+    ) -> Result<(), Failure>
+        ghost past: { Past }
+        requires table { seat.old.table ≡ site.now.table.now }
+        requires supported { IsTrue (is_error (call_of call.now)
+            || is_application (call_of call.now)) }
+        requires done { HasDone past (progress_of self.old) tree.old seat.old.view }
+        ensures table { seat.new.table ≡ seat.old.table }
+        ensures carried { CarriesOut (site_of site.now) past false (apply (call_of call.now))
+            result (progress_of self.new) tree.new seat.new.view }
+    {
+        if call.name.as_str() == "application" {
+            self.call_app(rt, alloc, site, seat, tree, app_call(call))
+        } else {
+            Err(raise(call))
+        }
+    }
+
+    // A call on an application. It does nothing where it neither starts nor stops one.
+    fn call_app<R: Wait>(
+        &mut self,
+        rt: &R,
+        alloc: Global,
+        site: &Site<'_>,
+        seat: &mut HandlerSeat,
+        tree: &mut Tree,
+        call: AppCall<'_>,
+    ) -> Result<(), Failure>
+        ghost past: { Past }
+        requires table { seat.old.table ≡ site.now.table.now }
+        requires done { HasDone past (progress_of self.old) tree.old seat.old.view }
+        ensures table { seat.new.table ≡ seat.old.table }
+        ensures called { CallsApp (site_of site.now) past (app_call_of call.entry)
+            result (progress_of self.new) tree.new seat.new.view }
+    {
+        match call {
+            AppCall::Starts(app) => match target_library(site, app) {
+                Some(library) => self.start_from(rt, alloc, site, seat, tree, library.as_ref()),
+                None => Err(failed(Cause::NoApp)),
+            },
+            AppCall::Stops(name) => {
+                self.stop_app(rt, site, seat, tree, &AppName { name });
+                Ok(())
+            }
+            AppCall::Idle => Ok(()),
+        }
+    }
+
+    // The application of this library is started, unless it is.
+    fn start_from<R: Wait>(
+        &mut self,
+        rt: &R,
+        alloc: Global,
+        site: &Site<'_>,
+        seat: &mut HandlerSeat,
+        tree: &mut Tree,
+        library: &Library,
+    ) -> Result<(), Failure>
+        ghost past: { Past }
+        requires table { seat.old.table ≡ site.now.table.now }
+        requires done { HasDone past (progress_of self.old) tree.old seat.old.view }
+        ensures table { seat.new.table ≡ seat.old.table }
+        ensures started { StartsFrom (Some (library_of library.now)) past
+            result (progress_of self.new) tree.new seat.new.view }
+    {
+        let Library { app, .. } = library;
+        match self
+            .held
+            .start_app(rt, alloc, site.table, seat, tree, app, &self.next)
+        {
+            Ok(()) => Ok(()),
+            Err(error) => match start_cause(error) {
+                Some(cause) => Err(failed(cause)),
+                None => Ok(()),
+            },
+        }
+    }
+
+    // The application is stopped, if it is started.
+    fn stop_app<R: Wait>(
+        &mut self,
+        rt: &R,
+        site: &Site<'_>,
+        seat: &mut HandlerSeat,
+        tree: &mut Tree,
+        app: &AppName<'_>,
+    )
+        ghost past: { Past }
+        requires table { seat.old.table ≡ site.now.table.now }
+        requires done { HasDone past (progress_of self.old) tree.old seat.old.view }
+        ensures table { seat.new.table ≡ seat.old.table }
+        ensures done { HasDone (record past {
+          run = called_after (site_of site.now)
+              (stops app.now.name.now) past.run;
+        }) (progress_of self.new) tree.new seat.new.view }
+    {
+        self.held.stop_app(rt, site.table, seat, tree, app);
+    }
+}
+
+// What a call does to applications.
+fn app_call(call: &Call) -> AppCall<'_>
+    ensures { app_call_of result ≡ app_call (call_of call.now) }
+{
+    if call.name.as_str() != "application" {
+        return AppCall::Idle;
+    }
+    let app = first_atom(call.args.as_slice());
+    match call.function.as_str() {
+        "start" => AppCall::Starts(app),
+        "stop" => AppCall::Stops(app),
+        _ => AppCall::Idle,
+    }
+}
+
+// The name of an application that a call gives.
+fn first_atom(args: &[Term]) -> &str
+    ensures { result.now ≡ first_atom (members_of args.now) }
+{
+    match args.first() {
+        Some(Term::Atom(name)) => name.as_str(),
+        _ => "",
+    }
+}
+
+// The library of this application in the release to which the script leads.
+fn target_library<'a>(site: &Site<'a>, app: &str) -> Option<&'a Rc<Library>>
+    ensures { option_map (λ l. shared_of l.now) result
+        ≡ target_library (site_of site.now) app.now }
+{
+    for library in site.target {
+        if library.app.name.as_str() == app {
+            return Some(library);
+        }
+    }
+    None
+}
+
+// Why a script fails where an application isn't started. One that is started already is no reason.
+fn start_cause(error: StartError<'_>) -> Option<Cause>
+    ensures { option_map cause_of result ≡ start_cause error.entry }
+{
+    match error {
+        StartError::AlreadyStarted => None,
+        StartError::NoTable(_) => Some(Cause::NoTable),
+        StartError::Unsupported => Some(Cause::Unsupported),
+        StartError::NoSlot => Some(Cause::NoSlot),
+        StartError::NoMemory => Some(Cause::NoMemory),
+    }
+}
+
+// It failed before anything was done.
+fn failed(cause: Cause) -> Failure
+    ensures { result ≡ (record { cause = cause; modules = 0; slot = 0 }) }
+{
+    Failure {
+        cause,
+        modules: 0,
+        slot: 0,
+    }
+}

@@ -1,0 +1,46 @@
+//! Instructions that may stand before the point of no return.
+ghost use Rattle.relup_instruction.specs.Instruction.{instruction_of};
+ghost use Rattle.script_steps.specs.InMemory.{site_of};
+ghost use Rattle.script_steps.specs.Steps.{CarriesOut, HasDone, IsEarly, Past, progress_of};
+ghost use Rattle.std.specs.Prelude.{◌≡◌, true};
+
+use crate::progress::Progress;
+use crate::raise::raise;
+use crate::{Failure, Site};
+use proc_table::HandlerSeat;
+use relup_instruction::Instr;
+use std::alloc::Global;
+use std::sync::Wait;
+use sup_tree::Tree;
+
+impl Progress {
+    /// Carries out an instruction that may stand before the point of no return. It waits for processes that clients have. By
+    /// the instructions before it the caller's proof names what was done.
+    pub fn carry_out_early<R: Wait>(
+        &mut self,
+        rt: &R,
+        alloc: Global,
+        site: &Site<'_>,
+        seat: &mut HandlerSeat,
+        tree: &Tree,
+        _before: &[Instr],
+        instr: &Instr,
+    ) -> Result<(), Failure>
+        ghost past: { Past }
+        requires table { seat.old.table ≡ site.now.table.now }
+        requires early { IsEarly (instruction_of instr.now) }
+        requires done { HasDone past (progress_of self.old) tree.now seat.old.view }
+        ensures table { seat.new.table ≡ seat.old.table }
+        ensures carried { CarriesOut (site_of site.now) past true (instruction_of instr.now)
+            result (progress_of self.new) tree.now seat.new.view }
+    {
+        match instr {
+            Instr::LoadObjectCode(modules) => self.fetch(alloc, site, modules),
+            Instr::Suspend(suspensions) => self.suspend(rt, alloc, site, seat, tree, suspensions),
+            Instr::Load(purging) => self.load(rt, alloc, site, seat, tree, true, purging),
+            Instr::CodeChange(conversion) => self.change_code(alloc, site, tree, conversion),
+            Instr::Apply(call) => Err(raise(call)),
+            _ => unreachable!(),
+        }
+    }
+}

@@ -1,0 +1,76 @@
+//! `load_object_code`: modules are fetched from a library.
+ghost use Rattle.library.specs.InMemory.{shared_of};
+ghost use Rattle.proc_table.specs.declared.view.View.{View};
+ghost use Rattle.relup_instruction.specs.Instruction.Instruction.{load_object_code};
+ghost use Rattle.relup_instruction.specs.Instruction.{fetch_of};
+ghost use Rattle.script_steps.specs.InMemory.{site_of};
+ghost use Rattle.script_steps.specs.Script.{library_for};
+ghost use Rattle.script_steps.specs.Steps.{CarriesOut, Fetches, HasDone, Past, progress_of};
+ghost use Rattle.std.specs.Prelude.{Bool, List, Some, map, string_bytes};
+ghost use Rattle.sup_tree.specs.Loaded.{listed_in};
+ghost use Rattle.sup_tree.specs.Tree.{App};
+
+use crate::progress::Progress;
+use crate::{Cause, Failure, Site};
+use library::Library;
+use relup_instruction::Fetch;
+use std::alloc::Global;
+use std::rc::Rc;
+use sup_tree::Loaded;
+
+impl Progress {
+    // Fetches the modules, in place of those of their names that were fetched before.
+    pub(crate) fn fetch(
+        &mut self,
+        alloc: Global,
+        site: &Site<'_>,
+        fetch: &Fetch,
+    ) -> Result<(), Failure>
+        ensures { (past : Past) (apps : List App) (v : View) (early : Bool)
+            → HasDone past (progress_of self.old) apps v
+            → CarriesOut (site_of site.now) past early (load_object_code (fetch_of fetch.now))
+            result (progress_of self.new) apps v }
+    {
+        match fetch_from(alloc, site, &mut self.fetched, fetch) {
+            Ok(()) => Ok(()),
+            Err(cause) => Err(Failure {
+                cause,
+                modules: 0,
+                slot: 0,
+            }),
+        }
+    }
+}
+
+fn fetch_from(
+    alloc: Global,
+    site: &Site<'_>,
+    fetched: &mut Loaded,
+    fetch: &Fetch,
+) -> Result<(), Cause>
+    ensures { Fetches (library_for (site_of site.now) (fetch_of fetch.now))
+        (fetch_of fetch.now).modules (listed_in fetched.old) result (listed_in fetched.new) }
+{
+    match site.list.library(fetch.app.as_str(), fetch.vsn.as_str()) {
+        Some(library) => fetch_all(alloc, library, fetched, fetch.modules.as_slice()),
+        None => Err(Cause::NoLibrary),
+    }
+}
+
+// Fetches these modules of a library.
+fn fetch_all(
+    alloc: Global,
+    library: &Rc<Library>,
+    fetched: &mut Loaded,
+    names: &[String],
+) -> Result<(), Cause>
+    ensures { Fetches (Some (shared_of library.now)) (map string_bytes names.now)
+        (listed_in fetched.old) result (listed_in fetched.new) }
+{
+    for name in names {
+        if !fetched.load(alloc, library, name.as_str())? {
+            return Err(Cause::NoModule);
+        }
+    }
+    Ok(())
+}

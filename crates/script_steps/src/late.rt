@@ -1,0 +1,59 @@
+//! The instructions that may stand behind the point of no return.
+ghost use Rattle.std.specs.Prelude.{◌≡◌, false};
+ghost use Rattle.relup_instruction.specs.Instruction.{instruction_of};
+ghost use Rattle.script_steps.specs.InMemory.{site_of};
+ghost use Rattle.script_steps.specs.Steps.{CarriesOut, HasDone, IsLate, Past, progress_of};
+
+use crate::progress::Progress;
+use crate::release::Plain;
+use crate::{Failure, Site};
+use proc_table::HandlerSeat;
+use relup_instruction::Instr;
+use std::alloc::Global;
+use std::sync::Wait;
+use sup_tree::Tree;
+
+impl Progress {
+    /// Carries out an instruction that may stand behind the point of no return. By those before it the caller's proof names
+    /// what was done. It waits for processes that clients have.
+    pub fn carry_out_late<R: Wait>(
+        &mut self,
+        rt: &R,
+        alloc: Global,
+        site: &Site<'_>,
+        seat: &mut HandlerSeat,
+        tree: &mut Tree,
+        _before: &[Instr],
+        instr: &Instr,
+    ) -> Result<(), Failure>
+        ghost past: { Past }
+        requires table { seat.old.table ≡ site.now.table.now }
+        requires late { IsLate (instruction_of instr.now) }
+        requires done { HasDone past (progress_of self.old) tree.old seat.old.view }
+        ensures table { seat.new.table ≡ seat.old.table }
+        ensures carried { CarriesOut (site_of site.now) past false (instruction_of instr.now)
+            result (progress_of self.new) tree.new seat.new.view }
+    {
+        match instr {
+            Instr::Suspend(suspensions) => self.suspend(rt, alloc, site, seat, tree, suspensions),
+            Instr::Load(purging) => self.load(rt, alloc, site, seat, tree, false, purging),
+            Instr::CodeChange(conversion) => self.change_code(alloc, site, tree, conversion),
+            Instr::Resume(names) => {
+                self.do_plain(rt, site, seat, tree, Plain::Resume, names);
+                Ok(())
+            }
+            Instr::Stop(names) => {
+                self.do_plain(rt, site, seat, tree, Plain::Stop, names);
+                Ok(())
+            }
+            Instr::Start(names) => {
+                self.do_plain(rt, site, seat, tree, Plain::Start, names);
+                Ok(())
+            }
+            Instr::Remove(purging) => self.remove(rt, site, seat, tree, purging),
+            Instr::Purge(_) => Ok(()),
+            Instr::Apply(call) => self.apply(rt, alloc, site, seat, tree, call),
+            _ => unreachable!(),
+        }
+    }
+}

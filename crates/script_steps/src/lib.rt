@@ -1,0 +1,28 @@
+//! Instructions of scripts, carried out one at a time on the processes of a node (OTP: release_handler(3), appup(4)).
+//!
+//! A script's [`Progress`] is what it holds and has fetched so far, and what is loaded once it has ended well. Each call carries
+//! out one instruction (specs/Script says what it does): [`Progress::carry_out_early`] one that stands before the point of no
+//! return, [`Progress::carry_out_late`] one that stands behind it. It is done exactly where it has no fault, which is a function
+//! of what was done before and of what the histories leave (specs/Fault); else its fault is told, or that memory was refused
+//! (specs/Steps: `CarriesOut`). A [`Failure`] tells how far the instruction came.
+//!
+//! Only tested: that an instruction is carried out where memory is there. Trusted: the toolchain alone.
+#![tactic(auto)]
+
+mod apply;
+mod cause;
+mod change;
+mod early;
+mod fetch;
+mod late;
+mod load;
+mod progress;
+mod raise;
+mod release;
+mod remove;
+mod site;
+mod suspend;
+
+pub use cause::{Cause, Failure};
+pub use progress::Progress;
+pub use site::Site;

@@ -1,0 +1,151 @@
+//! `load`: a module that was fetched is loaded, and processes get its table.
+ghost use Rattle.held_processes.specs.Operations.{is_used, users_of};
+ghost use Rattle.relup_instruction.specs.Instruction.Instruction.{load};
+ghost use Rattle.relup_instruction.specs.Instruction.{purging_of};
+ghost use Rattle.script_steps.specs.InMemory.{site_of};
+ghost use Rattle.script_steps.specs.Script.{worker_in};
+ghost use Rattle.script_steps.specs.Steps.{CarriesOut, GivesTable, HasDone, Past, progress_of};
+ghost use Rattle.std.specs.Option.{option_map};
+ghost use Rattle.std.specs.Prelude.{◌≡◌, IsSome};
+ghost use Rattle.sup_tree.specs.Loaded.{listed_in, module_named};
+
+use crate::progress::Progress;
+use crate::{Cause, Failure, Site};
+use held_processes::Users;
+use mod_table::{Table, Worker};
+use proc_table::{HandlerSeat, Pid};
+use relup_instruction::Purging;
+use std::alloc::Global;
+use std::sync::Wait;
+use sup_tree::{Loaded, Tree};
+
+impl Progress {
+    // The module that was fetched is loaded. Before the point of no return its processes are held until then.
+    pub(crate) fn load<R: Wait>(
+        &mut self,
+        rt: &R,
+        alloc: Global,
+        site: &Site<'_>,
+        seat: &mut HandlerSeat,
+        tree: &Tree,
+        early: bool,
+        purging: &Purging,
+    ) -> Result<(), Failure>
+        ghost past: { Past }
+        requires table { seat.old.table ≡ site.now.table.now }
+        requires done { HasDone past (progress_of self.old) tree.now seat.old.view }
+        ensures table { seat.new.table ≡ seat.old.table }
+        ensures carried { CarriesOut (site_of site.now) past early (load (purging_of purging.now))
+            result (progress_of self.new) tree.now seat.new.view }
+    {
+        match self.fetched.vsn(purging.name.as_str()) {
+            Some(_) => self.load_fetched(rt, alloc, site, seat, tree, early, purging),
+            None => Err(Failure {
+                cause: Cause::NotFetched,
+                modules: 0,
+                slot: 0,
+            }),
+        }
+    }
+
+    // It was fetched.
+    fn load_fetched<R: Wait>(
+        &mut self,
+        rt: &R,
+        alloc: Global,
+        site: &Site<'_>,
+        seat: &mut HandlerSeat,
+        tree: &Tree,
+        early: bool,
+        purging: &Purging,
+    ) -> Result<(), Failure>
+        ghost past: { Past }
+        requires table { seat.old.table ≡ site.now.table.now }
+        requires done { HasDone past (progress_of self.old) tree.now seat.old.view }
+        requires fetched { IsSome (module_named (purging_of purging.now).name past.run.fetched) }
+        ensures table { seat.new.table ≡ seat.old.table }
+        ensures carried { CarriesOut (site_of site.now) past early (load (purging_of purging.now))
+            result (progress_of self.new) tree.now seat.new.view }
+    {
+        let users = Users {
+            tree,
+            module: purging.name.as_str(),
+        };
+        self.give_table(rt, alloc, site, seat, &users, early)?;
+        match self.next.load_from(alloc, &self.fetched, users.module) {
+            Ok(_) => Ok(()),
+            Err(_) => Err(Failure {
+                cause: Cause::NoMemory,
+                modules: 0,
+                slot: Pid::count(),
+            }),
+        }
+    }
+
+    // The processes of the module get the table that was fetched.
+    fn give_table<R: Wait>(
+        &mut self,
+        rt: &R,
+        alloc: Global,
+        site: &Site<'_>,
+        seat: &mut HandlerSeat,
+        users: &Users<'_>,
+        early: bool,
+    ) -> Result<(), Failure>
+        ghost past: { Past }
+        requires table { seat.old.table ≡ site.now.table.now }
+        requires done { HasDone past (progress_of self.old) users.now.tree.now seat.old.view }
+        ensures table { seat.new.table ≡ seat.old.table }
+        ensures fetched { self.new.fetched ≡ self.old.fetched }
+        ensures next { self.new.next ≡ self.old.next }
+        ensures given { GivesTable past early users.now.module.now
+            result self.new.held seat.new.view }
+    {
+        let Some(worker) = worker_in(&self.fetched, users.module) else {
+            return if is_used(users) {
+                Err(Failure {
+                    cause: Cause::NoTable,
+                    modules: 0,
+                    slot: 0,
+                })
+            } else {
+                Ok(())
+            };
+        };
+        match self
+            .held
+            .load(rt, alloc, site.table, seat, users, worker, early)
+        {
+            Ok(()) => Ok(()),
+            Err(undone) => Err(Failure {
+                cause: Cause::NoMemory,
+                modules: 0,
+                slot: undone.slot,
+            }),
+        }
+    }
+}
+
+// The table of a worker that was fetched for a module.
+fn worker_in<'a>(fetched: &'a Loaded, module: &str) -> Option<&'a Worker>
+    ensures { option_map (λ w. w.now) result
+        ≡ worker_in (module_named «module».now (listed_in fetched.now)) }
+{
+    match fetched.table(module) {
+        Some(Table::Worker(worker)) => Some(worker),
+        Some(Table::Super(_)) => None,
+        None => None,
+    }
+}
+
+// Whether a process runs the module.
+fn is_used(users: &Users<'_>) -> bool
+    ensures { result ≡ is_used (users_of users.now.tree.now) users.now.module.now }
+{
+    for slot in 0..Pid::count() {
+        if users.include(slot) {
+            return true;
+        }
+    }
+    false
+}

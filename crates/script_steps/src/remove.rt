@@ -1,0 +1,67 @@
+//! `remove`: a module isn't loaded any more.
+ghost use Rattle.std.specs.Prelude.{◌≡◌, ◌||◌, false};
+ghost use Rattle.held_processes.specs.Following.{AllFollow, Followed};
+ghost use Rattle.held_processes.specs.Operations.{uses_up, users_of, values_seen};
+ghost use Rattle.relup_instruction.specs.Instruction.{purging_of};
+ghost use Rattle.relup_instruction.specs.Instruction.Instruction.{remove};
+ghost use Rattle.script_steps.specs.InMemory.{site_of};
+ghost use Rattle.script_steps.specs.Steps.{CarriesOut, HasDone, Past, progress_of};
+ghost use Rattle.sup_tree.specs.Tree.{supervises};
+
+use crate::progress::Progress;
+use crate::{Cause, Failure, Site};
+use held_processes::Users;
+use proc_table::HandlerSeat;
+use relup_instruction::Purging;
+use std::sync::Wait;
+use sup_tree::Tree;
+
+impl Progress {
+    // The module isn't loaded any more, unless it runs somewhere.
+    pub(crate) fn remove<R: Wait>(
+        &mut self,
+        rt: &R,
+        site: &Site<'_>,
+        seat: &mut HandlerSeat,
+        tree: &Tree,
+        purging: &Purging,
+    ) -> Result<(), Failure>
+        ghost past: { Past }
+        requires table { seat.old.table ≡ site.now.table.now }
+        requires done { HasDone past (progress_of self.old) tree.now seat.old.view }
+        ensures table { seat.new.table ≡ seat.old.table }
+        ensures carried { CarriesOut (site_of site.now) past false (remove (purging_of purging.now))
+            result (progress_of self.new) tree.now seat.new.view }
+    {
+        let module = purging.name.as_str();
+        if self.is_in_use(rt, site, seat, &Users { tree, module }) {
+            return Err(Failure {
+                cause: Cause::InUse,
+                modules: 0,
+                slot: 0,
+            });
+        }
+        self.next.remove(module);
+        Ok(())
+    }
+
+    // Whether a supervisor of a started application uses the module, or a process that is up.
+    fn is_in_use<R: Wait>(
+        &self,
+        rt: &R,
+        site: &Site<'_>,
+        seat: &mut HandlerSeat,
+        users: &Users<'_>,
+    ) -> bool
+        ghost followed: { Followed }
+        requires table { seat.old.table ≡ site.now.table.now }
+        requires follow { AllFollow followed.first followed.courses self.now.held seat.old.view }
+        ensures table { seat.new.table ≡ seat.old.table }
+        ensures told { result ≡ (supervises users.now.module.now users.now.tree.now
+            || uses_up (values_seen seat.new.view) (users_of users.now.tree.now)
+            users.now.module.now followed.courses) }
+        ensures follow { AllFollow followed.first followed.courses self.now.held seat.new.view }
+    {
+        users.tree.supervises(users.module) || self.held.any_up(rt, site.table, seat, users)
+    }
+}

@@ -1,0 +1,98 @@
+//! `suspend`: processes are held until they are resumed.
+ghost use Rattle.held_processes.specs.Course.Operation.{suspend};
+ghost use Rattle.held_processes.specs.Following.{AllFollow, Followed};
+ghost use Rattle.held_processes.specs.Operations.{IsDone, users_of};
+ghost use Rattle.relup_instruction.specs.Instruction as instruction;
+ghost use Rattle.relup_instruction.specs.Instruction.{suspension_of};
+ghost use Rattle.script_steps.specs.InMemory.{site_of};
+ghost use Rattle.script_steps.specs.Script.{suspended_in};
+ghost use Rattle.script_steps.specs.Steps.{AreDone, CarriesOut, HasDone, Past, progress_of};
+ghost use Rattle.std.specs.Prelude.{◌≡◌, Bool, map};
+
+use crate::progress::Progress;
+use crate::{Cause, Failure, Site};
+use held_processes::{HeldProcesses, Undone, Users};
+use proc_table::{HandlerSeat, ProcTable};
+use relup_instruction::Suspension;
+use std::alloc::Global;
+use std::sync::Wait;
+use sup_tree::Tree;
+
+impl Progress {
+    // The processes of these modules are held until they are resumed.
+    pub(crate) fn suspend<R: Wait>(
+        &mut self,
+        rt: &R,
+        alloc: Global,
+        site: &Site<'_>,
+        seat: &mut HandlerSeat,
+        tree: &Tree,
+        suspensions: &[Suspension],
+    ) -> Result<(), Failure>
+        ghost past: { Past }
+        requires table { seat.old.table ≡ site.now.table.now }
+        requires done { HasDone past (progress_of self.old) tree.now seat.old.view }
+        ensures table { seat.new.table ≡ seat.old.table }
+        ensures carried { (early : Bool) → CarriesOut (site_of site.now) past early
+            (instruction.Instruction.suspend (map suspension_of suspensions.now))
+            result (progress_of self.new) tree.now seat.new.view }
+    {
+        let held = &mut self.held;
+        hold_all(rt, alloc, site.table, seat, tree, held, suspensions)
+    }
+}
+
+// Holds the processes of these modules, one module after another.
+fn hold_all<R: Wait>(
+    rt: &R,
+    alloc: Global,
+    table: &ProcTable,
+    seat: &mut HandlerSeat,
+    tree: &Tree,
+    held: &mut HeldProcesses,
+    suspensions: &[Suspension],
+) -> Result<(), Failure>
+    ghost followed: { Followed }
+    requires table { seat.old.table ≡ table.now }
+    requires follow { AllFollow followed.first followed.courses held.old seat.old.view }
+    ensures table { seat.new.table ≡ seat.old.table }
+    ensures done { AreDone followed (users_of tree.now) suspend
+        (suspended_in (map suspension_of suspensions.now)) result held.new seat.new.view }
+{
+    for (i, suspension) in suspensions.iter().enumerate() {
+        let before = &suspensions[..i];
+        if let Err(undone) = hold_next(rt, alloc, table, seat, tree, held, before, suspension) {
+            return Err(Failure {
+                cause: Cause::NoMemory,
+                modules: i,
+                slot: undone.slot,
+            });
+        }
+    }
+    Ok(())
+}
+
+// Holds the processes of one more module. By the modules before it the caller's proof names what was done.
+fn hold_next<R: Wait>(
+    rt: &R,
+    alloc: Global,
+    table: &ProcTable,
+    seat: &mut HandlerSeat,
+    tree: &Tree,
+    held: &mut HeldProcesses,
+    _before: &[Suspension],
+    suspension: &Suspension,
+) -> Result<(), Undone>
+    ghost followed: { Followed }
+    requires table { seat.old.table ≡ table.now }
+    requires follow { AllFollow followed.first followed.courses held.old seat.old.view }
+    ensures table { seat.new.table ≡ seat.old.table }
+    ensures done { IsDone followed.first (users_of tree.now) (suspension_of suspension.now).name
+        suspend followed.courses result held.new seat.new.view }
+{
+    let users = Users {
+        tree,
+        module: suspension.name.as_str(),
+    };
+    held.suspend(rt, alloc, table, seat, &users)
+}
