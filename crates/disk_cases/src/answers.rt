@@ -5,6 +5,7 @@ use crate::sessions::follow;
 use rel_disk::DeviceFault;
 use rel_store::Store;
 use std::alloc::{AllocError, Global};
+use std::sync::Wait;
 use text_cases::Answer;
 
 /// The answer in one of eight modes. Sizes and places are in bytes.
@@ -27,23 +28,28 @@ use text_cases::Answer;
 /// each five, and at the end how many on the one within.
 ///
 /// `fault`: the text of a fault of a device.
-pub(crate) fn answer(alloc: Global, mode: &str, text: &[u8]) -> Result<String, AllocError> {
+pub(crate) fn answer<H: Wait>(
+    rt: &H,
+    alloc: Global,
+    mode: &str,
+    text: &[u8],
+) -> Result<String, AllocError> {
     let mut answer = Answer::new(alloc);
-    push_answer(alloc, mode, text, &mut answer);
+    push_answer(rt, alloc, mode, text, &mut answer);
     answer.finish()
 }
 
-fn push_answer(alloc: Global, mode: &str, bytes: &[u8], answer: &mut Answer) {
+fn push_answer<H: Wait>(rt: &H, alloc: Global, mode: &str, bytes: &[u8], answer: &mut Answer) {
     let text = str::from_utf8(bytes).unwrap_or("");
     match mode {
         "disk" => {
             let (sizes, sessions) = text.split_once(" | ").unwrap_or((text, ""));
-            on_disk(alloc, sizes, sessions, answer);
+            on_disk(rt, alloc, sizes, sessions, answer);
         }
-        "node" => on_disk(alloc, "4096 65536", text, answer),
-        "store" => on_store(alloc, b"14.2 A\n", text, answer),
-        "start" => on_store(alloc, bytes, "open; read_start", answer),
-        "damaged" => push_damaged(alloc, text, answer),
+        "node" => on_disk(rt, alloc, "4096 65536", text, answer),
+        "store" => on_store(rt, alloc, b"14.2 A\n", text, answer),
+        "start" => on_store(rt, alloc, bytes, "open; read_start", answer),
+        "damaged" => push_damaged(rt, alloc, text, answer),
         "append" => append_to(alloc, text, answer),
         "twice" => calls_twice(alloc, text, answer),
         "fault" => answer.push_shown(&DeviceFault),
@@ -52,21 +58,21 @@ fn push_answer(alloc: Global, mode: &str, bytes: &[u8], answer: &mut Answer) {
 }
 
 // What sessions answer on the disk of these words.
-fn on_disk(alloc: Global, words: &str, sessions: &str, answer: &mut Answer) {
+fn on_disk<H: Wait>(rt: &H, alloc: Global, words: &str, sessions: &str, answer: &mut Answer) {
     match disk_of(alloc, words) {
-        Ok(disk) => drop(follow(alloc, disk, sessions, answer)),
+        Ok(disk) => drop(follow(rt, alloc, disk, sessions, answer)),
         Err(_) => answer.note_no_memory(),
     }
 }
 
 // What they answer on a disk with a new store, in whose start slot this text stands, as far as it
 // has room there.
-fn on_store(alloc: Global, start: &[u8], sessions: &str, answer: &mut Answer) {
+fn on_store<H: Wait>(rt: &H, alloc: Global, start: &[u8], sessions: &str, answer: &mut Answer) {
     let Ok(disk) = case_disk(alloc) else {
         return answer.note_no_memory();
     };
     match Store::create(alloc, disk, b"[].", &start[..start.len().min(127)]) {
-        Ok(store) => drop(follow(alloc, store.into_disk(), sessions, answer)),
+        Ok(store) => drop(follow(rt, alloc, store.into_disk(), sessions, answer)),
         Err(_) => answer.push("no store"),
     }
 }

@@ -6,8 +6,10 @@ use std::alloc::Global;
 use text_cases::{Answer, number};
 
 /// Each path of a release names the release that its file has, and each path below `lib` is that of
-/// an application without modules. The path `missing` has no file, nor has the application `gone`,
-/// and no release has a relup. The application `worker` has a worker at its top.
+/// an application without modules. The path `missing` has no file, nor has the application `gone`.
+/// A release has a relup where its file stands in a folder `up`, as that of `B/up/r`: there is a
+/// script up from `A` and from `B`, and one down to `A`. The application `worker` has a worker at its
+/// top.
 #[derive(Clone, Copy)]
 pub(crate) struct ReleaseFiles;
 
@@ -17,12 +19,17 @@ impl Files for ReleaseFiles {
     fn read(&self, alloc: Global, path: &str) -> Result<Vec<u8>, FilesError> {
         match path {
             "missing" | "relup" | "lib/gone-1/ebin/gone.app" => Err(FilesError::Missing),
-            _ if path.ends_with("/relup") => Err(FilesError::Missing),
+            _ if lacks_relup(path) => Err(FilesError::Missing),
             "unreadable" => Err(FilesError::Unreadable),
             "large" => Err(FilesError::TooLarge),
             _ => bytes_at(alloc, path),
         }
     }
+}
+
+// Whether the path is that of a relup, and no release is in its folder that has one.
+fn lacks_relup(path: &str) -> bool {
+    path.ends_with("/relup") && !path.ends_with("/up/relup")
 }
 
 // The bytes of such a file.
@@ -48,11 +55,25 @@ const WORKER: &str = r#"{worker,top,"1",0,[]}."#;
 // Appends the text of a file that is there.
 fn push_file(path: &str, answer: &mut Answer) {
     match path.strip_prefix("lib/") {
-        None => push_rel(path, answer),
+        None => push_of_release(path, answer),
         Some("worker-1/ebin/worker.app") => answer.push(WORKER_APP),
         Some("worker-1/ebin/top.mod") => answer.push(WORKER),
         Some(folder) => push_app(folder, answer),
     }
+}
+
+// Appends that of the file of a release, or of its relup.
+fn push_of_release(path: &str, answer: &mut Answer) {
+    match path.strip_suffix("/up/relup") {
+        Some(vsn) => push_relup(vsn, answer),
+        None => push_rel(path, answer),
+    }
+}
+
+// Appends that of the relup of the release of this version.
+fn push_relup(vsn: &str, answer: &mut Answer) {
+    answer.push_after(r#"{""#, vsn);
+    answer.push(r#"",[{"A",[],[]},{"B",[],[]}],[{"A",[],[]}]}."#);
 }
 
 // Appends that of the file of a release: of `A` with the application `app0`, of `A/65` with 65, of

@@ -16,9 +16,12 @@ mod steps;
 mod store_callers;
 
 use crate::answers::answer;
+use std::alloc::Global;
 use std::io;
 use text_cases::answer_cases;
 
 fn main(rt: HostRuntime) -> io::Result<()> {
-    answer_cases(&rt, answer)
+    answer_cases(&rt, |alloc: Global, mode: &str, text: &[u8]| {
+        answer(&rt, alloc, mode, text)
+    })
 }

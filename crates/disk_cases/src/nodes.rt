@@ -4,9 +4,13 @@ ghost use Rattle.rel_handler.specs.State.{IsSound};
 use crate::files::ReleaseFiles;
 use crate::steps::push_start;
 use node_command::HandlerError;
+use node_upgrade::{InstallError, ScriptFailure};
+use proc_table::ProcTable;
 use rel_disk::Disk;
 use rel_handler::{BootError, Handler, boot};
 use std::alloc::Global;
+use std::sync::Wait;
+use sup_tree::{Loaded, Tree};
 use text_cases::{Answer, first_word};
 
 // Appends the versions with their statuses, in order, or why the node doesn't list them.
@@ -33,15 +37,40 @@ fn unpack<D: Disk>(alloc: Global, node: &mut Handler<D>, release: &str, answer: 
     }
 }
 
-// Has it install the release of this version, and appends the version that ran before.
-fn install<D: Disk>(alloc: Global, node: &mut Handler<D>, vsn: &str, answer: &mut Answer)
+// Has it install the release of this version where no process runs, and appends the version that the script's entry has.
+fn install<H: Wait, D: Disk>(
+    rt: &H,
+    alloc: Global,
+    node: &mut Handler<D>,
+    vsn: &str,
+    answer: &mut Answer,
+)
     requires { IsSound D.seen D.may_leave node.old }
     ensures { IsSound D.seen D.may_leave node.new }
 {
-    match node.install_release(alloc, vsn) {
+    let Ok((table, mut seat)) = ProcTable::new(alloc) else {
+        return answer.note_no_memory();
+    };
+    let mut tree = Tree::new(alloc);
+    let mut loaded = Loaded::new(alloc);
+    match node.install_release(rt, alloc, &table, &mut seat, &mut tree, &mut loaded, vsn) {
         Ok(installed) => answer.push_after("other ", installed.other.as_str()),
-        Err(error) => answer.push_shown(&error),
+        Err(error) => push_refused(alloc, &error, answer),
     }
+}
+
+// Appends why a release isn't installed.
+fn push_refused(alloc: Global, error: &InstallError, answer: &mut Answer) {
+    match error {
+        InstallError::Command(why) => answer.push_shown(why),
+        InstallError::Refused(failure) => push_failure(alloc, "Refused ", failure, answer),
+        InstallError::MustReboot(failure) => push_failure(alloc, "MustReboot ", failure, answer),
+    }
+}
+
+fn push_failure(alloc: Global, name: &str, failure: &ScriptFailure, answer: &mut Answer) {
+    answer.push(name);
+    answer.push_made(&failure.text(alloc));
 }
 
 // Appends what it tells of its start record.
@@ -67,7 +96,13 @@ fn push_done(done: Result<(), HandlerError>, answer: &mut Answer) {
 }
 
 // Has it follow a command, where one is given, and appends what it answers, with a blank before it.
-fn follow_command<D: Disk>(alloc: Global, node: &mut Handler<D>, word: &str, answer: &mut Answer)
+fn follow_command<H: Wait, D: Disk>(
+    rt: &H,
+    alloc: Global,
+    node: &mut Handler<D>,
+    word: &str,
+    answer: &mut Answer,
+)
     requires { IsSound D.seen D.may_leave node.old }
     ensures { IsSound D.seen D.may_leave node.new }
 {
@@ -79,7 +114,7 @@ fn follow_command<D: Disk>(alloc: Global, node: &mut Handler<D>, word: &str, ans
     answer.push(" ");
     match sign {
         '?' => tell_start(alloc, node, answer),
-        '+' => install(alloc, node, vsn, answer),
+        '+' => install(rt, alloc, node, vsn, answer),
         '!' => push_done(node.make_permanent(alloc, vsn), answer),
         '<' => push_done(node.reboot_old_release(alloc, vsn), answer),
         '-' => push_done(node.remove_release(alloc, vsn), answer),
@@ -89,23 +124,30 @@ fn follow_command<D: Disk>(alloc: Global, node: &mut Handler<D>, word: &str, ans
 
 // Appends its releases, and where commands are given, what it answers to each of at most three,
 // whether it is dead then, and its releases.
-fn push_followed<D: Disk>(alloc: Global, node: &mut Handler<D>, commands: &str, answer: &mut Answer)
+fn push_followed<H: Wait, D: Disk>(
+    rt: &H,
+    alloc: Global,
+    node: &mut Handler<D>,
+    commands: &str,
+    answer: &mut Answer,
+)
     requires { IsSound D.seen D.may_leave node.old }
 {
     push_releases(node, answer);
     if !commands.is_empty() {
         let (first, more) = first_word(commands);
         let (second, third) = first_word(more);
-        follow_command(alloc, node, first, answer);
-        follow_command(alloc, node, second, answer);
-        follow_command(alloc, node, third, answer);
+        follow_command(rt, alloc, node, first, answer);
+        follow_command(rt, alloc, node, second, answer);
+        follow_command(rt, alloc, node, third, answer);
         answer.push(if node.is_dead() { " dead " } else { " open " });
         push_releases(node, answer);
     }
 }
 
 // Has it follow these commands, or with `unpack` take a further release in and no more.
-fn follow_node<D: Disk + Drop>(
+fn follow_node<H: Wait, D: Disk + Drop>(
+    rt: &H,
     alloc: Global,
     node: Handler<D>,
     how: &str,
@@ -117,14 +159,15 @@ fn follow_node<D: Disk + Drop>(
     let mut node = node;
     match how {
         "unpack" => unpack(alloc, &mut node, words, answer),
-        _ => push_followed(alloc, &mut node, words, answer),
+        _ => push_followed(rt, alloc, &mut node, words, answer),
     }
     node.into_disk()
 }
 
 /// What a node answers that is made of the first of these words, a release, on this disk and given
 /// the others as commands, or why none is made. Hands the disk back, as the others do.
-pub(crate) fn create_node<D: Disk + Drop>(
+pub(crate) fn create_node<H: Wait, D: Disk + Drop>(
+    rt: &H,
     alloc: Global,
     disk: D,
     words: &str,
@@ -132,7 +175,7 @@ pub(crate) fn create_node<D: Disk + Drop>(
 ) -> D {
     let (first, more) = first_word(words);
     match Handler::create(alloc, disk, &ReleaseFiles, first) {
-        Ok(node) => follow_node(alloc, node, "node", more, answer),
+        Ok(node) => follow_node(rt, alloc, node, "node", more, answer),
         Err((error, disk)) => {
             answer.push_shown(&error);
             disk
@@ -142,7 +185,8 @@ pub(crate) fn create_node<D: Disk + Drop>(
 
 /// What the node on this disk answers that is given these words as commands, or with `unpack` to a
 /// further release and no more, or why it isn't booted.
-pub(crate) fn boots<D: Disk + Drop>(
+pub(crate) fn boots<H: Wait, D: Disk + Drop>(
+    rt: &H,
     alloc: Global,
     disk: D,
     how: &str,
@@ -150,7 +194,7 @@ pub(crate) fn boots<D: Disk + Drop>(
     answer: &mut Answer,
 ) -> D {
     match boot(alloc, disk) {
-        Ok(node) => follow_node(alloc, node, how, words, answer),
+        Ok(node) => follow_node(rt, alloc, node, how, words, answer),
         Err((error, disk)) => {
             answer.push_debug(&error);
             disk

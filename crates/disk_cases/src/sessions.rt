@@ -8,6 +8,7 @@ use crate::store_callers::append_both;
 use rel_disk::{DeviceFault, Disk};
 use rel_store::Store;
 use std::alloc::Global;
+use std::sync::Wait;
 use text_cases::{Answer, first_word, number};
 
 /// Appends what sessions answer, one after another on this disk, with ` | ` between them as between
@@ -28,11 +29,12 @@ use text_cases::{Answer, first_word, number};
 ///   list of its releases, and where commands are given, what it answers to each, whether it is
 ///   `dead` or `open` then, and the list again. The command `B` takes the release B in, `+B`
 ///   installs it, `!B` makes it permanent, `<B` reboots it, `-B` removes it, and `?` tells the
-///   start. [`crate::files::ReleaseFiles`] has the releases.
+///   start. [`crate::files::ReleaseFiles`] has the releases and their relups. No process runs.
 /// - `unpack B`: the node is booted and takes B in, and no list is told.
 /// - `fail N SESSION`, `part N SESSION`: the call N of the device fails in this session, in the
 ///   second with a part of its effect. How many calls have failed is told behind it.
-pub(crate) fn follow<D: Disk + Drop>(
+pub(crate) fn follow<H: Wait, D: Disk + Drop>(
+    rt: &H,
     alloc: Global,
     disk: D,
     sessions: &str,
@@ -43,32 +45,44 @@ pub(crate) fn follow<D: Disk + Drop>(
         if i > 0 {
             answer.push(" | ");
         }
-        disk = session(alloc, disk, words, answer);
+        disk = session(rt, alloc, disk, words, answer);
     }
     disk
 }
 
 // Each session hands its disk back.
-fn session<D: Disk + Drop>(alloc: Global, disk: D, words: &str, answer: &mut Answer) -> D {
+fn session<H: Wait, D: Disk + Drop>(
+    rt: &H,
+    alloc: Global,
+    disk: D,
+    words: &str,
+    answer: &mut Answer,
+) -> D {
     let (how, rest) = first_word(words);
     match how {
         "fail" | "part" => {
             let (call, words) = first_word(rest);
-            let disk = session_on(alloc, failing(disk, how, call), words, answer);
+            let disk = session_on(rt, alloc, failing(disk, how, call), words, answer);
             push_failures(disk.failures(), answer);
             disk.disk
         }
-        _ => session_on(alloc, disk, words, answer),
+        _ => session_on(rt, alloc, disk, words, answer),
     }
 }
 
-fn session_on<D: Disk + Drop>(alloc: Global, disk: D, words: &str, answer: &mut Answer) -> D {
+fn session_on<H: Wait, D: Disk + Drop>(
+    rt: &H,
+    alloc: Global,
+    disk: D,
+    words: &str,
+    answer: &mut Answer,
+) -> D {
     let (word, rest) = first_word(words);
     match word {
         "create" => create(alloc, disk, rest, answer),
         "open" | "open;" | "both" => open(alloc, disk, word, rest, answer),
-        "node" => create_node(alloc, disk, rest, answer),
-        "boot" | "unpack" => boots(alloc, disk, word, rest, answer),
+        "node" => create_node(rt, alloc, disk, rest, answer),
+        "boot" | "unpack" => boots(rt, alloc, disk, word, rest, answer),
         _ => {
             let mut disk = disk;
             follow_call(alloc, &mut disk, word, rest, answer);

@@ -1,8 +1,10 @@
 -- Processes that begin one after another in a new table stand in its first slots.
-use Rattle.std.proofs.Common.{◌≡◌, ◌≢◌, ℕ, zero, suc, ◌+◌, List, [], ◌∷◌, ◌++◌, length, map, Some, Ok, refl, ap, sym, subst, ◌∙◌, arith, append-nil, append_assoc, length-append, replicate}
+use Rattle.std.proofs.Common.{◌≡◌, ◌≢◌, ◌⊎◌, inl, inr, ℕ, zero, suc, ◌+◌, ◌<◌, ◌≤◌, List, [], ◌∷◌, ◌++◌, length, map, Option, Some, Ok, refl, ap, sym, subst, ◌∙◌, arith, append-nil, append_assoc, length-append, replicate}
 use Rattle.std.specs.Prelude.{slice_get, slice_index_or}
-use Rattle.std.proofs.lemmas.List.{map-append, length-map}
+use Rattle.std.proofs.lemmas.Bool.{cases_lt}
+use Rattle.std.proofs.lemmas.List.{length-map}
 use Rattle.std.specs.List.{range_with_len}
+use native.Mathlib.Bridge.{le_prop}
 use native.Mathlib.Decide.{ℕ_discrete}
 use mathlib.Core.Logic.{dite}
 use Rattle.proc_history.specs.declared.beginning.Beginning.{Beginning}
@@ -23,8 +25,9 @@ use Rattle.sup_tree.specs.Starts.{beginning_of, process_of, BeganInOrder}
 use Rattle.sup_tree.specs.Tree.{App}
 use Rattle.sup_tree.specs.Walk.{Start}
 use Rattle.sup_tree.proofs.BeginLemmas.{first_slots}
-use Rattle.node_processes.specs.Fresh.{first_value, first_values, first_process, processes_from, app_from, apps_from, beginnings, part_beginnings, part_starts, tables_in}
-use Rattle.node_processes.specs.InMemory.{values_in, process_in, app_in}
+use Rattle.sup_tree.proofs.NamesInOrder.{kept_supervisors}
+use Rattle.node_processes.specs.Fresh.{first_value, first_values, first_pid, pid_if, process_if, processes_from, app_from, apps_from, beginnings, part_beginnings, part_starts, tables_in}
+use Rattle.node_processes.specs.InMemory.{values_in}
 use Rattle.node_processes.specs.Starting.{StartedAll}
 
 -- Each of these began in the slot of its place, and nothing stands behind them.
@@ -52,45 +55,66 @@ value_there bs b u pid slot round there q at =
     ∙ ((λ i. record { round = round i; now = Some (begun b) })
     ∙ sym (ap first_value (ap (slice_get (bs ++ b ∷ [])) (at ∙ slot) ∙ get_last bs b)))
 
+abbrev pid_at : (n : ℕ) → n < slots → Pid
+pid_at n inside = record { slot = n; round = 1; inside = inside }
+
+-- a process that is there in round 1 is the one of its slot
+same_pid : (n : ℕ) (inside : n < slots) (there : Pid) → there.slot ≡ n → there.round ≡ 1 → pid_at n inside ≡ there
+same_pid n inside there slot round =
+    subst (λ m. (within : m < slots) → pid_at m within ≡ there) slot
+    (λ within i. record { slot = there.slot; round = sym round i; inside = le_prop within there.inside i }) inside
+
+pid_found : (n : ℕ) (o : (n < slots) ⊎ (slots ≤ n)) (there : Pid) → there.slot ≡ n → there.round ≡ 1 → pid_if n o ≡ Some there
+pid_found n (inl inside) there slot round = ap (λ (q : Pid). Some q) (same_pid n inside there slot round)
+pid_found n (inr past) there slot round = absurd (let inside = there.inside in omega (arith, past, inside, slot))
+
+first_is : (n : ℕ) (there : Pid) → there.slot ≡ n → there.round ≡ 1 → first_pid n ≡ Some there
+first_is n there slot round = pid_found n (cases_lt n slots) there slot round
+
+-- A process stands in the slot behind those that began, and they and it have begun.
+record BeginsNext (app : List ℕ) (s : Start) (bs : List Beginning) (u : View) (p : StartedProcess) : Type 0 where
+  first : (more : List StartedProcess) → p ∷ more ≡ process_if s (first_pid (length bs)) more
+  begun : HaveBegun (bs ++ beginning_of app s ∷ []) u
+
 one_begun : (app : List ℕ) (s : Start) (bs : List Beginning) (v u : View) (p : StartedProcess) → HaveBegun bs v
-    → BeganLowest (beginning_of app s) v (Ok p.pid) u → p ≡ process_of s p.pid
-    → (process_in p ≡ first_process (length bs) s) × HaveBegun (bs ++ beginning_of app s ∷ []) u
+    → BeganLowest (beginning_of app s) v (Ok p.pid) u → p ≡ process_of s p.pid → BeginsNext app s bs u p
 one_begun app s bs v u p so_far began is =
     let b = beginning_of app s in
     let (at, free) = first_slots.1 app (s ∷ []) (length bs) v u (p ∷ []) so_far.free (u, began, is, refl) in
     let slot = at.0 in
     let round = at.1 in
-    let there = began_there b v u p.pid began in (
-      ap process_in is ∙ (λ i. record { id = s.child.id; «module» = s.child.start; slot = slot i; round = round i }),
-      record {
+    let there = began_there b v u p.pid began in record {
+      first = λ more. ap (λ (q : StartedProcess). q ∷ more) is ∙ ap (λ (o : Option Pid). process_if s o more) (sym (first_is (length bs) p.pid slot round));
+      begun = record {
         free = subst (λ n. FreeFrom n u) (sym (length-append bs (b ∷ []))) free;
         each = λ q. dite (ℕ_discrete q p.pid.slot)
             (value_there bs b u p.pid slot round there q)
             (λ ne. ap (λ (x : Known). replay x.seen) (began_elsewhere b v u p.pid began q ne) ∙ so_far.each q
             ∙ sym (ap first_value (get_other bs b q (λ e. ne (e ∙ sym slot)))));
-      },
-    )
+      };
+    }
 
 -- all that an application starts
 all_begun : (app : List ℕ) (ss : List Start) (bs : List Beginning) (v w : View) (ps : List StartedProcess) → HaveBegun bs v → BeganInOrder app ss v ps w
-    → (map process_in ps ≡ processes_from (length bs) ss) × HaveBegun (bs ++ map (beginning_of app) ss) w
+    → (ps ≡ processes_from (length bs) ss) × HaveBegun (bs ++ map (beginning_of app) ss) w
 all_begun app [] bs v w [] so_far is = (refl, subst (λ l. HaveBegun l w) (sym (append-nil bs)) (subst (HaveBegun bs) (sym is) so_far))
 all_begun app [] bs v w (p ∷ ps) so_far is = absurd is
 all_begun app (s ∷ ss) bs v w [] so_far is = absurd is
 all_begun app (s ∷ ss) bs v w (p ∷ ps) so_far (u, began, is, later) =
     let b = beginning_of app s in
     let one = one_begun app s bs v u p so_far began is in
-    let rest = all_begun app ss (bs ++ b ∷ []) u w ps one.1 later in
-    let longer : length (bs ++ b ∷ []) ≡ suc (length bs) = length-append bs (b ∷ []) ∙ (let e : length bs + 1 ≡ suc (length bs) = omega arith in e) in (
-      (λ i. one.0 i ∷ (rest.0 ∙ ap (λ n. processes_from n ss) longer) i),
+    let rest = all_begun app ss (bs ++ b ∷ []) u w ps one.begun later in
+    let longer : length (bs ++ b ∷ []) ≡ suc (length bs) = length-append bs (b ∷ []) ∙ (let e : length bs + 1 ≡ suc (length bs) = omega arith in e) in
+    let behind : ps ≡ processes_from (suc (length bs)) ss = rest.0 ∙ ap (λ n. processes_from n ss) longer in (
+      ap (λ (l : List StartedProcess). p ∷ l) behind ∙ one.first (processes_from (suc (length bs)) ss),
       subst (λ l. HaveBegun l w) (append_assoc bs (b ∷ []) (map (beginning_of app) ss)) rest.1,
     )
 
 -- all that applications start, one after another
 pub apps_begun : (tables : Tables) (ps : List Part) (bs : List Beginning) (apps apps' : List App) (v w : View) → HaveBegun bs v → StartedAll tables ps apps v apps' w
-    → (map app_in apps' ≡ map app_in apps ++ apps_from (length bs) tables ps) × HaveBegun (bs ++ beginnings tables ps) w
+    → (apps' ≡ apps ++ apps_from (length bs) tables ps) × HaveBegun (bs ++ beginnings tables ps) w
 apps_begun tables [] bs apps apps' v w so_far (same, stays) = (
-  ap (map app_in) same ∙ sym (append-nil (map app_in apps)),
+  same ∙ sym (append-nil apps),
   subst (λ l. HaveBegun l w) (sym (append-nil bs)) (subst (HaveBegun bs) (sym stays) so_far),
 )
 apps_begun tables (p ∷ ps) bs apps apps' v w so_far (mid, u, started, later) =
@@ -98,11 +122,12 @@ apps_begun tables (p ∷ ps) bs apps apps' v w so_far (mid, u, started, later) =
     let ss = part_starts tables p in
     let own = part_beginnings tables p in
     let here = all_begun name ss bs v u started.processes so_far started.began in
+    let kept = kept_supervisors tables p.library.app.top started.supervisors started.kept in
     let rest = apps_begun tables ps (bs ++ own) mid apps' u w here.1 later in
     let longer : length (bs ++ own) ≡ length bs + length ss = length-append bs own ∙ ap (λ n. length bs + n) (length-map ss (beginning_of name)) in
-    let one : map app_in mid ≡ map app_in apps ++ app_from (length bs) tables p ∷ [] =
-    ap (map app_in) started.tree ∙ (map-append app_in apps _ ∙ ap (λ qs. map app_in apps ++ record { name = name; processes = qs } ∷ []) here.0) in (
-      rest.0 ∙ ((λ i. one i ++ apps_from (longer i) tables ps) ∙ append_assoc (map app_in apps) (app_from (length bs) tables p ∷ []) (apps_from (length bs + length ss) tables ps)),
+    let one : mid ≡ apps ++ app_from (length bs) tables p ∷ [] =
+    started.tree ∙ (λ i. apps ++ record { name = name; processes = here.0 i; supervisors = kept i } ∷ []) in (
+      rest.0 ∙ ((λ i. one i ++ apps_from (longer i) tables ps) ∙ append_assoc apps (app_from (length bs) tables p ∷ []) (apps_from (length bs + length ss) tables ps)),
       subst (λ l. HaveBegun l w) (append_assoc bs own (beginnings tables ps)) rest.1,
     )
 
@@ -121,7 +146,7 @@ begun_values bs v begun = (λ i. map (λ q. begun.each q i) (range_with_len 0 sl
 
 -- So the processes of a node behind a boot are those that begin in a new table.
 pub fresh_so : (ls : List Library) (ps : List Part) (apps : List App) (v w : View) → v ≡ handler_view slots → StartedAll (tables_in ls) ps [] v apps w
-    → (values_in w ≡ first_values (beginnings (tables_in ls) ps)) × (map app_in apps ≡ apps_from 0 (tables_in ls) ps)
+    → (values_in w ≡ first_values (beginnings (tables_in ls) ps)) × (apps ≡ apps_from 0 (tables_in ls) ps)
 fresh_so ls ps apps v w new started =
     let begun = apps_begun (tables_in ls) ps [] [] apps (handler_view slots) w none_begun (subst (λ x. StartedAll (tables_in ls) ps [] x apps w) new started) in
     (begun_values (beginnings (tables_in ls) ps) w begun.1, begun.0)

@@ -1,3 +1,5 @@
+pub mod TableVersions
+pub mod EventVersions
 pub mod ModuleVersions
 pub mod FreshLemmas
 pub mod StartLemmas
@@ -7,3 +9,4 @@ pub mod PermanentLemmas
 pub mod SlotLemmas
 pub mod CommandLemmas
 pub mod ModuleLemmas
+pub mod ScriptLemmas

@@ -7,8 +7,9 @@ use Rattle.proc_history.specs.declared.value.Value.{Value}
 use Rattle.proc_history.specs.Events.Event.{call}
 use Rattle.proc_history.specs.Values.{nothing, up_in, answer, outcome_of, after}
 use Rattle.node_listing.specs.Listing.{process_listing, module_listing}
+use Rattle.proc_table.specs.declared.pid.Pid.{Pid}
 use Rattle.sup_tree.specs.Loaded.{name_and_version}
-use Rattle.node_processes.specs.Processes.{Process, Processes, process_named}
+use Rattle.node_processes.specs.Processes.{Processes, process_named}
 
 abbrev pub no_process_line : List ℕ
 no_process_line = codes "error session 2 NoProcess\n"
@@ -26,7 +27,7 @@ abbrev pub modules_line : Processes → List ℕ
 modules_line ps = module_listing (map name_and_version ps.modules)
 
 -- what stands where a process began
-abbrev pub value_at : Processes → Process → Value
+abbrev pub value_at : Processes → Pid → Value
 value_at ps p = slice_index_or ps.values p.slot nothing
 
 -- a process that is up: its state, and the version of its module
@@ -34,7 +35,7 @@ abbrev pub state_line : Option Now → List ℕ
 state_line None = down_line
 state_line (Some n) = codes "ok " ++ (decimal n.state ++ (codes " " ++ (n.table.vsn ++ codes "\n")))
 
-abbrev pub peeked_line : Processes → Option Process → List ℕ
+abbrev pub peeked_line : Processes → Option Pid → List ℕ
 peeked_line ps None = no_process_line
 peeked_line ps (Some p) = state_line (up_in p.round (value_at ps p))
 
@@ -55,7 +56,7 @@ abbrev pub reply_line : ℕ → Option Now → List ℕ
 reply_line input None = down_line
 reply_line input (Some n) = outcome_line (outcome_at n input)
 
-abbrev pub called_line : ℕ → Processes → Option Process → List ℕ
+abbrev pub called_line : ℕ → Processes → Option Pid → List ℕ
 called_line input ps None = no_process_line
 called_line input ps (Some p) = reply_line input (up_in p.round (value_at ps p))
 
@@ -64,11 +65,11 @@ abbrev pub call_line : List ℕ → List ℕ → ℕ → Processes → List ℕ
 call_line app id input ps = called_line input ps (process_named app id ps)
 
 -- what a call of this process leaves, if it is up
-abbrev pub behind_call : ℕ → Processes → Process → Option Now → Processes
+abbrev pub behind_call : ℕ → Processes → Pid → Option Now → Processes
 behind_call input ps p None = ps
 behind_call input ps p (Some n) = record ps { values = slice_set ps.values p.slot (after (value_at ps p) (call input (outcome_at n input))) }
 
-abbrev pub called_at : ℕ → Processes → Option Process → Processes
+abbrev pub called_at : ℕ → Processes → Option Pid → Processes
 called_at input ps None = ps
 called_at input ps (Some p) = behind_call input ps p (up_in p.round (value_at ps p))
 

@@ -1,8 +1,10 @@
 -- What runs right after a boot: the applications of the permanent release that are of type permanent, transient or temporary, in
 -- order, each with the workers below its top, in order (OTP: application, supervisor). What is loaded are the modules of all its
 -- libraries, whatever the type of their applications.
-use Rattle.std.specs.Prelude.{ℕ, suc, ◌+◌, List, [], ◌∷◌, length, map, slice_get, Option, Some, None}
+use Rattle.std.specs.Prelude.{ℕ, suc, ◌+◌, ◌<◌, ◌≤◌, ◌⊎◌, List, [], ◌∷◌, length, map, slice_get, Option, Some, None}
 use Rattle.std.specs.List.{find, filter, flat_map, range_with_len}
+use Rattle.std.proofs.Common.{inl, inr}
+use Rattle.std.proofs.lemmas.Bool.{cases_lt}
 use Rattle.rel_files.specs.Release.{Application}
 use Rattle.library.specs.Library.{Library}
 use Rattle.rel_list.specs.Releases.{Releases, Entry}
@@ -14,9 +16,13 @@ use Rattle.proc_history.specs.declared.value.Value.{Value}
 use Rattle.proc_history.specs.Values.{nothing, begun}
 use Rattle.proc_table.specs.Agrees.{slots}
 use Rattle.sup_tree.specs.Loaded.{modules_of, tables_of, listed_modules}
-use Rattle.sup_tree.specs.Starts.{beginning_of}
-use Rattle.sup_tree.specs.Walk.{Start, app_starts}
-use Rattle.node_processes.specs.Processes.{Process, StartedApplication, Processes}
+use Rattle.proc_table.specs.declared.pid.Pid.{Pid}
+use Rattle.sup_tree.specs.declared.process.StartedProcess.{StartedProcess}
+use Rattle.sup_tree.specs.Names.{sorted_names}
+use Rattle.sup_tree.specs.Starts.{beginning_of, process_of}
+use Rattle.sup_tree.specs.Tree.{App}
+use Rattle.sup_tree.specs.Walk.{Start, app_starts, app_supervisors}
+use Rattle.node_processes.specs.Processes.{Processes}
 
 -- the applications that a boot starts
 abbrev pub started_parts : List Part → List Part
@@ -26,20 +32,32 @@ started_parts ps = filter (λ (p : Part). is_started p.app.start) ps
 abbrev pub part_starts : Tables → Part → List Start
 part_starts tables p = app_starts tables p.library.app.top
 
--- a process that begins in this slot of a new table
-abbrev pub first_process : ℕ → Start → Process
-first_process n s = record { id = s.child.id; «module» = s.child.start; slot = n; round = 1 }
+abbrev pub pid_if : (n : ℕ) → (n < slots) ⊎ (slots ≤ n) → Option Pid
+pid_if n (inl inside) = Some (record { slot = n; round = 1; inside = inside })
+pid_if n (inr past) = None
+
+-- what begins in this slot of a new table has round 1; none begins past the last slot
+abbrev pub first_pid : ℕ → Option Pid
+first_pid n = pid_if n (cases_lt n slots)
+
+abbrev pub process_if : Start → Option Pid → List StartedProcess → List StartedProcess
+process_if s None more = more
+process_if s (Some pid) more = process_of s pid ∷ more
 
 -- processes that begin in the slots from this one on
-abbrev pub processes_from : ℕ → List Start → List Process
+abbrev pub processes_from : ℕ → List Start → List StartedProcess
 processes_from n [] = []
-processes_from n (s ∷ ss) = first_process n s ∷ processes_from (suc n) ss
+processes_from n (s ∷ ss) = process_if s (first_pid n) (processes_from (suc n) ss)
 
-abbrev pub app_from : ℕ → Tables → Part → StartedApplication
-app_from n tables p = record { name = p.library.app.name; processes = processes_from n (part_starts tables p) }
+abbrev pub app_from : ℕ → Tables → Part → App
+app_from n tables p = record {
+  name = p.library.app.name;
+  processes = processes_from n (part_starts tables p);
+  supervisors = sorted_names (app_supervisors tables p.library.app.top);
+}
 
 -- applications that start one after another
-abbrev pub apps_from : ℕ → Tables → List Part → List StartedApplication
+abbrev pub apps_from : ℕ → Tables → List Part → List App
 apps_from n tables [] = []
 apps_from n tables (p ∷ ps) = app_from n tables p ∷ apps_from (n + length (part_starts tables p)) tables ps
 

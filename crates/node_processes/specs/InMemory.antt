@@ -10,29 +10,23 @@ use Rattle.proc_table.specs.declared.view.View.{View}
 use Rattle.proc_table.specs.Agrees.{slots}
 use Rattle.proc_table.specs.Views.{seen}
 use Rattle.sup_tree.specs.Loaded.{listed_in}
-use Rattle.sup_tree.specs.Tree.{App}
-use Rattle.sup_tree.specs.declared.process.StartedProcess.{StartedProcess}
+use Rattle.held_processes.specs.Following.{HoldsNothing}
 use Rattle.node_processes.specs.declared.processes.Processes.{Processes as ProcessesInMemory}
 use Rattle.node_processes.specs.Answers.{outcome_line, down_line}
-use Rattle.node_processes.specs.Processes.{Process, StartedApplication, Processes}
+use Rattle.node_processes.specs.Processes.{Processes}
 
 -- what the histories leave, as far as the handler has seen them
 abbrev pub values_in : View → List Value
 values_in v = map (λ p. replay (seen v p)) (range_with_len 0 slots)
 
-abbrev pub process_in : StartedProcess → Process
-process_in p = record { id = p.id; «module» = p.module; slot = p.pid.slot; round = p.pid.round }
-
-abbrev pub app_in : App → StartedApplication
-app_in a = record { name = a.name; processes = map process_in a.processes }
-
 abbrev pub processes_in : ProcessesInMemory → Processes
-processes_in ps = record { values = values_in ps.seat.view; apps = map app_in ps.tree; modules = listed_in ps.loaded }
+processes_in ps = record { values = values_in ps.seat.view; apps = ps.tree; modules = listed_in ps.loaded }
 
--- The handler sits at the table, and no client does.
+-- The handler sits at the table, no client does, and no process is held.
 pub record AreSound (ps : ProcessesInMemory) : Type 0 where
   pub table : ps.seat.table ≡ ps.table
   pub alone : ps.seat.view.lent ≡ []
+  pub free : HoldsNothing ps.seat.view
 
 -- what a call that was answered tells
 abbrev pub tried_line : Tried → List ℕ

@@ -4,3 +4,4 @@ pub mod InMemory
 pub mod Answers
 pub mod ModuleVersions
 pub mod Starting
+pub mod Scripts

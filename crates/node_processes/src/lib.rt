@@ -6,6 +6,10 @@
 //! do, and a call leaves what the table of its process says (specs/Answers). No client but these sits at the table, so nothing
 //! comes between two of them.
 //!
+//! The fields of [`Processes`] are public, so that a script of a release can be carried out on them. What a script leaves is
+//! determined by what stands in the slots, by the started applications and by the loaded modules, where nobody but the handler
+//! comes to the processes (specs/Scripts).
+//!
 //! All but `list_modules` wait for slots; nobody else has any. Only tested: that they return, and succeed where memory is there.
 //! Trusted: the toolchain alone, `atomic_table` with it.
 #![tactic(auto)]

@@ -5,8 +5,12 @@ use sup_tree::{Loaded, Tree};
 /// The processes of a node: their table, the seat of the handler there, the started applications, and the loaded modules.
 #[derive(Drop)]
 pub struct Processes {
-    pub(crate) table: ProcTable,
-    pub(crate) seat: HandlerSeat,
-    pub(crate) tree: Tree,
-    pub(crate) loaded: Loaded,
+    /// The table in which they stand.
+    pub table: ProcTable,
+    /// The seat of the handler at it.
+    pub seat: HandlerSeat,
+    /// The started applications.
+    pub tree: Tree,
+    /// The loaded modules.
+    pub loaded: Loaded,
 }

@@ -41,8 +41,8 @@ pub(crate) const PLAIN: Setting = Setting {
 /// is empty at first.
 ///
 /// Where a text has sessions, their lines are parted by ` | `, and the sessions by ` || `. A line `@NAME` stands for the lines
-/// that give the files of this name (src/given.rt). A file that isn't given in its session comes from a source of these files,
-/// which have the form of [`APPLICATIONS`].
+/// that give the files of this name (src/given.rt); each file has an answer of its own. A file that isn't given in its session
+/// comes from a source of these files, which have the form of [`APPLICATIONS`].
 pub(crate) fn push_sessions<H: Wait>(
     rt: &H,
     alloc: Global,
@@ -128,10 +128,21 @@ fn follow_all<H: Wait>(
 fn lines_of(alloc: Global, text: &str, answer: &mut Answer) -> String {
     let mut lines = String::new(alloc);
     for line in text.split(" | ") {
-        answer.note(lines.push_str(given(line)));
-        answer.note(lines.push('\n'));
+        let files = given(line);
+        if files.is_empty() {
+            push_line(line, &mut lines, answer);
+        }
+        for file in files {
+            push_line(file, &mut lines, answer);
+        }
     }
     lines
+}
+
+// Appends a line, or some, with a newline.
+fn push_line(line: &str, lines: &mut String, answer: &mut Answer) {
+    answer.note(lines.push_str(line));
+    answer.note(lines.push('\n'));
 }
 
 // Appends what this room takes of a session of this input. The disk comes back.

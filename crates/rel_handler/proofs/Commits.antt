@@ -1,5 +1,5 @@
 -- A handler at rest, and one that commits an event.
-use Rattle.std.proofs.Common.{◌≡◌, ◌⊎◌, inl, inr, ⊎_elim, ℕ, ◌+◌, ◌≤◌, true, false, List, [], ◌∷◌, ◌++◌, length, Some, Result, Ok, Err, true≢false, refl, sym, ap, ◌∙◌, subst, arith}
+use Rattle.std.proofs.Common.{◌≡◌, ◌⊎◌, inl, inr, ⊎_elim, ℕ, ◌+◌, ◌≤◌, true, false, List, [], ◌∷◌, ◌++◌, length, None, Some, Result, Ok, Err, true≢false, refl, sym, ap, ◌∙◌, subst, arith}
 use Rattle.std.proofs.lemmas.Bool.{cases_lt}
 use Rattle.std.specs.Prelude.{is_err, IfErr, IsErr, OnErr, OnOk}
 use Rattle.std.specs.List.{AllByRecursion}
@@ -32,15 +32,19 @@ use Rattle.rel_store.specs.declared.error.StoreError.TheVariants as fault
 use Rattle.rel_store.specs.declared.store.Store.{Store}
 use Rattle.rel_handler.specs.Commits.{Commits, IsDone, IsRecordFor, Keeps, HasOldStartOr}
 use Rattle.rel_handler.specs.Events.{Events, uncertain, IsStoredAs}
-use Rattle.rel_handler.specs.Image.{IsImageAt, IsStarted, start_slot, HasSpace}
-use Rattle.rel_handler.specs.Refusals.{CommandRefused}
+use Rattle.rel_handler.specs.Image.{IsImageAt, IsStarted, start_slot, end_behind, HasSpace}
+use Rattle.rel_handler.specs.Refusals.{CommandRefused, HasNoRoom, IsAllowed}
 use Rattle.rel_handler.specs.State.{disk_in, list_in, is_dead, end_in, start_in, HasStarted, IsReady, IsSound, IsSame}
 use Rattle.node_command.specs.Taking.{commanded}
 use Rattle.start_record.specs.Text.{Versions, AreVersions, start_text as text_of_start}
+use Rattle.rel_list.specs.declared.fault.ListError.{ListError}
+use Rattle.rel_list.specs.declared.fault.ListError.TheVariants as of_list
 use Rattle.rel_list.specs.Laws.{leaves_permanent}
+use Rattle.rel_list.specs.Refusal.{IsRefusedWith, brings_release, refusal}
 use Rattle.rel_list.proofs.PermanentLaws.{permanent_stays}
 use Rattle.rel_handler.specs.Start.{started as start_versions}
-use Rattle.node_command.specs.declared.error.HandlerError.TheVariants.{Device}
+use Rattle.node_command.specs.declared.error.HandlerError.{HandlerError}
+use Rattle.node_command.specs.declared.error.HandlerError.TheVariants.{Dead, Device, Exists, Full, NoMemory}
 use Rattle.rel_handler.specs.declared.handler.Handler.{Handler}
 use Rattle.node_command.proofs.CommandLemmas.{commanded_step, small_and_few}
 use Rattle.rel_handler.proofs.Images.{ends_so, each_image, stored_before, stored_after, started_by, started_by_text, while_committing, with_record}
@@ -63,6 +67,16 @@ no_success P (Err e) err = tt
 -- nothing changed
 pub all_same : {D : Type 0} (h : Handler D) → IsSame h h
 all_same h = record { disk = refl; list = refl; dead = refl; end = refl }
+
+pub store_same : {D : Type 0} (s : Store D) → store.IsSame s s
+store_same s = record { disk = refl; records = refl; end = refl; failed = refl }
+
+-- nothing but the memory of its store
+pub same_with : {D : Type 0} (h : Handler D) (s : Store D) → store.IsSame h.store s → IsSame h (record { store = s; list = h.list; dead = h.dead })
+same_with h s same = record { disk = same.disk; list = refl; dead = refl; end = same.end }
+
+pub same_both : {D : Type 0} (a b c : Handler D) → IsSame a b → IsSame b c → IsSame a c
+same_both a b c x y = record { disk = y.disk ∙ x.disk; list = y.list ∙ x.list; dead = y.dead ∙ x.dead; end = y.end ∙ x.end }
 
 -- the disk was not touched
 pub read_nothing : {D : Type 0} (v : Ghosts D) (h : Handler D) → ((c : List ℕ) → v.left_since (disk_in h) (v.moment (disk_in h)) c → v.may_leave (disk_in h) c)
@@ -105,12 +119,65 @@ pub failed_behind : (a b c : ℕ) → a ≤ b → b ≤ c → HasFailed b c → 
 failed_behind a b c first second (inl rose) = inl (omega arith)
 failed_behind a b c first second (inr stood) = ⊎_elim (λ less. inl (omega (arith, stood))) (λ same. inr (omega arith)) (cases_lt a b)
 
+-- there is no room for a record
+pub no_room : {D : Type 0} (failures : D → ℕ) (e : Event) (size : ℕ) (h mid : Handler D) (why : HandlerError) → IsAllowed e h → IsSame h mid → HasNoRoom (end_in h) size why
+    → CommandRefused failures e size h mid why
+no_room failures e size h mid Full allowed same lacks = (allowed, lacks, same)
+no_room failures e size h mid NoMemory allowed same lacks = (allowed.0, same)
+no_room failures e size h mid why allowed same lacks = absurd lacks
+
+-- A command that comes behind one that took memory alone.
+module _ {D : Type 0} (v : Ghosts D) (h mid : Handler D) (same : IsSame h mid) (e : Event) (size : ℕ) (new : Handler D) where
+  pub commits_behind : Commits v e size mid new → Commits v e size h new
+  commits_behind c = record {
+    sound = c.sound;
+    any_moment = λ living events after.
+        subst (λ d. LeavesOnly v.moment v.left_since d (disk_in new) (IsStoredAs (uncertain events (end_in h) e size))) same.disk
+        (subst (λ n. LeavesOnly v.moment v.left_since (disk_in mid) (disk_in new) (IsStoredAs (uncertain events n e size))) same.end
+        (c.any_moment (same.dead ∙ living) events (after ∙ ap (λ l. Some l) (sym same.list))));
+    counted = subst (λ d. v.failures d ≤ v.failures (disk_in new)) same.disk c.counted;
+  }
+
+  pub done_behind : IsDone v e size mid new → IsDone v e size h new
+  done_behind d = record {
+    worked = sym same.dead ∙ d.worked;
+    accepted = ap (commanded e) (sym same.list) ∙ d.accepted;
+    acknowledged = d.acknowledged;
+    fits = subst (λ n. HasSpace n size) same.end d.fits;
+    end = d.end ∙ ap (λ n. end_behind n size) same.end;
+  }
+
+  allowed_behind : IsAllowed e mid → IsAllowed e h
+  allowed_behind a = (sym same.dead ∙ a.0, (a.1.0, ap (commanded e) (sym same.list) ∙ a.1.1))
+
+  pub refused_behind : (why : HandlerError) → CommandRefused v.failures e size mid new why → CommandRefused v.failures e size h new why
+  refused_behind Dead r = (sym same.dead ∙ r.0, same_both h mid new same r.1)
+  refused_behind Full r = (allowed_behind r.0, λ has. r.1 (subst (λ n. HasSpace n size) (sym same.end) has), same_both h mid new same r.2)
+  refused_behind NoMemory r = (sym same.dead ∙ r.0, same_both h mid new same r.1)
+  refused_behind Device r =
+      ((sym same.dead ∙ r.0.0, (allowed_behind (r.0.0, r.0.1)).1, subst (λ n. HasSpace n size) same.end r.0.2), subst (λ d. HasFailed (v.failures d) (v.failures (disk_in new))) same.disk r.1, r.2)
+  refused_behind Exists r = absurd r
+  refused_behind why r = ((sym same.dead ∙ r.0.0, ap (commanded e) (sym same.list) ∙ r.0.1), same_both h mid new same r.1)
+
+-- an event that the list allows, and that brings no release, is taken
+pub taken_so : (e : Event) (es : Releases) (r : Result (Unit {0}) ListError) → true ≡ is_err r → IfErr r (IsRefusedWith e es) → refusal e es ≡ None → brings_release e ≡ false → ⊥
+taken_so e es (Ok x) err refused none brings = cc err
+taken_so e es (Err of_list.NoMemory) err refused none brings = let does : brings_release e ≡ true = refused.1 in true≢false (sym does ∙ brings)
+taken_so e es (Err why) err refused none brings = cc (none, refused)
+
 -- A handler that is dead knows nothing.
 pub dead_is_sound : {D : Type 0} (v : Ghosts D) (h : Handler D) → is_dead h ≡ true → IsSound v.seen v.may_leave h
 dead_is_sound v h dead = record {
   ready = λ alive. absurd (true≢false (sym dead ∙ alive));
   started = λ alive. absurd (true≢false (sym dead ∙ alive));
 }
+
+-- a handler that is dead behind what was read of its disk
+abbrev pub lost : {D : Type 0} → Handler D → Handler D
+lost h = record { store = h.store; list = h.list; dead = true }
+
+pub lost_commits : {D : Type 0} (v : Ghosts D) (e : Event) (size : ℕ) (h mid : Handler D) → Commits v e size h mid → Commits v e size h (lost mid)
+lost_commits v e size h mid c = record { sound = dead_is_sound v (lost mid) refl; any_moment = c.any_moment; counted = c.counted }
 
 -- a handler that works again
 abbrev pub revived : {D : Type 0} → Handler D → Handler D

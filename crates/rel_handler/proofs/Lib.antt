@@ -9,3 +9,4 @@ pub mod Commits
 pub mod ReleaseLemmas
 pub mod CreationLemmas
 pub mod PlaceLemmas
+pub mod InstallLemmas

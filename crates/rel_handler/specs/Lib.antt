@@ -9,3 +9,4 @@ pub mod Moments
 pub mod Unpacking
 pub mod Laws
 pub mod Checking
+pub mod Installing

@@ -40,6 +40,13 @@ CommandRefused failures e size old new Device = IsPossible e size old × HasFail
 CommandRefused failures e size old new Exists = ⊥
 CommandRefused failures e size old new why = IsRefused e old why × IsSame old new
 
+-- Why there is no room for a record with a body of so many bytes in a store that ends here: it would be too long, or memory was
+-- refused.
+abbrev pub HasNoRoom : ℕ → ℕ → HandlerError → Type 0
+HasNoRoom end size Full = HasSpace end size → ⊥
+HasNoRoom end size NoMemory = Unit {0}
+HasNoRoom end size why = ⊥
+
 -- Why no start is found for a version: no release has it, or memory was refused.
 abbrev pub IsStartRefusal : List ℕ → Releases → HandlerError → Type 0
 IsStartRefusal vsn es NoMemory = Unit {0}

@@ -2,22 +2,80 @@
 ghost use Rattle.std.specs.Prelude.{◌≡◌, true, false, length, IfErr, OnOk};
 ghost use Rattle.rel_list.specs.Event.{event_of};
 ghost use Rattle.rel_list.specs.Laws.{leaves_permanent};
+ghost use Rattle.rel_list.specs.Refusal.{brings_release};
 ghost use Rattle.rel_records.specs.Writing.{IsOfListed};
 ghost use Rattle.rel_handler.specs.Commits.{Commits, IsDone, IsRecordFor};
-ghost use Rattle.rel_handler.specs.Refusals.{CommandRefused, IsAllowed};
-ghost use Rattle.rel_handler.specs.State.{list_in, is_dead, start_in, IsReady, IsSound};
+ghost use Rattle.rel_handler.specs.Image.{HasSpace};
+ghost use Rattle.rel_handler.specs.Refusals.{CommandRefused, HasNoRoom, IsAllowed};
+ghost use Rattle.rel_handler.specs.State.{end_in, list_in, is_dead, start_in, IsReady, IsSound};
 ghost use Rattle.node_command.specs.Taking.{change_size};
+ghost use Rattle.rel_store.specs.State.{end_in as store_end_in, HasRoom, IsSame as IsSameStore, IsSoundStore};
 
 use crate::Handler;
 use node_command::HandlerError;
 use rel_disk::Disk;
 use rel_list::Event;
 use rel_records::change_body;
+use rel_store::Store;
 use std::alloc::Global;
 
+// Makes room for a record with a body of so many bytes. The store is as it was but for memory.
+pub(crate) fn make_room<D: Disk>(
+    store: &mut Store<D>,
+    alloc: Global,
+    size: usize,
+) -> Result<(), HandlerError>
+    requires { IsSoundStore D.seen D.may_leave store.old }
+    ensures sound { IsSoundStore D.seen D.may_leave store.new }
+    ensures kept { IsSameStore store.old store.new }
+    ensures space { OnOk result (HasSpace (store_end_in store.old) size) }
+    ensures room { OnOk result (HasRoom size store.new) }
+    ensures refused { IfErr result (HasNoRoom (store_end_in store.old) size) }
+{
+    if !store.fits(size) {
+        return Err(HandlerError::Full);
+    }
+    if store.reserve(alloc, size).is_err() {
+        return Err(HandlerError::NoMemory);
+    }
+    Ok(())
+}
+
 impl<D: Disk> Handler<D> {
-    // Has the list take an event, and then the store its record. The handler is dead from the write on, until its caller
-    // has written all that belongs to the event.
+    // Has the list take an event, and then the store its record, for which there is room. The handler is dead from the write on,
+    // until its caller has written all that belongs to the event. An event that brings no release is refused for the device alone.
+    pub(crate) fn write(
+        &mut self,
+        alloc: Global,
+        event: Event,
+        body: &str,
+    ) -> Result<(), HandlerError>
+        requires sound { IsSound D.seen D.may_leave self.old }
+        requires allowed { IsAllowed (event_of event) self.old }
+        requires told { IsRecordFor body.now (event_of event) (list_in self.old) }
+        requires space { HasSpace (end_in self.old) (length body.now) }
+        requires room { HasRoom (length body.now) self.old.store }
+        ensures commits { Commits D.Disk (event_of event) (length body.now) self.old self.new }
+        ensures done { OnOk result
+            (IsDone D.Disk (event_of event) (length body.now) self.old self.new) }
+        ensures ready { OnOk result (IsReady D.seen D.may_leave self.new) }
+        ensures start { OnOk result (start_in D.seen self.new ≡ start_in D.seen self.old) }
+        ensures refused { IfErr result (CommandRefused D.failures (event_of event)
+            (length body.now) self.old self.new) }
+        ensures device { brings_release (event_of event) ≡ false
+            → IfErr result (λ e. e ≡ HandlerError.Device) }
+    {
+        if self.list.accept(alloc, event).is_err() {
+            return Err(HandlerError::NoMemory);
+        }
+        self.dead = true;
+        if self.store.append(alloc, body.as_bytes()).is_err() {
+            return Err(HandlerError::Device);
+        }
+        Ok(())
+    }
+
+    // So where room for the record is to be made first.
     pub(crate) fn append(
         &mut self,
         alloc: Global,
@@ -35,20 +93,8 @@ impl<D: Disk> Handler<D> {
         ensures refused { IfErr result (CommandRefused D.failures (event_of event)
             (length body.now) self.old self.new) }
     {
-        if !self.store.fits(body.len()) {
-            return Err(HandlerError::Full);
-        }
-        if self.store.reserve(alloc, body.len()).is_err() {
-            return Err(HandlerError::NoMemory);
-        }
-        if self.list.accept(alloc, event).is_err() {
-            return Err(HandlerError::NoMemory);
-        }
-        self.dead = true;
-        if self.store.append(alloc, body.as_bytes()).is_err() {
-            return Err(HandlerError::Device);
-        }
-        Ok(())
+        make_room(&mut self.store, alloc, body.len())?;
+        self.write(alloc, event, body)
     }
 
     // Appends the record of an event that brings no release, where the list allows it.

@@ -1,11 +1,10 @@
 // A node's releases on a disk, and the commands on them.
-ghost use Rattle.std.specs.Prelude.{◌≡◌, true, false, string_bytes, IfOk, IfErr, OnOk, MatchResult, Ok, Err};
-ghost use Rattle.rel_list.specs.Event.Event.{installed, made_permanent, removed, reboot_old};
-ghost use Rattle.rel_list.specs.Releases.{running};
+ghost use Rattle.std.specs.Prelude.{◌≡◌, true, false, IfOk, IfErr, OnOk, MatchResult, Ok, Err};
+ghost use Rattle.rel_list.specs.Event.Event.{made_permanent, removed, reboot_old};
 ghost use Rattle.rel_records.specs.Startable.{AreStartable};
 ghost use Rattle.rel_handler.specs.Commits.{Commits, IsDone};
 ghost use Rattle.rel_handler.specs.Refusals.{CommandRefused};
-ghost use Rattle.rel_handler.specs.State.{disk_in, list_in, is_dead, start_in, version_of, HasStarted, IsSound};
+ghost use Rattle.rel_handler.specs.State.{disk_in, list_in, is_dead, start_in, HasStarted, IsSound};
 ghost use Rattle.rel_handler.specs.Checking.{checked};
 ghost use Rattle.node_command.specs.Taking.{change_size};
 ghost use Rattle.relup_script.specs.Search.{found_of};
@@ -15,7 +14,7 @@ use rel_disk::Disk;
 use rel_list::{Event, ReleaseList};
 use rel_store::Store;
 use relup_script::Found;
-use std::alloc::{AllocError, Global};
+use std::alloc::Global;
 
 /// A node's releases on a disk.
 #[derive(Drop)]
@@ -24,13 +23,6 @@ pub struct Handler<D: Disk> {
     pub(crate) list: ReleaseList,
     // a boot has to come first
     pub(crate) dead: bool,
-}
-
-/// A release was installed.
-#[derive(Debug, PartialEq, Drop)]
-pub struct Installed {
-    /// The version of the release that ran before.
-    pub other: String,
 }
 
 impl<D: Disk> Handler<D> {
@@ -78,32 +70,6 @@ impl<D: Disk> Handler<D> {
             (λ why. checked vsn.now self.now ≡ Err why) }
     {
         find_installation(self.which_releases()?, vsn)
-    }
-
-    /// Installs a release: it is current until the next boot. At `Ok` that is acknowledged (`done`).
-    ///
-    /// Refusals, in this order: `Dead`, `NoSuchRelease`, `AlreadyInstalled`, `Full`; `NoMemory` and `Device` as of
-    /// `set_unpacked`.
-    pub fn install_release(&mut self, alloc: Global, vsn: &str) -> Result<Installed, HandlerError>
-        requires { IsSound D.seen D.may_leave self.old }
-        ensures commits { Commits D.Disk (installed vsn.now)
-            (change_size (installed vsn.now) (list_in self.old)) self.old self.new }
-        ensures done { OnOk result (IsDone D.Disk (installed vsn.now)
-            (change_size (installed vsn.now) (list_in self.old)) self.old self.new) }
-        ensures works { OnOk result (is_dead self.new ≡ false) }
-        ensures start { OnOk result (start_in D.seen self.new ≡ start_in D.seen self.old) }
-        ensures other { IfOk result (λ i. string_bytes i.other
-            ≡ version_of (running (list_in self.old))) }
-        ensures refused { IfErr result (CommandRefused D.failures (installed vsn.now)
-            (change_size (installed vsn.now) (list_in self.old)) self.old self.new) }
-    {
-        if self.dead {
-            return Err(HandlerError::Dead);
-        }
-        let other = running_version(alloc, &self.list)?;
-        let vsn = String::from_str(alloc, vsn)?;
-        self.change(alloc, Event::Installed(vsn))?;
-        Ok(Installed { other })
     }
 
     /// Makes the current release, of this version, the permanent one: the list is committed, then the start record. At `Ok`
@@ -172,15 +138,5 @@ impl<D: Disk> Handler<D> {
         }
         let vsn = String::from_str(alloc, vsn)?;
         self.change(alloc, Event::Removed(vsn))
-    }
-}
-
-// The version of the release that runs.
-fn running_version(alloc: Global, list: &ReleaseList) -> Result<String, AllocError>
-    ensures { IfOk result (λ vsn. string_bytes vsn ≡ version_of (running list.now)) }
-{
-    match list.running() {
-        Some(release) => String::from_str(alloc, release.vsn.as_str()),
-        None => Ok(String::new(alloc)),
     }
 }

@@ -2,18 +2,25 @@
 //!
 //! A [`Handler`] keeps the list of a node's releases, and on a disk a store with a record for each change of it. `create`
 //! makes a node, `set_unpacked` brings a further release, `check_install` answers the script of an installation (`checked`),
-//! `install_release`, `make_permanent`, `remove_release` and `reboot_old_release` change the list, `boot` reads the node from
-//! its disk again, `start` tells what the start record says.
+//! `install_release` carries that script out on the processes of the node, `make_permanent`, `remove_release` and
+//! `reboot_old_release` change the list as it does, `boot` reads the node from its disk again, `start` tells what the start
+//! record says.
 //!
 //! Stopped at any moment of a call (of `create` from its first sync on, and then it may also be no store), the disk stands for
 //! the list of a prefix of the accepted events that holds every acknowledged one (`IsOfPrefix`), and a boot of it answers that
 //! list, as it is behind a boot, or refuses for memory or the device alone. After an `Ok` the disk stands for the list with
-//! the command's event (`IsDone`). A refusal changes nothing, but after `Device` the handler is dead until the next boot.
+//! the command's event (`IsDone`). A refusal changes nothing, but after `Device` and `MustReboot` the handler is dead until the
+//! next boot.
 //!
 //! `create` and `set_unpacked` take what `node_command` says that a path brings (`IsMade`, `IsUnpacked`). They are refused
 //! for the release's own file first, for its applications and its relup where the node would take it (`IsNotBegun`,
 //! `IsBarred`). The list keeps the libraries of each release, and its relup. The release's record carries the relup and the
 //! libraries that are new, and a boot gives the list both back from the records.
+//!
+//! An installation finds its script and makes room for its record first. Then the script runs (`node_upgrade`), and behind it
+//! the event is committed (`IsInstalledBy`). What is refused before the script's point of no return has changed nothing, of the
+//! handler and of the processes (`NothingChanged`). A script that fails behind it leaves the handler dead, its list and its disk
+//! as they were (`IsLost`).
 //!
 //! The start record is that of the permanent release between two calls of a handler that isn't dead (`HasStarted`), and at
 //! each moment that, or the one of the release that was permanent before the last event of the prefix (`HasStart`): a boot
@@ -32,10 +39,12 @@ mod commit;
 mod creation;
 mod error;
 mod handler;
+mod installation;
 pub mod laws;
 mod start;
 mod unpacking;
 
 pub use booting::boot;
 pub use error::BootError;
-pub use handler::{Handler, Installed};
+pub use handler::Handler;
+pub use node_upgrade::{InstallError, Installed};

@@ -17,7 +17,7 @@ use Rattle.node_processes.specs.ModuleVersions.{HaveModuleVersions}
 use Rattle.node_processes.specs.Processes.{Processes}
 use Rattle.rel_unpack.proofs.BroughtLibraries.{brought_libraries}
 use Rattle.node_command.proofs.ReleaseLemmas.{free_so, told_library}
-use Rattle.rel_list.specs.Releases.{Releases, differs, first_different, running as running_release, status_of}
+use Rattle.rel_list.specs.Releases.{Releases, differs, first_different, status_of}
 use Rattle.rel_list.specs.Event.{Event}
 use Rattle.rel_list.specs.Event.Event.{made, unpacked}
 use Rattle.rel_session.specs.AnswerLaws.{HasLinePath, IsOfFiles, HasModuleVersionsAt}
@@ -36,10 +36,10 @@ use Rattle.relup_command.proofs.RelupOutcomes.{one_answer, some_answer}
 use Rattle.rel_session.specs.Node.{Place, releases_after}
 use Rattle.rel_session.specs.Node.Place.{raw, closed, running, dead}
 use Rattle.rel_session.specs.Refusals.{refusal_for}
-use Rattle.rel_session.specs.Transition.{Action, ComesTo, OnNode, check_line, told, creation, unpacking, relup_telling, version_of}
-use Rattle.rel_session.specs.Transition.Action.{answers, makes_node, changes_node, reboots_node, boots_node, tells_start, calls}
+use Rattle.rel_session.specs.Transition.{Action, ComesTo, OnNode, check_line, told, creation, unpacking, relup_telling}
+use Rattle.rel_session.specs.Transition.Action.{answers, makes_node, changes_node, installs, reboots_node, boots_node, tells_start, calls}
 use Rattle.rel_session.proofs.ProcessLines.{processes_whole, modules_whole, peek_whole}
-use Rattle.rel_session.proofs.AnswerLines.{HasLine, IsWhole, check_whole, refusal_whole, listing_whole, installed_line, translation_whole}
+use Rattle.rel_session.proofs.AnswerLines.{HasLine, IsWhole, check_whole, refusal_whole, listing_whole, translation_whole}
 
 -- the kind of a place
 pub data Kind : Type 0 where
@@ -130,6 +130,7 @@ IsGoodAction (answers text) = IsWhole text
 IsGoodAction (makes_node b) = (own_refusal b ≡ None → IsOfFiles (bundle_brought b)) × TellsFilesLine (own_refusal b)
 IsGoodAction (changes_node c) =
     ((list next : Releases) → c.files list ≡ None → commanded c.event list ≡ Ok next → OfEvent c.event) × ((list : Releases) → TellsFilesLine (c.files list)) × ((list : Releases) → is_one_line (c.details list) ≡ true)
+IsGoodAction (installs vsn) = Unit {0}
 IsGoodAction (reboots_node vsn) = Unit {0}
 IsGoodAction boots_node = Unit {0}
 IsGoodAction tells_start = Unit {0}
@@ -235,7 +236,7 @@ good_action source (raw x) (set_unpacked path) does line tells is = good_as does
 good_action source (closed s) (set_unpacked path) does line tells is = good_as does _ is (λ behind. refl)
 good_action source (dead s) (set_unpacked path) does line tells is = good_as does _ is (λ behind. refl)
 good_action source p (check vsn) does line tells is = good_as does _ is (whole_told _ p tells (λ list ps lines. check_whole vsn list))
-good_action source p (install vsn) does line tells is = good_as does _ is ((λ list next free allowed. tt), (λ list. tt), λ list. installed_line (version_of (running_release list)))
+good_action source p (install vsn) does line tells is = good_as does _ is tt
 good_action source p (permanent vsn) does line tells is = good_as does _ is ((λ list next free allowed. tt), (λ list. tt), λ list. refl)
 good_action source p (remove vsn) does line tells is = good_as does _ is ((λ list next free allowed. tt), (λ list. tt), λ list. refl)
 good_action source p (reboot_old vsn) does line tells is = good_as does _ is tt

@@ -1,10 +1,10 @@
 -- What an answer tells of its command: with the command, its file and the kind of place it determines the events.
 use Rattle.std.proofs.Common.{◌≡◌, ◌⊎◌, inl, inr, ℕ, Bool, true, false, List, [], ◌∷◌, Option, Some, None, Result, Ok, Err, refl, sym, ap, ◌∙◌, subst}
-use Rattle.std.specs.Prelude.{if◌then◌else◌, ◌==◌}
+use Rattle.std.specs.Prelude.{if◌then◌else◌, ◌==◌, codes, take}
 use Rattle.std.specs.Str.{bytes_eq}
 use Rattle.rel_list.specs.Releases.{Releases}
 use Rattle.rel_list.specs.Event.{Event}
-use Rattle.rel_list.specs.Event.Event.{made, reboot_old, boot as booting}
+use Rattle.rel_list.specs.Event.Event.{made, installed, reboot_old, boot as booting}
 use Rattle.rel_handler.specs.declared.error.BootError.{BootError}
 use Rattle.rel_handler.specs.declared.error.BootError.TheVariants as boot_error
 use Rattle.node_command.specs.declared.error.HandlerError.{HandlerError}
@@ -14,7 +14,9 @@ use Rattle.rel_handler.specs.Image.{holds_a_store}
 use Rattle.node_command.specs.Files.{bundle_brought, made_size}
 use Rattle.node_command.specs.Place.{own_refusal}
 use Rattle.rel_handler.specs.Refusals.{IsBootRefusal}
-use Rattle.node_command.specs.Taking.{commanded}
+use Rattle.node_command.specs.Taking.{commanded, list_refusal}
+use Rattle.rel_list.specs.declared.fault.ListError.{ListError}
+use Rattle.rel_list.specs.declared.fault.ListError.TheVariants as list_error
 use Rattle.node_command.proofs.CommandLemmas.{IsListAnswer, of_command}
 use Rattle.session_input.specs.Commands.{Command}
 use Rattle.rel_list.specs.Releases.{Bundle}
@@ -28,21 +30,28 @@ use Rattle.rel_session.specs.Node.Place.{raw, closed, running, dead}
 use Rattle.rel_session.specs.Refusals.{refusal_of, refusal_for, refusal_line, boot_line}
 use Rattle.rel_session.specs.Refusals.Refusal.{device}
 use Rattle.rel_session.specs.Transition
-use Rattle.rel_session.specs.Transition.Action.{answers, makes_node, changes_node, reboots_node, boots_node, tells_start, calls}
+use Rattle.rel_session.specs.Transition.Action.{answers, makes_node, changes_node, installs, reboots_node, boots_node, tells_start, calls}
 use Rattle.rel_session.proofs.ActionLemmas.{Kind, kind_of, AreTold, one_action}
 use Rattle.rel_session.proofs.ActionLemmas.Kind.{of_bytes, at_rest, runs, fails}
+use Rattle.rel_session.proofs.InstallationLemmas.{each_reply}
 
--- what an answer tells: that the command was done, that the device failed, within a boot or not, or that nothing was done
+-- what an answer tells: that the command was done, that the device failed, within a boot or not, that a script failed behind its
+-- point of no return, or that nothing was done
 data Report : Type 0 where
   it_is_done : Report
   it_failed : Report
   boot_failed : Report
+  script_broke : Report
   nothing_done : Report
 
 abbrev report_of : List ℕ → Report
 report_of [] = nothing_done
 report_of (x ∷ s) =
-    if x == 111 then it_is_done else if bytes_eq (x ∷ s) (refusal_line device) then it_failed else if bytes_eq (x ∷ s) (boot_line boot_error.Device) then boot_failed else nothing_done
+    if x == 111 then it_is_done
+    else if bytes_eq (x ∷ s) (refusal_line device) then it_failed
+    else if bytes_eq (x ∷ s) (boot_line boot_error.Device) then boot_failed
+    else if bytes_eq (take 16 (x ∷ s)) (codes "error handler 15") then script_broke
+    else nothing_done
 
 -- the outcome, and the kind of the place behind it
 pub record Effect : Type 0 where
@@ -65,6 +74,13 @@ abbrev changed : Kind → Transition.Change → Report → Effect
 changed runs c it_is_done = effect (done (c.event ∷ [])) runs
 changed runs c it_failed = effect (failed_with (Some c.event)) fails
 changed k c t = effect nothing k
+
+-- An installation is done on a node that runs; a script that failed behind its point of no return leaves it dead.
+abbrev installing : Kind → List ℕ → Report → Effect
+installing runs vsn it_is_done = effect (done (installed vsn ∷ [])) runs
+installing runs vsn it_failed = effect (failed_with (Some (installed vsn))) fails
+installing runs vsn script_broke = effect nothing fails
+installing k vsn t = effect nothing k
 
 -- a boot that fails leaves bytes as they are, or a store that was not booted
 abbrev left : Kind → Kind
@@ -123,6 +139,17 @@ plain_list e es = go (commanded e es) (of_command e es)
     go (Err handler_error.Full) of = absurd of
     go (Err handler_error.Dead) of = absurd of
     go (Err handler_error.Exists) of = absurd of
+
+-- nor an installation
+plain_listed : (why : ListError) → report_of (refusal_line (refusal_of (list_refusal why))) ≡ nothing_done
+plain_listed list_error.NoSuchRelease = refl
+plain_listed list_error.ExistingRelease = refl
+plain_listed list_error.LibDiffers = refl
+plain_listed list_error.AlreadyInstalled = refl
+plain_listed (list_error.BadStatus s) = refl
+plain_listed list_error.Permanent = refl
+plain_listed list_error.Running = refl
+plain_listed list_error.NoMemory = refl
 
 -- neither are files
 plain_files : (why : Refusal) → report_of (refusal_line (refusal_for why)) ≡ nothing_done
@@ -207,6 +234,7 @@ abbrev acted : Kind → Transition.Action → Report → Effect
 acted k (answers text) t = effect nothing k
 acted k (makes_node b) t = created k (bundle_brought b) t
 acted k (changes_node c) t = changed k c t
+acted k (installs vsn) t = installing k vsn t
 acted k (reboots_node vsn) t = rebooted k vsn t
 acted k boots_node t = booted k t
 acted k tells_start t = tells k t
@@ -219,6 +247,19 @@ acts (running events end ps) (changes_node c) a is = changes events end ps c (re
 acts (raw x) (changes_node c) a is = effect_as (changed of_bytes c) a _ is refl
 acts (closed s) (changes_node c) a is = effect_as (changed at_rest c) a _ is refl
 acts (dead s) (changes_node c) a is = effect_as (changed fails c) a _ is refl
+acts (running events end ps) (installs vsn) a is =
+    each_reply (HasEffect (installing runs vsn)) events end ps vsn (releases_after events) (record {
+      listed = λ why. sym (ap (installing runs vsn) (plain_listed why));
+      unmatched = refl;
+      not_run = λ f. refl;
+      over_full = refl;
+      broken = λ f. refl;
+      done_so = λ f r found comes. refl;
+      doubted_so = λ f found. refl;
+    }) a is
+acts (raw x) (installs vsn) a is = effect_as (installing of_bytes vsn) a _ is refl
+acts (closed s) (installs vsn) a is = effect_as (installing at_rest vsn) a _ is refl
+acts (dead s) (installs vsn) a is = effect_as (installing fails vsn) a _ is refl
 acts (running events end ps) (reboots_node vsn) a is = reboots events end ps vsn (releases_after events) (commanded (reboot_old vsn) (releases_after events)) (plain_list (reboot_old vsn) (releases_after events)) a is
 acts (raw x) (reboots_node vsn) a is = effect_as (rebooted of_bytes vsn) a _ is refl
 acts (closed s) (reboots_node vsn) a is = effect_as (rebooted at_rest vsn) a _ is refl

@@ -43,8 +43,13 @@ use Rattle.relup_script.specs.Search.{FoundForm}
 use Rattle.node_command.specs.Installing.{script_to, unless_listed_refusal}
 use Rattle.node_command.specs.Taking.{list_refusal}
 use Rattle.rel_session.specs.Refusals.{Refusal, refusal_of, refusal_line, boot_line}
-use Rattle.rel_session.specs.Refusals.Refusal.{no_such_release, existing_release, already_installed, bad_status, permanent, is_running, lib_differs, bad_file, missing_file, vsn_mismatch, no_table, too_many, no_matching_relup, device, full, dead, no_memory, exists}
-use Rattle.rel_session.specs.Transition.{ok_line, done_line, installed_details, check_line, checked_line}
+use Rattle.rel_session.specs.Refusals.Refusal.{no_such_release, existing_release, already_installed, bad_status, permanent, is_running, lib_differs, bad_file, missing_file, vsn_mismatch, no_table, too_many, no_matching_relup, script_refused, must_reboot, device, full, dead, no_memory, exists}
+use Rattle.node_upgrade.specs.Failure.{Failure, Why, failure_text, why_text}
+use Rattle.node_upgrade.specs.Failure.Why.{new_emulator, no_point, two_points, misplaced, fails}
+use Rattle.script_steps.specs.Fault as script
+use Rattle.script_steps.specs.Fault.{Cause, cause_text}
+use Rattle.rel_session.specs.Installation.{installed_text, names_value}
+use Rattle.rel_session.specs.Transition.{ok_line, done_line, check_line, checked_line}
 
 -- Where a reader of answers stands: at the start of one or of a line of a listing, within such a line, or in the last line.
 pub data Mode : Type 0 where
@@ -143,6 +148,30 @@ word_plain Current = refl
 word_plain Old = refl
 word_plain Permanent = refl
 
+-- why a script isn't carried out to its end
+cause_plain : (c : Cause) → is_one_line (cause_text c) ≡ true
+cause_plain script.Cause.no_library = refl
+cause_plain script.Cause.no_module = refl
+cause_plain script.Cause.not_fetched = refl
+cause_plain script.Cause.no_table = refl
+cause_plain script.Cause.no_change = refl
+cause_plain (script.Cause.raised x) = append_line (codes "Raised ") (text_of x) refl (term_line x)
+cause_plain script.Cause.in_use = refl
+cause_plain script.Cause.no_app = refl
+cause_plain script.Cause.no_slot = refl
+cause_plain script.Cause.unsupported = refl
+cause_plain script.Cause.no_memory = refl
+
+why_plain : (w : Why) → is_one_line (why_text w) ≡ true
+why_plain new_emulator = refl
+why_plain no_point = refl
+why_plain two_points = refl
+why_plain misplaced = refl
+why_plain (fails c) = cause_plain c
+
+failure_plain : (f : Failure) → is_one_line (failure_text f) ≡ true
+failure_plain f = append_line (decimal f.instr) (codes " " ++ why_text f.why) (decimal_line f.instr) (why_plain f.why)
+
 pub refusal_whole : (why : Refusal) → HasLine why → IsWhole (refusal_line why)
 refusal_whole no_such_release line behind = refl
 refusal_whole existing_release line behind = refl
@@ -159,6 +188,8 @@ refusal_whole (missing_file path) line behind = ap (λ t. codes "error handler 9
 refusal_whole (vsn_mismatch path) line behind = ap (λ t. codes "error handler 10 VsnMismatch " ++ t) (ends_behind path (codes "\n") line newline behind)
 refusal_whole too_many line behind = refl
 refusal_whole no_matching_relup line behind = refl
+refusal_whole (script_refused f) line behind = ap (λ t. codes "error handler 14 Refused " ++ t) (ends_behind (failure_text f) (codes "\n") (failure_plain f) newline behind)
+refusal_whole (must_reboot f) line behind = ap (λ t. codes "error handler 15 MustReboot " ++ t) (ends_behind (failure_text f) (codes "\n") (failure_plain f) newline behind)
 refusal_whole device line behind = refl
 refusal_whole full line behind = refl
 refusal_whole dead line behind = refl
@@ -172,9 +203,13 @@ boot_line_whole boot_error.Device behind = refl
 boot_line_whole boot_error.NoMemory behind = refl
 boot_line_whole (boot_error.BadRecord i) behind = refl
 
--- the details of an installation are a line
-pub installed_line : (other : List ℕ) → is_one_line (installed_details other) ≡ true
-installed_line other = append_line (text_of (text_value other)) (codes " [] []") (term_line (text_value other)) refl
+-- a release that was installed
+pub installed_whole : (other : List ℕ) (descr : Value) (stale : List (List ℕ)) → IsWhole (installed_text other descr stale)
+installed_whole other descr stale behind =
+    let modules = ends_behind (text_of (names_value stale)) (codes "\n") (term_line (names_value stale)) newline in
+    let later = ends_behind (text_of descr) (codes " " ++ (text_of (names_value stale) ++ codes "\n")) (term_line descr) (λ more. ap (λ t. 32 ∷ t) (modules more)) in
+    ap (λ t. codes "ok " ++ t)
+    (ends_behind (text_of (text_value other)) (codes " " ++ (text_of descr ++ (codes " " ++ (text_of (names_value stale) ++ codes "\n")))) (term_line (text_value other)) (λ more. ap (λ t. 32 ∷ t) (later more)) behind)
 
 -- a line that tells a tuple, and then an answer's rest
 pub tuple_line : (vs : Values) (end rest : List ℕ) → EndsLine end → IsWhole rest → IsWhole ((text_of (tuple vs) ++ end) ++ rest)
@@ -201,22 +236,23 @@ lines_whole line goes_on (x ∷ xs) n =
 pub listing_whole : (es : Releases) → IsWhole (listing es)
 listing_whole es = lines_whole release_line line_of_listing es (length es)
 
+-- what the list refuses of an installation
+pub listed_whole : (why : ListError) → IsWhole (refusal_line (refusal_of (list_refusal why)))
+listed_whole list_error.NoSuchRelease behind = refl
+listed_whole list_error.ExistingRelease behind = refl
+listed_whole list_error.LibDiffers behind = refl
+listed_whole list_error.AlreadyInstalled behind = refl
+listed_whole (list_error.BadStatus s) behind = refusal_whole (bad_status s) tt behind
+listed_whole list_error.Permanent behind = refl
+listed_whole list_error.Running behind = refl
+listed_whole list_error.NoMemory behind = refl
+
 -- the script of an installation, or why there is none
 pub check_whole : (vsn : List ℕ) (es : Releases) → IsWhole (check_line vsn es)
 check_whole vsn es = go (refusal (installed vsn) es) (script_to vsn es)
   where
-    by_list : (why : ListError) → IsWhole (refusal_line (refusal_of (list_refusal why)))
-    by_list list_error.NoSuchRelease behind = refl
-    by_list list_error.ExistingRelease behind = refl
-    by_list list_error.LibDiffers behind = refl
-    by_list list_error.AlreadyInstalled behind = refl
-    by_list (list_error.BadStatus s) behind = refusal_whole (bad_status s) tt behind
-    by_list list_error.Permanent behind = refl
-    by_list list_error.Running behind = refl
-    by_list list_error.NoMemory behind = refl
-
     go : (o : Option ListError) (found : Option FoundForm) → IsWhole (checked_line (unless_listed_refusal o found))
-    go (Some why) found = by_list why
+    go (Some why) found = listed_whole why
     go None None = λ behind. refl
     go None (Some f) =
         let other = text_of (text_value f.other) in

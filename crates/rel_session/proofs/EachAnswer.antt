@@ -4,7 +4,7 @@ use Rattle.std.proofs.lemmas.Bool.{cases_lt}
 use Rattle.rel_list.specs.Releases.{Bundle}
 use Rattle.rel_list.specs.Releases.{Releases}
 use Rattle.rel_list.specs.Event.{Event, list_after, booted}
-use Rattle.rel_list.specs.Event.Event.{made, reboot_old as rebooting, boot as booting}
+use Rattle.rel_list.specs.Event.Event.{made, installed, reboot_old as rebooting, boot as booting}
 use Rattle.rel_list.specs.Event.{entry}
 use Rattle.rel_list.specs.declared.status.Status.TheVariants.{Permanent}
 use Rattle.rel_handler.specs.declared.error.BootError.{BootError}
@@ -33,8 +33,15 @@ use Rattle.rel_session.specs.Refusals.{boot_line}
 use Rattle.rel_session.specs.Run.Ending.{ended, cut_off}
 use Rattle.rel_session.specs.AnswerLaws.{IsCertain, HasList, HasAnswer, EachHasAnAnswer}
 use Rattle.rel_session.specs.Transition
-use Rattle.rel_session.specs.Transition.Action.{answers, makes_node, changes_node, reboots_node, boots_node, tells_start, calls}
+use Rattle.rel_session.specs.Transition.Action.{answers, makes_node, changes_node, installs, reboots_node, boots_node, tells_start, calls}
 use Rattle.node_command.proofs.CommandLemmas.{commanded_step}
+use Rattle.node_command.specs.Installing.{installation}
+use Rattle.node_upgrade.specs.Failure.{Failure}
+use Rattle.node_upgrade.specs.Upgrade.{script_failure}
+use Rattle.relup_exec.specs.Alone as script
+use Rattle.relup_script.specs.Search.{FoundForm}
+use Rattle.rel_session.specs.Installation.{Begins, Installs, Leads, installed_size, upgrade_outcome}
+use Rattle.rel_handler.proofs.InstallLemmas.{installation_is_commanded}
 use Rattle.rel_session.proofs.SourceLemmas.{gives_each}
 use Rattle.rel_session.proofs.ActionLemmas.{some_action}
 use Rattle.rel_session.proofs.Histories.{events_of_image}
@@ -58,6 +65,7 @@ pub data IsFair : Place → Type 0 where
   of_raw : (x : List ℕ) → IsFair (raw x)
   rests : (events : Events) (end : ℕ) (list : Releases) → list_after events ≡ Some list → IsFair (closed (certain events end))
   runs : (events : Events) (end : ℕ) (ps : Processes) (list : Releases) → list_after events ≡ Some list → IsFair (running events end ps)
+  died : (events : Events) (end : ℕ) (list : Releases) → list_after events ≡ Some list → IsFair (dead (certain events end))
 
 -- A reply that is had there, in which the device does not fail.
 pub record Has (P : Reply → Type 0) : Type 0 where
@@ -110,6 +118,7 @@ makes p found (of_raw x) =
     mapped (Transition.MakesOn x found (holds_a_store x)) (Transition.MakesNode (raw x) found) (λ a is. inl is) (makes_on x found (holds_a_store x))
 makes p found (rests events end list after) = fair_reply _ _ (inl refl) refl (rests events end list after)
 makes p found (runs events end ps list after) = fair_reply _ _ refl refl (runs events end ps list after)
+makes p found (died events end list after) = fair_reply _ _ refl refl (died events end list after)
 
 booted_there : (events : Events) (end : ℕ) (list : Releases) → list_after events ≡ Some list → Has (Transition.IsBooted events end)
 booted_there events end list after =
@@ -129,6 +138,7 @@ boots_bytes laws x = go (laws.either x)
 boots : BootLaws → (p : Place) → IsFair p → Has (Transition.Boots p)
 boots laws p (of_raw x) = boots_bytes laws x
 boots laws p (rests events end list after) = mapped (Transition.IsBooted events end) (Transition.BootsStore (certain events end)) (λ a is. inl (events, end, inl (refl, refl), is)) (booted_there events end list after)
+boots laws p (died events end list after) = mapped (Transition.IsBooted events end) (Transition.BootsStore (certain events end)) (λ a is. inl (events, end, inl (refl, refl), is)) (booted_there events end list after)
 boots laws p (runs events end ps list after) = mapped (Transition.IsBooted events end) (Transition.BootsStore (certain events end)) (λ a is. inl (events, end, inl (refl, refl), is)) (booted_there events end list after)
 
 reboots : (events : Events) (end : ℕ) (ps : Processes) (list : Releases) (vsn : List ℕ) → list_after events ≡ Some list
@@ -143,27 +153,64 @@ reboots events end ps list vsn after =
 rebooted : (p : Place) (vsn : List ℕ) → IsFair p → Has (Transition.Acts p (reboots_node vsn))
 rebooted p vsn (of_raw x) = fair_reply _ _ refl refl (of_raw x)
 rebooted p vsn (rests events end list after) = fair_reply _ _ refl refl (rests events end list after)
+rebooted p vsn (died events end list after) = fair_reply _ _ refl refl (died events end list after)
 rebooted p vsn (runs events end ps list after) = reboots events end ps list vsn after
 
 changed : (p : Place) (c : Transition.Change) → IsFair p → Has (Transition.Acts p (changes_node c))
 changed p c (of_raw x) = fair_reply _ _ refl refl (of_raw x)
 changed p c (rests events end list after) = fair_reply _ _ refl refl (rests events end list after)
+changed p c (died events end list after) = fair_reply _ _ refl refl (died events end list after)
 changed p c (runs events end ps list after) = changes events end ps list c (c.files (releases_after events)) after
+
+-- an installation
+installs_there : (events : Events) (end : ℕ) (ps : Processes) (list : Releases) (vsn : List ℕ) → list_after events ≡ Some list
+    → Has (Installs events end ps vsn (releases_after events) (installation vsn (releases_after events)))
+installs_there events end ps list vsn after = by_found (installation vsn (releases_after events)) refl
+  where
+    by_outcome : (f : FoundForm) → installation vsn (releases_after events) ≡ Ok f → (o : script.Outcome) → Has (Leads events end ps vsn (releases_after events) f o)
+    by_outcome f found (script.Outcome.refuses n c) = fair_reply _ _ refl refl (runs events end ps list after)
+    by_outcome f found (script.Outcome.breaks n c) = fair_reply _ _ refl refl (died events end list after)
+    by_outcome f found (script.Outcome.ends r) =
+        let of_list : releases_after events ≡ list = ap list_or_none after in
+        let (grown, allowed) = installation_is_commanded vsn list f (subst (λ l. installation vsn l ≡ Ok f) of_list found) in
+        let then = list_after-push events (installed vsn) list grown after (commanded_step (installed vsn) list grown allowed) in
+        fair_reply _ _ (inl refl) refl (runs (events ++ installed vsn ∷ []) _ _ grown then)
+
+    by_room : (f : FoundForm) → installation vsn (releases_after events) ≡ Ok f → HasSpace end (installed_size vsn (releases_after events)) ⊎ (HasSpace end (installed_size vsn (releases_after events)) → ⊥) → Has (Begins events end ps vsn (releases_after events) f None)
+    by_room f found (inl fits) = mapped _ (Begins events end ps vsn (releases_after events) f None) (λ a is. inl (fits, is)) (by_outcome f found (upgrade_outcome vsn (releases_after events) f ps))
+    by_room f found (inr over_it) = fair_reply _ _ (inr (over_it, refl)) refl (runs events end ps list after)
+
+    by_failure : (f : FoundForm) → installation vsn (releases_after events) ≡ Ok f → (o : Option Failure) → Has (Begins events end ps vsn (releases_after events) f o)
+    by_failure f found (Some why) = fair_reply _ _ refl refl (runs events end ps list after)
+    by_failure f found None = by_room f found (fits_or_not end (installed_size vsn (releases_after events)))
+
+    by_found : (o : Result FoundForm HandlerError) → installation vsn (releases_after events) ≡ o → Has (Installs events end ps vsn (releases_after events) o)
+    by_found (Err why) found = fair_reply _ _ refl refl (runs events end ps list after)
+    by_found (Ok f) found = by_failure f found (script_failure vsn (releases_after events) f)
+
+installed_there : (p : Place) (vsn : List ℕ) → IsFair p → Has (Transition.Acts p (installs vsn))
+installed_there p vsn (of_raw x) = fair_reply _ _ refl refl (of_raw x)
+installed_there p vsn (rests events end list after) = fair_reply _ _ refl refl (rests events end list after)
+installed_there p vsn (died events end list after) = fair_reply _ _ refl refl (died events end list after)
+installed_there p vsn (runs events end ps list after) = installs_there events end ps list vsn after
 
 told : (p : Place) → IsFair p → Has (Transition.Acts p tells_start)
 told p (of_raw x) = fair_reply _ _ refl refl (of_raw x)
 told p (rests events end list after) = fair_reply _ _ refl refl (rests events end list after)
+told p (died events end list after) = fair_reply _ _ refl refl (died events end list after)
 told p (runs events end ps list after) = fair_reply _ _ (inl refl) refl (runs events end ps list after)
 
 called_there : (p : Place) (app id : List ℕ) (input : ℕ) → IsFair p → Has (Transition.Acts p (calls app id input))
 called_there p app id input (of_raw x) = fair_reply _ _ refl refl (of_raw x)
 called_there p app id input (rests events end list after) = fair_reply _ _ refl refl (rests events end list after)
+called_there p app id input (died events end list after) = fair_reply _ _ refl refl (died events end list after)
 called_there p app id input (runs events end ps list after) = fair_reply _ _ refl refl (runs events end (called app id input ps) list after)
 
 acts : BootLaws → (p : Place) (does : Transition.Action) → IsFair p → Has (Transition.Acts p does)
 acts laws p (answers text) fair = fair_reply _ (reply text nothing p) refl refl fair
 acts laws p (makes_node found) fair = makes p found fair
 acts laws p (changes_node c) fair = changed p c fair
+acts laws p (installs vsn) fair = installed_there p vsn fair
 acts laws p (reboots_node vsn) fair = rebooted p vsn fair
 acts laws p boots_node fair = boots laws p fair
 acts laws p tells_start fair = told p fair
@@ -194,7 +241,7 @@ fair_place : (p : Place) → IsCertain p → HasList p → IsFair p
 fair_place (raw x) sure has = of_raw x
 fair_place (closed s) sure (list, after) = subst (λ t. IsFair (closed t)) (sym sure) (rests s.known.acknowledged s.end list after)
 fair_place (running events end ps) sure (list, after) = runs events end ps list after
-fair_place (dead s) sure has = absurd sure
+fair_place (dead s) sure (list, after) = subst (λ t. IsFair (dead t)) (sym sure) (died s.known.acknowledged s.end list after)
 
 pub each_has_an_answer : BootLaws → (base : Source) → EachHasAnAnswer base
 each_has_an_answer laws base some files p commands sure has = each laws base some files p commands (fair_place p sure has)

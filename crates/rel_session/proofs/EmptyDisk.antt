@@ -16,7 +16,7 @@ use Rattle.rel_session.specs.Node.Place.{raw}
 use Rattle.rel_session.specs.Run.{Executes, MayLeave, Replies, Ending}
 use Rattle.rel_session.specs.RunLaws.{acknowledged_at, BecomesKnown, NoneFails, NoneAcknowledged, BeginsWithAMaking}
 use Rattle.rel_session.specs.Transition
-use Rattle.rel_session.specs.Transition.Action.{answers, makes_node, changes_node, reboots_node, boots_node, tells_start, calls}
+use Rattle.rel_session.specs.Transition.Action.{answers, makes_node, changes_node, installs, reboots_node, boots_node, tells_start, calls}
 use Rattle.rel_session.proofs.AcknowledgedEvents.{first_answered, loses_nothing}
 use Rattle.rel_session.proofs.DeviceLemmas.{IsDevice}
 use Rattle.rel_session.proofs.Transitions.{rest_acknowledged}
@@ -51,6 +51,7 @@ acts : (does : Transition.Action) (a : Reply) → Transition.Acts (raw []) does 
 acts (answers text) a is = on_empty_as a _ is (inl (refl, inl refl))
 acts (makes_node found) a is = makes found a is
 acts (changes_node change) a is = on_empty_as a _ is (inl (refl, inl refl))
+acts (installs vsn) a is = on_empty_as a _ is (inl (refl, inl refl))
 acts (reboots_node vsn) a is = on_empty_as a _ is (inl (refl, inl refl))
 acts boots_node a is = boots a is
 acts tells_start a is = on_empty_as a _ is (inl (refl, inl refl))

@@ -24,9 +24,10 @@ use Rattle.rel_session.specs.Refusals.Refusal.{device}
 use Rattle.rel_session.specs.Run.{Executes, MayLeave}
 use Rattle.rel_session.specs.AnswerLaws.{FailsOnlyWithTheDevice, TellsDoubt}
 use Rattle.rel_session.specs.Transition
-use Rattle.rel_session.specs.Transition.Action.{answers, makes_node, changes_node, reboots_node, boots_node, tells_start, calls}
+use Rattle.rel_session.specs.Transition.Action.{answers, makes_node, changes_node, installs, reboots_node, boots_node, tells_start, calls}
 use Rattle.rel_session.proofs.AcknowledgedEvents.{first_answered}
 use Rattle.rel_session.proofs.DeviceLemmas.{failed_first, failed_behind}
+use Rattle.rel_session.proofs.InstallationLemmas.{each_reply}
 
 -- Nothing is in doubt, or the device failed and that is told.
 abbrev IsPlain : Reply → Type 0
@@ -85,6 +86,19 @@ acts (raw bytes) (changes_node c) a is = plain a _ is (inl refl)
 acts (closed s) (changes_node c) a is = plain a _ is (inl refl)
 acts (running events end ps) (changes_node c) a is = changes events end ps c (releases_after events) (c.files (releases_after events)) (commanded c.event (releases_after events)) a is
 acts (dead s) (changes_node c) a is = plain a _ is (inl refl)
+acts (running events end ps) (installs vsn) a is =
+    each_reply IsPlain events end ps vsn (releases_after events) (record {
+      listed = λ why. inl refl;
+      unmatched = inl refl;
+      not_run = λ f. inl refl;
+      over_full = inl refl;
+      broken = λ f. inl refl;
+      done_so = λ f r found comes. inl refl;
+      doubted_so = λ f found. inr (refl, refl);
+    }) a is
+acts (raw bytes) (installs vsn) a is = plain a _ is (inl refl)
+acts (closed s) (installs vsn) a is = plain a _ is (inl refl)
+acts (dead s) (installs vsn) a is = plain a _ is (inl refl)
 acts (running events end ps) (reboots_node vsn) a is = reboots events end ps vsn (releases_after events) (commanded (rebooting vsn) (releases_after events)) a is
 acts (raw bytes) (reboots_node vsn) a is = plain a _ is (inl refl)
 acts (closed s) (reboots_node vsn) a is = plain a _ is (inl refl)

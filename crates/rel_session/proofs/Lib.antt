@@ -4,6 +4,7 @@ pub mod ListLemmas
 pub mod Prefixes
 pub mod Replies
 pub mod CommitReplies
+pub mod InstallReplies
 pub mod CreationReplies
 pub mod UnpackingReplies
 pub mod StartReplies
@@ -22,6 +23,7 @@ pub mod AnswerLines
 pub mod ProcessLines
 pub mod SourceLemmas
 pub mod ActionLemmas
+pub mod InstallationLemmas
 pub mod OneAnswer
 pub mod EachAnswer
 pub mod AnswerEvents

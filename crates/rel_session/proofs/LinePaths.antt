@@ -10,7 +10,7 @@ use Rattle.rel_files.specs.Name.{is_text}
 use Rattle.rel_list.specs.Releases.{Releases}
 use Rattle.rel_list.specs.Event.{list_after}
 use Rattle.rel_handler.specs.Image.{store_end}
-use Rattle.rel_handler.specs.Events.{Events, MayHave, IsStoredAs, certain}
+use Rattle.rel_handler.specs.Events.{Stored, Events, MayHave, IsStoredAs, certain}
 use Rattle.session_input.specs.Commands.{Command, ParsedLine, parse_line, parse_words, parse_command, parse_process_command, parse_path_command, parse_peek, parse_call, call_of, names_process, input_of, parse_change, change_named, with_word, without_words, path_of, path_in, paths_of, is_path, relup_of, parse_relup, split_at, version_in, is_blank, words_of, is_end, file_of, most_line, put_parsed, commands_of, commands_behind}
 use Rattle.session_input.specs.Commands.Command.{file, create, set_unpacked, check, install, permanent, remove, reboot_old, boot, start, releases, procs, modules, peek, call, quit, bad}
 use Rattle.session_input.specs.Commands.ParsedLine.{blank, file_begins, whole_command}
@@ -228,17 +228,21 @@ image_versions events end c of list after =
     only (inl has) = has.0
     only (inr has) = has.0
 
-pub keeps_versions : {D : Type 0} (v : Device D) → IsDevice v → KeepsVersions v
-keeps_versions v laws (raw x) disk sure holds = tt
-keeps_versions v laws (running events end ps) disk sure holds = image_versions events end (v.seen disk) (holds (v.seen disk) (laws.reads_an_image disk)).0
-keeps_versions v laws (dead s) disk sure holds = absurd sure
-keeps_versions v laws (closed s) disk sure holds =
+-- a store with nothing in doubt
+certain_store : {D : Type 0} (v : Device D) → IsDevice v → (s : Stored) (disk : D) → s ≡ certain s.known.acknowledged s.end → ((c : List ℕ) → v.may_leave disk c → IsStoredAs s c) → HasVersionsAt (closed s)
+certain_store v laws s disk sure holds =
     subst (λ t. HasVersionsAt (closed t)) (sym sure) (λ events list is after.
     image_versions s.known.acknowledged s.end (v.seen disk) (subst (λ t. IsStoredAs t (v.seen disk)) sure (holds (v.seen disk) (laws.reads_an_image disk))) list (sym (ap list_after (only events is)) ∙ after))
   where
     only : (events : Events) → MayBe (certain s.known.acknowledged s.end) events → events ≡ s.known.acknowledged
     only events (inl same) = same
     only events (inr same) = same
+
+pub keeps_versions : {D : Type 0} (v : Device D) → IsDevice v → KeepsVersions v
+keeps_versions v laws (raw x) disk sure holds = tt
+keeps_versions v laws (running events end ps) disk sure holds = image_versions events end (v.seen disk) (holds (v.seen disk) (laws.reads_an_image disk)).0
+keeps_versions v laws (dead s) disk sure holds = certain_store v laws s disk sure holds
+keeps_versions v laws (closed s) disk sure holds = certain_store v laws s disk sure holds
 
 -- where a session begins there are no processes
 no_processes : {D : Type 0} (v : Device D) (p : Place) (disk : D) → Starts v p disk → HasModuleVersionsAt p

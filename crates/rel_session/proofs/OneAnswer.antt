@@ -4,7 +4,7 @@ use Rattle.std.specs.Option.{option_and_then}
 use Rattle.rel_list.specs.Releases.{Releases, running as running_release, permanent}
 use Rattle.rel_list.specs.Event.{list_after, step, booted}
 use Rattle.rel_list.specs.Event.{Event}
-use Rattle.rel_list.specs.Event.Event.{made, reboot_old as rebooting, boot as booting}
+use Rattle.rel_list.specs.Event.Event.{made, installed, reboot_old as rebooting, boot as booting}
 use Rattle.rel_handler.specs.declared.error.BootError.{BootError}
 use Rattle.rel_handler.specs.declared.error.BootError.TheVariants as boot_error
 use Rattle.node_command.specs.declared.error.HandlerError.{HandlerError}
@@ -35,10 +35,17 @@ use Rattle.rel_session.specs.Run.Ending.{ended, cut_off, early}
 use Rattle.rel_session.specs.AnswerLaws.{IsCertain, AreSame, HaveOneAnswer}
 use Rattle.rel_session.specs.RunLaws.{NoneFails}
 use Rattle.rel_session.specs.Transition
-use Rattle.rel_session.specs.Transition.Action.{answers, makes_node, changes_node, reboots_node, boots_node, tells_start, calls}
+use Rattle.rel_session.specs.Transition.Action.{answers, makes_node, changes_node, installs, reboots_node, boots_node, tells_start, calls}
 use Rattle.rel_session.proofs.AcknowledgedEvents.{next_answered, none_left}
 use Rattle.rel_session.proofs.SourceLemmas.{gives_one}
 use Rattle.rel_session.proofs.ActionLemmas.{kind_of, AreTold, one_action}
+use Rattle.node_command.specs.Installing.{installation}
+use Rattle.node_processes.specs.Scripts.{behind_run}
+use Rattle.node_upgrade.specs.Failure.{Failure}
+use Rattle.node_upgrade.specs.Upgrade.{script_failure}
+use Rattle.relup_exec.specs.Alone as script
+use Rattle.relup_script.specs.Search.{FoundForm}
+use Rattle.rel_session.specs.Installation.{Begins, Installs, Leads, installed_size, upgrade_outcome}
 use Rattle.rel_session.proofs.ListLemmas.{list_after-more, same_list}
 
 -- Two places that nothing tells apart: the events of a boot of bytes are any that have the list.
@@ -46,12 +53,13 @@ data Alike : Place → Place → Type 0 where
   same_bytes : (x : List ℕ) → Alike (raw x) (raw x)
   same_store : (events : Events) (end : ℕ) → Alike (closed (certain events end)) (closed (certain events end))
   same_lists : (events others : Events) (end : ℕ) (ps qs : Processes) → list_after events ≡ list_after others → ps ≡ qs → Alike (running events end ps) (running others end qs)
+  same_dead : (events others : Events) (end : ℕ) → list_after events ≡ list_after others → Alike (dead (certain events end)) (dead (certain others end))
 
 alike_itself : (p : Place) → IsCertain p → Alike p p
 alike_itself (raw x) sure = same_bytes x
 alike_itself (closed s) sure = subst (λ t. Alike (closed t) (closed t)) (sym sure) (same_store s.known.acknowledged s.end)
 alike_itself (running events end ps) sure = same_lists events events end ps ps refl refl
-alike_itself (dead s) sure = absurd sure
+alike_itself (dead s) sure = subst (λ t. Alike (dead t) (dead t)) (sym sure) (same_dead s.known.acknowledged s.known.acknowledged s.end refl)
 
 -- Commands come to the same there.
 same_action : (source : Source) → GivesOne source → (p q : Place) (c : Command) (x y : Transition.Action) → Alike p q → Transition.ComesTo source p c x → Transition.ComesTo source q c y → x ≡ y
@@ -61,10 +69,12 @@ same_action source one p q c x y alike comes comes_too = go (one_action source o
     same_kind p q (same_bytes b) = refl
     same_kind p q (same_store events end) = refl
     same_kind p q (same_lists events others end ps qs same one) = refl
+    same_kind p q (same_dead events others end same) = refl
 
     told_same : (says : Releases → Processes → List ℕ) (p q : Place) → Alike p q → Transition.told says p ≡ Transition.told says q
     told_same says p q (same_bytes b) = refl
     told_same says p q (same_store events end) = refl
+    told_same says p q (same_dead events others end same) = refl
     told_same says p q (same_lists events others end ps qs same one) = ap (λ o. says (list_or_none o) ps) same ∙ ap (λ r. says (releases_after others) r) one
 
     go : (x ≡ y) ⊎ AreTold p q x y → x ≡ y
@@ -123,6 +133,7 @@ module _ (a b : Reply) (both : Both a b) where
   makes p q found (same_store events end) (inl is) (inl also) = as_these a b _ _ is also (refl, refl, same_store events end)
   makes p q found (same_store events end) (inl is) (inr also) = failure b _ also refl both.1
   makes p q found (same_store events end) (inr is) other = failure a _ is refl both.0
+  makes p q found (same_dead events others end same) is also = as_these a b _ _ is also (refl, refl, same_dead events others end same)
   makes p q found (same_lists events others end ps qs same one) is also = as_these a b _ _ is also (refl, refl, same_lists events others end ps qs same one)
 
   -- boots of the same list
@@ -178,6 +189,7 @@ module _ (a b : Reply) (both : Both a b) where
   boots : BootLaws → (p q : Place) → Alike p q → Transition.Boots p a → Transition.Boots q b → Same a b
   boots laws p q (same_bytes x) is also = boots_bytes laws x is also
   boots laws p q (same_store events end) is also = boots_store events events end refl is also
+  boots laws p q (same_dead events others end same) is also = boots_store events others end same is also
   boots laws p q (same_lists events others end ps qs same one) is also = boots_store events others end same is also
 
 -- replies behind an event
@@ -198,6 +210,7 @@ module _ (a b : Reply) (both : Both a b) where
   changed : (p q : Place) (c : Transition.Change) → Alike p q → Transition.Acts p (changes_node c) a → Transition.Acts q (changes_node c) b → Same a b
   changed p q c (same_bytes x) is also = as_these a b _ _ is also (refl, refl, same_bytes x)
   changed p q c (same_store events end) is also = as_these a b _ _ is also (refl, refl, same_store events end)
+  changed p q c (same_dead events others end same) is also = as_these a b _ _ is also (refl, refl, same_dead events others end same)
   changed p q c (same_lists events others end ps qs same one) is also =
       let then : releases_after others ≡ releases_after events = ap list_or_none (sym same) in
       changes a b both events others end ps qs c (releases_after events) (c.files (releases_after events)) (commanded c.event (releases_after events)) same one is (subst (λ l. Transition.Changes others end qs c l (c.files l) (commanded c.event l) b) then also)
@@ -205,13 +218,47 @@ module _ (a b : Reply) (both : Both a b) where
   rebooted : (p q : Place) (vsn : List ℕ) → Alike p q → Transition.Acts p (reboots_node vsn) a → Transition.Acts q (reboots_node vsn) b → Same a b
   rebooted p q vsn (same_bytes x) is also = as_these a b _ _ is also (refl, refl, same_bytes x)
   rebooted p q vsn (same_store events end) is also = as_these a b _ _ is also (refl, refl, same_store events end)
+  rebooted p q vsn (same_dead events others end same) is also = as_these a b _ _ is also (refl, refl, same_dead events others end same)
   rebooted p q vsn (same_lists events others end ps qs same one) is also =
       let then : releases_after others ≡ releases_after events = ap list_or_none (sym same) in
       reboots events others end ps qs vsn (releases_after events) (commanded (rebooting vsn) (releases_after events)) same one is (subst (λ l. Transition.Reboots others end qs vsn l (commanded (rebooting vsn) l) b) then also)
 
+  -- an installation
+  leads : (events others : Events) (end : ℕ) (ps qs : Processes) (vsn : List ℕ) (l : Releases) (f : FoundForm) (o : script.Outcome) → list_after events ≡ list_after others → ps ≡ qs
+      → Leads events end ps vsn l f o a → Leads others end qs vsn l f o b → Same a b
+  leads events others end ps qs vsn l f (script.Outcome.refuses n c) same one is also = as_these a b _ _ is also (refl, refl, same_lists events others end ps qs same one)
+  leads events others end ps qs vsn l f (script.Outcome.breaks n c) same one is also = as_these a b _ _ is also (refl, refl, same_dead events others end same)
+  leads events others end ps qs vsn l f (script.Outcome.ends r) same one (inl is) (inl also) =
+      as_these a b _ _ is also (refl, refl, same_lists (events ++ installed vsn ∷ []) (others ++ installed vsn ∷ []) (end_behind end (installed_size vsn l)) (behind_run r) (behind_run r) (same_list events others (installed vsn) same) refl)
+  leads events others end ps qs vsn l f (script.Outcome.ends r) same one (inl is) (inr also) = failure b _ also refl both.1
+  leads events others end ps qs vsn l f (script.Outcome.ends r) same one (inr is) other = failure a _ is refl both.0
+
+  begins : (events others : Events) (end : ℕ) (ps qs : Processes) (vsn : List ℕ) (l : Releases) (f : FoundForm) (o : Option Failure) → list_after events ≡ list_after others → ps ≡ qs
+      → Begins events end ps vsn l f o a → Begins others end qs vsn l f o b → Same a b
+  begins events others end ps qs vsn l f (Some why) same one is also = as_these a b _ _ is also (refl, refl, same_lists events others end ps qs same one)
+  begins events others end ps qs vsn l f None same one (inl (fits, is)) (inl (fits_too, also)) =
+      leads events others end ps qs vsn l f (upgrade_outcome vsn l f ps) same one is (subst (λ o. Leads others end qs vsn l f o b) (ap (upgrade_outcome vsn l f) (sym one)) also)
+  begins events others end ps qs vsn l f None same one (inl (fits, is)) (inr (over_it, also)) = absurd (over_it fits)
+  begins events others end ps qs vsn l f None same one (inr (over_it, is)) (inl (fits, also)) = absurd (over_it fits)
+  begins events others end ps qs vsn l f None same one (inr (over_it, is)) (inr (over_too, also)) = as_these a b _ _ is also (refl, refl, same_lists events others end ps qs same one)
+
+  installs_so : (events others : Events) (end : ℕ) (ps qs : Processes) (vsn : List ℕ) (l : Releases) (o : Result FoundForm HandlerError) → list_after events ≡ list_after others → ps ≡ qs
+      → Installs events end ps vsn l o a → Installs others end qs vsn l o b → Same a b
+  installs_so events others end ps qs vsn l (Err why) same one is also = as_these a b _ _ is also (refl, refl, same_lists events others end ps qs same one)
+  installs_so events others end ps qs vsn l (Ok f) same one is also = begins events others end ps qs vsn l f (script_failure vsn l f) same one is also
+
+  installed_alike : (p q : Place) (vsn : List ℕ) → Alike p q → Transition.Acts p (installs vsn) a → Transition.Acts q (installs vsn) b → Same a b
+  installed_alike p q vsn (same_bytes x) is also = as_these a b _ _ is also (refl, refl, same_bytes x)
+  installed_alike p q vsn (same_store events end) is also = as_these a b _ _ is also (refl, refl, same_store events end)
+  installed_alike p q vsn (same_dead events others end same) is also = as_these a b _ _ is also (refl, refl, same_dead events others end same)
+  installed_alike p q vsn (same_lists events others end ps qs same one) is also =
+      let then : releases_after others ≡ releases_after events = ap list_or_none (sym same) in
+      installs_so events others end ps qs vsn (releases_after events) (installation vsn (releases_after events)) same one is (subst (λ l. Installs others end qs vsn l (installation vsn l) b) then also)
+
   told : (p q : Place) → Alike p q → Transition.Acts p tells_start a → Transition.Acts q tells_start b → Same a b
   told p q (same_bytes x) is also = as_these a b _ _ is also (refl, refl, same_bytes x)
   told p q (same_store events end) is also = as_these a b _ _ is also (refl, refl, same_store events end)
+  told p q (same_dead events others end same) is also = as_these a b _ _ is also (refl, refl, same_dead events others end same)
   told p q (same_lists events others end ps qs same one) (inl is) (inl also) =
       as_these a b _ _ is also (ap (λ o. Transition.ok_line (Transition.start_versions (permanent (list_or_none o)))) same, refl, same_lists events others end ps qs same one)
   told p q (same_lists events others end ps qs same one) (inl is) (inr also) = failure b _ also refl both.1
@@ -220,6 +267,7 @@ module _ (a b : Reply) (both : Both a b) where
   called_alike : (p q : Place) (app id : List ℕ) (input : ℕ) → Alike p q → Transition.Acts p (calls app id input) a → Transition.Acts q (calls app id input) b → Same a b
   called_alike p q app id input (same_bytes x) is also = as_these a b _ _ is also (refl, refl, same_bytes x)
   called_alike p q app id input (same_store events end) is also = as_these a b _ _ is also (refl, refl, same_store events end)
+  called_alike p q app id input (same_dead events others end same) is also = as_these a b _ _ is also (refl, refl, same_dead events others end same)
   called_alike p q app id input (same_lists events others end ps qs same one) is also =
       as_these a b _ _ is also (ap (call_line app id input) one, refl, same_lists events others end (called app id input ps) (called app id input qs) same (ap (called app id input) one))
 
@@ -227,6 +275,7 @@ module _ (a b : Reply) (both : Both a b) where
   acts laws p q (answers text) alike is also = as_these a b _ _ is also (refl, refl, alike)
   acts laws p q (makes_node found) alike is also = makes a b both p q found alike is also
   acts laws p q (changes_node c) alike is also = changed p q c alike is also
+  acts laws p q (installs vsn) alike is also = installed_alike p q vsn alike is also
   acts laws p q (reboots_node vsn) alike is also = rebooted p q vsn alike is also
   acts laws p q boots_node alike is also = boots a b both laws p q alike is also
   acts laws p q tells_start alike is also = told p q alike is also

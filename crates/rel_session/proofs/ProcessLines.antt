@@ -18,7 +18,8 @@ use Rattle.proc_history.specs.Values.{nothing, up_if, up_at, up_in}
 use Rattle.node_listing.specs.Listing.{process_line, process_value, term_line, text_value, standing_word, module_line}
 use Rattle.node_processes.specs.Answers.{processes_line, modules_line, peek_line, peeked_line, state_line, call_line, called_line, reply_line, outcome_line, outcome_at, value_at}
 use Rattle.node_processes.specs.ModuleVersions.{HasModuleVersion, HaveModuleVersions}
-use Rattle.node_processes.specs.Processes.{Process, Processes, process_named}
+use Rattle.proc_table.specs.declared.pid.Pid.{Pid}
+use Rattle.node_processes.specs.Processes.{Processes, process_named}
 use Rattle.node_processes.proofs.ModuleVersions.{each_at, nothing_version}
 use Rattle.rel_session.proofs.AnswerLines.{IsWhole, ends_behind, newline, lines_whole, tuple_line}
 
@@ -64,9 +65,9 @@ state_whole (Some n) version behind =
 pub peek_whole : (app id : List ℕ) (ps : Processes) → HaveModuleVersions ps → IsWhole (peek_line app id ps)
 peek_whole app id ps all = go (process_named app id ps)
   where
-    go : (o : Option Process) → IsWhole (peeked_line ps o)
+    go : (o : Option Pid) → IsWhole (peeked_line ps o)
     go None = λ behind. refl
-    go (Some p) = state_whole (up_in p.round (value_at ps p)) (up_version p.round (value_at ps p) (each_at HasModuleVersion ps.values p.slot nothing all nothing_version))
+    go (Some p) = state_whole (up_in p.round (value_at ps p)) (up_version p.round (value_at ps p) (each_at HasModuleVersion ps.values p.slot nothing all.values nothing_version))
 
 outcome_whole : (o : Outcome) → IsWhole (outcome_line o)
 outcome_whole (Done r) behind = ap (λ t. codes "ok " ++ t) (ends_behind (decimal r) (codes "\n") (decimal_line r) newline behind)
@@ -80,6 +81,6 @@ call_whole app id input ps = go (process_named app id ps)
     by_now None = λ behind. refl
     by_now (Some n) = outcome_whole (outcome_at n input)
 
-    go : (o : Option Process) → IsWhole (called_line input ps o)
+    go : (o : Option Pid) → IsWhole (called_line input ps o)
     go None = λ behind. refl
     go (Some p) = by_now (up_in p.round (value_at ps p))

@@ -26,10 +26,12 @@ use Rattle.rel_session.specs.AnswerLaws.{AreOfFiles, HasVersionsAt, HasModuleVer
 use Rattle.rel_session.specs.Node.{Place, Reply, releases_after, list_or_none}
 use Rattle.rel_session.specs.Node.Place.{raw, closed, running, dead}
 use Rattle.rel_session.specs.Transition
-use Rattle.rel_session.specs.Transition.Action.{answers, makes_node, changes_node, reboots_node, boots_node, tells_start, calls}
+use Rattle.rel_session.specs.Transition.Action.{answers, makes_node, changes_node, installs, reboots_node, boots_node, tells_start, calls}
 use Rattle.node_processes.specs.ModuleVersions.{HaveModuleVersions}
-use Rattle.node_processes.proofs.ModuleVersions.{AreWithLibraries, fresh_versions, called_versions}
-use Rattle.rel_session.proofs.Versions.{OfList, of_image, list_versions, stored_versions, certain_versions}
+use Rattle.node_processes.proofs.ModuleVersions.{AreWithLibraries, fresh_versions, called_versions, script_versions}
+use Rattle.node_upgrade.specs.Upgrade.{site_for, upgrade_to}
+use Rattle.rel_session.proofs.InstallationLemmas.{each_reply}
+use Rattle.rel_session.proofs.Versions.{OfList, of_image, list_versions, listed_versions, stored_versions, certain_versions}
 
 -- the place behind a reply has such versions
 abbrev KeepsVersions : Reply → Type 0
@@ -154,6 +156,21 @@ acts (running events end ps) (changes_node c) of all versions a is = changes eve
 acts (raw x) (changes_node c) of all versions a is = versions_as a _ is tt
 acts (closed s) (changes_node c) of all versions a is = versions_as a _ is tt
 acts (dead s) (changes_node c) of all versions a is = versions_as a _ is tt
+acts (running events end ps) (installs vsn) of all versions a is =
+    let list = releases_after events in
+    each_reply KeepsVersions events end ps vsn list (record {
+      listed = λ why. versions;
+      unmatched = versions;
+      not_run = λ f. versions;
+      over_full = versions;
+      broken = λ f. tt;
+      done_so = λ f r found comes.
+          script_versions (site_for (upgrade_to vsn list f) ps.modules) ps f.script r (libraries_of list (listed_versions events all)) refl versions comes;
+      doubted_so = λ f found. tt;
+    }) a is
+acts (raw x) (installs vsn) of all versions a is = versions_as a _ is tt
+acts (closed s) (installs vsn) of all versions a is = versions_as a _ is tt
+acts (dead s) (installs vsn) of all versions a is = versions_as a _ is tt
 acts (running events end ps) (reboots_node vsn) of all versions a is = reboots events end ps vsn (releases_after events) (commanded (rebooting vsn) (releases_after events)) all versions a is
 acts (raw x) (reboots_node vsn) of all versions a is = versions_as a _ is tt
 acts (closed s) (reboots_node vsn) of all versions a is = versions_as a _ is tt

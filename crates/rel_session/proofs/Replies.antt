@@ -34,7 +34,7 @@ use Rattle.rel_session.specs.Refusals.{refusal_of, refusal_line, boot_line}
 use Rattle.rel_session.specs.Refusals.Refusal.{dead as dead_node}
 use Rattle.rel_session.specs.Run.{IsReached, Holds, Moments, Happens}
 use Rattle.rel_session.specs.Transition
-use Rattle.rel_session.specs.Transition.Action.{answers, changes_node, reboots_node, boots_node, tells_start, calls}
+use Rattle.rel_session.specs.Transition.Action.{answers, changes_node, installs, reboots_node, boots_node, tells_start, calls}
 use Rattle.rel_session.specs.Transition.StopsWithin.{without_its_node}
 use Rattle.rel_session.proofs.DeviceLemmas.{IsDevice, weakened, still}
 use Rattle.rel_session.proofs.Histories.{events_of_image}
@@ -447,6 +447,12 @@ module _ {D : Type 0} (v : Device D) (laws : IsDevice v) where
   idle_reboots vsn (running events end ps) idle = absurd (idle events end ps refl)
   idle_reboots vsn (dead s) idle = refl
 
+  idle_installs : (vsn : List ℕ) (p : Place) → ((events : Events) (end : ℕ) (ps : Processes) → p ≡ running events end ps → ⊥) → Transition.Acts p (installs vsn) (refused dead_node p)
+  idle_installs vsn (raw bytes) idle = refl
+  idle_installs vsn (closed s) idle = refl
+  idle_installs vsn (running events end ps) idle = absurd (idle events end ps refl)
+  idle_installs vsn (dead s) idle = refl
+
   idle_tells : (p : Place) → ((events : Events) (end : ℕ) (ps : Processes) → p ≡ running events end ps → ⊥) → Transition.Acts p tells_start (refused dead_node p)
   idle_tells (raw bytes) idle = refl
   idle_tells (closed s) idle = refl
@@ -472,7 +478,7 @@ module _ {D : Type 0} (v : Device D) (laws : IsDevice v) where
   pub idle_needs : (source : Source) (c : Command) → NeedsNode c → (p : Place) → ((events : Events) (end : ℕ) (ps : Processes) → p ≡ running events end ps → ⊥) → Transition.Transition source p c (refused dead_node p)
   idle_needs source (set_unpacked path) needs p idle = idle_sets source path p idle
   idle_needs source (check vsn) needs p idle = (answers (Transition.told (λ list ps. Transition.check_line vsn list) p), refl, idle_told (λ list ps. Transition.check_line vsn list) p idle)
-  idle_needs source (install vsn) needs p idle = (changes_node (Transition.installation vsn), refl, idle_changes (Transition.installation vsn) p idle)
+  idle_needs source (install vsn) needs p idle = (installs vsn, refl, idle_installs vsn p idle)
   idle_needs source (permanent vsn) needs p idle = (changes_node (Transition.permanence vsn), refl, idle_changes (Transition.permanence vsn) p idle)
   idle_needs source (remove vsn) needs p idle = (changes_node (Transition.removal vsn), refl, idle_changes (Transition.removal vsn) p idle)
   idle_needs source start needs p idle = (tells_start, refl, idle_tells p idle)

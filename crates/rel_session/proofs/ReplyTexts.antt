@@ -1,5 +1,5 @@
 -- What a command answers, and what its answer is in a session.
-use Rattle.std.proofs.Common.{◌≡◌, ◌⊎◌, inl, inr, ⊎_elim, ℕ, List, Option, Some, None, Result, Ok, Err, refl, sym, ap, ◌∙◌, subst, ◌++◌, append_assoc}
+use Rattle.std.proofs.Common.{◌≡◌, ◌⊎◌, inl, inr, ⊎_elim, ℕ, ◌+◌, ◌<◌, List, [], ◌∷◌, length, map, take, get_or, Option, Some, None, Result, Ok, Err, refl, sym, ap, ◌∙◌, subst, ◌++◌, append_assoc}
 use Rattle.std.specs.Prelude.{IfOk, OnOk, MatchResult, String, string_bytes, codes}
 use Rattle.std.specs.declared.alloc.Global.{Global}
 use Rattle.std.specs.declared.alloc.AllocError.{AllocError}
@@ -24,7 +24,11 @@ use Rattle.rel_session.specs.Node.{Place, Reply, reply, nothing}
 use Rattle.rel_session.specs.Refusals.{refusal_of, refusal_line}
 use Rattle.rel_list.specs.Releases.{Releases}
 use Rattle.relup_script.specs.Search.{FoundForm}
-use Rattle.rel_session.specs.Transition.{Action, ComesTo, Acts, asked, checked_line, told as told_by_node, StopsWithin, IsStopped, Transition, ok_line, installed_line}
+use Rattle.rel_session.specs.Transition.{Action, ComesTo, Acts, asked, checked_line, told as told_by_node, StopsWithin, IsStopped, Transition, ok_line}
+use Rattle.erl_term.specs.Value.{Value, value_of}
+use Rattle.erl_term.specs.Term.{Term}
+use Rattle.std.proofs.lemmas.List.{map-append, map_more}
+use Rattle.rel_session.specs.Installation.{installed_text, names_value}
 use Rattle.rel_session.specs.Transition.Action.{answers}
 use Rattle.rel_session.proofs.DeviceLemmas.{IsDevice}
 use Rattle.rel_session.proofs.Replies.{stays, leaves_all, changes_no_memory, never_stops}
@@ -153,12 +157,20 @@ module _ {D : Type 0} (v : Device D) where
     )
     follows r (Err e) is given = ended r given
 
+-- one more term, of what stands in its place
+pub term_more : {A : Type 0} (f : A → Value) (all : List A) (i : ℕ) (a : A) (old new : List Term) (term : Term) → i < length all → a ≡ get_or all i a → value_of term ≡ f a → new ≡ old ++ term ∷ []
+    → map value_of old ≡ map f (take i all) → map value_of new ≡ map f (take (i + 1) all)
+term_more f all i a old new term within at made grown so_far =
+    let spelled : map f (take (i + 1) all) ≡ map f (take i all) ++ f a ∷ [] = map_more f all i a within ∙ ap (λ b. map f (take i all) ++ f b ∷ []) (sym at) in
+    (ap (map value_of) grown ∙ map-append value_of old (term ∷ [])) ∙ ((λ j. so_far j ++ made j ∷ []) ∙ sym spelled)
+
 -- the line of an installation
-pub tells_installed : (line : Result (String Global) AllocError) (printed other : List ℕ) → IfOk line (λ s. string_bytes s ≡ codes "ok " ++ (printed ++ codes " [] []\n")) → printed ≡ text_of (text_value other)
-    → IfOk line (λ s. string_bytes s ≡ installed_line other)
-tells_installed (Err e) printed other told is = tt
-tells_installed (Ok s) printed other told is =
-    told ∙ ap (λ t. codes "ok " ++ t) (sym (append_assoc printed (codes " [] []") (codes "\n"))) ∙ ap (λ t. codes "ok " ++ ((t ++ codes " [] []") ++ codes "\n")) is
+pub tells_installed : (line : Result (String Global) AllocError) (first second third other : List ℕ) (descr : Value) (stale : List (List ℕ))
+    → IfOk line (λ s. string_bytes s ≡ codes "ok " ++ (first ++ (codes " " ++ (second ++ (codes " " ++ (third ++ codes "\n"))))))
+    → first ≡ text_of (text_value other) → second ≡ text_of descr → third ≡ text_of (names_value stale) → IfOk line (λ s. string_bytes s ≡ installed_text other descr stale)
+tells_installed (Err e) first second third other descr stale told is has then = tt
+tells_installed (Ok s) first second third other descr stale told is has then =
+    told ∙ (λ j. codes "ok " ++ (is j ++ (codes " " ++ (has j ++ (codes " " ++ (then j ++ codes "\n"))))))
 
 -- the line of a script
 pub tells_found : (line : Result (String Global) AllocError) (other descr : List ℕ) (f : FoundForm) → IfOk line (λ s. string_bytes s ≡ codes "ok " ++ (other ++ (codes " " ++ (descr ++ codes "\n"))))

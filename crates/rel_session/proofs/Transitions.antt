@@ -20,7 +20,8 @@ use Rattle.rel_session.specs.Node.Place.{raw, closed, running, dead}
 use Rattle.rel_session.specs.Run.{MayLeave}
 use Rattle.rel_session.specs.RunLaws.{MayBe, acknowledged_at, IsKnown, Finds, Keeps}
 use Rattle.rel_session.specs.Transition
-use Rattle.rel_session.specs.Transition.Action.{answers, makes_node, changes_node, reboots_node, boots_node, tells_start, calls}
+use Rattle.rel_session.specs.Transition.Action.{answers, makes_node, changes_node, installs, reboots_node, boots_node, tells_start, calls}
+use Rattle.rel_session.proofs.InstallationLemmas.{each_reply}
 
 same_known : (p : Place) (es : Events) → es ≡ [] → IsKnown p ⊎ (es ≢ []) → IsKnown p
 same_known p es none (inl known) = known
@@ -127,6 +128,20 @@ acts (raw bytes) (changes_node c) a is = still_as (raw bytes) _ a is
 acts (closed s) (changes_node c) a is = still_as (closed s) _ a is
 acts (running events end ps) (changes_node c) a is = changes events end ps c (releases_after events) (c.files (releases_after events)) (commanded c.event (releases_after events)) a is
 acts (dead s) (changes_node c) a is = still_as (dead s) _ a is
+acts (running events end ps) (installs vsn) a is =
+    let here = running events end ps in
+    each_reply (Keeps here) events end ps vsn (releases_after events) (record {
+      listed = λ why. still_as here _ _ refl;
+      unmatched = still_as here _ _ refl;
+      not_run = λ f. still_as here _ _ refl;
+      over_full = still_as here _ _ refl;
+      broken = λ f. keeps_known here _ events refl (sym (append-nil events)) tt;
+      done_so = λ f r found comes. keeps_known here _ events refl refl tt;
+      doubted_so = λ f found. keeps_known here _ events refl (sym (append-nil events)) tt;
+    }) a is
+acts (raw bytes) (installs vsn) a is = still_as (raw bytes) _ a is
+acts (closed s) (installs vsn) a is = still_as (closed s) _ a is
+acts (dead s) (installs vsn) a is = still_as (dead s) _ a is
 acts (running events end ps) (reboots_node vsn) a is = reboots events end ps vsn (releases_after events) (commanded (rebooting vsn) (releases_after events)) a is
 acts (raw bytes) (reboots_node vsn) a is = still_as (raw bytes) _ a is
 acts (closed s) (reboots_node vsn) a is = still_as (closed s) _ a is

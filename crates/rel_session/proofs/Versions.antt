@@ -35,16 +35,20 @@ use Rattle.rel_unpack.specs.Source.{Source}
 use Rattle.rel_session.specs.Node.{Place, Reply, releases_after, list_or_none}
 use Rattle.rel_session.specs.Node.Place.{raw, closed, running, dead}
 use Rattle.rel_session.specs.Refusals.{refusal_of, refusal_for, refusal_line}
-use Rattle.rel_session.specs.Refusals.Refusal.{device, bad_status}
+use Rattle.rel_session.specs.Refusals.Refusal.{device, bad_status, script_refused, must_reboot}
 use Rattle.rel_session.specs.AnswerLaws.{HasLinePath, IsOfFiles, AreOfFiles, HasVersionsAt, HasModuleVersionsAt}
-use Rattle.rel_session.specs.RunLaws.{MayBe}
 use Rattle.rel_session.specs.Transition
-use Rattle.rel_session.specs.Transition.Action.{answers, makes_node, changes_node, reboots_node, boots_node, tells_start, calls}
+use Rattle.rel_session.specs.Transition.Action.{answers, makes_node, changes_node, installs, reboots_node, boots_node, tells_start, calls}
 use Rattle.rel_session.proofs.ActionLemmas.{OfEvent, TellsFilesLine, IsGoodAction, good_action}
 use Rattle.rel_session.proofs.ListLemmas.{list_after-more}
 use Rattle.rel_session.proofs.ProcessLines.{call_whole}
 use Rattle.rel_session.proofs.Transitions.{may_have}
-use Rattle.rel_session.proofs.AnswerLines.{IsWhole, ok_whole, done_whole, refusal_whole, boot_line_whole}
+use Rattle.rel_session.proofs.AnswerLines.{IsWhole, ok_whole, done_whole, installed_whole, listed_whole, refusal_whole, boot_line_whole}
+use Rattle.node_processes.specs.Scripts.{behind_run}
+use Rattle.node_upgrade.specs.Stale.{stale_modules}
+use Rattle.node_upgrade.specs.Upgrade.{libraries_at}
+use Rattle.rel_session.specs.Installation.{installed_size}
+use Rattle.rel_session.proofs.InstallationLemmas.{each_reply}
 
 more_versions : (es : Releases) (e : Entry) → AreOfFiles es → IsOfFiles (bundle_in e) → AreOfFiles (es ++ e ∷ [])
 more_versions [] e all one = (one, tt)
@@ -149,15 +153,16 @@ handler_line handler_error.Exists of behind = absurd of
 device_line : IsWhole (refusal_line device)
 device_line behind = refl
 
+-- with this event or without
+uncertain_versions : (events : Events) (end : ℕ) (e : Event) (size : ℕ) → OfEvent e → OfList events → HasVersionsAt (dead (uncertain events end e size))
+uncertain_versions events end e size of all es l (inl same) after = all l (ap list_after (sym same) ∙ after)
+uncertain_versions events end e size of all es l (inr same) after = list_versions events e of all l (ap list_after (sym same) ∙ after)
+
 commits : (events : Events) (end : ℕ) (ps : Processes) (e : Event) (size : ℕ) (o : Result Releases HandlerError) (P : Reply → Type 0) → IsListAnswer o → ((next : Releases) (a : Reply) → o ≡ Ok next → P a → IsGood a)
     → ((next : Releases) → o ≡ Ok next → OfEvent e) → OfList events → (a : Reply) → Transition.IsCommit events end ps e size o P a → IsGood a
 commits events end ps e size (Err why) P plain done of all a is = good_as a _ is (handler_line why plain, all)
 commits events end ps e size (Ok next) P plain done of all a (inl (fits, inl is)) = done next a refl is
-commits events end ps e size (Ok next) P plain done of all a (inl (fits, inr is)) = good_as a _ is (device_line, either_way)
-  where
-    either_way : (es : Events) (l : Releases) → MayBe (uncertain events end e size) es → list_after es ≡ Some l → AreOfFiles l
-    either_way es l (inl same) after = all l (ap list_after (sym same) ∙ after)
-    either_way es l (inr same) after = list_versions events e (of next refl) all l (ap list_after (sym same) ∙ after)
+commits events end ps e size (Ok next) P plain done of all a (inl (fits, inr is)) = good_as a _ is (device_line, uncertain_versions events end e size (of next refl) all)
 commits events end ps e size (Ok next) P plain done of all a (inr (over_it, is)) = good_as a _ is ((λ behind. refl), all)
 
 changes : (events : Events) (end : ℕ) (ps : Processes) (c : Transition.Change) (list : Releases) (f : Option Refusal) (o : Result Releases HandlerError) → IsListAnswer o → ((next : Releases) → f ≡ None → o ≡ Ok next → OfEvent c.event) → TellsFilesLine f
@@ -238,7 +243,7 @@ start_plain es all = go (permanent es) refl
         append_line r.erts (codes " " ++ r.vsn) (version_line r.erts of.erts) (append_line (codes " ") r.vsn refl (version_line r.vsn of.own))
 
 -- each list of these events has versions
-listed_versions : (events : Events) → OfList events → AreOfFiles (releases_after events)
+pub listed_versions : (events : Events) → OfList events → AreOfFiles (releases_after events)
 listed_versions events all = go (list_after events) all
   where
     go : (o : Option Releases) → ((l : Releases) → o ≡ Some l → AreOfFiles l) → AreOfFiles (list_or_none o)
@@ -252,6 +257,20 @@ acts (running events end ps) (changes_node c) good all a is = changes events end
 acts (raw x) (changes_node c) good all a is = good_as a _ is ((λ behind. refl), all)
 acts (closed s) (changes_node c) good all a is = good_as a _ is ((λ behind. refl), all)
 acts (dead s) (changes_node c) good all a is = good_as a _ is ((λ behind. refl), all)
+acts (running events end ps) (installs vsn) good all a is =
+    let e = installed vsn in
+    each_reply IsGood events end ps vsn (releases_after events) (record {
+      listed = λ why. (listed_whole why, all);
+      unmatched = ((λ behind. refl), all);
+      not_run = λ f. (refusal_whole (script_refused f) tt, all);
+      over_full = ((λ behind. refl), all);
+      broken = λ f. (refusal_whole (must_reboot f) tt, certain_versions events end all);
+      done_so = λ f r found comes. (installed_whole f.other f.descr (stale_modules (behind_run r).modules (libraries_at vsn (releases_after events))), list_versions events e tt all);
+      doubted_so = λ f found. (device_line, uncertain_versions events end e (installed_size vsn (releases_after events)) tt all);
+    }) a is
+acts (raw x) (installs vsn) good all a is = good_as a _ is ((λ behind. refl), all)
+acts (closed s) (installs vsn) good all a is = good_as a _ is ((λ behind. refl), all)
+acts (dead s) (installs vsn) good all a is = good_as a _ is ((λ behind. refl), all)
 acts (running events end ps) (reboots_node vsn) good all a is = reboots events end ps vsn (releases_after events) (commanded (reboot_old vsn) (releases_after events)) (of_command (reboot_old vsn) (releases_after events)) all a is
 acts (raw x) (reboots_node vsn) good all a is = good_as a _ is ((λ behind. refl), all)
 acts (closed s) (reboots_node vsn) good all a is = good_as a _ is ((λ behind. refl), all)

@@ -49,7 +49,7 @@ abbrev pub IsCertain : Place → Type 0
 IsCertain (raw bytes) = Unit {0}
 IsCertain (closed s) = s ≡ certain s.known.acknowledged s.end
 IsCertain (running events end ps) = Unit {0}
-IsCertain (dead s) = ⊥
+IsCertain (dead s) = s ≡ certain s.known.acknowledged s.end
 
 -- the same answers, and the same events, acknowledged and in doubt
 abbrev pub AreSame : List Reply → List Reply → Type 0
@@ -79,7 +79,7 @@ abbrev pub HasList : Place → Type 0
 HasList (raw bytes) = Unit {0}
 HasList (closed s) = (list : Releases) × (list_after s.known.acknowledged ≡ Some list)
 HasList (running events end ps) = (list : Releases) × (list_after events ≡ Some list)
-HasList (dead s) = ⊥
+HasList (dead s) = (list : Releases) × (list_after s.known.acknowledged ≡ Some list)
 
 -- The commands have answers in which the device does not fail.
 pub record HasAnswer (base : Source) (files : Files) (p : Place) (commands : Feed Command) : Type 0 where

@@ -25,7 +25,16 @@ use Rattle.rel_session.specs.Device.{Device, LeavesOnly}
 use Rattle.rel_session.specs.Files.{files_of, files_behind, source_of}
 use Rattle.rel_session.specs.Node.{Place, Reply}
 use Rattle.rel_session.specs.Node.Place.{raw, closed, running, dead}
+use Rattle.erl_term.specs.Value.{value_of}
+use Rattle.node_upgrade.specs.declared.error.InstallError.{InstallError}
+use Rattle.node_upgrade.specs.declared.error.InstallError.TheVariants as install_error
+use Rattle.node_upgrade.specs.declared.upgrade.Installed.{Installed}
+use Rattle.node_upgrade.specs.Failure.{failure_of}
+use Rattle.node_upgrade.specs.Failure.Why.{fails}
+use Rattle.script_steps.specs.Fault.Cause.{no_memory}
+use Rattle.rel_session.specs.Installation.{installed_text}
 use Rattle.rel_session.specs.Refusals.{refusal_of, refusal_line}
+use Rattle.rel_session.specs.Refusals.Refusal.{must_reboot, script_refused}
 use Rattle.rel_session.specs.Run.{Holds, Happens}
 use Rattle.node_processes.specs.Processes.{Processes}
 use Rattle.rel_session.specs.Transition.{Action, Acts, told, StopsWithin, Transition, IsStopped, ok_line, version_of}
@@ -192,3 +201,13 @@ IsLine (Err why) (Some text) =
 abbrev pub IsText : Option (String Global) → List ℕ → Type 0
 IsText None bytes = ⊥
 IsText (Some text) bytes = string_bytes text ≡ bytes
+
+-- What is answered of an installation: what was done, or why it wasn't; or memory was refused for the answer. A script that memory
+-- stopped behind its point of no return has no answer.
+abbrev pub TellsInstallation : Result Installed InstallError → Result (String Global) HandlerError → Type 0
+TellsInstallation (Err (install_error.Command why)) r = r ≡ Err why
+TellsInstallation (Ok i) (Ok text) = string_bytes text ≡ installed_text (string_bytes i.other) (value_of i.descr) i.stale.items
+TellsInstallation (Err (install_error.Refused f)) (Ok text) = string_bytes text ≡ refusal_line (script_refused (failure_of f))
+TellsInstallation (Err (install_error.MustReboot f)) (Ok text) =
+    (string_bytes text ≡ refusal_line (must_reboot (failure_of f))) × ((failure_of f).why ≢ fails no_memory)
+TellsInstallation done (Err why) = why ≡ handler_error.NoMemory

@@ -1,5 +1,6 @@
 -- Why a command is refused, and how that is told.
 use Rattle.std.specs.Prelude.{◌≡◌, ℕ, List, ◌++◌, codes, Err, string_bytes}
+use Rattle.node_upgrade.specs.Failure.{Failure, failure_text}
 use Rattle.rel_list.specs.declared.status.Status.{Status}
 use Rattle.rel_list.specs.Status.{status_word}
 use Rattle.node_command.specs.declared.error.HandlerError.{HandlerError}
@@ -26,6 +27,8 @@ pub data Refusal : Type 0 where
   no_table : List ℕ → Refusal
   too_many : Refusal
   no_matching_relup : Refusal
+  script_refused : Failure → Refusal
+  must_reboot : Failure → Refusal
   device : Refusal
   full : Refusal
   dead : Refusal
@@ -47,6 +50,8 @@ refusal_line (vsn_mismatch path) = codes "error handler 10 VsnMismatch " ++ (pat
 refusal_line (no_table name) = codes "error handler 11 NoTable " ++ (name ++ codes "\n")
 refusal_line too_many = codes "error handler 12 TooMany\n"
 refusal_line no_matching_relup = codes "error handler 13 NoMatchingRelup\n"
+refusal_line (script_refused f) = codes "error handler 14 Refused " ++ (failure_text f ++ codes "\n")
+refusal_line (must_reboot f) = codes "error handler 15 MustReboot " ++ (failure_text f ++ codes "\n")
 refusal_line device = codes "error handler 16 Device\n"
 refusal_line full = codes "error handler 17 Full\n"
 refusal_line dead = codes "error handler 18 Dead\n"

@@ -4,7 +4,7 @@ use Rattle.erl_term.specs.Printing.{text_of}
 use Rattle.rel_files.specs.Release.{Release}
 use Rattle.rel_list.specs.Releases.{Bundle, Releases, running as running_release, permanent as permanent_release}
 use Rattle.rel_list.specs.Event.{Event, list_after}
-use Rattle.rel_list.specs.Event.Event.{made, unpacked, installed, made_permanent, removed, reboot_old as rebooting, boot as booting}
+use Rattle.rel_list.specs.Event.Event.{made, unpacked, made_permanent, removed, reboot_old as rebooting, boot as booting}
 use Rattle.rel_handler.specs.declared.error.BootError.{BootError}
 use Rattle.rel_handler.specs.declared.error.BootError.TheVariants as boot_error
 use Rattle.node_command.specs.declared.error.HandlerError.{HandlerError}
@@ -12,7 +12,7 @@ use Rattle.node_command.specs.Files.{bundle_brought, made_size, unpacked_size, B
 use Rattle.rel_handler.specs.Events.{Events, Stored, MayHave, certain, uncertain}
 use Rattle.rel_handler.specs.Image.{IsImageAt, holds_a_store, first_end, end_behind, HasSpace}
 use Rattle.rel_handler.specs.Refusals.{IsBootRefusal}
-use Rattle.node_command.specs.Installing.{installation as installation_of}
+use Rattle.node_command.specs.Installing.{installation}
 use Rattle.node_command.specs.Taking.{commanded, change_size}
 use Rattle.node_command.specs.Place.{files_refusal, own_refusal}
 pub use Rattle.rel_handler.specs.State.{version_of}
@@ -28,6 +28,7 @@ use Rattle.node_processes.specs.Answers.{processes_line, modules_line, peek_line
 use Rattle.node_processes.specs.Processes.{Processes}
 use Rattle.rel_session.specs.Node.{Place, releases_after, just_booted, at_rest, Reply, reply, refused, failed, nothing, done, failed_with, behind}
 use Rattle.rel_session.specs.Node.Place.{raw, closed, running, dead}
+use Rattle.rel_session.specs.Installation.{Installs}
 use Rattle.rel_session.specs.Refusals.{Refusal, refusal_of, refusal_line, refusal_for, boot_line}
 use Rattle.rel_session.specs.Refusals.Refusal.{full, exists, dead as dead_node}
 
@@ -57,7 +58,7 @@ checked_line (Ok f) = done_line (codes " " ++ (text_of (text_value f.other) ++ (
 checked_line (Err why) = refusal_line (refusal_of why)
 
 abbrev pub check_line : List ℕ → Releases → List ℕ
-check_line vsn list = checked_line (installation_of vsn list)
+check_line vsn list = checked_line (installation vsn list)
 
 -- An event that a command brings to a node; and, of the list that it changes, why its files are refused, how many bytes the
 -- body of its record has, and the details of the answer where it is done.
@@ -67,11 +68,12 @@ pub record Change : Type 0 where
   pub size : Releases → ℕ
   pub details : Releases → List ℕ
 
--- What a command comes to, once its words and its files are known: an answer alone, or one of six things that a node does.
+-- What a command comes to, once its words and its files are known: an answer alone, or one of seven things that a node does.
 pub data Action : Type 0 where
   answers : List ℕ → Action
   makes_node : Brought → Action
   changes_node : Change → Action
+  installs : List ℕ → Action
   reboots_node : List ℕ → Action
   boots_node : Action
   tells_start : Action
@@ -94,27 +96,11 @@ unpacked_change b = record {
   details = λ list. codes " " ++ b.found.release.vsn;
 }
 
--- the version that ran, and two lists that are empty: without a relup an installation has no description and leaves no
--- stale module
-abbrev pub installed_details : List ℕ → List ℕ
-installed_details other = codes " " ++ (text_of (text_value other) ++ codes " [] []")
-
-abbrev pub installed_line : List ℕ → List ℕ
-installed_line other = done_line (installed_details other)
-
 -- what brings no release has no files
 abbrev pub no_files : Releases → Option FilesRefusal
 no_files list = None
 
--- a release is installed, becomes the permanent one, or leaves
-abbrev pub installation : List ℕ → Change
-installation vsn = record {
-  event = installed vsn;
-  files = no_files;
-  size = change_size (installed vsn);
-  details = λ list. installed_details (version_of (running_release list));
-}
-
+-- a release becomes the permanent one, or leaves
 abbrev pub permanence : List ℕ → Change
 permanence vsn = record {
   event = made_permanent vsn;
@@ -154,7 +140,7 @@ ComesTo source p (create path) does =
 ComesTo source p (set_unpacked path) does =
     OnNode p (λ does. (brought : Result Brought FilesRefusal) × Brings source path brought × (does ≡ unpacking brought)) does
 ComesTo source p (check vsn) does = does ≡ answers (told (λ list ps. check_line vsn list) p)
-ComesTo source p (install vsn) does = does ≡ changes_node (installation vsn)
+ComesTo source p (install vsn) does = does ≡ installs vsn
 ComesTo source p (permanent vsn) does = does ≡ changes_node (permanence vsn)
 ComesTo source p (remove vsn) does = does ≡ changes_node (removal vsn)
 ComesTo source p (reboot_old vsn) does = does ≡ reboots_node vsn
@@ -274,6 +260,9 @@ Acts (running events end ps) (changes_node c) a =
     let list = releases_after events in
     Changes events end ps c list (c.files list) (commanded c.event list) a
 Acts p (changes_node c) a = a ≡ refused dead_node p
+Acts (running events end ps) (installs vsn) a =
+    Installs events end ps vsn (releases_after events) (installation vsn (releases_after events)) a
+Acts p (installs vsn) a = a ≡ refused dead_node p
 Acts (running events end ps) (reboots_node vsn) a =
     Reboots events end ps vsn (releases_after events) (commanded (rebooting vsn) (releases_after events)) a
 Acts p (reboots_node vsn) a = a ≡ refused dead_node p

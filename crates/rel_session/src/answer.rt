@@ -8,8 +8,9 @@ ghost use Rattle.rel_session.specs.Transition.{Transition};
 ghost use Rattle.rel_session.specs.declared.place.Place.TheVariants.{Made};
 
 use crate::booted_node::BootedNode;
-use crate::change::{install, make_permanent, remove, set_unpacked};
+use crate::change::{make_permanent, remove, set_unpacked};
 use crate::check::check_install;
+use crate::install::install;
 use crate::place::{Place, answer_of};
 use crate::processes::{call, list_modules, list_processes, peek};
 use crate::start::start;
@@ -133,7 +134,7 @@ fn done_by<D: Disk, R: Wait, F: Files>(
     match command {
         Command::SetUnpacked(path) => set_unpacked(alloc, node, files, path.as_str()),
         Command::Check(vsn) => check_install(alloc, node, vsn.as_str()),
-        Command::Install(vsn) => install(alloc, node, vsn.as_str()),
+        Command::Install(vsn) => install(rt, alloc, node, vsn.as_str()),
         Command::Permanent(vsn) => make_permanent(alloc, node, vsn.as_str()),
         Command::Remove(vsn) => remove(alloc, node, vsn.as_str()),
         Command::Start => start(alloc, node),

@@ -11,8 +11,6 @@
 //! The law `a_script_alone_has_one_outcome` says that while no pass is lent a script has one outcome, memory aside: the one that
 //! `outcome` (specs/Alone) gives by what stood in the slots.
 //!
-//! No command installs a release by its script yet.
-//!
 //! Only tested: that a script is carried out where memory is there. Trusted: the toolchain alone.
 #![tactic(auto)]
 

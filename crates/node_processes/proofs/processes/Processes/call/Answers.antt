@@ -1,7 +1,7 @@
 use Rattle.std.proofs.Common.{◌≡◌, List, ℕ, sym, subst, ◌∙◌, string_bytes}
 use Rattle.std.specs.Result.{IfOk}
 use Rattle.sup_tree.specs.Loaded.{listed_in}
-use Rattle.node_processes.proofs.CommandLemmas.{is_called, call_of_none}
+use Rattle.node_processes.proofs.CommandLemmas.{called_nothing, is_called, call_of_none}
 use Rattle.node_processes.proofs.processes.Processes.call.Goals as goal
 
 pub returns-in-Some-clause-called : goal.returns-in-Some-clause-called
@@ -23,3 +23,10 @@ pub returns-in-None-clause-told : goal.returns-in-None-clause-told
 returns-in-None-clause-told g c =
     let none = call_of_none c.args.app.now c.args.id.now c.args.input c.args.self.now.seat.view c.args.self.now.tree (listed_in c.args.self.now.loaded) (sym c.find.ensures ∙ c.in-None.is) in
     subst (λ (line : List ℕ). IfOk c.from_str.result (λ text. string_bytes text ≡ line)) (sym none.0) c.from_str.ensures.ok
+
+pub returns-in-Some-clause-sound : goal.returns-in-Some-clause-sound
+returns-in-Some-clause-sound g c = record {
+  table = c.call_alone-tried.ensures.table ∙ c.requires.table;
+  alone = c.call_alone-tried.ensures.alone;
+  free = called_nothing c.in-Some.pid.slot c.in-Some.pid.round c.args.input c.args.self.now.seat.view c.call_alone-tried.result _ c.requires.free c.call_alone-tried.ensures.answer;
+}

@@ -1,0 +1,3 @@
+mod StaleLemmas
+mod UpgradeLemmas
+pub mod RunLemmas

@@ -1,0 +1,68 @@
+-- What a script makes of the processes of a node, and of what is loaded and started there.
+use Rattle.std.specs.Prelude.{◌≡◌, ◌≢◌, ◌⊎◌, ℕ, ◌+◌, List, length, string_bytes}
+use Rattle.erl_term.specs.Value.{value_of}
+use Rattle.proc_table.specs.declared.view.View.{View}
+use Rattle.held_processes.specs.Following.{AreUntouched}
+use Rattle.relup_exec.specs.Outcome.{IsBroken, IsFinished, IsRefused, Start}
+use Rattle.script_steps.specs.Fault.{Cause}
+use Rattle.script_steps.specs.Fault.Cause.{no_memory}
+use Rattle.sup_tree.specs.Loaded.{NamedModules}
+use Rattle.sup_tree.specs.Tree.{App}
+use Rattle.node_command.specs.declared.error.HandlerError.TheVariants as command
+use Rattle.node_upgrade.specs.declared.error.InstallError.{InstallError}
+use Rattle.node_upgrade.specs.declared.error.InstallError.TheVariants.{Command, Refused, MustReboot}
+use Rattle.node_upgrade.specs.declared.upgrade.Installed.{Installed}
+use Rattle.node_upgrade.specs.Failure.{failure, failure_of}
+use Rattle.node_upgrade.specs.Failure.Why.{fails}
+use Rattle.node_upgrade.specs.Stale.{stale_modules}
+use Rattle.node_upgrade.specs.Upgrade.{UpgradeForm, site_for}
+
+-- what the handler has seen of the processes, which applications are started, and what is loaded
+pub record NodeState : Type 0 where
+  pub view : View
+  pub apps : List App
+  pub modules : NamedModules
+
+abbrev pub state : View → List App → NamedModules → NodeState
+state v apps modules = record { view = v; apps = apps; modules = modules }
+
+abbrev pub start_in : NodeState → Start
+start_in n = record { first = n.view; apps = n.apps }
+
+-- The handler added nothing, and nothing was loaded, started or stopped.
+pub record IsUntouched (old new : NodeState) : Type 0 where
+  pub view : AreUntouched old.view new.view
+  pub apps : new.apps ≡ old.apps
+  pub modules : new.modules ≡ old.modules
+
+-- The whole script was carried out. Told are the version and the description of its entry, and the stale modules.
+pub record IsInstalled (u : UpgradeForm) (old : NodeState) (i : Installed) (new : NodeState) : Type 0 where
+  pub finished : IsFinished (site_for u old.modules) (start_in old) u.found.script new.modules new.apps new.view
+  pub other : string_bytes i.other ≡ u.found.other
+  pub descr : value_of i.descr ≡ u.found.descr
+  pub stale : i.stale.items ≡ stale_modules new.modules u.target
+
+-- An instruction behind the point of no return is the first that fails; or the script has ended, and no memory was left for the
+-- answer.
+abbrev pub BreaksOff : UpgradeForm → NodeState → ℕ → Cause → NodeState → Type 0
+BreaksOff u old n c new =
+    IsBroken (site_for u old.modules) (start_in old) u.found.script n c new.view
+    ⊎ ((c ≡ no_memory) × (n ≡ length u.found.script + 1)
+    × ((modules : NamedModules) × IsFinished (site_for u old.modules) (start_in old) u.found.script modules new.apps new.view))
+
+-- What is told of an instruction before the point of no return that fails. No memory is told as such.
+abbrev pub TellsRefusal : ℕ → Cause → InstallError → Type 0
+TellsRefusal n c (Command command.NoMemory) = c ≡ no_memory
+TellsRefusal n c (Command why) = ⊥
+TellsRefusal n c (Refused f) = (c ≢ no_memory) × (failure_of f ≡ failure n (fails c))
+TellsRefusal n c (MustReboot f) = ⊥
+
+-- Why a script that has begun isn't carried out to its end, and what it leaves.
+abbrev pub RunRefused : UpgradeForm → NodeState → NodeState → InstallError → Type 0
+RunRefused u old new (Command command.NoMemory) = IsUntouched old new
+RunRefused u old new (Command why) = ⊥
+RunRefused u old new (Refused f) =
+    (c : Cause) × (c ≢ no_memory) × (failure_of f ≡ failure f.instr (fails c))
+    × IsRefused (site_for u old.modules) (start_in old) u.found.script f.instr c new.view × IsUntouched old new
+RunRefused u old new (MustReboot f) =
+    (c : Cause) × (failure_of f ≡ failure f.instr (fails c)) × BreaksOff u old f.instr c new

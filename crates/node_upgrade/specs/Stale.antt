@@ -1,0 +1,25 @@
+-- Modules that are loaded in another version than a release has.
+use Rattle.std.specs.Prelude.{ℕ, Bool, true, false, not, List, ◌++◌, map, filter, Option, None, Some}
+use Rattle.std.specs.Str.{bytes_eq}
+use Rattle.library.specs.Library.{Library}
+use Rattle.script_steps.specs.Script.{version_in}
+use Rattle.sup_tree.specs.Loaded.{Module, NamedModules, listed_modules}
+use Rattle.sup_tree.specs.Names.{sorted_names}
+
+abbrev pub same_version : Option (List ℕ) → Option (List ℕ) → Bool
+same_version None None = true
+same_version (Some a) (Some b) = bytes_eq a b
+same_version a b = false
+
+-- the module is loaded in another version than the release has, or only one of the two has it
+abbrev pub is_stale : NamedModules → NamedModules → List ℕ → Bool
+is_stale loaded target name = not (same_version (version_in name loaded) (version_in name target))
+
+abbrev pub names_in : NamedModules → List (List ℕ)
+names_in ms = map (λ (m : List ℕ × Module). m.0) ms
+
+-- the stale modules where a release of these libraries was installed, by the bytes of their names
+abbrev pub stale_modules : NamedModules → List Library → List (List ℕ)
+stale_modules loaded target =
+    let ms = listed_modules target in
+    sorted_names (filter (is_stale loaded ms) (names_in loaded ++ names_in ms))

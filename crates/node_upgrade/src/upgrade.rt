@@ -1,0 +1,226 @@
+//! The script by which a release is installed.
+ghost use Rattle.std.specs.Prelude.{◌≡◌, IfErr, IfOk, find, map, string_bytes};
+ghost use Rattle.std.specs.Option.{option_map, option_copied};
+ghost use Rattle.std.specs.Str.{bytes_eq};
+ghost use Rattle.held_processes.specs.Following.{HoldsNothing};
+ghost use Rattle.library.specs.InMemory.{shared_of};
+ghost use Rattle.node_upgrade.specs.Failure.{failure_of};
+ghost use Rattle.node_upgrade.specs.InMemory.{upgrade_of};
+ghost use Rattle.node_upgrade.specs.Running.{IsInstalled, RunRefused, TellsRefusal, start_in, state};
+ghost use Rattle.node_upgrade.specs.Upgrade.{IsNoUpgrade, IsUpgrade, changes_emulator, erts_of, libraries_at, script_failure, site_for};
+ghost use Rattle.rel_files.specs.Release.{release_of};
+ghost use Rattle.relup_exec.specs.Outcome.{IsFinished, Start};
+ghost use Rattle.relup_script.specs.Script.{IsRunnable};
+ghost use Rattle.relup_script.specs.Search.{found_of};
+ghost use Rattle.script_steps.specs.InMemory.{cause_of};
+ghost use Rattle.sup_tree.specs.Loaded.{listed_in};
+
+use crate::error::{InstallError, ScriptFailure, Why};
+use crate::stale::stale_modules;
+use erl_term::Term;
+use library::Library;
+use node_command::{HandlerError, find_installation};
+use proc_table::{HandlerSeat, Name, ProcTable};
+use rel_files::Rel;
+use rel_list::{ListedRelease, ReleaseList};
+use relup_exec::{Failed, Refused, Site, run_before};
+use relup_script::{Found, check};
+use script_steps::Cause;
+use std::alloc::Global;
+use std::rc::Rc;
+use std::sync::Wait;
+use sup_tree::{Loaded, Tree};
+
+/// A release was installed.
+#[derive(Drop)]
+pub struct Installed {
+    /// The version of the script's entry: the release that ran, or that of a downgrade's target.
+    pub other: String,
+    /// The description of the entry.
+    pub descr: Term,
+    /// The modules that are loaded in another version than the release has, or that only one of the two has: each once, by the
+    /// bytes of their names.
+    pub stale: Vec<Name>,
+}
+
+/// A script that may begin.
+#[derive(Clone, Copy)]
+pub struct Upgrade<'a> {
+    list: &'a ReleaseList,
+    target: &'a [Rc<Library>],
+    found: Found<'a>,
+}
+
+/// The script by which the release of this version is installed. It takes no memory.
+///
+/// Refusals, in this order: `NoSuchRelease`, `AlreadyInstalled`, `NoMatchingRelup`; then `Refused` for another version of the
+/// runtime system, and for a script that isn't run.
+pub fn find_upgrade<'a>(list: &'a ReleaseList, vsn: &str) -> Result<Upgrade<'a>, InstallError>
+    ensures found { IfOk result (λ u. IsUpgrade vsn.now list.now (upgrade_of u)) }
+    ensures refused { IfErr result (IsNoUpgrade vsn.now list.now) }
+{
+    let found = find_installation(list, vsn)?;
+    match script_failure(list, vsn, &found) {
+        Some(failure) => Err(InstallError::Refused(failure)),
+        None => Ok(Upgrade {
+            list,
+            target: libraries_at(list, vsn),
+            found,
+        }),
+    }
+}
+
+// Why the script isn't begun.
+fn script_failure(list: &ReleaseList, vsn: &str, found: &Found<'_>) -> Option<ScriptFailure>
+    ensures { option_map failure_of result
+        ≡ script_failure vsn.now list.now (found_of found.now) }
+{
+    if changes_emulator(list, vsn) {
+        return Some(ScriptFailure {
+            instr: 0,
+            why: Why::NewEmulator,
+        });
+    }
+    match check(found.script) {
+        Ok(()) => None,
+        Err(fault) => Some(ScriptFailure::of_fault(fault)),
+    }
+}
+
+// Whether the release of this version asks for another runtime system than the one that runs.
+fn changes_emulator(list: &ReleaseList, vsn: &str) -> bool
+    ensures { result ≡ changes_emulator vsn.now list.now }
+{
+    erts_of(list.release(vsn)) != erts_of(list.running())
+}
+
+fn erts_of(release: Option<&Rel>) -> &str
+    ensures { result.now ≡ erts_of (option_map release_of (option_copied release.entry)) }
+{
+    match release {
+        Some(release) => release.erts.as_str(),
+        None => "",
+    }
+}
+
+// The libraries of the release of this version.
+fn libraries_at<'a>(list: &'a ReleaseList, vsn: &str) -> &'a [Rc<Library>]
+    ensures { map shared_of result.now ≡ libraries_at vsn.now list.now }
+{
+    match listed_at(list.releases(), vsn) {
+        Some(listed) => listed.libraries.as_slice(),
+        None => &[],
+    }
+}
+
+fn listed_at<'a>(releases: &'a [ListedRelease], vsn: &str) -> Option<&'a ListedRelease>
+    ensures { option_copied result
+        ≡ find (λ l. bytes_eq vsn.now (string_bytes l.release.vsn)) releases.now }
+{
+    releases
+        .iter()
+        .find(|listed| vsn == listed.release.vsn.as_str())
+}
+
+impl Upgrade<'_> {
+    /// Carries the script out on these processes. What is loaded is replaced at its end.
+    pub fn run<R: Wait>(
+        self,
+        rt: &R,
+        alloc: Global,
+        table: &ProcTable,
+        seat: &mut HandlerSeat,
+        tree: &mut Tree,
+        loaded: &mut Loaded,
+    ) -> Result<Installed, InstallError>
+        requires table { seat.old.table ≡ table.now }
+        requires free { HoldsNothing seat.old.view }
+        requires runnable { IsRunnable (upgrade_of self).found.script }
+        ensures table { seat.new.table ≡ seat.old.table }
+        ensures free { HoldsNothing seat.new.view }
+        ensures lent { seat.new.view.lent ≡ seat.old.view.lent }
+        ensures installed { IfOk result (λ i. IsInstalled (upgrade_of self.entry)
+            (state seat.old.view tree.old (listed_in loaded.old)) i
+            (state seat.new.view tree.new (listed_in loaded.new))) }
+        ensures refused { IfErr result (RunRefused (upgrade_of self.entry)
+            (state seat.old.view tree.old (listed_in loaded.old))
+            (state seat.new.view tree.new (listed_in loaded.new))) }
+    {
+        let other = String::from_str(alloc, self.found.other)?;
+        let descr = self.found.descr.clone()?;
+        let next = self.carry_out(rt, alloc, table, seat, tree, loaded)?;
+        match stale_modules(alloc, &next, self.target) {
+            Ok(stale) => {
+                *loaded = next;
+                Ok(Installed {
+                    other,
+                    descr,
+                    stale,
+                })
+            }
+            Err(_) => Err(InstallError::MustReboot(ScriptFailure {
+                instr: self.found.script.len() + 1,
+                why: Why::Fails(Cause::NoMemory),
+            })),
+        }
+    }
+
+    // Carries the script out, and answers what is loaded then. What the handler had seen and what was started at first is known
+    // to the proof.
+    fn carry_out<R: Wait>(
+        self,
+        rt: &R,
+        alloc: Global,
+        table: &ProcTable,
+        seat: &mut HandlerSeat,
+        tree: &mut Tree,
+        loaded: &Loaded,
+    ) -> Result<Loaded, InstallError>
+        ghost start: { Start }
+        requires start { start ≡ start_in (state seat.old.view tree.old (listed_in loaded.now)) }
+        requires table { seat.old.table ≡ table.now }
+        requires free { HoldsNothing seat.old.view }
+        requires runnable { IsRunnable (upgrade_of self).found.script }
+        ensures table { seat.new.table ≡ seat.old.table }
+        ensures free { HoldsNothing seat.new.view }
+        ensures lent { seat.new.view.lent ≡ seat.old.view.lent }
+        ensures finished { IfOk result (λ next. IsFinished
+            (site_for (upgrade_of self.entry) (listed_in loaded.now))
+            (start_in (state seat.old.view tree.old (listed_in loaded.now)))
+            (upgrade_of self.entry).found.script (listed_in next) tree.new seat.new.view) }
+        ensures refused { IfErr result (RunRefused (upgrade_of self.entry)
+            (state seat.old.view tree.old (listed_in loaded.now))
+            (state seat.new.view tree.new (listed_in loaded.now))) }
+    {
+        let script = self.found.script;
+        let site = Site {
+            table,
+            list: self.list,
+            target: self.target,
+            loaded,
+        };
+        match run_before(rt, alloc, &site, seat, tree, script) {
+            Ok(armed) => match armed.run_after(rt, alloc, &site, seat, tree, script) {
+                Ok(next) => Ok(next),
+                Err(Failed { instr, cause }) => Err(InstallError::MustReboot(ScriptFailure {
+                    instr,
+                    why: Why::Fails(cause),
+                })),
+            },
+            Err(Refused { instr, cause }) => Err(refusal(instr, cause)),
+        }
+    }
+}
+
+// What is told of an instruction before the point of no return that fails. No memory is told as such.
+fn refusal(instr: usize, cause: Cause) -> InstallError
+    ensures { TellsRefusal instr (cause_of cause) result }
+{
+    match cause {
+        Cause::NoMemory => InstallError::Command(HandlerError::NoMemory),
+        cause => InstallError::Refused(ScriptFailure {
+            instr,
+            why: Why::Fails(cause),
+        }),
+    }
+}

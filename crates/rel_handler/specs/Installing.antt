@@ -1,0 +1,66 @@
+-- What an installation answers, and what it leaves of the node (OTP: release_handler:install_release/1).
+use Rattle.std.specs.Prelude.{◌≡◌, ◌⊎◌, ℕ, Bool, true, false, List, Err}
+use Rattle.rel_disk.specs.Moments.{HasFailed}
+use Rattle.rel_list.specs.Releases.{Releases}
+use Rattle.rel_list.specs.Event.Event.{installed}
+use Rattle.relup_exec.specs.Outcome.{IsFinished}
+use Rattle.node_command.specs.Installing.{installation}
+use Rattle.node_command.specs.Taking.{change_size}
+use Rattle.node_command.specs.declared.error.HandlerError.TheVariants.{Dead, Device, Full, NoMemory}
+use Rattle.node_upgrade.specs.declared.error.InstallError.{InstallError}
+use Rattle.node_upgrade.specs.declared.error.InstallError.TheVariants.{Command, Refused, MustReboot}
+use Rattle.node_upgrade.specs.declared.upgrade.Installed.{Installed}
+use Rattle.node_upgrade.specs.Running.{NodeState, IsInstalled, IsUntouched, RunRefused, start_in}
+use Rattle.node_upgrade.specs.Upgrade.{IsNoUpgrade, IsUpgrade, UpgradeForm, site_for}
+use Rattle.rel_handler.specs.Image.{HasSpace}
+use Rattle.rel_handler.specs.State.{disk_in, list_in, is_dead, end_in, IsSame}
+use Rattle.rel_handler.specs.declared.handler.Handler.{Handler}
+
+-- how many bytes the body of its record has
+abbrev pub install_size : List ℕ → Releases → ℕ
+install_size vsn es = change_size (installed vsn) es
+
+-- The script of this release was carried out to its end.
+abbrev pub IsInstalledBy : List ℕ → Releases → NodeState → Installed → NodeState → Type 0
+IsInstalledBy vsn es old i new = (u : UpgradeForm) × IsUpgrade vsn es u × IsInstalled u old i new
+
+-- the node has to boot behind this refusal
+abbrev pub must_boot : InstallError → Bool
+must_boot (MustReboot f) = true
+must_boot e = false
+
+-- The disk and the list are as they were, and the handler is dead.
+pub record IsLost {D : Type 0} (old new : Handler D) : Type 0 where
+  pub disk : disk_in new ≡ disk_in old
+  pub list : list_in new ≡ list_in old
+  pub end : end_in new ≡ end_in old
+  pub dead : is_dead new ≡ true
+
+-- Nothing has changed, of the handler and of the processes.
+abbrev pub NothingChanged : {D : Type 0} → Handler D → Handler D → NodeState → NodeState → Type 0
+NothingChanged h h' old new = IsSame h h' × IsUntouched old new
+
+-- There is a script that may begin, and its record has room.
+abbrev pub MayBegin : {D : Type 0} → List ℕ → Handler D → UpgradeForm → Type 0
+MayBegin vsn h u = IsUpgrade vsn (list_in h) u × HasSpace (end_in h) (install_size vsn (list_in h))
+
+-- Why a release isn't installed, and what stands then. A script that fails behind its point of no return, and a device that fails
+-- behind the script, leave the handler dead; else nothing has changed.
+abbrev pub InstallRefused : {D : Type 0} → (D → ℕ) → List ℕ → Handler D → Handler D → NodeState → NodeState → InstallError → Type 0
+InstallRefused failures vsn h h' old new (Command Dead) = (is_dead h ≡ true) × NothingChanged h h' old new
+InstallRefused failures vsn h h' old new (Command Full) =
+    (is_dead h ≡ false) × ((u : UpgradeForm) × IsUpgrade vsn (list_in h) u)
+    × (HasSpace (end_in h) (install_size vsn (list_in h)) → ⊥) × NothingChanged h h' old new
+InstallRefused failures vsn h h' old new (Command NoMemory) = (is_dead h ≡ false) × NothingChanged h h' old new
+InstallRefused failures vsn h h' old new (Command Device) =
+    (is_dead h ≡ false)
+    × ((u : UpgradeForm) × MayBegin vsn h u × IsFinished (site_for u old.modules) (start_in old) u.found.script new.modules new.apps new.view)
+    × HasFailed (failures (disk_in h)) (failures (disk_in h')) × (is_dead h' ≡ true)
+InstallRefused failures vsn h h' old new (Command why) =
+    (is_dead h ≡ false) × (installation vsn (list_in h) ≡ Err why) × NothingChanged h h' old new
+InstallRefused failures vsn h h' old new (Refused f) =
+    (is_dead h ≡ false)
+    × (IsNoUpgrade vsn (list_in h) (Refused f) ⊎ ((u : UpgradeForm) × MayBegin vsn h u × RunRefused u old new (Refused f)))
+    × NothingChanged h h' old new
+InstallRefused failures vsn h h' old new (MustReboot f) =
+    (is_dead h ≡ false) × ((u : UpgradeForm) × MayBegin vsn h u × RunRefused u old new (MustReboot f)) × IsLost h h'

@@ -1,0 +1,76 @@
+-- What a node that runs replies to an installation (OTP: release_handler:install_release/1).
+use Rattle.std.specs.Prelude.{◌≡◌, ◌⊎◌, ℕ, List, [], ◌∷◌, ◌++◌, map, codes, Option, None, Some, Result, Ok, Err}
+use Rattle.erl_term.specs.Printing.{text_of}
+use Rattle.erl_term.specs.Value.{Value, values_of}
+use Rattle.erl_term.specs.Value.Value.{atom, list as list_value}
+use Rattle.rel_list.specs.Releases.{Releases}
+use Rattle.rel_list.specs.Event.Event.{installed}
+use Rattle.node_command.specs.Taking.{change_size}
+use Rattle.node_command.specs.declared.error.HandlerError.{HandlerError}
+use Rattle.node_listing.specs.Listing.{text_value}
+use Rattle.node_processes.specs.Processes.{Processes}
+use Rattle.node_processes.specs.Scripts.{behind_run, run_on}
+use Rattle.node_upgrade.specs.Failure.{Failure, failure}
+use Rattle.node_upgrade.specs.Failure.Why.{fails}
+use Rattle.node_upgrade.specs.Stale.{stale_modules}
+use Rattle.node_upgrade.specs.Upgrade.{libraries_at, script_failure, site_for, upgrade_to}
+use Rattle.rel_handler.specs.Events.{Events, certain, uncertain}
+use Rattle.rel_handler.specs.Image.{end_behind, HasSpace}
+use Rattle.relup_exec.specs.Alone as script
+use Rattle.relup_exec.specs.Alone.{outcome}
+use Rattle.relup_exec.specs.Alone.Outcome.{ends, refuses, breaks}
+use Rattle.relup_script.specs.Search.{FoundForm}
+use Rattle.rel_session.specs.Node.{Reply, reply, refused, failed, done}
+use Rattle.rel_session.specs.Node.Place.{running, dead}
+use Rattle.rel_session.specs.Refusals.{refusal_of}
+use Rattle.rel_session.specs.Refusals.Refusal.{full, script_refused, must_reboot}
+
+-- the names of modules as a term
+abbrev pub names_value : List (List ℕ) → Value
+names_value names = list_value (values_of (map atom names))
+
+-- the version and the description of the script's entry, and the stale modules
+abbrev pub installed_text : List ℕ → Value → List (List ℕ) → List ℕ
+installed_text other descr stale =
+    codes "ok " ++ (text_of (text_value other) ++ (codes " " ++ (text_of descr ++ (codes " "
+    ++ (text_of (names_value stale) ++ codes "\n")))))
+
+abbrev pub installed_line : FoundForm → List (List ℕ) → List ℕ
+installed_line f stale = installed_text f.other f.descr stale
+
+-- how many bytes the body of its record has
+abbrev pub installed_size : List ℕ → Releases → ℕ
+installed_size vsn list = change_size (installed vsn) list
+
+-- what comes of its script on these processes
+abbrev pub upgrade_outcome : List ℕ → Releases → FoundForm → Processes → script.Outcome
+upgrade_outcome vsn list f ps =
+    let s = site_for (upgrade_to vsn list f) ps.modules in
+    outcome s (run_on s ps) f.script
+
+-- The release is installed, and these are the processes behind its script.
+abbrev pub installed_reply : Events → ℕ → List ℕ → Releases → FoundForm → Processes → Reply
+installed_reply events end vsn list f ps =
+    reply (installed_line f (stale_modules ps.modules (libraries_at vsn list))) (done (installed vsn ∷ []))
+    (running (events ++ installed vsn ∷ []) (end_behind end (installed_size vsn list)) ps)
+
+-- A script that fails before its point of no return changes nothing. One that fails behind it leaves the node dead, without an
+-- event. Behind one that was carried out the event is committed, or the device fails.
+abbrev pub Leads : Events → ℕ → Processes → List ℕ → Releases → FoundForm → script.Outcome → Reply → Type 0
+Leads events end ps vsn list f (refuses n c) a = a ≡ refused (script_refused (failure n (fails c))) (running events end ps)
+Leads events end ps vsn list f (breaks n c) a = a ≡ refused (must_reboot (failure n (fails c))) (dead (certain events end))
+Leads events end ps vsn list f (ends r) a =
+    (a ≡ installed_reply events end vsn list f (behind_run r))
+    ⊎ (a ≡ failed (Some (installed vsn)) (dead (uncertain events end (installed vsn) (installed_size vsn list))))
+
+-- A script that isn't run is refused; one that may begin does, where the record of its event fits.
+abbrev pub Begins : Events → ℕ → Processes → List ℕ → Releases → FoundForm → Option Failure → Reply → Type 0
+Begins events end ps vsn list f (Some why) a = a ≡ refused (script_refused why) (running events end ps)
+Begins events end ps vsn list f None a =
+    (HasSpace end (installed_size vsn list) × Leads events end ps vsn list f (upgrade_outcome vsn list f ps) a)
+    ⊎ ((HasSpace end (installed_size vsn list) → ⊥) × (a ≡ refused full (running events end ps)))
+
+-- The list or the relups refuse the installation, or there is a script for it.
+abbrev pub Installs : Events → ℕ → Processes → List ℕ → Releases → Result FoundForm HandlerError → Reply → Type 0
+Installs events end ps vsn list (Err why) a = a ≡ refused (refusal_of why) (running events end ps)
+Installs events end ps vsn list (Ok f) a = Begins events end ps vsn list f (script_failure vsn list f) a
