@@ -5,11 +5,11 @@ use Rattle.std.specs.List.{list_all, flat_map}
 use Rattle.std.proofs.lemmas.Bool.{and_parts, and_from}
 use Rattle.std.proofs.lemmas.Bool.Decides.{nat_tests}
 use Rattle.std.proofs.lemmas.Int.{fits_signed_from_abs}
-use Rattle.erl_reader.specs.declared.term.Term.{Term}
-use Rattle.erl_reader.specs.Value.{Value, Values, value_of, members_of, FitsTerm, FitTerms}
-use Rattle.erl_reader.specs.Value.Value.{int}
-use Rattle.erl_reader.specs.Value.Values.{no_values, value}
-use Rattle.erl_reader.specs.Grammar.{numbers}
+use Rattle.erl_term.specs.declared.term.Term.{Term}
+use Rattle.erl_term.specs.Value.{Value, Values, value_of, members_of, FitsTerm, FitTerms}
+use Rattle.erl_term.specs.Value.Value.{int}
+use Rattle.erl_term.specs.Value.Values.{no_values, value}
+use Rattle.erl_term.specs.Grammar.{numbers}
 use Rattle.erl_term.specs.Printing.{is_printable, character_of, characters_of, put_character, is_string, string_character}
 
 -- a member that is a character is its number

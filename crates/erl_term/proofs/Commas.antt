@@ -2,8 +2,8 @@
 use Rattle.std.proofs.Common.{◌≡◌, ℕ, ◌+◌, ◌<◌, ◌≤◌, zero, suc, List, [], ◌∷◌, ◌++◌, length, map, get_or, take, if◌then◌else◌, Result, Ok, Err, OnOk, is_ok, refl, ap, sym, ◌∙◌, append_assoc, append-nil, arith}
 use Rattle.std.proofs.lemmas.List.{take_all}
 use Rattle.std.proofs.lemmas.List.{take_more, map-append, length-map, length-take}
-use Rattle.erl_reader.specs.declared.term.Term.{Term}
-use Rattle.erl_reader.specs.Value.{value_of, members_of}
+use Rattle.erl_term.specs.declared.term.Term.{Term}
+use Rattle.erl_term.specs.Value.{value_of, members_of}
 use Rattle.erl_term.specs.Printing.{with_commas, text_of, texts_of}
 
 -- one more text, behind others

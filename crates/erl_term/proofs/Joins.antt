@@ -2,9 +2,9 @@
 use Rattle.std.proofs.Common.{◌≡◌, ℕ, List, [], ◌∷◌, ◌++◌, None, refl, sym, ◌∙◌, ap, subst, append_assoc}
 use Rattle.erl_token.specs.Lexing.{Token, Item, joined, in_front, put_item, join}
 use Rattle.erl_token.specs.Lexing.Token.{open_tuple, close_tuple, open_list, close_list, open_binary, close_binary, comma, dot, name, number, text}
-use Rattle.erl_reader.specs.Grammar.{Phrase, Phrases, tokens_of, members_tokens, rest_tokens, tokens}
-use Rattle.erl_reader.specs.Grammar.Phrase.{a_name, a_number, a_text, a_tuple, a_list, a_binary}
-use Rattle.erl_reader.specs.Grammar.Phrases.{no_phrases, phrase}
+use Rattle.erl_term.specs.Grammar.{Phrase, Phrases, tokens_of, members_tokens, rest_tokens, tokens}
+use Rattle.erl_term.specs.Grammar.Phrase.{a_name, a_number, a_text, a_tuple, a_list, a_binary}
+use Rattle.erl_term.specs.Grammar.Phrases.{no_phrases, phrase}
 
 -- the first of these, if there is one, isn't joined to the token
 abbrev IsParted : Token → List Token → Type 0

@@ -6,7 +6,7 @@ use Rattle.std.specs.Str.{chars, bytes_eq}
 use Rattle.erl_number.specs.declared.fault.TermFault.TheVariants.{BadToken, BadNumber, Unsupported}
 use Rattle.erl_token.specs.declared.class.Class.{Class}
 use Rattle.erl_token.specs.declared.class.Class.TheVariants.{Blank, Percent, Dot, Less, Greater, Quote, Apostrophe, Dollar, Sign, Letter, Digit}
-use Rattle.erl_reader.specs.Value.{Value}
+use Rattle.erl_term.specs.Value.{Value}
 use Rattle.erl_number.specs.Escapes.{front}
 use Rattle.erl_number.specs.Numbers.{Numeral, numeral, is_int}
 use Rattle.erl_number.specs.Numbers.Numeral.{whole, faulty as faulty_number, cut_off}
@@ -15,9 +15,9 @@ use Rattle.erl_token.specs.Quotes.Quoted.{closed, faulty}
 use Rattle.erl_number.specs.Texts.{is_bare_name_byte, sealed}
 use Rattle.erl_token.specs.Lexing.{Token, Spelling, Item, class_of, some_name, some_number, some_text, alone, name_spelling, bare, name_in_quotes, text_in_quotes, numbered, sign_of, doubled, ends_a_term, spelling, comment_size, start_of, goes_on, lex, joined, in_front, put_item, join, items_of}
 use Rattle.erl_token.specs.Lexing.Token.{open_binary, close_binary, name, number, text, dot, stray, broken}
-use Rattle.erl_reader.specs.Grammar.{Phrase, Phrases, numbers, meaning, meanings, tokens_of, members_tokens, rest_tokens, depth, depths, tokens, Reading, AreTerms, Reads}
-use Rattle.erl_reader.specs.Grammar.Phrase.{a_name, a_number, a_text, a_tuple, a_list, a_binary}
-use Rattle.erl_reader.specs.Grammar.Phrases.{no_phrases, phrase}
+use Rattle.erl_term.specs.Grammar.{Phrase, Phrases, numbers, meaning, meanings, tokens_of, members_tokens, rest_tokens, depth, depths, tokens, Reading, AreTerms, Reads}
+use Rattle.erl_term.specs.Grammar.Phrase.{a_name, a_number, a_text, a_tuple, a_list, a_binary}
+use Rattle.erl_term.specs.Grammar.Phrases.{no_phrases, phrase}
 use Rattle.erl_term.specs.Printing.{is_string, characters_of}
 use Rattle.erl_term.specs.Within.{IsShortName, HasShortNames, HaveShortNames, brackets, most_brackets, IsWithin}
 

@@ -8,9 +8,9 @@ use Rattle.std.specs.Fmt.{decimal, digits, digits_onto, digit_glyph, signed_deci
 use Rattle.std.proofs.lemmas.Bool.{and_parts, and_from}
 use Rattle.std.proofs.lemmas.Bool.Decides.{nat_tests}
 use Rattle.std.proofs.lemmas.List.Folds.{list_all-append}
-use Rattle.erl_reader.specs.Value.{Value, Values}
-use Rattle.erl_reader.specs.Value.Value.{int, atom, list, tuple, bin}
-use Rattle.erl_reader.specs.Value.Values.{no_values, value}
+use Rattle.erl_term.specs.Value.{Value, Values}
+use Rattle.erl_term.specs.Value.Value.{int, atom, list, tuple, bin}
+use Rattle.erl_term.specs.Value.Values.{no_values, value}
 use Rattle.erl_number.specs.Escapes.{is_in}
 use Rattle.erl_number.specs.Texts.{is_bare_name_byte}
 use Rattle.erl_term.specs.Lines.{is_one_line}

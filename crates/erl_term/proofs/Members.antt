@@ -1,8 +1,8 @@
 -- Members that fit a term, one after another.
 use Rattle.std.proofs.Common.{ℕ, ◌+◌, ◌<◌, List, [], ◌∷◌, ◌++◌, length, get_or, take, sym, subst}
 use Rattle.std.proofs.lemmas.List.{take_more}
-use Rattle.erl_reader.specs.declared.term.Term.{Term}
-use Rattle.erl_reader.specs.Value.{value_of, members_of, FitsTerm, FitTerms}
+use Rattle.erl_term.specs.declared.term.Term.{Term}
+use Rattle.erl_term.specs.Value.{value_of, members_of, FitsTerm, FitTerms}
 
 FitTerms-append : (ts : List Term) (t : Term) → FitTerms (members_of ts) → FitsTerm (value_of t) → FitTerms (members_of (ts ++ t ∷ []))
 FitTerms-append [] t h f = (f, tt)

@@ -9,17 +9,17 @@ use Rattle.std.proofs.lemmas.List.{map-append}
 use Rattle.std.proofs.lemmas.List.Elements.{All-head, All-tail}
 use Rattle.std.proofs.lemmas.Str.{IsUtf8-append, IsUtf8-from_ascii}
 use Rattle.std.proofs.lemmas.Str.Ascii.{IsAscii-nil, IsAscii-cons}
-use Rattle.erl_reader.specs.Value.{Value, Values, FitsTerm, FitTerms}
-use Rattle.erl_reader.specs.Value.Value.{int, atom, list, tuple, bin}
-use Rattle.erl_reader.specs.Value.Values.{no_values, value}
+use Rattle.erl_term.specs.Value.{Value, Values, FitsTerm, FitTerms}
+use Rattle.erl_term.specs.Value.Value.{int, atom, list, tuple, bin}
+use Rattle.erl_term.specs.Value.Values.{no_values, value}
 use Rattle.erl_number.specs.Numbers.{goes_on_as_float, is_int}
 use Rattle.erl_number.specs.Texts.{sealed}
 use Rattle.erl_token.specs.Lexing.{Token, Item, class_of, ends_a_term, lex, join, items_of}
 use Rattle.erl_token.specs.declared.class.Class.TheVariants.{Blank}
 use Rattle.erl_token.specs.Lexing.Token.{open_tuple, close_tuple, open_list, close_list, open_binary, close_binary, comma, dot, name, number, text}
-use Rattle.erl_reader.specs.Grammar.{Phrase, Phrases, IsTerm, numbers, segments, meaning, meanings, tokens_of, members_tokens, rest_tokens, depth, depths, AreSegments, HasSegments, HaveSegments, tokens, first_from, last_to, Reads}
-use Rattle.erl_reader.specs.Grammar.Phrase.{a_name, a_number, a_text, a_tuple, a_list, a_binary}
-use Rattle.erl_reader.specs.Grammar.Phrases.{no_phrases, phrase}
+use Rattle.erl_term.specs.Grammar.{Phrase, Phrases, IsTerm, numbers, segments, meaning, meanings, tokens_of, members_tokens, rest_tokens, depth, depths, AreSegments, HasSegments, HaveSegments, tokens, first_from, last_to, Reads}
+use Rattle.erl_term.specs.Grammar.Phrase.{a_name, a_number, a_text, a_tuple, a_list, a_binary}
+use Rattle.erl_term.specs.Grammar.Phrases.{no_phrases, phrase}
 use Rattle.erl_term.specs.Printing.{is_bare, atom_character, atom_text, characters_of, is_string, string_character, string_text, with_commas, binary_text, list_text, text_of, texts_of}
 use Rattle.erl_term.specs.Within.{IsShortName, HasShortNames, HaveShortNames, IsWithin, ReadsAs, brackets, most_brackets}
 use Rattle.erl_number.proofs.Runs.{sealed-IsUtf8}

@@ -1,7 +1,7 @@
 -- What holds of each term that a reader takes.
 use Rattle.std.specs.Prelude.{ℕ, ◌+◌, List}
 use Rattle.std.specs.List.{AllByRecursion}
-use Rattle.erl_reader.specs.Grammar.{Reading, Reads}
+use Rattle.erl_term.specs.Grammar.{Reading, Reads}
 use Rattle.erl_term.specs.Within.{IsWithin}
 
 -- A term that is read has one bracket more than the limit at most, since a text of no characters is read without brackets

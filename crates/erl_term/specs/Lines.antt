@@ -1,7 +1,7 @@
 -- Texts that stay within a line.
 use Rattle.std.specs.Prelude.{◌≡◌, ℕ, Bool, true, not, List, ◌==◌}
 use Rattle.std.specs.List.{list_all}
-use Rattle.erl_reader.specs.Value.{Value}
+use Rattle.erl_term.specs.Value.{Value}
 use Rattle.erl_term.specs.Printing.{text_of}
 
 -- a text without a newline

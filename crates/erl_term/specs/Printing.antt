@@ -3,9 +3,9 @@ use Rattle.std.specs.Prelude.{ℕ, pos, Bool, true, false, ◌&&◌, ◌||◌, n
 use Rattle.std.specs.List.{list_all, list_any, flat_map, join_with_byte}
 use Rattle.std.specs.Str.{chars, bytes_eq}
 use Rattle.std.specs.Fmt.{decimal, signed_decimal, digits}
-use Rattle.erl_reader.specs.Value.{Value, Values}
-use Rattle.erl_reader.specs.Value.Value.{int, atom, list, tuple, bin}
-use Rattle.erl_reader.specs.Value.Values.{no_values, value}
+use Rattle.erl_term.specs.Value.{Value, Values}
+use Rattle.erl_term.specs.Value.Value.{int, atom, list, tuple, bin}
+use Rattle.erl_term.specs.Value.Values.{no_values, value}
 use Rattle.erl_number.specs.Escapes.{is_in}
 use Rattle.erl_number.specs.Texts.{is_bare_name_byte}
 

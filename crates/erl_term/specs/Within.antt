@@ -2,10 +2,10 @@
 use Rattle.std.specs.Prelude.{ℕ, ◌+◌, ◌≤◌, max, if◌then◌else◌, List, [], ◌∷◌, ◌++◌, length}
 use Rattle.std.specs.List.{AllByRecursion}
 use Rattle.std.specs.Str.{chars}
-use Rattle.erl_reader.specs.Value.{Value, Values}
-use Rattle.erl_reader.specs.Value.Value.{int, atom, list, tuple, bin}
-use Rattle.erl_reader.specs.Value.Values.{no_values, value}
-use Rattle.erl_reader.specs.Grammar.{Reads}
+use Rattle.erl_term.specs.Value.{Value, Values}
+use Rattle.erl_term.specs.Value.Value.{int, atom, list, tuple, bin}
+use Rattle.erl_term.specs.Value.Values.{no_values, value}
+use Rattle.erl_term.specs.Grammar.{Reads}
 use Rattle.erl_term.specs.Printing.{is_string, characters_of}
 
 -- an atom of at most 255 characters

@@ -2,18 +2,18 @@
 ghost use Rattle.std.specs.Prelude.{◌≡◌, ℕ, ◌++◌, FitsSigned, IfOk, OnOk, codes, string_bytes};
 ghost use Rattle.std.specs.Fmt.{signed_decimal};
 ghost use Rattle.std.specs.Int.{w64};
-ghost use Rattle.erl_reader.specs.Value.{FitTerms, FitsTerm, members_of, value_of};
-ghost use Rattle.erl_reader.specs.Value.Value.{list, tuple};
+ghost use Rattle.erl_term.specs.Value.{FitTerms, FitsTerm, members_of, value_of};
+ghost use Rattle.erl_term.specs.Value.Value.{list, tuple};
 ghost use Rattle.erl_term.specs.Within.{IsWithin, ReadsAs};
-ghost use Rattle.erl_reader.specs.OneTerm.{HasTerm};
+ghost use Rattle.erl_term.specs.OneTerm.{HasTerm};
 ghost use Rattle.erl_term.specs.Printing.{text_of, texts_of, with_commas};
 
 mod atoms;
 mod lists;
 
+use crate::Term;
 use crate::printer::atoms::print_atom;
 use crate::printer::lists::{is_string, print_bytes, print_string};
-use erl_reader::Term;
 use std::alloc::{AllocError, Global};
 
 /// The text of a term, with no blanks and no dot behind it.

@@ -6,7 +6,7 @@ use Rattle.std.specs.Result.{IsErrAnd}
 use Rattle.std.specs.List.{AllByRecursion}
 use Rattle.std.proofs.lemmas.Bool.Decides.{nat_tests}
 use Rattle.erl_term.specs.Value.{value_of}
-use Rattle.erl_reader.specs.declared.term.Term.{Term}
+use Rattle.erl_term.specs.declared.term.Term.{Term}
 use Rattle.erl_term.specs.Within.{IsWithin}
 use Rattle.rel_files.specs.File.{IsReleaseTerm}
 use Rattle.rel_files.specs.Release.{Application, Release}

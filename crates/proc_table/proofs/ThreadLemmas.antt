@@ -14,8 +14,8 @@ use Rattle.std.specs.contracts.string.String as String
 use Rattle.std.specs.contracts.vec.Vec as Vec
 use Rattle.std.proofs.string.String.TheSendSync as string
 use Rattle.std.proofs.option.Option.TheSendSync as option
-use Rattle.erl_reader.specs.contracts.term.Term as Term
-use Rattle.erl_reader.specs.contracts.term.Term.TheKnot as Knot
+use Rattle.erl_term.specs.contracts.term.Term as Term
+use Rattle.erl_term.specs.contracts.term.Term.TheKnot as Knot
 use Rattle.mod_table.specs.contracts.row.Row as Row
 use Rattle.mod_table.specs.contracts.worker.Worker as Worker
 use Rattle.mod_table.specs.contracts.worker.Worker.TheInside as TheWorker

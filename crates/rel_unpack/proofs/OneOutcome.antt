@@ -2,8 +2,8 @@
 use Rattle.std.proofs.Common.{◌≡◌, ◌≢◌, ◌⊎◌, inl, inr, ℕ, Bool, true, false, List, [], ◌∷◌, Option, Some, None, Result, Ok, Err, refl, sym, ap, ◌∙◌, subst}
 use Rattle.std.specs.Prelude.{if◌then◌else◌}
 use Rattle.std.specs.Option.{option_map, option_or}
-use Rattle.erl_reader.proofs.Exact.{one_reading}
-use Rattle.erl_reader.specs.Grammar.{Reading}
+use Rattle.erl_term.proofs.Exact.{one_reading}
+use Rattle.erl_term.specs.Grammar.{Reading}
 use Rattle.file_source.specs.declared.files.FilesError.{FilesError}
 use Rattle.file_source.specs.declared.files.FilesError.TheVariants as read
 use Rattle.rel_files.proofs.OneFault.{one_file_fault, never_says_and_fails, says_one}

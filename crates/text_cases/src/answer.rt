@@ -59,6 +59,12 @@ impl Answer {
         self.note(done);
     }
 
+    /// Appends a number behind a text.
+    pub fn push_counted(&mut self, before: &str, number: u64) {
+        self.push(before);
+        self.push_number(number);
+    }
+
     /// Appends what a value shows to a user.
     pub fn push_shown<T: fmt::Display>(&mut self, value: &T) {
         let done = write!(self.text, "{value}");

@@ -1,20 +1,14 @@
 //! The answer to a case.
-use crate::own_calls::push_own_calls;
-use crate::steps::follow_steps;
 use crate::texts::push_relup;
-use crate::threads::push_clients;
-use crate::trees::follow_tree;
 use crate::{appups, made_relups, relups, relups_of_files, tables};
 use appup_file::read_appup;
 use mod_table::read_mod;
 use relup_file::read_relup;
 use relup_instruction::Direction;
 use std::alloc::{AllocError, Global};
-use std::sync::Wait;
-use std::thread::Threads;
 use text_cases::Answer;
 
-/// The answer in one of 23 modes. A text that can't be read is answered by its fault.
+/// The answer in one of 19 modes. A text that can't be read is answered by its fault.
 ///
 /// `mod`: the table of a file. `term`: the same, read again from the file's term. `step`: what comes of a call; the text is a
 /// state, an input and a file. `change`: the state after a change of code; the text is a direction, a version, an extra
@@ -30,25 +24,10 @@ use text_cases::Answer;
 ///
 /// `translate`, `translate_up`, `translate_down`: the relup that is made of releases, or of instructions, as in
 /// [`made_relups`]. The modes of files are those of [`relups_of_files::push_answer`].
-///
-/// `steps`: what steps at a new table answer, as in [`follow_steps`]. `tree`: the same with applications that are started and
-/// stopped, as in [`follow_tree`]. `clients`: what two clients and the handler see in threads of their own, as in
-/// [`push_clients`]. `alone`: what a process answers to calls that the handler makes itself, as in [`push_own_calls`].
-pub(crate) fn answer<R: Threads + Wait + Sync>(
-    rt: &R,
-    alloc: Global,
-    mode: &str,
-    text: &[u8],
-) -> Result<String, AllocError> {
+pub(crate) fn answer(alloc: Global, mode: &str, text: &[u8]) -> Result<String, AllocError> {
     let mut answer = Answer::new(alloc);
     let words = str::from_utf8(text).unwrap_or("");
-    match mode {
-        "steps" => follow_steps(rt, alloc, words, &mut answer),
-        "tree" => follow_tree(rt, alloc, words, &mut answer),
-        "clients" => push_clients(rt, alloc, words, &mut answer),
-        "alone" => push_own_calls(rt, alloc, words, &mut answer),
-        _ => push_read(alloc, mode, text, words, &mut answer),
-    }
+    push_read(alloc, mode, text, words, &mut answer);
     answer.finish()
 }
 

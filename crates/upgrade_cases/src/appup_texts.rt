@@ -1,5 +1,4 @@
 //! What is read of appups, as text.
-use crate::texts::push_counted;
 use appup_file::{
     Appup, AppupEntry, AppupInstr, Dependent, ModType, ModuleLoad, OtherVersion, StateChange,
     Update,
@@ -24,7 +23,7 @@ fn push_entries(entries: &[AppupEntry], answer: &mut Answer) {
     for entry in entries {
         answer.push(between);
         push_version(&entry.vsn, answer);
-        push_counted(": ", entry.instrs.len() as u64, answer);
+        answer.push_counted(": ", entry.instrs.len() as u64);
         between = ", ";
     }
 }

@@ -1,26 +1,17 @@
 //! The program `upgrade_cases`: what the libraries of upgrades make of the texts on its input, a case a line. [`answer`] has the
-//! modes: tables of modules that `mod_table` reads, what clients see of the processes of `proc_table` that others call and hold,
-//! in one thread and in threads of their own, what these answer to the handler, applications that `sup_tree` starts and stops,
-//! relups that `relup_file` reads and `relup_script` searches, appups that `appup_file` reads, and relups that `relup_translate`
-//! makes of releases, and `relup_command` of files.
+//! modes: tables of modules that `mod_table` reads, relups that `relup_file` reads and `relup_script` searches, appups that
+//! `appup_file` reads, and relups that `relup_translate` makes of releases, and `relup_command` of files.
 #![tactic(auto)]
 
 mod answers;
 mod appup_texts;
 mod appups;
-mod clients;
-mod loads;
 mod made_relups;
-mod own_calls;
-mod processes;
 mod release_terms;
 mod relups;
 mod relups_of_files;
-mod steps;
 mod tables;
 mod texts;
-mod threads;
-mod trees;
 
 use crate::answers::answer;
 use std::alloc::Global;
@@ -29,6 +20,6 @@ use text_cases::answer_cases;
 
 fn main(rt: HostRuntime) -> io::Result<()> {
     answer_cases(&rt, |alloc: Global, mode: &str, text: &[u8]| {
-        answer(&rt, alloc, mode, text)
+        answer(alloc, mode, text)
     })
 }

@@ -1,5 +1,4 @@
 //! Relups, and the scripts in them.
-use crate::texts::push_counted;
 use erl_term::print;
 use relup_file::{Relup, RelupFault, read_relup};
 use relup_instruction::Direction;
@@ -30,7 +29,7 @@ fn push_check(checked: Result<(), ScriptFault>, answer: &mut Answer) {
     };
     answer.push_shown(&fault);
     if let ScriptFault::Misplaced(n) | ScriptFault::Unsupported(n) = fault {
-        push_counted(" ", n as u64, answer);
+        answer.push_counted(" ", n as u64);
     }
 }
 
@@ -55,6 +54,6 @@ fn push_found(alloc: Global, found: Found<'_>, answer: &mut Answer) {
     answer.push_after(word, found.other);
     answer.push(", ");
     answer.push_made(&print(alloc, found.descr));
-    push_counted(", ", found.script.len() as u64, answer);
+    answer.push_counted(", ", found.script.len() as u64);
     answer.push(" instructions");
 }

@@ -1,5 +1,4 @@
 //! Tables of modules.
-use crate::texts::push_counted;
 use erl_term::{Term, TermFault, read_record};
 use mod_table::{Child, Old, Step, Super, Table, Worker, read_mod, read_mod_file, table_of_term};
 use rel_files::FileFault;
@@ -31,7 +30,7 @@ fn push_fault(fault: &FileFault, answer: &mut Answer) {
 fn push_worker(worker: &Worker, answer: &mut Answer) {
     answer.push_after("worker ", worker.name());
     answer.push_after(" ", worker.vsn());
-    push_counted(" ", worker.first() as u64, answer);
+    answer.push_counted(" ", worker.first() as u64);
 }
 
 fn push_super(supervisor: &Super, answer: &mut Answer) {
@@ -92,10 +91,10 @@ fn push_agreed(is_same: bool, answer: &mut Answer) {
 fn push_step_text(step: Step, answer: &mut Answer) {
     match step {
         Step::Next(state, reply) => {
-            push_counted("Next ", state as u64, answer);
-            push_counted(" ", reply as u64, answer);
+            answer.push_counted("Next ", state as u64);
+            answer.push_counted(" ", reply as u64);
         }
-        Step::Ends(reply) => push_counted("Ends ", reply as u64, answer),
+        Step::Ends(reply) => answer.push_counted("Ends ", reply as u64),
         Step::Crashes => answer.push("Crashes"),
     }
 }

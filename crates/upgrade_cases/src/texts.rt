@@ -4,12 +4,6 @@ use std::alloc::Global;
 use std::fmt;
 use text_cases::Answer;
 
-/// Appends a number behind a text.
-pub(crate) fn push_counted(before: &str, number: u64, answer: &mut Answer) {
-    answer.push(before);
-    answer.push_number(number);
-}
-
 /// Appends the text that a relup is printed as, or why there is none.
 pub(crate) fn push_relup<E: fmt::Display>(
     alloc: Global,

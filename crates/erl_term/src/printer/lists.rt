@@ -1,10 +1,10 @@
 //! Lists of characters as strings, and bytes as binaries.
 ghost use Rattle.std.specs.Prelude.{◌≡◌, ◌<◌, ◌++◌, All, IfSome, OnOk, string_bytes};
 ghost use Rattle.std.specs.Fmt.{decimal};
-ghost use Rattle.erl_reader.specs.Value.{members_of, value_of};
+ghost use Rattle.erl_term.specs.Value.{members_of, value_of};
 ghost use Rattle.erl_term.specs.Printing.{character_of, characters_of, is_string, string_character, string_text, binary_text};
 
-use erl_reader::Term;
+use crate::Term;
 use std::alloc::AllocError;
 
 // The character that a member of a list can be printed as.

@@ -1,8 +1,8 @@
 use Rattle.std.proofs.Common.{◌++◌, string_bytes, ap, sym, ◌∙◌, lit<, arith}
 use Rattle.std.proofs.lemmas.Grind.{common_steps}
 use Rattle.std.proofs.lemmas.Result.{on_ok_weaker}
-use Rattle.erl_reader.specs.declared.term.Term.{Term}
-use Rattle.erl_reader.specs.Value.{members_of, value_of}
+use Rattle.erl_term.specs.declared.term.Term.{Term}
+use Rattle.erl_term.specs.Value.{members_of, value_of}
 use Rattle.erl_term.specs.Printing.{text_of}
 use Rattle.erl_term.proofs.Characters.{fits-string}
 use Rattle.erl_term.proofs.Commas.{prints-first, prints-next, texts_of-members_of}

@@ -1,5 +1,5 @@
 use Rattle.std.proofs.Common.{◌≡◌, ◌++◌, map, take, string_bytes}
-use Rattle.erl_reader.specs.Value.{value_of, members_of, FitTerms}
+use Rattle.erl_term.specs.Value.{value_of, members_of, FitTerms}
 use Rattle.erl_term.specs.Printing.{text_of, with_commas}
 use Rattle.erl_term.proofs.printer.+printing.Given as goal
 

@@ -1,7 +1,7 @@
 use Rattle.std.proofs.Common.{◌≡◌, [], ◌∷◌, refl, lit≤, string_bytes, arith}
 use Rattle.std.proofs.lemmas.Grind.{common_steps}
 use Rattle.std.proofs.lemmas.Str.{IsUtf8-string_bytes}
-use Rattle.erl_reader.specs.Value.{value_of}
+use Rattle.erl_term.specs.Value.{value_of}
 use Rattle.erl_term.specs.Printing.{text_of}
 use Rattle.erl_term.proofs.ReadBack.{reads_back}
 use Rattle.erl_term.proofs.printer.print.Goals as goal

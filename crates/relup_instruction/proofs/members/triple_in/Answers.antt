@@ -1,6 +1,6 @@
 use Rattle.std.proofs.Common.{rules}
 use Rattle.erl_term.specs.Value.{members_of}
-use Rattle.erl_reader.specs.declared.term.Term.TheFolds.{the_lemmas}
+use Rattle.erl_term.specs.declared.term.Term.TheFolds.{the_lemmas}
 use Rattle.relup_instruction.proofs.Pieces.{three_members}
 use Rattle.relup_instruction.proofs.members.triple_in.Goals as goal
 

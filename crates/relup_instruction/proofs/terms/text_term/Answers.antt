@@ -1,8 +1,8 @@
 use Rattle.std.proofs.Common.{◌≡◌, ℤ, get_or, pos, w64, sym, ap, ◌∙◌}
 use Rattle.std.proofs.lemmas.Int.{to_z-of_z}
 use Rattle.std.proofs.lemmas.List.{get_or_default}
-use Rattle.erl_reader.specs.declared.term.Term.TheFolds.{fold-roll-Term}
-use Rattle.erl_reader.specs.declared.term.Term.TheVariants.{Int, rolls-Int}
+use Rattle.erl_term.specs.declared.term.Term.TheFolds.{fold-roll-Term}
+use Rattle.erl_term.specs.declared.term.Term.TheVariants.{Int, rolls-Int}
 use Rattle.erl_term.specs.Value.{value_of}
 use Rattle.erl_term.specs.Value.Value.{int}
 use Rattle.relup_instruction.proofs.Rows.{terms_more, terms_all}

@@ -1,7 +1,7 @@
 use Rattle.std.proofs.Common.{◌≡◌, ℕ, List, [], Bor, get_or, string_bytes, sym, ap, ◌∙◌}
 use Rattle.std.proofs.lemmas.List.{get_or_default}
-use Rattle.erl_reader.specs.declared.term.Term.TheFolds.{fold-roll-Term}
-use Rattle.erl_reader.specs.declared.term.Term.TheVariants as variant
+use Rattle.erl_term.specs.declared.term.Term.TheFolds.{fold-roll-Term}
+use Rattle.erl_term.specs.declared.term.Term.TheVariants as variant
 use Rattle.erl_term.specs.Value.{value_of}
 use Rattle.erl_term.specs.Value.Value.{atom}
 use Rattle.relup_row.proofs.WalkLemmas.{one_made, all_made}

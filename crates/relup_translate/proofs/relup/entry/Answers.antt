@@ -1,6 +1,6 @@
 use Rattle.std.proofs.Common.{◌≡◌, sym, ap, ◌∙◌}
-use Rattle.erl_reader.specs.declared.term.Term.TheFolds.{fold-roll-Term}
-use Rattle.erl_reader.specs.declared.term.Term.TheVariants as variant
+use Rattle.erl_term.specs.declared.term.Term.TheFolds.{fold-roll-Term}
+use Rattle.erl_term.specs.declared.term.Term.TheVariants as variant
 use Rattle.erl_term.specs.Value.{value_of, members_of}
 use Rattle.erl_term.specs.Value.Value.{list}
 use Rattle.relup_translate.specs.Translation.{way_script}

@@ -1,5 +1,5 @@
 use Rattle.std.proofs.Common.{◌≡◌, drop, is_some}
-use Rattle.erl_reader.specs.Value.{members_of}
+use Rattle.erl_term.specs.Value.{members_of}
 use Rattle.erl_term.specs.Printing.{characters_of}
 use Rattle.erl_term.proofs.printer.lists.is_string.Given as goal
 

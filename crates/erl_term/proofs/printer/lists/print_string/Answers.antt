@@ -2,7 +2,7 @@ use Rattle.std.proofs.Common.{◌≡◌, ◌++◌, ◌∷◌, [], OnOk, string_b
 use Rattle.std.specs.List.{flat_map}
 use Rattle.std.proofs.lemmas.Grind.{common_steps}
 use Rattle.std.proofs.lemmas.Result.{on_ok_weaker}
-use Rattle.erl_reader.specs.Value.{value_of}
+use Rattle.erl_term.specs.Value.{value_of}
 use Rattle.erl_term.proofs.Characters.{member_text, if_characters}
 use Rattle.erl_term.proofs.printer.lists.print_string.Goals as goal
 

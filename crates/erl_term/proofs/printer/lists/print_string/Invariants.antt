@@ -1,6 +1,6 @@
 use Rattle.std.proofs.Common.{◌≡◌, ◌++◌, take, string_bytes}
 use Rattle.std.specs.List.{flat_map}
-use Rattle.erl_reader.specs.Value.{value_of}
+use Rattle.erl_term.specs.Value.{value_of}
 use Rattle.erl_term.proofs.Characters.{member_text}
 use Rattle.erl_term.proofs.printer.lists.print_string.Given as goal
 

@@ -1,7 +1,0 @@
-use Rattle.std.proofs.Common.{◌≡◌, ◌++◌, map, pos}
-use Rattle.erl_reader.specs.Value.{value_of}
-use Rattle.erl_reader.specs.Value.Value.{int}
-use Rattle.erl_reader.proofs.character.add_part.Given as goal
-
-abbrev pub invariant-loop-character : goal.invariant-loop-character
-invariant-loop-character l = map value_of l.members.items ≡ map value_of l.initial.members.items ++ map (λ n. int (pos n)) l.yielded

@@ -1,6 +1,0 @@
-use Rattle.std.proofs.Common.{true}
-use Rattle.erl_reader.specs.Views.{IsAdded}
-use Rattle.erl_reader.proofs.character.push_part.Given as goal
-
-abbrev pub invariant-loop-character : goal.invariant-loop-character
-invariant-loop-character l = IsAdded true l.yielded l.initial.bytes.items l.bytes.items

@@ -1,5 +1,0 @@
-use Rattle.erl_reader.proofs.AloneTerms.{stands_alone}
-use Rattle.erl_reader.proofs.laws.each_term_stands_alone.Goals as goal
-
-pub returns : goal.returns
-returns c = stands_alone c.rows_stand_alone.ensures

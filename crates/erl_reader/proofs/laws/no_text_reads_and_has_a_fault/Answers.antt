@@ -1,5 +1,0 @@
-use Rattle.erl_reader.proofs.Exact.{never_both}
-use Rattle.erl_reader.proofs.laws.no_text_reads_and_has_a_fault.Goals as goal
-
-pub returns : goal.returns
-returns c = never_both

@@ -1,0 +1,5 @@
+pub mod ThreadLemmas
+pub mod HandLemmas
+mod NoteLemmas
+mod WorkLemmas
+mod DeskLemmas

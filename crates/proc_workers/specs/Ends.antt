@@ -1,0 +1,26 @@
+-- What contracts see of the ends of a mailbox.
+use Rattle.std.specs.Prelude.{ℕ, List}
+use Rattle.atomic_table.specs.Seated.{TableId}
+use Rattle.crossbeam_channel.specs.Claims.{view}
+use Rattle.crossbeam_channel.specs.Ends.{sends_on, receives_on, ruled_capacity}
+use Rattle.proc_workers.specs.declared.ends.Sender.{Sender}
+use Rattle.proc_workers.specs.declared.ends.Inbox.{Inbox}
+use Rattle.proc_workers.specs.declared.note.Note.{Note}
+
+-- the mailbox to which a sender adds, and that which an inbox reads
+abbrev pub mailbox_of : Sender → TableId
+mailbox_of s = (sends_on s.end).stamps.shared.table_id
+
+abbrev pub read_by : Inbox → TableId
+read_by i = (receives_on i.end).stamps.shared.table_id
+
+-- how many notes it holds at most
+abbrev pub capacity_of : Sender → ℕ
+capacity_of s = ruled_capacity (sends_on s.end)
+
+-- the notes that the sender added, and those that the inbox took, in order
+abbrev pub sent : Sender → List Note
+sent s = (view s.hand).sent
+
+abbrev pub taken : Inbox → List Note
+taken i = (view i.hand).taken

@@ -1,0 +1,6 @@
+pub mod Hands
+pub mod Ends
+pub mod Processes
+pub mod Notes
+pub mod Work
+pub mod Desks

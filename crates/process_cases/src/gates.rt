@@ -1,0 +1,110 @@
+//! Workers that wait for each other.
+ghost use Rattle.std.specs.Prelude.{◌≡◌};
+
+use crate::processes::begin;
+use crate::workers::NewWorker;
+use proc_table::{Pid, ProcTable};
+use proc_workers::{Gate, Inbox, Job, Note, mailbox};
+use std::alloc::Global;
+use std::sync::Wait;
+use std::sync::atomic::{AtomicBool, Ordering};
+use std::thread;
+use std::thread::{Threads, join};
+use text_cases::Answer;
+
+/// Holds job 1 back until job 2 is answered, at most 10,000 turns.
+#[derive(Drop)]
+struct Meeting {
+    answered: AtomicBool,
+    met: AtomicBool,
+}
+
+impl Gate for Meeting {
+    fn before(&self, job: &Job) {
+        if job.number != 1 {
+            return;
+        }
+        for _ in 0..10_000 {
+            if self.answered.load(Ordering::SeqCst) {
+                self.met.store(true, Ordering::SeqCst);
+                return;
+            }
+            thread::yield_now();
+        }
+    }
+
+    fn after(&self, answer: &proc_workers::Answer) {
+        if answer.number == 2 {
+            self.answered.store(true, Ordering::SeqCst);
+        }
+    }
+}
+
+/// Appends whether two workers run beside each other: a job of the first waits until the second has answered its own. Workers that
+/// keep each other out can't pass it.
+pub(crate) fn push_gated<R: Threads + Wait + Sync>(rt: &R, alloc: Global, answer: &mut Answer) {
+    let Ok((table, mut seat)) = ProcTable::new(alloc) else {
+        return answer.note_no_memory();
+    };
+    let Some(one) = begin(rt, alloc, &table, &mut seat, None, "permanent", answer) else {
+        return;
+    };
+    let Some(two) = begin(rt, alloc, &table, &mut seat, None, "permanent", answer) else {
+        return;
+    };
+    let (Some(first), Some(second)) = (with_job(rt, alloc, 1, one), with_job(rt, alloc, 2, two))
+    else {
+        return answer.note_no_memory();
+    };
+    let meeting = Meeting {
+        answered: AtomicBool::new(false),
+        met: AtomicBool::new(false),
+    };
+    let first = NewWorker {
+        alloc,
+        pass: table.new_pass(&mut seat),
+        pid: one,
+        inbox: first,
+    };
+    let second = NewWorker {
+        alloc,
+        pass: table.new_pass(&mut seat),
+        pid: two,
+        inbox: second,
+    };
+    both_work(rt, &table, first, second, &meeting);
+    answer.push(if meeting.met.load(Ordering::SeqCst) {
+        "met"
+    } else {
+        "not met"
+    });
+}
+
+// A mailbox with a job of the process, whose sender is gone.
+fn with_job<R: Wait>(rt: &R, alloc: Global, number: u32, pid: Pid) -> Option<Inbox> {
+    let (mut sender, inbox) = mailbox(alloc).ok()?;
+    let job = Job {
+        number,
+        pid,
+        input: 1,
+    };
+    sender.send(rt, Note::Job(job)).ok()?;
+    Some(inbox)
+}
+
+fn both_work<G: Gate + Sync, R: Threads + Wait + Sync>(
+    rt: &R,
+    table: &ProcTable,
+    first: NewWorker,
+    second: NewWorker,
+    gate: &G,
+)
+    requires first { first.pass.table ≡ table.now }
+    requires second { second.pass.table ≡ table.now }
+{
+    join(
+        rt,
+        || first.work(rt, table, gate),
+        || second.work(rt, table, gate),
+    );
+}
