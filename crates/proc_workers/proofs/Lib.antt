@@ -1,3 +1,5 @@
+mod CountLemmas
+pub mod FloodLemmas
 pub mod ThreadLemmas
 pub mod HandLemmas
 mod NoteLemmas

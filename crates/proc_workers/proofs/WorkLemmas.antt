@@ -20,7 +20,7 @@ use Rattle.proc_table.specs.Waits.{Waited, AnswersAtLast}
 use Rattle.proc_workers.specs.declared.note.Answer.{Answer}
 use Rattle.proc_workers.specs.declared.note.Job.{Job}
 use Rattle.proc_workers.specs.Processes.{IsProcess}
-use Rattle.proc_workers.specs.Work.{job_of, entries_of, calls_of, WasDown, MayAnswer, HasAnswered}
+use Rattle.proc_workers.specs.Work.{job_of, entries_of, calls_of, WasUp, WasDown, MayAnswer, HasAnswered}
 use Rattle.proc_workers.specs.Desks.{HasAnswer}
 
 -- ---- a call that was waited for
@@ -91,19 +91,33 @@ calls_more n (x ∷ more) a = ap (λ (l : List HistoryEntry). entries_of n x.inp
 still_down : (pid : Pid) (v u w : View) → IsPrefix (seen u pid.slot) (seen w pid.slot) → WasDown pid v u → WasDown pid v w
 still_down pid v u w longer down = (down.0, down.1, prefix_trans down.0 (seen u pid.slot) (seen w pid.slot) down.2 longer, down.3)
 
+still_up : (pid : Pid) (v u w : View) → IsPrefix (seen u pid.slot) (seen w pid.slot) → WasUp pid v u → WasUp pid v w
+still_up pid v u w longer up = (up.0, up.1, prefix_trans up.0 (seen u pid.slot) (seen w pid.slot) up.2 longer, up.3, up.4)
+
 may_still : (pid : Pid) (v u w : View) → IsPrefix (seen u pid.slot) (seen w pid.slot) → (other : Pid) (t : Tried) → MayAnswer pid v u other t → MayAnswer pid v w other t
-may_still pid v u w longer other (tried.Done r) m = m
-may_still pid v u w longer other tried.Crashed m = m
-may_still pid v u w longer other (tried.Ended r) m = m
+may_still pid v u w longer other (tried.Done r) m = (m.0, still_up pid v u w longer m.1)
+may_still pid v u w longer other tried.Crashed m = (m.0, still_up pid v u w longer m.1)
+may_still pid v u w longer other (tried.Ended r) m = (m.0, still_up pid v u w longer m.1)
 may_still pid v u w longer other tried.Down m = ⊎_elim (λ no. inl no) (λ down. inr (still_down pid v u w longer down)) m
 may_still pid v u w longer other tried.Busy m = m
 may_still pid v u w longer other tried.Held m = m
 
+-- a call found the process up
+up_now : (pid : Pid) (v u : View) (input : ℕ) (o : Outcome) (before w : View) → IsPrefix (seen v pid.slot) (seen u pid.slot) → Waited pid.slot u before
+    → Called pid.slot pid.round input o before w → WasUp pid v w
+up_now pid v u input o before w longer was c =
+    let p = pid.slot in
+    let same : seen before p ≡ seen u p = ap (λ (l : List Part). (part_of l p).seen) (same_parts p u before was) in
+    let h : List HistoryEntry = seen before p ++ c.between in
+    let begins : IsPrefix (seen u p) h = subst (λ (l : List HistoryEntry). IsPrefix l h) same (prefix_more (seen before p) c.between) in
+    let goes_on : IsPrefix h (seen w p) = subst (λ (l : List HistoryEntry). IsPrefix h l) (sym c.seen_is) (prefix_more h (entry before.number (call input o) ∷ [])) in
+    (h, prefix_trans (seen v p) (seen u p) h longer begins, goes_on, c.up.0, c.up.1)
+
 may_now : (pid : Pid) (v u : View) (input : ℕ) (other : Pid) (t : Tried) (w : View) → IsPrefix (seen v pid.slot) (seen u pid.slot) → IsProcess pid other
     → AnswersAtLast pid.slot pid.round input u t w → MayAnswer pid v w other t
-may_now pid v u input other (tried.Done r) w longer is a = is
-may_now pid v u input other tried.Crashed w longer is a = is
-may_now pid v u input other (tried.Ended r) w longer is a = is
+may_now pid v u input other (tried.Done r) w longer is a = (is, up_now pid v u input (outcome.Done r) a.before w longer a.waited a.answers)
+may_now pid v u input other tried.Crashed w longer is a = (is, up_now pid v u input outcome.Crashed a.before w longer a.waited a.answers)
+may_now pid v u input other (tried.Ended r) w longer is a = (is, up_now pid v u input (outcome.Ended r) a.before w longer a.waited a.answers)
 may_now pid v u input other tried.Down w longer is a =
     let more = (since_call pid.slot pid.round input u tried.Down w a).longer in
     inr (seen w pid.slot, prefix_trans (seen v pid.slot) (seen u pid.slot) (seen w pid.slot) longer more, prefix_self (seen w pid.slot), a.answers.1)

@@ -3,4 +3,6 @@ pub mod Ends
 pub mod Processes
 pub mod Notes
 pub mod Work
+pub mod Floods
+pub mod Counted
 pub mod Desks

@@ -1,6 +1,7 @@
 -- What a worker has done with the jobs that it took.
-use Rattle.std.specs.Prelude.{◌≡◌, ◌⊎◌, ℕ, List, [], ◌∷◌, ◌++◌, map, None, All}
+use Rattle.std.specs.Prelude.{◌≡◌, ◌⊎◌, ℕ, List, [], ◌∷◌, ◌++◌, map, Some, None, All}
 use mathlib.Core.List.{IsPrefix}
+use Rattle.proc_history.specs.declared.value.Now.{Now}
 use Rattle.proc_history.specs.declared.value.Outcome.TheVariants as outcome
 use Rattle.proc_history.specs.Events.{HistoryEntry, entry, own}
 use Rattle.proc_history.specs.Events.Event.{call}
@@ -41,12 +42,17 @@ calls_of n (a ∷ more) = entries_of n a.input a.tried ++ calls_of n more
 abbrev pub WasDown : Pid → View → View → Type 0
 WasDown pid v w = (h : List HistoryEntry) × IsPrefix (seen v pid.slot) h × IsPrefix h (seen w pid.slot) × (up_in pid.round (replay h) ≡ None)
 
--- What a worker may answer to a job that names the process `other`: Down where that is another, or where its own was down.
+-- The process of that round was up at some moment since.
+abbrev pub WasUp : Pid → View → View → Type 0
+WasUp pid v w = (h : List HistoryEntry) × IsPrefix (seen v pid.slot) h × IsPrefix h (seen w pid.slot) × (n : Now) × (up_in pid.round (replay h) ≡ Some n)
+
+-- What a worker may answer to a job that names the process `other`: Down where that is another, or where its own was down. Any
+-- other answer is that of its own, which was up.
 abbrev pub MayAnswer : Pid → View → View → Pid → Tried → Type 0
 MayAnswer pid v w other tried.Busy = ⊥
 MayAnswer pid v w other tried.Held = ⊥
 MayAnswer pid v w other tried.Down = (¬ IsProcess pid other) ⊎ WasDown pid v w
-MayAnswer pid v w other t = IsProcess pid other
+MayAnswer pid v w other t = IsProcess pid other × WasUp pid v w
 
 -- The worker of this process has given these answers: each but Down is a call of its pass. The calls stand in the history in
 -- order, each once, and it is legal, so each has the outcome of its process. Other slots are more before.

@@ -9,3 +9,12 @@ pub trait Gate {
     /// The worker has this answer.
     fn after(&self, answer: &Answer);
 }
+
+/// A gate that is always open.
+pub struct NoGate;
+
+impl Gate for NoGate {
+    fn before(&self, _job: &Job) {}
+
+    fn after(&self, _answer: &Answer) {}
+}

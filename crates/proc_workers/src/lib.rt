@@ -16,6 +16,7 @@
 
 mod desk;
 mod ends;
+mod floods;
 mod gate;
 mod hand;
 pub mod laws;
@@ -24,7 +25,8 @@ mod note;
 mod worker;
 
 pub use ends::{Inbox, Sender};
-pub use gate::Gate;
+pub use floods::{FloodCounts, flood};
+pub use gate::{Gate, NoGate};
 pub use hand::{Delivery, Hand};
 pub use mail::{Closed, mailbox};
 pub use note::{Answer, Job, Note};

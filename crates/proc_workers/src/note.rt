@@ -1,5 +1,5 @@
 //! What a worker is sent, and what it answers.
-ghost use Rattle.std.specs.Prelude.{◌↔◌, IsTrue};
+ghost use Rattle.std.specs.Prelude.{◌≡◌, ◌↔◌, IsTrue};
 ghost use Rattle.proc_workers.specs.Processes.{IsProcess};
 
 use proc_table::{Pid, Tried};
@@ -40,4 +40,13 @@ pub struct Answer {
     pub pid: Pid,
     pub input: u32,
     pub tried: Tried,
+}
+
+impl Answer {
+    /// Whether it answers a call of this process with this input.
+    pub fn is_of(&self, pid: Pid, input: u32) -> bool
+        ensures { IsTrue result ↔ ((self.now.input ≡ input) × IsProcess pid self.now.pid) }
+    {
+        self.input == input && self.pid.slot == pid.slot && self.pid.round == pid.round
+    }
 }

@@ -4,7 +4,7 @@ use crate::own_calls::push_own_calls;
 use crate::steps::follow_steps;
 use crate::threads::push_clients;
 use crate::trees::follow_tree;
-use crate::workers::{push_closed, push_shared, push_worker};
+use crate::workers::{push_closed, push_flood, push_worker};
 use std::alloc::{AllocError, Global};
 use std::sync::Wait;
 use std::thread::Threads;
@@ -16,8 +16,8 @@ use text_cases::Answer;
 /// stopped, as in [`follow_tree`]. `clients`: what two clients and the handler see in threads of their own, as in
 /// [`push_clients`]. `alone`: what a process answers to calls that the handler makes itself, as in [`push_own_calls`].
 ///
-/// `worker`: what a worker makes of notes, as in [`push_worker`]. `shared`: what it makes of the jobs of two threads, as in
-/// [`push_shared`]. `closed`: what a send answers whose inbox is gone, as in [`push_closed`]. `gated`: whether two workers run beside each other, as in [`push_gated`].
+/// `worker`: what a worker makes of notes, as in [`push_worker`]. `flood`: what comes of many jobs of two threads, as in
+/// [`push_flood`]. `closed`: what a send answers whose inbox is gone, as in [`push_closed`]. `gated`: whether two workers run beside each other, as in [`push_gated`].
 pub(crate) fn answer<R: Threads + Wait + Sync>(
     rt: &R,
     alloc: Global,
@@ -32,7 +32,7 @@ pub(crate) fn answer<R: Threads + Wait + Sync>(
         "clients" => push_clients(rt, alloc, words, &mut answer),
         "alone" => push_own_calls(rt, alloc, words, &mut answer),
         "worker" => push_worker(rt, alloc, words, &mut answer),
-        "shared" => push_shared(rt, alloc, words, &mut answer),
+        "flood" => push_flood(rt, alloc, words, &mut answer),
         "closed" => push_closed(rt, alloc, &mut answer),
         _ => push_gated(rt, alloc, &mut answer),
     }

@@ -2,9 +2,8 @@
 ghost use Rattle.std.specs.Prelude.{◌≡◌};
 
 use crate::processes::begin;
-use crate::workers::NewWorker;
-use proc_table::{Pid, ProcTable};
-use proc_workers::{Gate, Inbox, Job, Note, mailbox};
+use proc_table::{Pass, Pid, ProcTable};
+use proc_workers::{Ended, Gate, Inbox, Job, Note, mailbox, work};
 use std::alloc::Global;
 use std::sync::Wait;
 use std::sync::atomic::{AtomicBool, Ordering};
@@ -37,6 +36,30 @@ impl Gate for Meeting {
         if answer.number == 2 {
             self.answered.store(true, Ordering::SeqCst);
         }
+    }
+}
+
+/// What a worker begins with.
+#[derive(Drop)]
+pub(crate) struct NewWorker {
+    alloc: Global,
+    pass: Pass,
+    pid: Pid,
+    inbox: Inbox,
+}
+
+impl NewWorker {
+    fn work<G: Gate, R: Wait>(self, rt: &R, table: &ProcTable, gate: &G) -> Ended
+        requires { self.pass.table ≡ table.now }
+        ensures { result.pass.table ≡ table.now }
+    {
+        let NewWorker {
+            alloc,
+            pass,
+            pid,
+            inbox,
+        } = self;
+        work(rt, alloc, table, pass, pid, inbox, gate)
     }
 }
 

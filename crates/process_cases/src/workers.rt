@@ -3,45 +3,12 @@ ghost use Rattle.std.specs.Prelude.{◌≡◌};
 
 use crate::clients::{push_peek, push_tried};
 use crate::processes::begin;
-use proc_table::{Pass, Pid, ProcTable};
-use proc_workers::{EndCause, Ended, Gate, Inbox, Job, Note, Sender, mailbox, work};
+use proc_table::{Pid, ProcTable};
+use proc_workers::{EndCause, Ended, Inbox, Job, NoGate, Note, flood, mailbox, work};
 use std::alloc::Global;
 use std::sync::Wait;
-use std::thread::{Threads, join};
+use std::thread::Threads;
 use text_cases::{Answer, first_word};
-
-/// Lets each call through.
-pub(crate) struct NoGate;
-
-impl Gate for NoGate {
-    fn before(&self, _job: &Job) {}
-
-    fn after(&self, _answer: &proc_workers::Answer) {}
-}
-
-/// What a worker begins with.
-#[derive(Drop)]
-pub(crate) struct NewWorker {
-    pub(crate) alloc: Global,
-    pub(crate) pass: Pass,
-    pub(crate) pid: Pid,
-    pub(crate) inbox: Inbox,
-}
-
-impl NewWorker {
-    pub(crate) fn work<G: Gate, R: Wait>(self, rt: &R, table: &ProcTable, gate: &G) -> Ended
-        requires { self.pass.table ≡ table.now }
-        ensures { result.pass.table ≡ table.now }
-    {
-        let NewWorker {
-            alloc,
-            pass,
-            pid,
-            inbox,
-        } = self;
-        work(rt, alloc, table, pass, pid, inbox, gate)
-    }
-}
 
 /// Appends what a worker makes of notes, which stand in a text with `; ` between them, at most 64. Its senders are gone before
 /// it begins.
@@ -128,9 +95,9 @@ fn push_ended(table: &ProcTable, pid: Pid, ended: Ended, answer: &mut Answer)
     push_peek(table, &mut pass, pid, answer);
 }
 
-/// Appends what comes of jobs with one input, which two threads send to a worker in a third: how many were answered, what is left,
-/// and what is peeked then. The text is their number and the input.
-pub(crate) fn push_shared<R: Threads + Wait + Sync>(
+/// Appends how often each outcome comes of calls with one input that two threads send to a worker in a third, and what is peeked
+/// then. The text is how the process begins, how many calls they are, and the input.
+pub(crate) fn push_flood<R: Threads + Wait + Sync>(
     rt: &R,
     alloc: Global,
     words: &str,
@@ -139,91 +106,30 @@ pub(crate) fn push_shared<R: Threads + Wait + Sync>(
     let Ok((table, mut seat)) = ProcTable::new(alloc) else {
         return answer.note_no_memory();
     };
-    let Some(pid) = begin(rt, alloc, &table, &mut seat, None, "temporary", answer) else {
+    let (how, words) = first_word(words);
+    let Some(pid) = begin(rt, alloc, &table, &mut seat, None, how, answer) else {
         return;
     };
-    let (count, input) = first_word(words);
-    let count = count.parse::<u32>().unwrap_or(0);
+    let (times, input) = first_word(words);
+    let times = times.parse::<u32>().unwrap_or(0);
     let input = input.parse::<u32>().unwrap_or(0);
-    let Some((first, second, inbox)) = two_senders(alloc) else {
-        return answer.note_no_memory();
-    };
-    let pass = table.new_pass(&mut seat);
-    let worker = NewWorker {
-        alloc,
-        pass,
-        pid,
-        inbox,
-    };
-    let ended = shared(rt, &table, worker, first, second, count, input);
-    answer.push_counted("answered ", ended.answers.len() as u64);
-    answer.push(", ");
-    push_ended(&table, pid, ended, answer);
-}
-
-fn two_senders(alloc: Global) -> Option<(Sender, Sender, Inbox)> {
-    let (mut first, inbox) = mailbox(alloc).ok()?;
-    let second = first.second().ok()?;
-    Some((first, second, inbox))
-}
-
-// The first thread sends the larger half.
-fn shared<R: Threads + Wait + Sync>(
-    rt: &R,
-    table: &ProcTable,
-    worker: NewWorker,
-    first: Sender,
-    second: Sender,
-    count: u32,
-    input: u32,
-) -> Ended
-    requires { worker.pass.table ≡ table.now }
-    ensures { result.pass.table ≡ table.now }
-{
-    let pid = worker.pid;
-    let (ended, _) = join(
-        rt,
-        ||
-            requires { worker.pass.table ≡ table.now }
-            ensures { result.pass.table ≡ table.entry.now }
-        { worker.work(rt, table, &NoGate) },
-        || send_both(rt, first, second, pid, count, input),
-    );
-    ended
-}
-
-fn send_both<R: Threads + Wait + Sync>(
-    rt: &R,
-    first: Sender,
-    second: Sender,
-    pid: Pid,
-    count: u32,
-    input: u32,
-) {
-    let lower = count / 2;
-    let larger = count - lower;
-    join(
-        rt,
-        || send_all(rt, first, pid, 0, larger, input),
-        || send_all(rt, second, pid, larger, lower, input),
-    );
-}
-
-// The jobs behind `after`, so many.
-fn send_all<R: Wait>(rt: &R, sender: Sender, pid: Pid, after: u32, count: u32, input: u32) {
-    let mut sender = sender;
-    for at in 0..count {
-        let number = after.saturating_add(at).saturating_add(1);
-        let sent = sender.send(rt, Note::Job(Job { number, pid, input }));
-        if sent.is_err() {
-            return;
+    match flood(rt, alloc, &table, &mut seat, pid, input, times) {
+        Ok(counts) => {
+            answer.push_counted("done ", counts.done as u64);
+            answer.push_counted(" crashed ", counts.crashed as u64);
+            answer.push_counted(" ended ", counts.ended as u64);
+            answer.push_counted(" down ", counts.down as u64);
+            answer.push(", ");
         }
+        Err(_) => return answer.note_no_memory(),
     }
+    let mut pass = table.new_pass(&mut seat);
+    push_peek(&table, &mut pass, pid, answer);
 }
 
 /// Appends what a send to a mailbox answers whose inbox is gone.
 pub(crate) fn push_closed<R: Wait>(rt: &R, alloc: Global, answer: &mut Answer) {
-    let Some((mut first, _second, inbox)) = two_senders(alloc) else {
+    let Ok((mut first, inbox)) = mailbox(alloc) else {
         return answer.note_no_memory();
     };
     drop(inbox);

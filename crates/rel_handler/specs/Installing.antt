@@ -24,7 +24,7 @@ install_size vsn es = change_size (installed vsn) es
 abbrev pub IsInstalledBy : List ℕ → Releases → NodeState → Installed → NodeState → Type 0
 IsInstalledBy vsn es old i new = (u : UpgradeForm) × IsUpgrade vsn es u × IsInstalled u old i new
 
--- the node has to boot behind this refusal
+-- the script failed behind its point of no return, so the node has to boot
 abbrev pub must_boot : InstallError → Bool
 must_boot (MustReboot f) = true
 must_boot e = false

@@ -93,7 +93,7 @@ fn install_body(alloc: Global, list: &ReleaseList, vsn: &str) -> Result<String, 
     change_body(alloc, list, &event)
 }
 
-// Whether the node has to boot behind this refusal.
+// Whether the script failed behind its point of no return.
 fn must_boot(error: &InstallError) -> bool
     ensures { result ≡ must_boot error.now }
 {

@@ -40,7 +40,8 @@ use Rattle.node_upgrade.specs.Failure.{Failure}
 use Rattle.node_upgrade.specs.Upgrade.{script_failure}
 use Rattle.relup_exec.specs.Alone as script
 use Rattle.relup_script.specs.Search.{FoundForm}
-use Rattle.rel_session.specs.Installation.{Begins, Installs, Leads, installed_size, upgrade_outcome}
+use Rattle.rel_session.specs.Installation.{Begins, Installs, Leads, upgrade_outcome}
+use Rattle.rel_handler.specs.Installing.{install_size}
 use Rattle.rel_handler.proofs.InstallLemmas.{installation_is_commanded}
 use Rattle.rel_session.proofs.SourceLemmas.{gives_each}
 use Rattle.rel_session.proofs.ActionLemmas.{some_action}
@@ -176,13 +177,13 @@ installs_there events end ps list vsn after = by_found (installation vsn (releas
         let then = list_after-push events (installed vsn) list grown after (commanded_step (installed vsn) list grown allowed) in
         fair_reply _ _ (inl refl) refl (runs (events ++ installed vsn ∷ []) _ _ grown then)
 
-    by_room : (f : FoundForm) → installation vsn (releases_after events) ≡ Ok f → HasSpace end (installed_size vsn (releases_after events)) ⊎ (HasSpace end (installed_size vsn (releases_after events)) → ⊥) → Has (Begins events end ps vsn (releases_after events) f None)
+    by_room : (f : FoundForm) → installation vsn (releases_after events) ≡ Ok f → HasSpace end (install_size vsn (releases_after events)) ⊎ (HasSpace end (install_size vsn (releases_after events)) → ⊥) → Has (Begins events end ps vsn (releases_after events) f None)
     by_room f found (inl fits) = mapped _ (Begins events end ps vsn (releases_after events) f None) (λ a is. inl (fits, is)) (by_outcome f found (upgrade_outcome vsn (releases_after events) f ps))
     by_room f found (inr over_it) = fair_reply _ _ (inr (over_it, refl)) refl (runs events end ps list after)
 
     by_failure : (f : FoundForm) → installation vsn (releases_after events) ≡ Ok f → (o : Option Failure) → Has (Begins events end ps vsn (releases_after events) f o)
     by_failure f found (Some why) = fair_reply _ _ refl refl (runs events end ps list after)
-    by_failure f found None = by_room f found (fits_or_not end (installed_size vsn (releases_after events)))
+    by_failure f found None = by_room f found (fits_or_not end (install_size vsn (releases_after events)))
 
     by_found : (o : Result FoundForm HandlerError) → installation vsn (releases_after events) ≡ o → Has (Installs events end ps vsn (releases_after events) o)
     by_found (Err why) found = fair_reply _ _ refl refl (runs events end ps list after)

@@ -16,7 +16,8 @@ use Rattle.relup_exec.specs.Alone.{Outcome}
 use Rattle.relup_exec.specs.Alone.Outcome.{ends, refuses, breaks}
 use Rattle.relup_script.specs.Search.{FoundForm}
 use Rattle.script_steps.specs.Script.{Run}
-use Rattle.rel_session.specs.Installation.{Begins, Installs, Leads, installed_reply, installed_size, upgrade_outcome}
+use Rattle.rel_session.specs.Installation.{Begins, Installs, Leads, installed_reply, upgrade_outcome}
+use Rattle.rel_handler.specs.Installing.{install_size}
 use Rattle.rel_session.specs.Node.{Reply, refused, failed}
 use Rattle.rel_session.specs.Node.Place.{running, dead}
 use Rattle.rel_session.specs.Refusals.{refusal_of}
@@ -31,7 +32,7 @@ module _ (K : Reply → Type 0) (events : Events) (end : ℕ) (ps : Processes) (
     pub over_full : K (refused full (running events end ps))
     pub broken : (f : Failure) → K (refused (must_reboot f) (dead (certain events end)))
     pub done_so : (f : FoundForm) (r : Run) → installation vsn list ≡ Ok f → upgrade_outcome vsn list f ps ≡ ends r → K (installed_reply events end vsn list f (behind_run r))
-    pub doubted_so : (f : FoundForm) → installation vsn list ≡ Ok f → K (failed (Some (installed vsn)) (dead (uncertain events end (installed vsn) (installed_size vsn list))))
+    pub doubted_so : (f : FoundForm) → installation vsn list ≡ Ok f → K (failed (Some (installed vsn)) (dead (uncertain events end (installed vsn) (install_size vsn list))))
 
   so : (a b : Reply) → a ≡ b → K b → K a
   so a b is of = subst K (sym is) of

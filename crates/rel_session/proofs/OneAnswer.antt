@@ -45,7 +45,8 @@ use Rattle.node_upgrade.specs.Failure.{Failure}
 use Rattle.node_upgrade.specs.Upgrade.{script_failure}
 use Rattle.relup_exec.specs.Alone as script
 use Rattle.relup_script.specs.Search.{FoundForm}
-use Rattle.rel_session.specs.Installation.{Begins, Installs, Leads, installed_size, upgrade_outcome}
+use Rattle.rel_session.specs.Installation.{Begins, Installs, Leads, upgrade_outcome}
+use Rattle.rel_handler.specs.Installing.{install_size}
 use Rattle.rel_session.proofs.ListLemmas.{list_after-more, same_list}
 
 -- Two places that nothing tells apart: the events of a boot of bytes are any that have the list.
@@ -229,7 +230,7 @@ module _ (a b : Reply) (both : Both a b) where
   leads events others end ps qs vsn l f (script.Outcome.refuses n c) same one is also = as_these a b _ _ is also (refl, refl, same_lists events others end ps qs same one)
   leads events others end ps qs vsn l f (script.Outcome.breaks n c) same one is also = as_these a b _ _ is also (refl, refl, same_dead events others end same)
   leads events others end ps qs vsn l f (script.Outcome.ends r) same one (inl is) (inl also) =
-      as_these a b _ _ is also (refl, refl, same_lists (events ++ installed vsn ∷ []) (others ++ installed vsn ∷ []) (end_behind end (installed_size vsn l)) (behind_run r) (behind_run r) (same_list events others (installed vsn) same) refl)
+      as_these a b _ _ is also (refl, refl, same_lists (events ++ installed vsn ∷ []) (others ++ installed vsn ∷ []) (end_behind end (install_size vsn l)) (behind_run r) (behind_run r) (same_list events others (installed vsn) same) refl)
   leads events others end ps qs vsn l f (script.Outcome.ends r) same one (inl is) (inr also) = failure b _ also refl both.1
   leads events others end ps qs vsn l f (script.Outcome.ends r) same one (inr is) other = failure a _ is refl both.0
 

@@ -47,7 +47,7 @@ use Rattle.rel_session.proofs.AnswerLines.{IsWhole, ok_whole, done_whole, instal
 use Rattle.node_processes.specs.Scripts.{behind_run}
 use Rattle.node_upgrade.specs.Stale.{stale_modules}
 use Rattle.node_upgrade.specs.Upgrade.{libraries_at}
-use Rattle.rel_session.specs.Installation.{installed_size}
+use Rattle.rel_handler.specs.Installing.{install_size}
 use Rattle.rel_session.proofs.InstallationLemmas.{each_reply}
 
 more_versions : (es : Releases) (e : Entry) → AreOfFiles es → IsOfFiles (bundle_in e) → AreOfFiles (es ++ e ∷ [])
@@ -266,7 +266,7 @@ acts (running events end ps) (installs vsn) good all a is =
       over_full = ((λ behind. refl), all);
       broken = λ f. (refusal_whole (must_reboot f) tt, certain_versions events end all);
       done_so = λ f r found comes. (installed_whole f.other f.descr (stale_modules (behind_run r).modules (libraries_at vsn (releases_after events))), list_versions events e tt all);
-      doubted_so = λ f found. (device_line, uncertain_versions events end e (installed_size vsn (releases_after events)) tt all);
+      doubted_so = λ f found. (device_line, uncertain_versions events end e (install_size vsn (releases_after events)) tt all);
     }) a is
 acts (raw x) (installs vsn) good all a is = good_as a _ is ((λ behind. refl), all)
 acts (closed s) (installs vsn) good all a is = good_as a _ is ((λ behind. refl), all)

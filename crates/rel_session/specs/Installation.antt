@@ -5,7 +5,7 @@ use Rattle.erl_term.specs.Value.{Value, values_of}
 use Rattle.erl_term.specs.Value.Value.{atom, list as list_value}
 use Rattle.rel_list.specs.Releases.{Releases}
 use Rattle.rel_list.specs.Event.Event.{installed}
-use Rattle.node_command.specs.Taking.{change_size}
+use Rattle.rel_handler.specs.Installing.{install_size}
 use Rattle.node_command.specs.declared.error.HandlerError.{HandlerError}
 use Rattle.node_listing.specs.Listing.{text_value}
 use Rattle.node_processes.specs.Processes.{Processes}
@@ -38,10 +38,6 @@ installed_text other descr stale =
 abbrev pub installed_line : FoundForm → List (List ℕ) → List ℕ
 installed_line f stale = installed_text f.other f.descr stale
 
--- how many bytes the body of its record has
-abbrev pub installed_size : List ℕ → Releases → ℕ
-installed_size vsn list = change_size (installed vsn) list
-
 -- what comes of its script on these processes
 abbrev pub upgrade_outcome : List ℕ → Releases → FoundForm → Processes → script.Outcome
 upgrade_outcome vsn list f ps =
@@ -52,7 +48,7 @@ upgrade_outcome vsn list f ps =
 abbrev pub installed_reply : Events → ℕ → List ℕ → Releases → FoundForm → Processes → Reply
 installed_reply events end vsn list f ps =
     reply (installed_line f (stale_modules ps.modules (libraries_at vsn list))) (done (installed vsn ∷ []))
-    (running (events ++ installed vsn ∷ []) (end_behind end (installed_size vsn list)) ps)
+    (running (events ++ installed vsn ∷ []) (end_behind end (install_size vsn list)) ps)
 
 -- A script that fails before its point of no return changes nothing. One that fails behind it leaves the node dead, without an
 -- event. Behind one that was carried out the event is committed, or the device fails.
@@ -61,14 +57,14 @@ Leads events end ps vsn list f (refuses n c) a = a ≡ refused (script_refused (
 Leads events end ps vsn list f (breaks n c) a = a ≡ refused (must_reboot (failure n (fails c))) (dead (certain events end))
 Leads events end ps vsn list f (ends r) a =
     (a ≡ installed_reply events end vsn list f (behind_run r))
-    ⊎ (a ≡ failed (Some (installed vsn)) (dead (uncertain events end (installed vsn) (installed_size vsn list))))
+    ⊎ (a ≡ failed (Some (installed vsn)) (dead (uncertain events end (installed vsn) (install_size vsn list))))
 
 -- A script that isn't run is refused; one that may begin does, where the record of its event fits.
 abbrev pub Begins : Events → ℕ → Processes → List ℕ → Releases → FoundForm → Option Failure → Reply → Type 0
 Begins events end ps vsn list f (Some why) a = a ≡ refused (script_refused why) (running events end ps)
 Begins events end ps vsn list f None a =
-    (HasSpace end (installed_size vsn list) × Leads events end ps vsn list f (upgrade_outcome vsn list f ps) a)
-    ⊎ ((HasSpace end (installed_size vsn list) → ⊥) × (a ≡ refused full (running events end ps)))
+    (HasSpace end (install_size vsn list) × Leads events end ps vsn list f (upgrade_outcome vsn list f ps) a)
+    ⊎ ((HasSpace end (install_size vsn list) → ⊥) × (a ≡ refused full (running events end ps)))
 
 -- The list or the relups refuse the installation, or there is a script for it.
 abbrev pub Installs : Events → ℕ → Processes → List ℕ → Releases → Result FoundForm HandlerError → Reply → Type 0

@@ -2,9 +2,10 @@
 //!
 //! A script's [`Progress`] is what it holds and has fetched so far, and what is loaded once it has ended well. Each call carries
 //! out one instruction (specs/Script says what it does): [`Progress::carry_out_early`] one that stands before the point of no
-//! return, [`Progress::carry_out_late`] one that stands behind it. It is done exactly where it has no fault, which is a function
-//! of what was done before and of what the histories leave (specs/Fault); else its fault is told, or that memory was refused
-//! (specs/Steps: `CarriesOut`). A [`Failure`] tells how far the instruction came.
+//! return, [`Progress::carry_out_late`] one that stands behind it. It is done where it has no fault, which is a function of what
+//! was done before and of what the histories leave (specs/Fault); else its fault is told, or that memory was refused
+//! (specs/Steps: `CarriesOut`). Where clients call meanwhile, one that was done had no fault by some histories that fit the
+//! handler's entries. A [`Failure`] tells how far the instruction came.
 //!
 //! Only tested: that an instruction is carried out where memory is there. Trusted: the toolchain alone.
 #![tactic(auto)]
