@@ -1,6 +1,6 @@
 -- Rows of as many terms as no instruction has, and of none.
 use Rattle.std.proofs.Common.{◌≡◌, ◌<◌, ◌≤◌, ℕ, false, List, [], ◌∷◌, length, None, Some, refl, arith}
-use Rattle.erl_term.specs.Term.{Term}
+use Rattle.erl_term.specs.declared.term.Term.{Term}
 use Rattle.erl_term.specs.Value.{members_of}
 use Rattle.rel_files.specs.declared.release.StartType.TheVariants.{Permanent}
 use Rattle.appup_file.specs.Instruction.{UpdateForm}

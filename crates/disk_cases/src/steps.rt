@@ -11,7 +11,7 @@ use text_cases::{Answer, first_word, number};
 /// Appends how many records an opened store has, and what these steps answer, each behind `; `. They
 /// are parted by `; `, and are the calls of a store and of a start record:
 ///
-/// - `append BODY`, `reserve N`, `fits N`, `write_slot TEXT`, `write_start ERTS VSN`, `read_start`.
+/// - `append BODY`, `compact BODY`, `reserve N`, `fits N`, `write_slot TEXT`, `write_start ERTS VSN`, `read_start`.
 ///   Of a TEXT as much is written as has room.
 /// - `read_slot`: the first nine bytes of the start slot are told.
 /// - `records`: the bodies of the records. `rooms`: whether each has room for three bytes at most.
@@ -39,6 +39,7 @@ fn take_step<D: Disk>(alloc: Global, store: &mut Store<D>, step: &str, answer: &
     let (word, rest) = first_word(step);
     match word {
         "append" => push_done(append(alloc, store, rest), answer),
+        "compact" => push_done(compact(alloc, store, rest), answer),
         "reserve" => push_done(store.reserve(alloc, number(rest)), answer),
         "write_slot" => {
             let start = &rest.as_bytes()[..rest.len().min(127)];
@@ -82,6 +83,14 @@ fn append<D: Disk>(alloc: Global, store: &mut Store<D>, body: &str) -> Result<()
 {
     let body = body_of(alloc, body)?;
     store.append(alloc, &body)
+}
+
+fn compact<D: Disk>(alloc: Global, store: &mut Store<D>, body: &str) -> Result<(), StoreError>
+    requires { IsSoundStore D.seen D.may_leave store.old }
+    ensures { IsSoundStore D.seen D.may_leave store.new }
+{
+    let image = body_of(alloc, body)?;
+    store.compact(alloc, &image)
 }
 
 fn read_slot<D: Disk>(store: &mut Store<D>, answer: &mut Answer)

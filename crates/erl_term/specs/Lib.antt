@@ -2,8 +2,6 @@ pub use Rattle.erl_number.specs.declared.fault.TermFault
 pub use Rattle.erl_number.specs.Escapes
 pub use Rattle.erl_number.specs.FaultTexts
 pub use Rattle.erl_token.specs.Lexing
-pub use Rattle.erl_term.specs.declared.term.Spanned
-pub use Rattle.erl_term.specs.declared.term.Term
 pub mod Value
 pub mod Grammar
 pub mod Faults

@@ -4,7 +4,7 @@ use Rattle.std.proofs.lemmas.List.{map-append, map_more, flat_map_more, take_mor
 use Rattle.std.specs.List.{flat_map}
 use Rattle.std.specs.Prelude.{Result, Ok, Err, IfOk}
 use Rattle.erl_term.specs.Value.{Value, value_of, values_of}
-use Rattle.erl_term.specs.Term.{Term}
+use Rattle.erl_term.specs.declared.term.Term.{Term}
 use Rattle.rel_files.specs.declared.release.RelApp.{RelApp}
 use Rattle.rel_files.specs.Release.{application_of}
 use Rattle.rel_list.specs.Keyed.{entry_of}

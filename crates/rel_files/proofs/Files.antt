@@ -2,7 +2,7 @@
 use Rattle.std.proofs.Common.{◌≡◌, ◌≢◌, ℕ, List, [], ◌∷◌, ◌++◌, ◌⊎◌, inl, inr, map, Some, None, Result, Ok, Err, IfErr, IsErr, IsErrAnd, length, slice_get, refl, sym, ap, subst, ◌∙◌, arith}
 use Rattle.erl_term.specs.TermFault.{TermFault}
 use Rattle.erl_term.specs.TermFault.TheVariants as term
-use Rattle.erl_term.specs.Spanned.{Spanned}
+use Rattle.erl_term.specs.declared.term.Spanned.{Spanned}
 use Rattle.erl_term.specs.Value.{Value, value_of}
 use Rattle.erl_term.specs.Grammar.{Reading, Reads}
 use Rattle.erl_term.specs.Answers.{TellsFault, reading_of_spanned}

@@ -1,7 +1,7 @@
 -- The term of a file keeps within limits.
 use Rattle.std.proofs.Common.{◌≡◌, ℕ, ◌+◌, List, [], ◌∷◌, ◌++◌, map, subst}
 use Rattle.std.specs.List.{AllByRecursion}
-use Rattle.erl_term.specs.Spanned.{Spanned}
+use Rattle.erl_term.specs.declared.term.Spanned.{Spanned}
 use Rattle.erl_term.specs.Value.{value_of}
 use Rattle.erl_term.specs.Grammar.{Reading, Reads}
 use Rattle.erl_term.specs.Answers.{reading_of_spanned}

@@ -1,6 +1,6 @@
 -- Members of a list or tuple, as terms and as values.
 use Rattle.std.proofs.Common.{◌≡◌, suc, List, [], ◌∷◌, length, refl, ap}
-use Rattle.erl_term.specs.Term.{Term}
+use Rattle.erl_term.specs.declared.term.Term.{Term}
 use Rattle.erl_term.specs.Value.{members_of}
 use Rattle.rel_files.specs.Sketch.{count}
 

@@ -1,7 +1,7 @@
 -- The characters of a text as terms, one after another.
 use Rattle.std.proofs.Common.{◌≡◌, ℕ, ◌+◌, ◌<◌, ◌++◌, ◌∷◌, [], List, length, map, take, get_or, pos, sym, ap, ◌∙◌}
 use Rattle.std.proofs.lemmas.List.{map-append, take_more}
-use Rattle.erl_term.specs.Term.{Term}
+use Rattle.erl_term.specs.declared.term.Term.{Term}
 use Rattle.erl_term.specs.Value.{value_of}
 use Rattle.erl_term.specs.Value.Value.{int}
 use Rattle.rel_files.specs.Form.{numbers_of}

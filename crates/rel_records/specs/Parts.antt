@@ -1,7 +1,7 @@
 -- What was read from a body, without where it lies in memory.
 use Rattle.std.specs.Prelude.{ℕ, List, map, Option, None, Some, string_bytes}
 use Rattle.std.specs.Option.{option_map, option_and_then}
-use Rattle.erl_term.specs.Term.{Term}
+use Rattle.erl_term.specs.declared.term.Term.{Term}
 use Rattle.erl_term.specs.Value.{Value, Values, members_of, value_of}
 use Rattle.erl_term.specs.Value.Value.{atom}
 use Rattle.erl_term.specs.TermFault.{TermFault}

@@ -26,7 +26,7 @@ use Rattle.rel_list.specs.Releases.{Releases}
 use Rattle.relup_script.specs.Search.{FoundForm}
 use Rattle.rel_session.specs.Transition.{Action, ComesTo, Acts, asked, checked_line, told as told_by_node, StopsWithin, IsStopped, Transition, ok_line}
 use Rattle.erl_term.specs.Value.{Value, value_of}
-use Rattle.erl_term.specs.Term.{Term}
+use Rattle.erl_term.specs.declared.term.Term.{Term}
 use Rattle.std.proofs.lemmas.List.{map-append, map_more}
 use Rattle.rel_session.specs.Installation.{installed_text, names_value}
 use Rattle.rel_session.specs.Transition.Action.{answers}

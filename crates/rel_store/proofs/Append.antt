@@ -1,5 +1,5 @@
 -- What a crash may leave, and what stands, after each of the two writes of an append.
-use Rattle.std.proofs.Common.{◌≡◌, ◌≢◌, inl, inr, ℕ, ◌+◌, ◌≤◌, List, [], ◌∷◌, ◌++◌, length, take, drop, refl, sym, ◌∙◌, ap, subst, arith, append_assoc, length-append}
+use Rattle.std.proofs.Common.{◌≡◌, ◌≢◌, inl, inr, ℕ, ◌+◌, ◌<◌, ◌≤◌, List, [], ◌∷◌, ◌++◌, length, take, drop, refl, sym, ◌∙◌, ap, subst, arith, append_assoc, length-append}
 use Rattle.std.proofs.lemmas.Bool.{cases_eq}
 use Rattle.std.proofs.lemmas.List.{take_at, drop_at, length_push, drop-drop, get_or_append_left}
 use Rattle.std.specs.Prelude.{slice_index}
@@ -140,6 +140,8 @@ pub record Appended (bodies : List (List ℕ)) (text body : List ℕ) (gate : �
   pub here : Stands (bodies ++ body ∷ []) text new
   pub end : gate + (5 + length body) ≡ base_of new + space (bodies ++ body ∷ [])
   pub selector : slice_index new 9 ≡ slice_index old 9
+  pub base : base_of new ≡ base_of old
+  pub choice : slice_index new 10 ≡ slice_index old 10
 
 pub appended : (bodies : List (List ℕ)) (text body old mid new : List ℕ) (gate : ℕ) → length body ≤ 16777216 → Staged bodies text body gate old mid → new ≡ overwritten gate (1 ∷ []) mid → Appended bodies text body gate old new
 appended bodies text body old mid new gate short s written =
@@ -147,12 +149,14 @@ appended bodies text body old mid new gate short s written =
     written ∙ ap (λ p. overwritten p (1 ∷ []) mid) (sym s.long) ∙ ap (overwritten (length s.head) (1 ∷ [])) s.is ∙ written_gate bodies text s.head s.holds s.shut body s.rest in
     let grows = grown bodies text s.head body s.holds short in
     let size : length (s.head ++ 1 ∷ record_bytes body) ≡ length s.head + length (1 ∷ record_bytes body) = length-append s.head (1 ∷ record_bytes body) in
+    let behind = 1 ∷ (record_bytes body ++ 0 ∷ s.rest) in
+    let from_head : new ≡ s.head ++ behind = is ∙ append_assoc s.head (1 ∷ record_bytes body) (0 ∷ s.rest) in
+    let same_index : (i : ℕ) → i < 288 → slice_index new i ≡ slice_index old i = λ i low.
+    ap (λ l. slice_index l i) from_head ∙ get_or_append_left s.head behind 0 i (omega (arith, low, s.holds.long)) ∙ sym (get_or_append_left s.head s.before 0 i (omega (arith, low, s.holds.long))) ∙ ap (λ l. slice_index l i) (sym s.was) in
     record {
       here = subst (Stands (bodies ++ body ∷ []) text) (sym is) (stands (bodies ++ body ∷ []) text (s.head ++ 1 ∷ record_bytes body) 0 s.rest grows (omega arith));
       end = omega (arith, s.long, size, length-record body, grows.end (0 ∷ s.rest), ap base_of is);
-      selector =
-          ap (λ l. slice_index l 9) (is ∙ append_assoc s.head (1 ∷ record_bytes body) (0 ∷ s.rest))
-          ∙ get_or_append_left s.head (1 ∷ (record_bytes body ++ 0 ∷ s.rest)) 0 9 (omega (arith, s.holds.long))
-          ∙ sym (get_or_append_left s.head s.before 0 9 (omega (arith, s.holds.long)))
-          ∙ ap (λ l. slice_index l 9) (sym s.was);
+      selector = same_index 9 (omega arith);
+      base = omega (arith, s.holds.end behind, s.holds.end s.before, ap base_of from_head, ap base_of s.was);
+      choice = same_index 10 (omega arith);
     }

@@ -27,6 +27,9 @@ module _ (bytes layout : List ℕ) (is : layout ≡ take 288 bytes) where
   pub selector_there : (slice_index layout 9 == 1) ≡ (slice_index bytes 9 == 1)
   selector_there = ap (λ b. b == 1) (index-same 9 288 layout bytes (omega arith) same)
 
+  pub choice_there : (slice_index layout 10 == 1) ≡ (slice_index bytes 10 == 1)
+  choice_there = ap (λ b. b == 1) (index-same 10 288 layout bytes (omega arith) same)
+
   module _ (slot base : ℕ) (long : 289 ≤ length bytes) (magic : has_magic layout ≡ true) (slot_is : slot ≡ base_slot layout) (base_is : base ≡ from_be_bytes w64 (part slot 8 layout)) where
     base_there : base ≡ base_of bytes
     base_there = base_is ∙ ap (λ s. from_be_bytes w64 (part s 8 layout)) slot_is ∙ base-same layout bytes same

@@ -1,5 +1,8 @@
 pub mod Append
+pub mod Bases
 pub mod Exits
+pub mod ImageBytes
+pub mod ImageSteps
 pub mod Layouts
 pub mod Moments
 pub mod NewStore

@@ -118,6 +118,9 @@ module _ (start : List ℕ) (few : length start ≤ 127) where
       pub new_selector : slice_index bytes 9 ≡ 0
       new_selector = ap (λ l. slice_index l 9) is_new.is
 
+      pub new_choice : slice_index bytes 10 ≡ 0
+      new_choice = ap (λ l. slice_index l 10) is_new.is
+
     -- with its gate in any state
     any_gate : (gate : ℕ) (layout rest : List ℕ) → layout ≡ new_layout start ++ (1 ∷ (record_bytes first ++ 0 ∷ rest)) → IsNoneOrNew first start (gate ∷ layout)
     any_gate gate layout rest is = elim (cases_eq gate 1) [

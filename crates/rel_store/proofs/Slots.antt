@@ -33,7 +33,7 @@ module _ (at n : ℕ) (middle old new : List ℕ) (p : Patched at n middle old n
   front-long : length (take at old) ≡ at
   front-long = length-take-le at old (omega (arith, p.within))
 
-  front : take at new ≡ take at old
+  pub front : take at new ≡ take at old
   front = ap (λ l. take at l) p.is ∙ take_at (take at old) (middle ++ (drop (at + n) old ++ p.tail)) at front-long
 
   -- what is written is read there
@@ -138,6 +138,7 @@ pub record Slotted (second : Bool) (bodies : List (List ℕ)) (text slot was byt
   pub counts : (slice_index bytes 9 == 1) ≡ not second
   pub other : part (slot_place second) 128 bytes ≡ slot
   pub base : base_of bytes ≡ base_of was
+  pub choice : slice_index bytes 10 ≡ slice_index was 10
 
 pub slotted : (second : Bool) (slot old new : List ℕ) (bodies : List (List ℕ)) (text : List ℕ) → length slot ≡ 128 → Stands bodies text old → (slice_index old 9 == 1) ≡ not second → new ≡ overwritten (slot_place second) slot old
     → Slotted second bodies text slot old new
@@ -149,6 +150,7 @@ slotted second slot old new bodies text long here counts written =
       counts = ap (λ b. b == 1) (index-before (slot_place second) 128 slot old new p 9 (omega (arith, high-place second))) ∙ counts;
       other = inside (slot_place second) 128 slot old new p;
       base = base-kept (slot_place second) 128 slot old new p bodies (omega (arith, low-place second)) (index-before (slot_place second) 128 slot old new p 10 (omega (arith, high-place second))) here.records;
+      choice = index-before (slot_place second) 128 slot old new p 10 (omega (arith, high-place second));
     }
   where
     low-place : (b : Bool) → slot_place b ≤ 144
@@ -225,6 +227,7 @@ pub record Selected (second : Bool) (bodies : List (List ℕ)) (slot old new : L
   pub here : Stands bodies slot new
   pub base : base_of new ≡ base_of old
   pub counts : (slice_index new 9 == 1) ≡ second
+  pub choice : slice_index new 10 ≡ slice_index old 10
 
 pub selected_now : (second : Bool) (bodies : List (List ℕ)) (text slot was old new : List ℕ) (byte : ℕ) → (byte == 1) ≡ second → Slotted second bodies text slot was old → new ≡ overwritten 9 (byte ∷ []) old → Selected second bodies slot was new
 selected_now second bodies text slot was old new byte is s written =
@@ -234,4 +237,5 @@ selected_now second bodies text slot was old new byte is s written =
       here = new_slot second bodies text slot was old new s (chosen second second bodies text slot was old new byte s p is);
       base = base-kept 9 1 (byte ∷ []) old new p bodies (omega arith) (selector-base old new byte p whole.long) s.here.records ∙ s.base;
       counts = ap (λ b. b == 1) (selector-start old new byte p whole.long) ∙ is;
+      choice = selector-base old new byte p whole.long ∙ s.choice;
     }

@@ -1,13 +1,17 @@
 -- Which bytes of a disk a call changes, and what it makes of them.
 use Rattle.std.specs.Prelude.{◌≡◌, ◌⊎◌, ℕ, ◌+◌, ◌<◌, ◌≤◌, List, [], ◌∷◌, ◌++◌, length, slice_index}
 use Rattle.rel_disk.specs.Damage.{overwritten}
-use Rattle.rel_store.specs.Layout.{other_slot, other_selector, slot_with}
+use Rattle.rel_store.specs.Layout.{other_slot, other_selector, other_base_slot, slot_with}
 use Rattle.rel_store.specs.Records.{record_bytes}
 
 -- none of the bytes is lost, and each that is not the call's own is as it was
 pub record LeavesOthers (is_own : ℕ → Type 0) (old new : List ℕ) : Type 0 where
   pub long : length old ≤ length new
   pub kept : (i : ℕ) → i < length old → (is_own i → ⊥) → slice_index new i ≡ slice_index old i
+
+-- each of the bytes that is not the call's own is there, and as it was
+pub record KeepsOthers (is_own : ℕ → Type 0) (old new : List ℕ) : Type 0 where
+  pub there : (i : ℕ) → i < length old → (is_own i → ⊥) → (i < length new) × (slice_index new i ≡ slice_index old i)
 
 -- an append's own: a record with a body of n bytes at this gate, and the gate behind it
 abbrev pub IsInRecord : ℕ → ℕ → ℕ → Type 0
@@ -20,6 +24,11 @@ IsInOtherSlot bytes i = (i ≡ 9) ⊎ ((other_slot bytes ≤ i) × (i < other_sl
 -- a creation's own: the layout, a record with a body of n bytes, and the gate behind it
 abbrev pub IsInNewStore : ℕ → ℕ → Type 0
 IsInNewStore n i = i < 294 + n
+
+-- a compaction's own: the selector of the base slots, the one that doesn't count, and an image with a body of n bytes at
+-- this place, with its gates; behind 288, where it may stand, also all that follows
+abbrev pub IsInCompaction : List ℕ → ℕ → ℕ → ℕ → Type 0
+IsInCompaction bytes place n i = ((i ≡ 10) ⊎ ((other_base_slot bytes ≤ i) × (i < other_base_slot bytes + 8))) ⊎ ((place ≤ i) × ((place ≡ 288) ⊎ (i < place + (6 + n))))
 
 -- these bytes with one record more, which begins at this gate, and a closed gate behind it
 abbrev pub with_record : ℕ → List ℕ → List ℕ → List ℕ

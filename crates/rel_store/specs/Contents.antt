@@ -8,11 +8,13 @@ use Rattle.rel_store.specs.declared.contents.Contents.{Contents}
 use Rattle.rel_store.specs.declared.error.StoreError.{StoreError}
 use Rattle.rel_store.specs.declared.error.StoreError.TheVariants.{NotAStore, Damaged, Device, NoMemory}
 
--- These are the records of the bytes, their closed gate's place and the start slot that counts.
+-- These are the records of the bytes, the places of the first and of their closed gate, and the slots that count.
 pub record AreContentsOf (bytes : List ℕ) (contents : Contents) : Type 0 where
   pub records : records_of bytes ≡ Ok (map (λ v. v.items) contents.records.items)
   pub end : contents.gate ≡ base_of bytes + space (map (λ v. v.items) contents.records.items)
   pub start : contents.second_start ≡ (slice_index bytes 9 == 1)
+  pub base : contents.base ≡ base_of bytes
+  pub chooses : contents.second_base ≡ (slice_index bytes 10 == 1)
 
 -- Why an opening of these bytes refuses them: what they tell, or a failure of the device, or out of memory.
 abbrev pub OpenRefused : List ℕ → ℕ → ℕ → StoreError → Type 0

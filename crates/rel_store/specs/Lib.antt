@@ -1,4 +1,5 @@
 pub mod Changed
+pub mod Compaction
 pub mod Contents
 pub mod Creation
 pub mod Layout

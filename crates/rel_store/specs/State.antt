@@ -29,6 +29,10 @@ text_in seen store = text_of (seen store.disk)
 abbrev pub gate_in : {D : Type 0} → Store D → ℕ
 gate_in store = store.gate
 
+-- the place of its first record
+abbrev pub base_in : {D : Type 0} → Store D → ℕ
+base_in store = store.base
+
 -- where it ends: one past its closed gate
 abbrev pub end_in : {D : Type 0} → Store D → ℕ
 end_in store = store.gate + 1
@@ -52,6 +56,8 @@ pub record IsSettled {D : Type 0} (seen : D → List ℕ) (may_leave : D → Lis
   pub durable : Only (seen store.disk) (may_leave store.disk)
   pub end : store.gate ≡ base_of (seen store.disk) + space (records_in store)
   pub start : store.second_start ≡ (slice_index (seen store.disk) 9 == 1)
+  pub base : store.base ≡ base_of (seen store.disk)
+  pub chooses : store.second_base ≡ (slice_index (seen store.disk) 10 == 1)
 
 -- What is known of a store between two calls: it is settled, unless the device has failed.
 pub record IsSoundStore {D : Type 0} (seen : D → List ℕ) (may_leave : D → List ℕ → Type 0) (store : Store D) : Type 0 where

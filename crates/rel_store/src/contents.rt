@@ -5,18 +5,20 @@ ghost use Rattle.rel_store.specs.Records.{is_whole, records_from, space, told_le
 
 use crate::StoreError;
 use crate::layout::{
-    FIRST_RECORD, MAX_BODY, OPEN, RECORD_HEAD, SHORTEST, START_SELECTOR, base_slot_of,
-    begins_a_store, body_length, place_at,
+    BASE_SELECTOR, FIRST_RECORD, MAX_BODY, OPEN, RECORD_HEAD, SHORTEST, START_SELECTOR,
+    base_slot_of, begins_a_store, body_length, place_at,
 };
 use rel_disk::Disk;
 use std::alloc::Global;
 
-// The records of a store, the place of the closed gate behind them, and which start slot counts.
+// The records of a store, the places of the first and of the closed gate behind them, and which slots count.
 #[derive(Drop)]
 pub(crate) struct Contents {
     pub(crate) records: Vec<Vec<u8>>,
     pub(crate) gate: u64,
     pub(crate) second_start: bool,
+    pub(crate) base: u64,
+    pub(crate) second_base: bool,
 }
 
 // Records, and the place of the closed gate behind them.
@@ -56,6 +58,8 @@ impl Contents {
             records: found.records,
             gate: found.gate,
             second_start: layout[START_SELECTOR] == 1,
+            base,
+            second_base: layout[BASE_SELECTOR] == 1,
         })
     }
 }

@@ -59,6 +59,8 @@ impl<D: Disk> Store<D> {
                 records,
                 gate: FIRST_RECORD + (RECORD_HEAD + first.len()) as u64,
                 second_start: false,
+                base: FIRST_RECORD,
+                second_base: false,
                 must_reopen: false,
                 spare: Vec::new(alloc),
             }),

@@ -30,7 +30,7 @@ pub(crate) const BEGINNING: usize = 9;
 
 pub(crate) const START_SELECTOR: usize = 9;
 
-const BASE_SELECTOR: usize = 10;
+pub(crate) const BASE_SELECTOR: usize = 10;
 
 // Whether the bytes begin with an open gate and the magic.
 pub(crate) fn begins_a_store(bytes: &[u8]) -> bool
@@ -74,8 +74,15 @@ pub(crate) fn slot_place(second: bool) -> u64
     if second { 144 } else { 16 }
 }
 
-// The selector that chooses the second start slot, or the first.
-pub(crate) fn start_selector(second: bool) -> u8
+// The place of the second base slot, or of the first.
+pub(crate) fn base_slot_place(second: bool) -> u64
+    ensures { result ≡ (if second then 280 else 272) }
+{
+    if second { 280 } else { 272 }
+}
+
+// The selector that chooses the second of two slots, or the first.
+pub(crate) fn selector_of(second: bool) -> u8
     ensures { result ≡ (if second then 1 else 0) }
 {
     if second { 1 } else { 0 }

@@ -42,6 +42,8 @@ impl<D: Disk> Store<D> {
                 records: contents.records,
                 gate: contents.gate,
                 second_start: contents.second_start,
+                base: contents.base,
+                second_base: contents.second_base,
                 must_reopen: false,
                 spare: Vec::new(alloc),
             }),

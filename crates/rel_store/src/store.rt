@@ -11,13 +11,13 @@ use crate::StoreError;
 use crate::bytes::{body_of_record, make_room, spell_record, start_slot};
 use crate::device::write_and_commit;
 use crate::layout::{
-    MAX_BODY, MAX_END, OPEN, RECORD_HEAD, START_SELECTOR, slot_place, start_selector,
+    MAX_BODY, MAX_END, OPEN, RECORD_HEAD, START_SELECTOR, selector_of, slot_place,
 };
 use rel_disk::Disk;
 use std::alloc::Global;
 use std::mem;
 
-/// A store of records, each of which is on the disk once its `append` has answered `Ok`.
+/// A store of records, each of which is on the disk once its `append` or its `compact` has answered `Ok`.
 #[derive(Drop)]
 pub struct Store<D: Disk> {
     pub(crate) disk: D,
@@ -26,6 +26,10 @@ pub struct Store<D: Disk> {
     pub(crate) gate: u64,
     // the second start slot counts
     pub(crate) second_start: bool,
+    // the place of the first record
+    pub(crate) base: u64,
+    // the second base slot counts
+    pub(crate) second_base: bool,
     pub(crate) must_reopen: bool,
     // memory for the next record
     pub(crate) spare: Vec<u8>,
@@ -41,6 +45,8 @@ impl<D: Disk> Store<D> {
             records: _,
             gate: _,
             second_start: _,
+            base: _,
+            second_base: _,
             must_reopen: _,
             spare: _,
         } = self;
@@ -209,7 +215,7 @@ impl<D: Disk> Store<D> {
             slot_place(second),
             &start_slot(text),
             START_SELECTOR as u64,
-            start_selector(second),
+            selector_of(second),
         )?;
         self.second_start = second;
         self.must_reopen = false;

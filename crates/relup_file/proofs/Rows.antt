@@ -1,7 +1,7 @@
 -- The entries of a relup, one after another.
 use Rattle.std.proofs.Common.{◌≡◌, ℕ, ◌+◌, ◌<◌, ◌≤◌, suc, ◌++◌, List, [], ◌∷◌, length, map, drop, get_or, Some, None, Result, Ok, Err, MatchResult, IsErr, IsErrAnd, refl, sym, ap, subst, ◌∙◌, append_assoc, arith}
 use Rattle.std.proofs.lemmas.List.{append-nil, drop_all, drop_more, map-append}
-use Rattle.erl_term.specs.Term.{Term}
+use Rattle.erl_term.specs.declared.term.Term.{Term}
 use Rattle.erl_term.specs.Value.{Value, Values, value_of, members_of}
 use Rattle.rel_files.specs.Sketch.{count}
 use Rattle.relup_file.specs.declared.fault.RelupFault.{RelupFault}

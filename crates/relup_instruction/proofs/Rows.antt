@@ -4,7 +4,7 @@ use Rattle.std.specs.Option.{option_map, option_and_then}
 use Rattle.std.proofs.lemmas.List.{append-nil, drop_all, drop_more, map-append, take_all, take_more}
 use Rattle.erl_term.specs.declared.term.Term.TheFolds.{fold-roll-Term}
 use Rattle.erl_term.specs.declared.term.Term.TheVariants as variant
-use Rattle.erl_term.specs.Term.{Term}
+use Rattle.erl_term.specs.declared.term.Term.{Term}
 use Rattle.erl_term.specs.Value.{Value, Values, value_of, values_of, members_of}
 use Rattle.erl_term.specs.Value.Value.{list}
 use Rattle.erl_term.specs.Value.Values.{value}

@@ -1,5 +1,5 @@
 use Rattle.std.proofs.Common.{Bor, map, refl}
-use Rattle.erl_term.specs.Term.{Term}
+use Rattle.erl_term.specs.declared.term.Term.{Term}
 use Rattle.erl_term.specs.Value.{Value, value_of}
 use Rattle.rel_files.specs.Parts.{pair_in}
 use Rattle.rel_files.proofs.Rows.{ReadsEach, row_more, row_none, row_all, viewed}

@@ -3,7 +3,7 @@ use Rattle.rel_store.specs.Contents.{RecordsRefused}
 use Rattle.rel_store.specs.Records.{records_from, space}
 use Rattle.rel_store.specs.declared.error.StoreError.TheVariants.{Device}
 use Rattle.rel_store.proofs.Exits.{no_value}
-use Rattle.rel_store.proofs.Layouts.{no_magic, selector_there, no_base, records_there, place_there, refused_by_records}
+use Rattle.rel_store.proofs.Layouts.{no_magic, selector_there, choice_there, no_base, records_there, place_there, refused_by_records}
 use Rattle.rel_store.proofs.OnlyReads.{read_first, read_twice, read_on}
 use Rattle.rel_store.proofs.Scan.{bodies_of, passed_on, failed_since, refused_since}
 use Rattle.rel_store.proofs.contents.Contents.read.Goals as goal
@@ -43,10 +43,13 @@ returns-clause-ok g c =
     let long : 289 ≤ length bytes = omega (arith, c.if-len.false, len) in
     let magic = sym c.begins_a_store.ensures ∙ c.if-not-begins_a_store.false in
     let there = c.read.ensures.same ∙ c.len.ensures.same in
+    let place = place_there bytes c.read.new.buf layout c.base_slot_of-slot.result c.place_at-base.result long magic c.base_slot_of-slot.ensures c.place_at-base.ensures c.if-base-lt-FIRST_RECORD.false (omega (arith, c.if-base-len.false, len)) in
     record {
       records = records_there bytes c.read.new.buf layout c.base_slot_of-slot.result c.place_at-base.result long magic c.base_slot_of-slot.ensures c.place_at-base.ensures c.if-base-lt-FIRST_RECORD.false (omega (arith, c.if-base-len.false, len)) _ (sym (ap (λ l. records_from c.place_at-base.result 0 (drop c.place_at-base.result l)) there) ∙ c.in_ok-found.ensures.records);
-      end = c.in_ok-found.ensures.gate ∙ ap (λ at. at + space (bodies_of c.in_ok-found.found.records.items)) (place_there bytes c.read.new.buf layout c.base_slot_of-slot.result c.place_at-base.result long magic c.base_slot_of-slot.ensures c.place_at-base.ensures c.if-base-lt-FIRST_RECORD.false (omega (arith, c.if-base-len.false, len)));
+      end = c.in_ok-found.ensures.gate ∙ ap (λ at. at + space (bodies_of c.in_ok-found.found.records.items)) place;
       start = selector_there bytes c.read.new.buf layout;
+      base = place;
+      chooses = choice_there bytes c.read.new.buf layout;
     }
 
 pub returns-in_err-len-clause-reads : goal.returns-in_err-len-clause-reads

@@ -79,6 +79,8 @@ returns-clause-settled g c =
       durable = c.in_ok-write_and_commit.ensures.durable;
       end = a.end ∙ ap (λ bodies. base_of (g.D.Disk.seen c.write_and_commit.new.disk) + space bodies) (sym added);
       start = s.start ∙ ap (λ selector. selector == 1) (sym a.selector);
+      base = s.base ∙ sym a.base;
+      chooses = s.chooses ∙ ap (λ selector. selector == 1) (sym a.choice);
     }
 
 pub returns-clause-sound : goal.returns-clause-sound

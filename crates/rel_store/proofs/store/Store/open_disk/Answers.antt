@@ -18,6 +18,8 @@ returns-in-Ok-clause-settled g c =
       durable = λ d now. synced.durable d now ∙ sym synced.same;
       end = read.end ∙ ap (λ l. base_of l + space (bodies_of c.in-Ok.contents.records.items)) (sym synced.same);
       start = read.start ∙ ap (λ l. slice_index l 9 == 1) (sym synced.same);
+      base = read.base ∙ ap (λ l. base_of l) (sym synced.same);
+      chooses = read.chooses ∙ ap (λ l. slice_index l 10 == 1) (sym synced.same);
     }
 
 pub returns-in-Ok-clause-sound : goal.returns-in-Ok-clause-sound

@@ -33,6 +33,8 @@ returns-clause-settled g c =
       durable = λ d now. s.durable d (c.read.ensures.crash d now) ∙ sym same;
       end = s.end ∙ ap (λ l. base_of l + space (records_in c.args.self.now)) (sym same);
       start = s.start ∙ ap (λ l. slice_index l 9 == 1) (sym same);
+      base = s.base ∙ ap (λ l. base_of l) (sym same);
+      chooses = s.chooses ∙ ap (λ l. slice_index l 10 == 1) (sym same);
     }
 
 pub returns-clause-sound : goal.returns-clause-sound

@@ -1,5 +1,6 @@
 use Rattle.std.proofs.Common.{◌≡◌, inl, inr, ℕ, ◌+◌, ◌-◌, ◌≤◌, List, [], ◌∷◌, length, length-append, replicate, refl, sym, ◌∙◌, ap, arith, true≢false}
 use Rattle.std.proofs.lemmas.List.{length-replicate}
+use Rattle.std.specs.Prelude.{◌==◌}
 use Rattle.rel_disk.specs.Damage.{overwritten}
 use Rattle.rel_store.specs.Changed.{IsInOtherSlot}
 use Rattle.rel_store.specs.Layout.{other_slot, slot_with}
@@ -44,18 +45,20 @@ returns-clause-any_moment g c = λ works. after_start g.D.Disk.moment g.D.Disk.l
 pub returns-clause-settled : goal.returns-clause-settled
 returns-clause-settled g c =
     let s = c.requires.sound.settled c.if-self.false in
-    let new = selected_slot g.D.Disk.moment g.D.Disk.left_since g.D.Disk.seen g.D.Disk.may_leave c.args.self.now s c.start_slot.result c.args.text.now c.requires.short c.start_slot.ensures c.slot_place.result c.slot_place.ensures c.write_and_commit.new.disk c.start_selector.result c.start_selector.ensures c.in_ok-write_and_commit.ensures.written in
+    let new = selected_slot g.D.Disk.moment g.D.Disk.left_since g.D.Disk.seen g.D.Disk.may_leave c.args.self.now s c.start_slot.result c.args.text.now c.requires.short c.start_slot.ensures c.slot_place.result c.slot_place.ensures c.write_and_commit.new.disk c.selector_of.result c.selector_of.ensures c.in_ok-write_and_commit.ensures.written in
     record {
       works = refl;
       records = new.here.records;
       durable = c.in_ok-write_and_commit.ensures.durable;
       end = s.end ∙ ap (λ base. base + space (records_in c.args.self.now)) (sym new.base);
       start = sym new.counts;
+      base = s.base ∙ sym new.base;
+      chooses = s.chooses ∙ ap (λ b. b == 1) (sym new.choice);
     }
 
 pub returns-clause-written : goal.returns-clause-written
 returns-clause-written g c =
-    (selected_slot g.D.Disk.moment g.D.Disk.left_since g.D.Disk.seen g.D.Disk.may_leave c.args.self.now (c.requires.sound.settled c.if-self.false) c.start_slot.result c.args.text.now c.requires.short c.start_slot.ensures c.slot_place.result c.slot_place.ensures c.write_and_commit.new.disk c.start_selector.result c.start_selector.ensures c.in_ok-write_and_commit.ensures.written).here.start
+    (selected_slot g.D.Disk.moment g.D.Disk.left_since g.D.Disk.seen g.D.Disk.may_leave c.args.self.now (c.requires.sound.settled c.if-self.false) c.start_slot.result c.args.text.now c.requires.short c.start_slot.ensures c.slot_place.result c.slot_place.ensures c.write_and_commit.new.disk c.selector_of.result c.selector_of.ensures c.in_ok-write_and_commit.ensures.written).here.start
 
 pub returns-clause-sound : goal.returns-clause-sound
 returns-clause-sound g c = record { settled = λ works. returns-clause-settled g c }
@@ -79,9 +82,9 @@ returns-clause-bytes g c =
     let s = c.requires.sound.settled c.if-self.false in
     let old = g.D.Disk.seen c.args.self.now.disk in
     let place = other 144 16 c.args.self.now.second_start c.slot_place.result old s.start c.slot_place.ensures in
-    let selector = other 1 0 c.args.self.now.second_start c.start_selector.result old s.start c.start_selector.ensures in
+    let selector = other 1 0 c.args.self.now.second_start c.selector_of.result old s.start c.selector_of.ensures in
     c.in_ok-write_and_commit.ensures.written
-    ∙ (λ i. overwritten 9 (c.start_selector.result ∷ []) (overwritten (place i) (c.start_slot.ensures i) old))
+    ∙ (λ i. overwritten 9 (c.selector_of.result ∷ []) (overwritten (place i) (c.start_slot.ensures i) old))
     ∙ ap (λ b. overwritten 9 (b ∷ []) (overwritten (other_slot old) (slot_with c.args.text.now) old)) selector
 
 -- after an error
