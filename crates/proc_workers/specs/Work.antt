@@ -54,8 +54,9 @@ MayAnswer pid v w other tried.Held = ⊥
 MayAnswer pid v w other tried.Down = (¬ IsProcess pid other) ⊎ WasDown pid v w
 MayAnswer pid v w other t = IsProcess pid other × WasUp pid v w
 
--- The worker of this process has given these answers: each but Down is a call of its pass. The calls stand in the history in
--- order, each once, and it is legal, so each has the outcome of its process. Other slots are more before.
+-- The worker of this process has given these answers: each but Down is a call of its pass, in order, and it made no other.
+-- Where the pass's own entries in what it had seen were its `mine`, they still are, so each call stands in the history once.
+-- Where that was legal, it still is, so each call has the outcome of its process. Other slots are as before.
 pub record HasAnswered (pid : Pid) (v : View) (answers : List Answer) (w : View) : Type 0 where
   pub longer : IsPrefix (seen v pid.slot) (seen w pid.slot)
   pub mine_is : mine w pid.slot ≡ mine v pid.slot ++ calls_of v.number answers

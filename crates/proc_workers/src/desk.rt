@@ -102,7 +102,7 @@ impl Desk {
         self.answers.push_reserved(answer);
     }
 
-    pub(crate) fn ended(self, inbox: Inbox, cause: EndCause) -> Ended
+    pub(crate) fn end(self, inbox: Inbox, cause: EndCause) -> Ended
         ensures { (result.pass ≡ self.pass) × (result.inbox ≡ inbox) × (result.answers ≡ self.answers) × (result.left ≡ self.kept) × (result.cause ≡ cause) }
     {
         let Desk {

@@ -70,9 +70,9 @@ pub fn flood<R: Threads + Wait + Sync>(
         answers,
         left: _left,
         cause: _cause,
-    } = flooded(rt, table, worker, first, second, input, times);
+    } = run_worker(rt, table, worker, first, second, input, times);
     table.take_back(seat, pass);
-    match counted(answers.as_slice(), pid, input, times) {
+    match count_answers(answers.as_slice(), pid, input, times) {
         Some(counts) => Ok(counts),
         None => Err(AllocError),
     }
@@ -104,7 +104,7 @@ impl FloodWorker {
 }
 
 // The worker ends once both senders are gone.
-fn flooded<R: Threads + Wait + Sync>(
+fn run_worker<R: Threads + Wait + Sync>(
     rt: &R,
     table: &ProcTable,
     worker: FloodWorker,
@@ -159,7 +159,7 @@ fn send_jobs<R: Wait>(rt: &R, sender: Sender, pid: Pid, input: u32, times: u32) 
 }
 
 // Counts the answers, if they are so many calls of the process with this input.
-fn counted(answers: &[Answer], pid: Pid, input: u32, times: u32) -> Option<FloodCounts>
+fn count_answers(answers: &[Answer], pid: Pid, input: u32, times: u32) -> Option<FloodCounts>
     ensures { MatchOption result ⊤ (λ f. AreCounted pid input times answers.now f) }
 {
     if answers.len() != times as usize {

@@ -50,14 +50,14 @@ pub fn work<G: Gate, R: Wait>(
     let mut desk = Desk::new(alloc, pass);
     for _ in rt.forever() {
         if desk.make_room().is_err() {
-            return desk.ended(inbox, EndCause::NoMemory);
+            return desk.end(inbox, EndCause::NoMemory);
         }
         match inbox.take(rt) {
             Some(Note::Job(job)) => desk.take_job(rt, table, pid, gate, job),
             Some(Note::Suspend) => desk.suspend(),
             Some(Note::Resume) => desk.resume(rt, table, pid, gate),
-            Some(Note::Stop) => return desk.ended(inbox, EndCause::Stopped),
-            None => return desk.ended(inbox, EndCause::Closed),
+            Some(Note::Stop) => return desk.end(inbox, EndCause::Stopped),
+            None => return desk.end(inbox, EndCause::Closed),
         }
     }
     unreachable!()

@@ -1,10 +1,10 @@
 //! Workers of processes, and what they make of notes.
-ghost use Rattle.std.specs.Prelude.{◌≡◌};
+ghost use Rattle.std.specs.Prelude.{◌≡◌, []};
 
 use crate::clients::{push_peek, push_tried};
-use crate::processes::begin;
-use proc_table::{Pid, ProcTable};
-use proc_workers::{EndCause, Ended, Inbox, Job, NoGate, Note, flood, mailbox, work};
+use crate::processes::{begin, beginning};
+use proc_table::{HandlerSeat, Pid, ProcTable};
+use proc_workers::{EndCause, Ended, FloodCounts, Inbox, Job, NoGate, Note, flood, mailbox, work};
 use std::alloc::Global;
 use std::sync::Wait;
 use std::thread::Threads;
@@ -103,28 +103,48 @@ pub(crate) fn push_flood<R: Threads + Wait + Sync>(
     words: &str,
     answer: &mut Answer,
 ) {
+    let (how, words) = first_word(words);
+    let Some(begins) = beginning(alloc, how) else {
+        return answer.note_no_memory();
+    };
     let Ok((table, mut seat)) = ProcTable::new(alloc) else {
         return answer.note_no_memory();
     };
-    let (how, words) = first_word(words);
-    let Some(pid) = begin(rt, alloc, &table, &mut seat, None, how, answer) else {
-        return;
-    };
+    match table.begin_lowest(rt, &mut seat, begins) {
+        Ok(pid) => push_flood_of(rt, alloc, &table, &mut seat, pid, words, answer),
+        Err(_) => answer.push("none"),
+    }
+}
+
+fn push_flood_of<R: Threads + Wait + Sync>(
+    rt: &R,
+    alloc: Global,
+    table: &ProcTable,
+    seat: &mut HandlerSeat,
+    pid: Pid,
+    words: &str,
+    answer: &mut Answer,
+)
+    requires table { seat.old.table ≡ table.now }
+    requires alone { seat.old.view.lent ≡ [] }
+{
     let (times, input) = first_word(words);
     let times = times.parse::<u32>().unwrap_or(0);
     let input = input.parse::<u32>().unwrap_or(0);
-    match flood(rt, alloc, &table, &mut seat, pid, input, times) {
-        Ok(counts) => {
-            answer.push_counted("done ", counts.done as u64);
-            answer.push_counted(" crashed ", counts.crashed as u64);
-            answer.push_counted(" ended ", counts.ended as u64);
-            answer.push_counted(" down ", counts.down as u64);
-            answer.push(", ");
-        }
+    match flood(rt, alloc, table, seat, pid, input, times) {
+        Ok(counts) => push_counts(counts, answer),
         Err(_) => return answer.note_no_memory(),
     }
-    let mut pass = table.new_pass(&mut seat);
-    push_peek(&table, &mut pass, pid, answer);
+    let mut pass = table.new_pass(seat);
+    push_peek(table, &mut pass, pid, answer);
+}
+
+fn push_counts(counts: FloodCounts, answer: &mut Answer) {
+    answer.push_counted("done ", counts.done as u64);
+    answer.push_counted(" crashed ", counts.crashed as u64);
+    answer.push_counted(" ended ", counts.ended as u64);
+    answer.push_counted(" down ", counts.down as u64);
+    answer.push(", ");
 }
 
 /// Appends what a send to a mailbox answers whose inbox is gone.

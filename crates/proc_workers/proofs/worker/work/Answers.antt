@@ -46,6 +46,6 @@ pub returns-in-Some-Stop-clause-jobs : goal.returns-in-Some-Stop-clause-jobs
 returns-in-Some-Stop-clause-jobs g c =
     let at = c.loop.invariant in
     let same = c.make_room.ensures.same in
-    let r = c.ended-in-Some-Stop.ensures in
+    let r = c.end-in-Some-Stop.ensures in
     let more = c.in-Some-Stop.ensures.taken ∙ ap (λ (n : Note). taken c.loop.inbox ++ n ∷ []) c.in-Some-Stop.field-0-is in
     ends_stopped c.args.pid _ c.args.inbox _ c.loop.desk _ at.3 (ap (λ i. read_by i) r.1 ∙ (c.in-Some-Stop.ensures.mailbox ∙ at.2)) (ap (λ i. taken i) r.1 ∙ more) (ap (λ v. v.items) r.2 ∙ same.1) (ap (λ v. v.items) r.3 ∙ same.2) r.4

@@ -1,6 +1,6 @@
 use Rattle.std.proofs.Common.{take}
 use Rattle.proc_workers.specs.Counted.{AreCounted}
-use Rattle.proc_workers.proofs.floods.counted.Given as goal
+use Rattle.proc_workers.proofs.floods.count_answers.Given as goal
 
 -- the answers so far are counted
 abbrev pub invariant-loop-at : goal.invariant-loop-at

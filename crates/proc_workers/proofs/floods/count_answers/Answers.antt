@@ -4,7 +4,7 @@ use Rattle.proc_workers.specs.declared.floods.FloodCounts.{FloodCounts}
 use Rattle.proc_workers.specs.declared.note.Answer.{Answer}
 use Rattle.proc_workers.specs.Counted.{AreCounted}
 use Rattle.proc_workers.proofs.CountLemmas.{one_counted, room_for_one}
-use Rattle.proc_workers.proofs.floods.counted.Goals as goal
+use Rattle.proc_workers.proofs.floods.count_answers.Goals as goal
 
 pub note-requires : goal.note-requires
 note-requires c =
