@@ -49,11 +49,11 @@ pub(crate) fn install<D: Disk, R: Wait>(
         &mut node.processes.loaded,
         vsn,
     );
-    reply_of(alloc, done)
+    told(alloc, done)
 }
 
 /// What an installation answers.
-fn reply_of(alloc: Global, done: Result<Installed, InstallError>) -> Result<String, HandlerError>
+fn told(alloc: Global, done: Result<Installed, InstallError>) -> Result<String, HandlerError>
     ensures { TellsInstallation done result }
 {
     match done {
