@@ -1,5 +1,5 @@
 -- What one answer more makes of the counts.
-use Rattle.std.proofs.Common.{◌≡◌, ◌<◌, ◌≤◌, ℕ, suc, ◌+◌, List, [], ◌∷◌, ◌++◌, length, refl, ap, sym, subst, ◌∙◌, arith, append-nil, length-append}
+use Rattle.std.proofs.Common.{◌≡◌, ◌<◌, ◌≤◌, ℕ, ◌+◌, List, [], ◌∷◌, ◌++◌, length, refl, ap, sym, subst, ◌∙◌, arith, append-nil, length-append}
 use Rattle.proc_history.specs.declared.value.Outcome.{Outcome}
 use Rattle.proc_history.specs.declared.value.Outcome.TheVariants as outcome
 use Rattle.proc_table.specs.declared.pass.Tried.{Tried}

@@ -1,5 +1,5 @@
 -- What each note makes of what a worker has in hand.
-use Rattle.std.proofs.Common.{◌≡◌, ◌<◌, ◌≤◌, ◌+◌, ℕ, true, false, List, [], ◌∷◌, ◌++◌, length, map, take, get_or, refl, ap, sym, subst, subst₂, ◌∙◌, append_assoc, append-nil, arith, length-append, vec_capacity}
+use Rattle.std.proofs.Common.{◌≡◌, ◌<◌, ◌+◌, ℕ, true, false, List, [], ◌∷◌, ◌++◌, length, take, get_or, refl, ap, sym, subst, subst₂, ◌∙◌, append_assoc, append-nil, arith, length-append, vec_capacity}
 use Rattle.std.proofs.lemmas.List.{take_more, take_all, length-take-le, length-map}
 use Rattle.proc_table.specs.declared.view.View.{View}
 use Rattle.proc_table.specs.declared.pid.Pid.{Pid}
@@ -12,7 +12,7 @@ use Rattle.proc_workers.specs.declared.ends.Inbox.{Inbox}
 use Rattle.proc_workers.specs.declared.worker.Ended.{Ended}
 use Rattle.proc_workers.specs.declared.worker.EndCause.TheVariants as cause
 use Rattle.proc_workers.specs.Ends.{read_by, taken}
-use Rattle.proc_workers.specs.Notes.{stops, suspends, EndsBy}
+use Rattle.proc_workers.specs.Notes.{EndsBy}
 use Rattle.proc_workers.specs.Work.{job_of, HasAnswered, HasDone, HasEnded}
 use Rattle.proc_workers.specs.Desks.{IsAt, IsReached, TakesNote, SameDesk, HasRoomFor, HasAnswer, HasResumed}
 use Rattle.proc_workers.proofs.NoteLemmas.{map_more, done_nothing, still_running, is_suspended, runs_on, suspends_same, done_suspended, done_stopped, done_kept, done_answered, done_resumed}

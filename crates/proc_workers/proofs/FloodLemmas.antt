@@ -1,5 +1,5 @@
 -- Many calls of one process: what the answers of a worker say of its history, and how they are counted.
-use Rattle.std.proofs.Common.{◌≡◌, ◌≢◌, ◌⊎◌, ◌<◌, ◌≤◌, ◌==◌, ℕ, zero, suc, ◌+◌, Bool, true, false, if◌then◌else◌, List, [], ◌∷◌, ◌++◌, length, take, get_or, refl, ap, sym, subst, ◌∙◌, ⊎_elim, append-nil, append_assoc, arith, Some, None, Option, option_map, All}
+use Rattle.std.proofs.Common.{◌≡◌, ◌≢◌, ◌<◌, ◌≤◌, ◌==◌, ℕ, zero, suc, ◌+◌, Bool, true, false, if◌then◌else◌, List, [], ◌∷◌, ◌++◌, length, refl, ap, sym, subst, ◌∙◌, ⊎_elim, append-nil, append_assoc, arith, Some, None, Option, option_map, All}
 use Rattle.std.proofs.lemmas.Bool.Decides.{nat_tests}
 use Rattle.std.proofs.lemmas.List.Elements.{All-head, All-tail}
 use Rattle.std.specs.List.{Contains}
@@ -13,7 +13,6 @@ use Rattle.proc_history.specs.declared.value.Value.{Value}
 use Rattle.proc_history.specs.Events.{HistoryEntry, entry, own}
 use Rattle.proc_history.specs.Events.Event.{call}
 use Rattle.proc_history.specs.Histories.{replay, replay_from, IsLegal, LegalFrom}
-use Rattle.proc_history.specs.Outcomes.{outcome_in}
 use Rattle.proc_history.specs.Values.{after, answer, nothing, outcome_of, up_at, up_in}
 use Rattle.proc_history.proofs.Entries.{own-append, append_nothing, replay-append}
 use Rattle.proc_history.proofs.Prefixes.{prefix_more}
@@ -24,14 +23,13 @@ use Rattle.proc_table.specs.declared.view.View.{View}
 use Rattle.proc_table.specs.Alone.{ByOnePass}
 use Rattle.proc_table.specs.Calls.{Made, Joined}
 use Rattle.proc_table.specs.Parts.{Part, part_of, longer}
-use Rattle.proc_table.specs.Views.{seen, mine, is_out, all_but}
+use Rattle.proc_table.specs.Views.{seen, all_but}
 use Rattle.proc_table.proofs.AloneLemmas.{longer_of}
 use Rattle.proc_table.proofs.LentLemmas.{only_lent, none_left}
 use Rattle.proc_workers.specs.declared.floods.FloodCounts.{FloodCounts}
 use Rattle.proc_workers.specs.declared.note.Answer.{Answer}
 use Rattle.proc_workers.specs.Counted.{AreCounted, AreOf, outcome_before, outcomes_in}
 use Rattle.proc_workers.specs.Floods.{and_then, calls_with, Counts, IsFlooded, outcomes_of}
-use Rattle.proc_workers.specs.Processes.{IsProcess}
 use Rattle.proc_workers.specs.Work.{calls_of, entries_of, HasAnswered, MayAnswer, WasDown, WasUp}
 
 -- ---- a pass that was lent alone, and is taken back

@@ -1,10 +1,9 @@
 -- What a worker begins with, and what it hands back, may go to another thread: its pass, its inbox, and what it has done.
-use denote.Param.Send.{IsSend, sendable}
+use denote.Param.Send.{IsSend}
 use denote.Param.SendFields.{declared_send}
 use Rattle.std.proofs.Crossing.{Vec-send, send}
 use Rattle.proc_table.proofs.ThreadLemmas.{pass_send}
 use Rattle.proc_table.proofs.pid.Pid.TheSendSync as pid
-use Rattle.proc_workers.specs.contracts.ends.Inbox as Inbox
 use Rattle.proc_workers.specs.contracts.floods.FloodWorker as FloodWorker
 use Rattle.proc_workers.specs.contracts.note.Answer as Answer
 use Rattle.proc_workers.specs.contracts.note.Job as Job

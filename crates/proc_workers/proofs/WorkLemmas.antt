@@ -1,13 +1,12 @@
 -- What one answer more makes of what a worker has done.
-use Rattle.std.proofs.Common.{◌≡◌, ◌≢◌, ◌⊎◌, ◌<◌, ℕ, List, [], ◌∷◌, ◌++◌, length, get_or, refl, ap, sym, subst, ◌∙◌, inl, inr, ⊎_elim, append-nil, append_assoc, None, All}
+use Rattle.std.proofs.Common.{◌≡◌, ℕ, List, [], ◌∷◌, ◌++◌, get_or, refl, ap, sym, subst, ◌∙◌, inl, inr, ⊎_elim, append-nil, append_assoc, All}
 use Rattle.std.proofs.lemmas.List.Elements.{All-nil, All-push}
 use mathlib.Core.List.{IsPrefix}
 use Rattle.proc_history.specs.declared.value.Outcome.{Outcome}
 use Rattle.proc_history.specs.declared.value.Outcome.TheVariants as outcome
 use Rattle.proc_history.specs.Events.{HistoryEntry, entry, own}
 use Rattle.proc_history.specs.Events.Event.{call}
-use Rattle.proc_history.specs.Histories.{replay, IsLegal}
-use Rattle.proc_history.specs.Values.{up_in}
+use Rattle.proc_history.specs.Histories.{IsLegal}
 use Rattle.proc_history.proofs.Prefixes.{prefix_self, prefix_more, prefix_trans}
 use Rattle.proc_table.specs.declared.view.View.{View}
 use Rattle.proc_table.specs.declared.pid.Pid.{Pid}

@@ -1,4 +1,4 @@
-use Rattle.std.proofs.Common.{rules, ◌≡◌, ◌<◌, ◌+◌, ◌∷◌, ◌++◌, [], List, ap, sym, subst, subst₂, ◌∙◌, arith, get_or, take, length}
+use Rattle.std.proofs.Common.{rules, ◌≡◌, ◌+◌, ◌∷◌, ◌++◌, [], List, ap, sym, subst₂, ◌∙◌, arith, take}
 use Rattle.std.proofs.lemmas.List.{take_more}
 use Rattle.proc_workers.specs.declared.floods.FloodCounts.{FloodCounts}
 use Rattle.proc_workers.specs.declared.note.Answer.{Answer}

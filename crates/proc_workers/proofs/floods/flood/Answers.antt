@@ -1,4 +1,4 @@
-use Rattle.std.proofs.Common.{◌≡◌, List, inr, sym, subst}
+use Rattle.std.proofs.Common.{List, inr, subst}
 use Rattle.proc_workers.specs.declared.note.Answer.{Answer}
 use Rattle.proc_workers.specs.Counted.{AreCounted}
 use Rattle.proc_workers.proofs.FloodLemmas.{is_flooded, taken_back}

@@ -1,4 +1,4 @@
-use Rattle.std.proofs.Common.{◌≡◌, [], ◌∷◌, ◌++◌, refl, ap, sym, ◌∙◌}
+use Rattle.std.proofs.Common.{[], ◌∷◌, ◌++◌, refl, ap, ◌∙◌}
 use Rattle.proc_workers.specs.declared.note.Note.{Note}
 use Rattle.proc_workers.specs.Ends.{read_by, taken}
 use Rattle.proc_workers.proofs.DeskLemmas.{none_reached, next_reached, ends_stopped}

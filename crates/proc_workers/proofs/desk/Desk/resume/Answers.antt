@@ -1,5 +1,4 @@
 use Rattle.std.proofs.Common.{◌≡◌, ◌<◌, false, refl, ap, sym, subst, ◌∙◌, length, get_or, arith}
-use Rattle.proc_workers.specs.declared.desk.Desk.{Desk}
 use Rattle.proc_workers.specs.Desks.{HasResumed}
 use Rattle.proc_workers.proofs.DeskLemmas.{resumes_none, resumes_more, room_left, takes_resume}
 use Rattle.proc_workers.proofs.desk.Desk.resume.Goals as goal
