@@ -90,7 +90,7 @@ is_called app id input v w apps modules pid tried.Held is alone = absurd alone
 
 -- The handler holds nothing behind a call.
 
-behind_pass : (p : ℕ) (v w : View) → HoldsNothing v → ByOnePass p v w → HoldsNothing w
+pub behind_pass : (p : ℕ) (v w : View) → HoldsNothing v → ByOnePass p v w → HoldsNothing w
 behind_pass p v w n rest = record { handler = rest.number ∙ n.handler; out = λ q inside. rest.out_is q ∙ n.out q inside }
 
 pub called_nothing : (p round input : ℕ) (v : View) (t : Tried) (w : View) → HoldsNothing v → AnswersAlone p round input v t w → HoldsNothing w

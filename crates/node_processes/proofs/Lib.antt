@@ -8,5 +8,6 @@ pub mod ReadyLemmas
 pub mod PermanentLemmas
 pub mod SlotLemmas
 pub mod CommandLemmas
+pub mod FloodLemmas
 pub mod ModuleLemmas
 pub mod ScriptLemmas

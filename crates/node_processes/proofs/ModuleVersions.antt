@@ -1,4 +1,4 @@
--- The modules of processes have versions: right after a boot, and behind a call or a script.
+-- The modules of processes have versions: right after a boot, and behind calls or a script.
 use Rattle.std.proofs.Common.{◌≡◌, ℕ, Bool, true, false, List, [], ◌∷◌, Option, Some, None, refl, sym, subst, ◌+◌, ◌&&◌, not, if◌then◌else◌, reverse, is_some}
 use Rattle.std.specs.List.{AllByRecursion, slice_get}
 use Rattle.std.specs.Str.{bytes_eq}
@@ -13,10 +13,15 @@ use Rattle.sup_tree.specs.Starts.{beginning_of}
 use Rattle.sup_tree.specs.Walk.{top_children, app_starts}
 use Rattle.proc_history.specs.declared.beginning.Beginning.{Beginning}
 use Rattle.proc_history.specs.declared.value.Now.{Now}
+use Rattle.proc_history.specs.declared.value.Outcome.{Outcome}
+use Rattle.proc_history.specs.declared.value.Value.{Value}
 use Rattle.proc_history.specs.Events as history
 use Rattle.proc_history.specs.Values.{nothing, up_in, after}
 use Rattle.proc_table.specs.declared.pid.Pid.{Pid}
 use Rattle.node_processes.specs.Answers.{outcome_at, value_at, behind_call, called_at, called}
+use Rattle.node_processes.specs.Calls.{Calls, left_by}
+use Rattle.node_processes.specs.Calls.Calls.{once, often}
+use Rattle.node_processes.specs.Floods.{after_calls, flooded, flooded_at, outcomes_at}
 use Rattle.node_processes.specs.Fresh.{started_parts, part_starts, part_beginnings, beginnings, first_value, first_values, tables_in, fresh_entry, permanent_entry, fresh}
 use Rattle.node_processes.specs.Processes.{Processes, process_named}
 use Rattle.node_processes.specs.ModuleVersions.{HasModuleVersion, HaveModuleVersions}
@@ -70,7 +75,7 @@ fresh_versions es all = go (permanent_entry es) refl
           modules = listed_versions [] e.libraries tt of;
         }
 
-pub called_versions : (app id : List ℕ) (input : ℕ) (ps : Processes) → HaveModuleVersions ps → HaveModuleVersions (called app id input ps)
+called_versions : (app id : List ℕ) (input : ℕ) (ps : Processes) → HaveModuleVersions ps → HaveModuleVersions (called app id input ps)
 called_versions app id input ps all = go (process_named app id ps)
   where
     by_now : (p : Pid) (o : Option Now) → HaveModuleVersions (behind_call input ps p o)
@@ -84,6 +89,26 @@ called_versions app id input ps all = go (process_named app id ps)
     go : (o : Option Pid) → HaveModuleVersions (called_at input ps o)
     go None = all
     go (Some p) = by_now p (up_in p.round (value_at ps p))
+
+calls_version : (input : ℕ) (os : List Outcome) (v : Value) → HasModuleVersion v → HasModuleVersion (after_calls input os v)
+calls_version input [] v is = is
+calls_version input (o ∷ os) v is =
+    calls_version input os (after v (history.Event.call input o)) (after_version v (history.Event.call input o) tt is)
+
+flooded_versions : (app id : List ℕ) (input times : ℕ) (ps : Processes) → HaveModuleVersions ps → HaveModuleVersions (flooded app id input times ps)
+flooded_versions app id input times ps all = go (process_named app id ps)
+  where
+    go : (o : Option Pid) → HaveModuleVersions (flooded_at input times ps o)
+    go None = all
+    go (Some p) = record {
+      values = each_set HasModuleVersion ps.values p.slot (after_calls input (outcomes_at input times ps p) (value_at ps p)) all.values
+          (calls_version input (outcomes_at input times ps p) (value_at ps p) (each_at HasModuleVersion ps.values p.slot nothing all.values nothing_version));
+      modules = all.modules;
+    }
+
+pub left_versions : (c : Calls) (ps : Processes) → HaveModuleVersions ps → HaveModuleVersions (left_by c ps)
+left_versions (once app id input) ps all = called_versions app id input ps all
+left_versions (often app id input times) ps all = flooded_versions app id input times ps all
 
 -- What was done so far: the modules and the processes of it have versions.
 record RunVersions (r : Run) : Type 0 where

@@ -2,6 +2,8 @@ pub mod Processes
 pub mod Fresh
 pub mod InMemory
 pub mod Answers
+pub mod Floods
+pub mod Calls
 pub mod ModuleVersions
 pub mod Starting
 pub mod Scripts

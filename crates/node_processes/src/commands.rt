@@ -2,13 +2,16 @@
 ghost use Rattle.std.specs.Prelude.{◌≡◌, string_bytes, IfOk};
 ghost use Rattle.proc_table.specs.Waits.{IsAnswer};
 ghost use Rattle.node_processes.specs.Answers.{call_line, called, modules_line, peek_line, processes_line};
+ghost use Rattle.node_processes.specs.Floods.{counts_line, flood_line, flooded};
 ghost use Rattle.node_processes.specs.InMemory.{AreSound, processes_in, tried_line};
 
 use crate::Processes;
 use node_listing::{push_count, push_module};
 use proc_table::{Pid, Tried};
+use proc_workers::{FloodCounts, flood};
 use std::alloc::{AllocError, Global};
 use std::sync::Wait;
+use std::thread::Threads;
 
 const NO_PROCESS: &str = "error session 2 NoProcess\n";
 
@@ -93,6 +96,47 @@ impl Processes {
             None => String::from_str(alloc, NO_PROCESS),
         }
     }
+
+    /// Calls a process so often with one input, from threads. The answer tells how often each outcome came, and how often the
+    /// process was down; or that the application has no such process. Where it is refused, some of the calls were made, or none.
+    pub fn flood<R: Threads + Wait + Sync>(
+        &mut self,
+        rt: &R,
+        alloc: Global,
+        app: &str,
+        id: &str,
+        input: u32,
+        times: u32,
+    ) -> Result<String, AllocError>
+        requires { AreSound self.old }
+        ensures sound { AreSound self.new }
+        ensures flooded { IfOk result (λ _. processes_in self.new
+            ≡ flooded app.now id.now input times (processes_in self.old)) }
+        ensures told { IfOk result (λ text. string_bytes text
+            ≡ flood_line app.now id.now input times (processes_in self.old)) }
+    {
+        match self.tree.find(app, id) {
+            Some(pid) => {
+                let counts = flood(rt, alloc, &self.table, &mut self.seat, pid, input, times)?;
+                line_of_counts(alloc, counts)
+            }
+            None => String::from_str(alloc, NO_PROCESS),
+        }
+    }
+}
+
+// What `flood` answers of a process.
+fn line_of_counts(alloc: Global, counts: FloodCounts) -> Result<String, AllocError>
+    ensures { IfOk result (λ text. string_bytes text
+        ≡ counts_line counts.done counts.crashed counts.ended counts.down) }
+{
+    let FloodCounts {
+        done,
+        crashed,
+        ended,
+        down,
+    } = counts;
+    format!(in alloc; "ok done {done} crashed {crashed} ended {ended} down {down}\n")
 }
 
 // What `call` answers of a process.

@@ -5,11 +5,12 @@ use crate::sessions::push_input;
 use crate::streams::push_of_text;
 use std::alloc::{AllocError, Global};
 use std::sync::Wait;
+use std::thread::Threads;
 use text_cases::Answer;
 
 /// The answer in one of the modes of [`push_of_text`], or in one of two whose texts are bytes. `raw`: the text is one input, as in
 /// [`push_input`]. `list`: it is listed, as in [`push_listed`].
-pub(crate) fn answer<H: Wait>(
+pub(crate) fn answer<H: Threads + Wait + Sync>(
     rt: &H,
     host: &HostRuntime,
     alloc: Global,

@@ -4,6 +4,7 @@ use std::alloc::Global;
 use std::io;
 use std::io::{ErrorKind, Read};
 use std::sync::Wait;
+use std::thread::Threads;
 use text_cases::Answer;
 
 /// Gives a text in pieces of at most so many bytes, and fails behind it.
@@ -25,7 +26,7 @@ impl Read for Broken<'_> {
 }
 
 /// The answer where a read fails behind a text, which comes in such pieces.
-pub(crate) fn push_broken<H: Wait>(
+pub(crate) fn push_broken<H: Threads + Wait + Sync>(
     rt: &H,
     alloc: Global,
     text: &[u8],
@@ -37,7 +38,7 @@ pub(crate) fn push_broken<H: Wait>(
 }
 
 /// The answer where it fails behind so many letters.
-pub(crate) fn push_letters<H: Wait>(rt: &H, alloc: Global, count: usize, answer: &mut Answer) {
+pub(crate) fn push_letters<H: Threads + Wait + Sync>(rt: &H, alloc: Global, count: usize, answer: &mut Answer) {
     match vec![in alloc; b'a'; count] {
         Ok(letters) => push_broken(rt, alloc, letters.as_slice(), 8_192, answer),
         Err(_) => answer.note_no_memory(),

@@ -9,6 +9,7 @@ use std::alloc::{AllocError, Global};
 use std::fmt;
 use std::io::{Read, Write};
 use std::sync::Wait;
+use std::thread::Threads;
 use text_cases::{Answer, CaseFiles};
 
 /// The application's files of both versions: for each a line of its path, a blank and its bytes.
@@ -43,7 +44,7 @@ pub(crate) const PLAIN: Setting = Setting {
 /// Where a text has sessions, their lines are parted by ` | `, and the sessions by ` || `. A line `@NAME` stands for the lines
 /// that give the files of this name (src/given.rt); each file has an answer of its own. A file that isn't given in its session
 /// comes from a source of these files, which have the form of [`APPLICATIONS`].
-pub(crate) fn push_sessions<H: Wait>(
+pub(crate) fn push_sessions<H: Threads + Wait + Sync>(
     rt: &H,
     alloc: Global,
     files: &str,
@@ -66,14 +67,14 @@ pub(crate) fn push_sessions<H: Wait>(
 }
 
 /// The same of sessions behind the files of their source.
-pub(crate) fn push_over_files<H: Wait>(rt: &H, alloc: Global, text: &str, answer: &mut Answer) {
+pub(crate) fn push_over_files<H: Threads + Wait + Sync>(rt: &H, alloc: Global, text: &str, answer: &mut Answer) {
     let (files, text) = text.split_once(" || ").unwrap_or((text, ""));
     let files = lines_of(alloc, files, answer);
     push_sessions(rt, alloc, files.as_str(), PLAIN, text, answer);
 }
 
 /// Appends what one session of this input writes.
-pub(crate) fn push_input<H: Wait, R: Read + Drop>(
+pub(crate) fn push_input<H: Threads + Wait + Sync, R: Read + Drop>(
     rt: &H,
     alloc: Global,
     reader: R,
@@ -86,7 +87,7 @@ pub(crate) fn push_input<H: Wait, R: Read + Drop>(
 }
 
 /// Appends that of one which gives a file of so many bytes, a line of blanks, and makes a node of it.
-pub(crate) fn push_blanks<H: Wait>(rt: &H, alloc: Global, bytes: usize, answer: &mut Answer) {
+pub(crate) fn push_blanks<H: Threads + Wait + Sync>(rt: &H, alloc: Global, bytes: usize, answer: &mut Answer) {
     match blanks(alloc, bytes) {
         Ok(input) => push_input(rt, alloc, input.as_bytes(), answer),
         Err(_) => answer.note_no_memory(),
@@ -105,7 +106,7 @@ fn blanks(alloc: Global, bytes: usize) -> Result<String, AllocError> {
 
 // Appends what the sessions of a text write, one after another on this disk. The room is that of the first, in which alone the
 // disk may fail.
-fn follow_all<H: Wait>(
+fn follow_all<H: Threads + Wait + Sync>(
     rt: &H,
     alloc: Global,
     disk: FailDisk<MemDisk>,
@@ -146,7 +147,7 @@ fn push_line(line: &str, lines: &mut String, answer: &mut Answer) {
 }
 
 // Appends what this room takes of a session of this input. The disk comes back.
-fn follow<H: Wait, D: Disk + Drop, R: Read + Drop>(
+fn follow<H: Threads + Wait + Sync, D: Disk + Drop, R: Read + Drop>(
     rt: &H,
     alloc: Global,
     disk: D,
@@ -167,7 +168,7 @@ fn follow<H: Wait, D: Disk + Drop, R: Read + Drop>(
 }
 
 // Has a session of this input write to a writer. The disk comes back, and how the session ended.
-fn run<H: Wait, D: Disk + Drop, R: Read + Drop, W: Write + Drop>(
+fn run<H: Threads + Wait + Sync, D: Disk + Drop, R: Read + Drop, W: Write + Drop>(
     rt: &H,
     alloc: Global,
     disk: D,

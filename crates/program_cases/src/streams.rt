@@ -7,6 +7,7 @@ use crate::narrow_writers::Room;
 use crate::sessions::{APPLICATIONS, PLAIN, Setting, push_blanks, push_over_files, push_sessions};
 use std::alloc::Global;
 use std::sync::Wait;
+use std::thread::Threads;
 use text_cases::{Answer, first_word, number};
 
 /// The answer in one of these modes, or in one of [`push_stream`] or of [`push_host`].
@@ -16,7 +17,7 @@ use text_cases::{Answer, first_word, number};
 /// - `files`: the source has the files before the first ` || `, which are parted by ` | `: for each its path, a blank and its
 ///   bytes. Behind that are sessions.
 /// - `list_broken`: as in [`listings::push_broken`].
-pub(crate) fn push_of_text<H: Wait>(
+pub(crate) fn push_of_text<H: Threads + Wait + Sync>(
     rt: &H,
     host: &HostRuntime,
     mode: &str,
@@ -46,7 +47,7 @@ pub(crate) fn push_of_text<H: Wait>(
 // - `writes`: behind the number are another one and sessions. So many writes of the first session and so many flushes are
 //   taken. Then a write takes nothing, and a flush fails.
 // - `list_bytes`: behind the numbers is a text. Its listing is taken so, a byte at a write.
-fn push_stream<H: Wait>(rt: &H, host: &HostRuntime, mode: &str, text: &str, answer: &mut Answer) {
+fn push_stream<H: Threads + Wait + Sync>(rt: &H, host: &HostRuntime, mode: &str, text: &str, answer: &mut Answer) {
     let alloc = host.alloc();
     let (word, rest) = first_word(text);
     let count = number(word);
@@ -61,7 +62,7 @@ fn push_stream<H: Wait>(rt: &H, host: &HostRuntime, mode: &str, text: &str, answ
     }
 }
 
-fn push_writes<H: Wait>(rt: &H, alloc: Global, text: &str, answer: &mut Answer) {
+fn push_writes<H: Threads + Wait + Sync>(rt: &H, alloc: Global, text: &str, answer: &mut Answer) {
     let (room, text) = Room::of_words(9_999, text);
     push_sessions(
         rt,
@@ -73,7 +74,7 @@ fn push_writes<H: Wait>(rt: &H, alloc: Global, text: &str, answer: &mut Answer) 
     );
 }
 
-fn push_first<H: Wait>(
+fn push_first<H: Threads + Wait + Sync>(
     rt: &H,
     alloc: Global,
     mode: &str,

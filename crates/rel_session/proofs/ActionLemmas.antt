@@ -22,7 +22,7 @@ use Rattle.rel_list.specs.Event.{Event}
 use Rattle.rel_list.specs.Event.Event.{made, unpacked}
 use Rattle.rel_session.specs.AnswerLaws.{HasLinePath, IsOfFiles, HasModuleVersionsAt}
 use Rattle.session_input.specs.Commands.{Command}
-use Rattle.session_input.specs.Commands.Command.{file, create, set_unpacked, check, install, permanent, remove, reboot_old, boot, start, releases, procs, modules, peek, call, relup, quit, bad}
+use Rattle.session_input.specs.Commands.Command.{file, create, set_unpacked, check, install, permanent, remove, reboot_old, boot, start, releases, procs, modules, peek, call, flood, relup, quit, bad}
 use Rattle.rel_unpack.proofs.LineBrought.{IsLineBrought, good_brought}
 use Rattle.rel_unpack.proofs.LineOutcomes.{TellsLine, OrNone, IsGood, version_line}
 use Rattle.rel_unpack.proofs.OneOutcome.{one_brought}
@@ -84,6 +84,7 @@ one_action source one p q procs x y kinds is also = inr ((λ list ps. processes_
 one_action source one p q modules x y kinds is also = inr ((λ list ps. modules_line ps), is, also)
 one_action source one p q (peek app id) x y kinds is also = inr ((λ list ps. peek_line app id ps), is, also)
 one_action source one p q (call app id input) x y kinds is also = inl (is ∙ sym also)
+one_action source one p q (flood app id input times) x y kinds is also = inl (is ∙ sym also)
 one_action source one p q (relup new ups downs) x y kinds (found, there, is) (again, there_too, also) =
     inl (is ∙ ap relup_telling (one_answer source one new ups downs found again there there_too) ∙ sym also)
 one_action source one p q quit x y kinds is also = absurd is
@@ -109,6 +110,7 @@ some_action source each p procs = inr (_, refl)
 some_action source each p modules = inr (_, refl)
 some_action source each p (peek app id) = inr (_, refl)
 some_action source each p (call app id input) = inr (_, refl)
+some_action source each p (flood app id input times) = inr (_, refl)
 some_action source each p (relup new ups downs) = let (found, there) = some_answer source each new ups downs in inr (relup_telling found, (found, there, refl))
 some_action source each p quit = inl refl
 some_action source each p bad = inr (_, refl)
@@ -134,7 +136,7 @@ IsGoodAction (installs vsn) = Unit {0}
 IsGoodAction (reboots_node vsn) = Unit {0}
 IsGoodAction boots_node = Unit {0}
 IsGoodAction tells_start = Unit {0}
-IsGoodAction (calls app id input) = Unit {0}
+IsGoodAction (calls c) = Unit {0}
 
 good_as : (x y : Action) → x ≡ y → IsGoodAction y → IsGoodAction x
 good_as x y is good = subst IsGoodAction (sym is) good
@@ -247,6 +249,7 @@ good_action source p procs does line tells is = good_as does _ is (whole_told _ 
 good_action source p modules does line tells is = good_as does _ is (whole_told _ p tells (λ list ps lines. modules_whole ps))
 good_action source p (peek app id) does line tells is = good_as does _ is (whole_told _ p tells (λ list ps lines. peek_whole app id ps lines))
 good_action source p (call app id input) does line tells is = good_as does _ is tt
+good_action source p (flood app id input times) does line tells is = good_as does _ is tt
 good_action source p (relup new ups downs) does lines tells (found, there, is) = good_as does _ is (good_telling found (good_answer source new ups downs lines.0 lines.1 lines.2 found there))
 good_action source p quit does line tells is = absurd is
 good_action source p bad does line tells is = good_as does _ is (λ behind. refl)

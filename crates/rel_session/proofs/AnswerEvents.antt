@@ -238,7 +238,7 @@ acted k (installs vsn) t = installing k vsn t
 acted k (reboots_node vsn) t = rebooted k vsn t
 acted k boots_node t = booted k t
 acted k tells_start t = tells k t
-acted k (calls app id input) t = effect nothing k
+acted k (calls c) t = effect nothing k
 
 acts : (p : Place) (does : Transition.Action) (a : Reply) → Transition.Acts p does a → HasEffect (acted (kind_of p) does) a
 acts p (answers text) a is = effect_as (acted (kind_of p) (answers text)) a _ is refl
@@ -270,10 +270,10 @@ acts (running events end ps) tells_start a (inr is) = effect_as (tells runs) a _
 acts (raw x) tells_start a is = effect_as (tells of_bytes) a _ is refl
 acts (closed s) tells_start a is = effect_as (tells at_rest) a _ is refl
 acts (dead s) tells_start a is = effect_as (tells fails) a _ is refl
-acts (running events end ps) (calls app id input) a is = effect_as (acted runs (calls app id input)) a _ is refl
-acts (raw x) (calls app id input) a is = effect_as (acted of_bytes (calls app id input)) a _ is refl
-acts (closed s) (calls app id input) a is = effect_as (acted at_rest (calls app id input)) a _ is refl
-acts (dead s) (calls app id input) a is = effect_as (acted fails (calls app id input)) a _ is refl
+acts (running events end ps) (calls c) a is = effect_as (acted runs (calls c)) a _ is refl
+acts (raw x) (calls c) a is = effect_as (acted of_bytes (calls c)) a _ is refl
+acts (closed s) (calls c) a is = effect_as (acted at_rest (calls c)) a _ is refl
+acts (dead s) (calls c) a is = effect_as (acted fails (calls c)) a _ is refl
 
 pub one_effect : (source : Source) → GivesOne source → (p q : Place) (c : Command) (a b : Reply) → kind_of p ≡ kind_of q → a.answer ≡ b.answer → Transition.Transition source p c a → Transition.Transition source q c b → effect_of a ≡ effect_of b
 one_effect source one p q c a b kinds same (x, comes, is) (y, comes_too, also) = go (one_action source one p q c x y kinds comes comes_too)

@@ -24,7 +24,7 @@ use Rattle.rel_unpack.specs.Unpacking.{Brought}
 use Rattle.rel_unpack.specs.Source.{Source, GivesEach}
 use Rattle.rel_session.specs.Files.{Files, files_behind, source_of}
 use Rattle.rel_session.specs.LawsBelow.{BootLaws}
-use Rattle.node_processes.specs.Answers.{called}
+use Rattle.node_processes.specs.Calls.{Calls, left_by}
 use Rattle.node_processes.specs.Fresh.{fresh}
 use Rattle.node_processes.specs.Processes.{Processes}
 use Rattle.rel_session.specs.Node.{Place, Reply, reply, nothing, releases_after, list_or_none, behind}
@@ -201,11 +201,11 @@ told p (rests events end list after) = fair_reply _ _ refl refl (rests events en
 told p (died events end list after) = fair_reply _ _ refl refl (died events end list after)
 told p (runs events end ps list after) = fair_reply _ _ (inl refl) refl (runs events end ps list after)
 
-called_there : (p : Place) (app id : List ℕ) (input : ℕ) → IsFair p → Has (Transition.Acts p (calls app id input))
-called_there p app id input (of_raw x) = fair_reply _ _ refl refl (of_raw x)
-called_there p app id input (rests events end list after) = fair_reply _ _ refl refl (rests events end list after)
-called_there p app id input (died events end list after) = fair_reply _ _ refl refl (died events end list after)
-called_there p app id input (runs events end ps list after) = fair_reply _ _ refl refl (runs events end (called app id input ps) list after)
+called_there : (p : Place) (c : Calls) → IsFair p → Has (Transition.Acts p (calls c))
+called_there p c (of_raw x) = fair_reply _ _ refl refl (of_raw x)
+called_there p c (rests events end list after) = fair_reply _ _ refl refl (rests events end list after)
+called_there p c (died events end list after) = fair_reply _ _ refl refl (died events end list after)
+called_there p c (runs events end ps list after) = fair_reply _ _ refl refl (runs events end (left_by c ps) list after)
 
 acts : BootLaws → (p : Place) (does : Transition.Action) → IsFair p → Has (Transition.Acts p does)
 acts laws p (answers text) fair = fair_reply _ (reply text nothing p) refl refl fair
@@ -215,7 +215,7 @@ acts laws p (installs vsn) fair = installed_there p vsn fair
 acts laws p (reboots_node vsn) fair = rebooted p vsn fair
 acts laws p boots_node fair = boots laws p fair
 acts laws p tells_start fair = told p fair
-acts laws p (calls app id input) fair = called_there p app id input fair
+acts laws p (calls c) fair = called_there p c fair
 
 -- A reply to the first command, and what follows it.
 one_more : (base : Source) (files : Files) (p : Place) (c : Command) (rest : Feed Command) (a : Reply) → Transition.Transition (source_of base files) p c a → a.outcome.failed ≡ false → HasAnswer base (files_behind files c) a.after rest → HasAnswer base files p (next c rest)

@@ -55,7 +55,7 @@ acts (installs vsn) a is = on_empty_as a _ is (inl (refl, inl refl))
 acts (reboots_node vsn) a is = on_empty_as a _ is (inl (refl, inl refl))
 acts boots_node a is = boots a is
 acts tells_start a is = on_empty_as a _ is (inl (refl, inl refl))
-acts (calls app id input) a is = on_empty_as a _ is (inl (refl, inl refl))
+acts (calls c) a is = on_empty_as a _ is (inl (refl, inl refl))
 
 -- where its node is lost too
 without_node : (b : Reply) → OnEmpty b → OnEmpty (Transition.without_node b)

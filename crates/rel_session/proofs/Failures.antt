@@ -109,10 +109,10 @@ acts (running events end ps) tells_start a (inr is) = plain a _ is (inl refl)
 acts (raw bytes) tells_start a is = plain a _ is (inl refl)
 acts (closed s) tells_start a is = plain a _ is (inl refl)
 acts (dead s) tells_start a is = plain a _ is (inl refl)
-acts (running events end ps) (calls app id input) a is = plain a _ is (inl refl)
-acts (raw bytes) (calls app id input) a is = plain a _ is (inl refl)
-acts (closed s) (calls app id input) a is = plain a _ is (inl refl)
-acts (dead s) (calls app id input) a is = plain a _ is (inl refl)
+acts (running events end ps) (calls c) a is = plain a _ is (inl refl)
+acts (raw bytes) (calls c) a is = plain a _ is (inl refl)
+acts (closed s) (calls c) a is = plain a _ is (inl refl)
+acts (dead s) (calls c) a is = plain a _ is (inl refl)
 
 is_plain : (source : Source) (p : Place) (c : Command) (a : Reply) → Transition.Transition source p c a → IsPlain a
 is_plain source p c a (does, comes, is) = acts p does a is

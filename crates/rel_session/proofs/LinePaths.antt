@@ -11,8 +11,8 @@ use Rattle.rel_list.specs.Releases.{Releases}
 use Rattle.rel_list.specs.Event.{list_after}
 use Rattle.rel_handler.specs.Image.{store_end}
 use Rattle.rel_handler.specs.Events.{Stored, Events, MayHave, IsStoredAs, certain}
-use Rattle.session_input.specs.Commands.{Command, ParsedLine, parse_line, parse_words, parse_command, parse_process_command, parse_path_command, parse_peek, parse_call, call_of, names_process, input_of, parse_change, change_named, with_word, without_words, path_of, path_in, paths_of, is_path, relup_of, parse_relup, split_at, version_in, is_blank, words_of, is_end, file_of, most_line, put_parsed, commands_of, commands_behind}
-use Rattle.session_input.specs.Commands.Command.{file, create, set_unpacked, check, install, permanent, remove, reboot_old, boot, start, releases, procs, modules, peek, call, quit, bad}
+use Rattle.session_input.specs.Commands.{Command, ParsedLine, parse_line, parse_words, parse_command, parse_process_command, parse_path_command, parse_peek, parse_call, parse_flood, call_of, flood_of, names_process, input_of, times_of, parse_change, change_named, with_word, without_words, path_of, path_in, paths_of, is_path, relup_of, parse_relup, split_at, version_in, is_blank, words_of, is_end, file_of, most_line, put_parsed, commands_of, commands_behind}
+use Rattle.session_input.specs.Commands.Command.{file, create, set_unpacked, check, install, permanent, remove, reboot_old, boot, start, releases, procs, modules, peek, call, flood, quit, bad}
 use Rattle.session_input.specs.Commands.ParsedLine.{blank, file_begins, whole_command}
 use Rattle.relup_command.specs.Answer.{AreLinePaths}
 use Rattle.rel_session.specs.Device.{Device}
@@ -167,6 +167,19 @@ call_plain (app ∷ id ∷ []) = tt
 call_plain (app ∷ id ∷ input ∷ []) = input_plain app id (input_of input)
 call_plain (app ∷ id ∷ input ∷ more ∷ words) = tt
 
+times_plain : (app id : List ℕ) (o p : Option ℕ) → HasLinePath (flood_of app id o p)
+times_plain app id None p = tt
+times_plain app id (Some input) None = tt
+times_plain app id (Some input) (Some times) = no_path (names_process app id) (flood app id input times) tt
+
+flood_plain : (words : List (List ℕ)) → IsPlainLine (parse_flood words)
+flood_plain [] = tt
+flood_plain (app ∷ []) = tt
+flood_plain (app ∷ id ∷ []) = tt
+flood_plain (app ∷ id ∷ input ∷ []) = tt
+flood_plain (app ∷ id ∷ input ∷ times ∷ []) = times_plain app id (input_of input) (times_of times)
+flood_plain (app ∷ id ∷ input ∷ times ∷ more ∷ words) = tt
+
 path_command_plain : (word : List ℕ) (words : List (List ℕ)) → AreLines words → IsPlainLine (parse_path_command word words)
 path_command_plain word words plain =
     either (bytes_eq word (codes "file")) (with_word (path_in words) file_begins) _ (path_plain words file_begins plain (λ path line. tt))
@@ -176,7 +189,9 @@ path_command_plain word words plain =
 
 process_command_plain : (word : List ℕ) (words : List (List ℕ)) → AreLines words → IsPlainLine (parse_process_command word words)
 process_command_plain word words plain =
-    either (bytes_eq word (codes "peek")) (parse_peek words) _ (peek_plain words) (either (bytes_eq word (codes "call")) (parse_call words) _ (call_plain words) (path_command_plain word words plain))
+    either (bytes_eq word (codes "peek")) (parse_peek words) _ (peek_plain words)
+    (either (bytes_eq word (codes "call")) (parse_call words) _ (call_plain words)
+    (either (bytes_eq word (codes "flood")) (parse_flood words) _ (flood_plain words) (path_command_plain word words plain)))
 
 word_plain : (word : List ℕ) (words : List (List ℕ)) → AreLines words → IsPlainLine (parse_command word words)
 word_plain word words plain =

@@ -23,7 +23,7 @@ use Rattle.rel_unpack.specs.Refusal.{Refusal}
 use Rattle.rel_unpack.specs.Unpacking.{Brought}
 use Rattle.rel_unpack.specs.Source.{Source, GivesOne}
 use Rattle.rel_session.specs.Files.{Files, files_behind, source_of}
-use Rattle.node_processes.specs.Answers.{call_line, called}
+use Rattle.node_processes.specs.Calls.{Calls, calls_line, left_by}
 use Rattle.node_processes.specs.Fresh.{fresh}
 use Rattle.node_processes.specs.Processes.{Processes}
 use Rattle.rel_session.specs.LawsBelow.{BootLaws}
@@ -265,12 +265,12 @@ module _ (a b : Reply) (both : Both a b) where
   told p q (same_lists events others end ps qs same one) (inl is) (inr also) = failure b _ also refl both.1
   told p q (same_lists events others end ps qs same one) (inr is) other = failure a _ is refl both.0
 
-  called_alike : (p q : Place) (app id : List ℕ) (input : ℕ) → Alike p q → Transition.Acts p (calls app id input) a → Transition.Acts q (calls app id input) b → Same a b
-  called_alike p q app id input (same_bytes x) is also = as_these a b _ _ is also (refl, refl, same_bytes x)
-  called_alike p q app id input (same_store events end) is also = as_these a b _ _ is also (refl, refl, same_store events end)
-  called_alike p q app id input (same_dead events others end same) is also = as_these a b _ _ is also (refl, refl, same_dead events others end same)
-  called_alike p q app id input (same_lists events others end ps qs same one) is also =
-      as_these a b _ _ is also (ap (call_line app id input) one, refl, same_lists events others end (called app id input ps) (called app id input qs) same (ap (called app id input) one))
+  called_alike : (p q : Place) (c : Calls) → Alike p q → Transition.Acts p (calls c) a → Transition.Acts q (calls c) b → Same a b
+  called_alike p q c (same_bytes x) is also = as_these a b _ _ is also (refl, refl, same_bytes x)
+  called_alike p q c (same_store events end) is also = as_these a b _ _ is also (refl, refl, same_store events end)
+  called_alike p q c (same_dead events others end same) is also = as_these a b _ _ is also (refl, refl, same_dead events others end same)
+  called_alike p q c (same_lists events others end ps qs same one) is also =
+      as_these a b _ _ is also (ap (calls_line c) one, refl, same_lists events others end (left_by c ps) (left_by c qs) same (ap (left_by c) one))
 
   acts : BootLaws → (p q : Place) (does : Transition.Action) → Alike p q → Transition.Acts p does a → Transition.Acts q does b → Same a b
   acts laws p q (answers text) alike is also = as_these a b _ _ is also (refl, refl, alike)
@@ -280,7 +280,7 @@ module _ (a b : Reply) (both : Both a b) where
   acts laws p q (reboots_node vsn) alike is also = rebooted p q vsn alike is also
   acts laws p q boots_node alike is also = boots a b both laws p q alike is also
   acts laws p q tells_start alike is also = told p q alike is also
-  acts laws p q (calls app id input) alike is also = called_alike p q app id input alike is also
+  acts laws p q (calls c) alike is also = called_alike p q c alike is also
 
   one_reply : BootLaws → (source : Source) → GivesOne source → (p q : Place) (c : Command) → Alike p q → Transition.Transition source p c a → Transition.Transition source q c b → Same a b
   one_reply laws source single p q c alike (does, comes, is) (again, comes_too, also) =

@@ -17,11 +17,14 @@ use Rattle.proc_history.specs.declared.value.Value.{Value}
 use Rattle.proc_history.specs.Values.{nothing, up_if, up_at, up_in}
 use Rattle.node_listing.specs.Listing.{process_line, process_value, term_line, text_value, standing_word, module_line}
 use Rattle.node_processes.specs.Answers.{processes_line, modules_line, peek_line, peeked_line, state_line, call_line, called_line, reply_line, outcome_line, outcome_at, value_at}
+use Rattle.node_processes.specs.Calls.{Calls, calls_line}
+use Rattle.node_processes.specs.Calls.Calls.{once, often}
+use Rattle.node_processes.specs.Floods.{counts_line, flood_line, flooded_line}
 use Rattle.node_processes.specs.ModuleVersions.{HasModuleVersion, HaveModuleVersions}
 use Rattle.proc_table.specs.declared.pid.Pid.{Pid}
 use Rattle.node_processes.specs.Processes.{Processes, process_named}
 use Rattle.node_processes.proofs.ModuleVersions.{each_at, nothing_version}
-use Rattle.rel_session.proofs.AnswerLines.{IsWhole, ends_behind, newline, lines_whole, tuple_line}
+use Rattle.rel_session.proofs.AnswerLines.{EndsIt, IsWhole, ends_behind, newline, lines_whole, tuple_line}
 
 process_whole : (v : Value) (rest : List ℕ) → IsWhole rest → IsWhole (process_line v ++ rest)
 process_whole v rest whole = go v.now
@@ -74,7 +77,7 @@ outcome_whole (Done r) behind = ap (λ t. codes "ok " ++ t) (ends_behind (decima
 outcome_whole Crashed behind = refl
 outcome_whole (Ended r) behind = ap (λ t. codes "ended " ++ t) (ends_behind (decimal r) (codes "\n") (decimal_line r) newline behind)
 
-pub call_whole : (app id : List ℕ) (input : ℕ) (ps : Processes) → IsWhole (call_line app id input ps)
+call_whole : (app id : List ℕ) (input : ℕ) (ps : Processes) → IsWhole (call_line app id input ps)
 call_whole app id input ps = go (process_named app id ps)
   where
     by_now : (o : Option Now) → IsWhole (reply_line input o)
@@ -84,3 +87,24 @@ call_whole app id input ps = go (process_named app id ps)
     go : (o : Option Pid) → IsWhole (called_line input ps o)
     go None = λ behind. refl
     go (Some p) = by_now (up_in p.round (value_at ps p))
+
+number_ends : (n : ℕ) (rest : List ℕ) → EndsIt rest → EndsIt (decimal n ++ rest)
+number_ends n rest ends = ends_behind (decimal n) rest (decimal_line n) ends
+
+counts_whole : (done crashed ended down : ℕ) → IsWhole (counts_line done crashed ended down)
+counts_whole done crashed ended down behind =
+    ap (λ t. codes "ok done " ++ t) (number_ends done _ (λ a.
+    ap (λ t. codes " crashed " ++ t) (number_ends crashed _ (λ b.
+    ap (λ t. codes " ended " ++ t) (number_ends ended _ (λ d.
+    ap (λ t. codes " down " ++ t) (number_ends down (codes "\n") newline d)) b)) a)) behind)
+
+flood_whole : (app id : List ℕ) (input times : ℕ) (ps : Processes) → IsWhole (flood_line app id input times ps)
+flood_whole app id input times ps = go (process_named app id ps)
+  where
+    go : (o : Option Pid) → IsWhole (flooded_line input times ps o)
+    go None = λ behind. refl
+    go (Some p) = counts_whole _ _ _ _
+
+pub calls_whole : (c : Calls) (ps : Processes) → IsWhole (calls_line c ps)
+calls_whole (once app id input) ps = call_whole app id input ps
+calls_whole (often app id input times) ps = flood_whole app id input times ps

@@ -1,5 +1,5 @@
 -- What is replied to commands that ask a node which runs, or change its processes.
-use Rattle.std.proofs.Common.{◌≡◌, ℕ, ◌≤◌, true, false, List, Result, Ok, Err, sym, ap, ◌∙◌, subst, arith}
+use Rattle.std.proofs.Common.{◌≡◌, ℕ, ◌≤◌, true, false, List, Result, Ok, Err, inl, inr, refl, sym, ap, ◌∙◌, subst, arith}
 use Rattle.std.specs.Prelude.{IfOk, MatchResult, String, string_bytes}
 use Rattle.std.specs.declared.alloc.AllocError.{AllocError}
 use Rattle.std.specs.declared.alloc.Global.{Global}
@@ -13,12 +13,12 @@ use Rattle.node_processes.specs.Processes.{Processes}
 use Rattle.rel_session.specs.declared.booted_node.BootedNode.{BootedNode}
 use Rattle.rel_session.specs.declared.place.Place.TheVariants as memory
 use Rattle.rel_session.specs.Device.{Device}
-use Rattle.rel_session.specs.InMemory.{IsAt, Replied, Answers}
+use Rattle.rel_session.specs.InMemory.{IsAt, Replied, NothingDone, Answers}
 use Rattle.rel_session.specs.Node.{Place, Reply, list_or_none, releases_after, reply, nothing}
 use Rattle.rel_session.specs.Node.Place.{raw, closed, running, dead}
 use Rattle.rel_session.specs.Run.{Moments}
 use Rattle.rel_session.proofs.DeviceLemmas.{IsDevice, still}
-use Rattle.rel_session.proofs.Replies.{moments_of_nothing, tells, answers_line}
+use Rattle.rel_session.proofs.Replies.{moments_of_nothing}
 
 never : {A : Type 0} → false ≡ true → A
 never e = absurd cc
@@ -26,12 +26,12 @@ never e = absurd cc
 -- The processes alone change, by a command that says this of the releases and of them, and leaves these.
 module _ {D : Type 0} (v : Device D) (laws : IsDevice v) (P : Place → Reply → Type 0) (says : Releases → Processes → List ℕ) (leaves : Processes → Processes)
     (right : (events : Events) (end : ℕ) (ps : Processes) → P (running events end ps) (reply (says (releases_after events) ps) nothing (running events end (leaves ps))))
-    (n new : BootedNode D) (alive : is_dead n.handler ≡ false) (same : new.handler ≡ n.handler) (left : processes_in new.processes ≡ leaves (processes_in n.processes)) where
-  replies : (p : Place) → IsAt v (memory.Made n) p → Replied v p (λ a. P p a × (a.answer ≡ says (list_in n.handler) (processes_in n.processes))) (memory.Made n) (memory.Made new)
-  replies (raw bytes) at = absurd at
-  replies (closed s) at = absurd at
-  replies (dead s) at = never (sym alive ∙ at.1)
-  replies (running events end ps) (here, living, after, stop, has) =
+    (n new : BootedNode D) (alive : is_dead n.handler ≡ false) (same : new.handler ≡ n.handler) where
+  replies : processes_in new.processes ≡ leaves (processes_in n.processes) → (p : Place) → IsAt v (memory.Made n) p → Replied v p (λ a. P p a × (a.answer ≡ says (list_in n.handler) (processes_in n.processes))) (memory.Made n) (memory.Made new)
+  replies left (raw bytes) at = absurd at
+  replies left (closed s) at = absurd at
+  replies left (dead s) at = never (sym alive ∙ at.1)
+  replies left (running events end ps) (here, living, after, stop, has) =
       let then : IsAt v (memory.Made new) (running events end (leaves ps)) =
       subst (λ h. IsAt v (memory.Made (record { handler = h; processes = new.processes })) (running events end (leaves ps))) (sym same) (here, living, after, stop, left ∙ ap leaves has) in
       let disk : disk_in new.handler ≡ disk_in n.handler = ap disk_in same in
@@ -47,8 +47,26 @@ module _ {D : Type 0} (v : Device D) (laws : IsDevice v) (P : Place → Reply �
         };
       }
 
-  pub answers_of_node : (line : Result (String Global) AllocError) (result : Result (String Global) HandlerError)
+  -- nothing is written, whatever becomes of the processes
+  writes_nothing : (p : Place) → IsAt v (memory.Made n) p → NothingDone v p (memory.Made n) (memory.Made new)
+  writes_nothing (raw bytes) at = absurd at
+  writes_nothing (closed s) at = absurd at
+  writes_nothing (dead s) at = never (sym alive ∙ at.1)
+  writes_nothing (running events end ps) at =
+      subst (λ h. NothingDone v (running events end ps) (memory.Made n) (memory.Made (record { handler = h; processes = new.processes }))) (sym same)
+      (record { nothing_new = still v laws (disk_in n.handler); holds = at.0; counted = omega arith })
+
+  -- Where memory is refused, the processes may be any.
+  pub answers_if_told : (line : Result (String Global) AllocError) (result : Result (String Global) HandlerError)
+      → MatchResult line (λ text. result ≡ Ok text) (λ _. result ≡ Err handler_error.NoMemory) → IfOk line (λ text. string_bytes text ≡ says (list_in n.handler) (processes_in n.processes))
+      → IfOk line (λ _. processes_in new.processes ≡ leaves (processes_in n.processes)) → Answers v P result (memory.Made n) (memory.Made new)
+  answers_if_told (Ok text) result is told left = subst (λ r. Answers v P r (memory.Made n) (memory.Made new)) (sym is) (λ p at.
+      let r = replies left p at in
+      record { given = r.given; right = (r.right.0, r.right.1 ∙ sym told); at = r.at; happens = r.happens })
+  answers_if_told (Err e) result is told left = subst (λ r. Answers v P r (memory.Made n) (memory.Made new)) (sym is) (λ p at. inr (refl, inr (writes_nothing p at)))
+
+  pub answers_of_node : processes_in new.processes ≡ leaves (processes_in n.processes) → (line : Result (String Global) AllocError) (result : Result (String Global) HandlerError)
       → MatchResult line (λ text. result ≡ Ok text) (λ _. result ≡ Err handler_error.NoMemory) → IfOk line (λ text. string_bytes text ≡ says (list_in n.handler) (processes_in n.processes))
       → Answers v P result (memory.Made n) (memory.Made new)
-  answers_of_node line result is told =
-      answers_line v laws P line result (memory.Made n) (memory.Made new) is (tells v laws P line (says (list_in n.handler) (processes_in n.processes)) (memory.Made n) (memory.Made new) told replies)
+  answers_of_node left (Ok text) result is told = answers_if_told (Ok text) result is told left
+  answers_of_node left (Err e) result is told = answers_if_told (Err e) result is told tt

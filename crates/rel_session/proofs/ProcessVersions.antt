@@ -21,14 +21,14 @@ use Rattle.node_command.specs.Taking.{commanded}
 use Rattle.node_processes.specs.Fresh.{fresh}
 use Rattle.node_processes.specs.Processes.{Processes}
 use Rattle.session_input.specs.Commands.{Command}
-use Rattle.session_input.specs.Commands.Command.{file, create, set_unpacked, check, install, permanent, remove, reboot_old, boot, start, releases, procs, modules, peek, call, relup, quit, bad}
+use Rattle.session_input.specs.Commands.Command.{file, create, set_unpacked, check, install, permanent, remove, reboot_old, boot, start, releases, procs, modules, peek, call, flood, relup, quit, bad}
 use Rattle.rel_session.specs.AnswerLaws.{AreOfFiles, HasVersionsAt, HasModuleVersionsAt}
 use Rattle.rel_session.specs.Node.{Place, Reply, releases_after, list_or_none}
 use Rattle.rel_session.specs.Node.Place.{raw, closed, running, dead}
 use Rattle.rel_session.specs.Transition
 use Rattle.rel_session.specs.Transition.Action.{answers, makes_node, changes_node, installs, reboots_node, boots_node, tells_start, calls}
 use Rattle.node_processes.specs.ModuleVersions.{HaveModuleVersions}
-use Rattle.node_processes.proofs.ModuleVersions.{AreWithLibraries, fresh_versions, called_versions, script_versions}
+use Rattle.node_processes.proofs.ModuleVersions.{AreWithLibraries, fresh_versions, left_versions, script_versions}
 use Rattle.node_upgrade.specs.Upgrade.{site_for, upgrade_to}
 use Rattle.rel_session.proofs.InstallationLemmas.{each_reply}
 use Rattle.rel_session.proofs.Versions.{OfList, of_image, list_versions, listed_versions, stored_versions, certain_versions}
@@ -146,6 +146,7 @@ comes_of source p procs does is = of_as does _ is tt
 comes_of source p modules does is = of_as does _ is tt
 comes_of source p (peek app id) does is = of_as does _ is tt
 comes_of source p (call app id input) does is = of_as does _ is tt
+comes_of source p (flood app id input times) does is = of_as does _ is tt
 comes_of source p bad does is = of_as does _ is tt
 comes_of source p quit does is = absurd is
 
@@ -181,10 +182,10 @@ acts (running events end ps) tells_start of all versions a (inr is) = versions_a
 acts (raw x) tells_start of all versions a is = versions_as a _ is tt
 acts (closed s) tells_start of all versions a is = versions_as a _ is tt
 acts (dead s) tells_start of all versions a is = versions_as a _ is tt
-acts (running events end ps) (calls app id input) of all versions a is = versions_as a _ is (called_versions app id input ps versions)
-acts (raw x) (calls app id input) of all versions a is = versions_as a _ is tt
-acts (closed s) (calls app id input) of all versions a is = versions_as a _ is tt
-acts (dead s) (calls app id input) of all versions a is = versions_as a _ is tt
+acts (running events end ps) (calls c) of all versions a is = versions_as a _ is (left_versions c ps versions)
+acts (raw x) (calls c) of all versions a is = versions_as a _ is tt
+acts (closed s) (calls c) of all versions a is = versions_as a _ is tt
+acts (dead s) (calls c) of all versions a is = versions_as a _ is tt
 
 pub keeps_versions_of_modules : (source : Source) (p : Place) (c : Command) (a : Reply) → HasVersionsAt p → HasModuleVersionsAt p → Transition.Transition source p c a → HasModuleVersionsAt a.after
 keeps_versions_of_modules source p c a all versions (does, comes, is) = acts p does (comes_of source p c does comes) all versions a is

@@ -17,6 +17,8 @@ use Rattle.rel_handler.specs.Image.{IsImageOf, IsImageAt, IsRepairOf}
 use Rattle.rel_handler.specs.Refusals.{BootRefused, IsBootRefusal}
 use Rattle.rel_handler.specs.State.{disk_in, list_in, is_dead, end_in, HasStarted, IsSame}
 use Rattle.node_processes.specs.Answers.{processes_line, modules_line, peek_line}
+use Rattle.node_processes.specs.Calls.{Calls}
+use Rattle.node_processes.specs.Calls.Calls.{once, often}
 use Rattle.node_processes.specs.Fresh.{fresh}
 use Rattle.node_processes.specs.InMemory.{processes_in}
 use Rattle.node_processes.specs.Processes.{Processes}
@@ -24,7 +26,7 @@ use Rattle.rel_session.specs.declared.booted_node.BootedNode.{BootedNode}
 use Rattle.rel_session.specs.declared.place.Place.{Place as PlaceInMemory}
 use Rattle.rel_session.specs.declared.place.Place.TheVariants as memory
 use Rattle.session_input.specs.Commands.{Command}
-use Rattle.session_input.specs.Commands.Command.{file, create, set_unpacked, check, install, permanent, remove, reboot_old, boot, start, releases, procs, modules, peek, call, relup, quit, bad}
+use Rattle.session_input.specs.Commands.Command.{file, create, set_unpacked, check, install, permanent, remove, reboot_old, boot, start, releases, procs, modules, peek, call, flood, relup, quit, bad}
 use Rattle.rel_session.specs.Device.{Device, LeavesOnly, HasFailed}
 use Rattle.rel_unpack.specs.Source.{Source}
 use Rattle.rel_session.specs.InMemory.{disk_at, IsAt, Replied, Leads, NothingDone, Answers, TellsReply, TellsOrStops, AnswersOrStops, IsStarted, NeedsNode}
@@ -459,11 +461,11 @@ module _ {D : Type 0} (v : Device D) (laws : IsDevice v) where
   idle_tells (running events end ps) idle = absurd (idle events end ps refl)
   idle_tells (dead s) idle = refl
 
-  idle_calls : (app id : List ℕ) (input : ℕ) (p : Place) → ((events : Events) (end : ℕ) (ps : Processes) → p ≡ running events end ps → ⊥) → Transition.Acts p (calls app id input) (refused dead_node p)
-  idle_calls app id input (raw bytes) idle = refl
-  idle_calls app id input (closed s) idle = refl
-  idle_calls app id input (running events end ps) idle = absurd (idle events end ps refl)
-  idle_calls app id input (dead s) idle = refl
+  idle_calls : (c : Calls) (p : Place) → ((events : Events) (end : ℕ) (ps : Processes) → p ≡ running events end ps → ⊥) → Transition.Acts p (calls c) (refused dead_node p)
+  idle_calls c (raw bytes) idle = refl
+  idle_calls c (closed s) idle = refl
+  idle_calls c (running events end ps) idle = absurd (idle events end ps refl)
+  idle_calls c (dead s) idle = refl
 
   idle_told : (says : Releases → Processes → List ℕ) (p : Place) → ((events : Events) (end : ℕ) (ps : Processes) → p ≡ running events end ps → ⊥) → Transition.Acts p (answers (Transition.told says p)) (refused dead_node p)
   idle_told says (raw bytes) idle = refl
@@ -485,7 +487,8 @@ module _ {D : Type 0} (v : Device D) (laws : IsDevice v) where
   idle_needs source procs needs p idle = (answers (Transition.asked processes_line p), refl, idle_asked processes_line p idle)
   idle_needs source modules needs p idle = (answers (Transition.asked modules_line p), refl, idle_asked modules_line p idle)
   idle_needs source (peek app id) needs p idle = (answers (Transition.asked (peek_line app id) p), refl, idle_asked (peek_line app id) p idle)
-  idle_needs source (call app id input) needs p idle = (calls app id input, refl, idle_calls app id input p idle)
+  idle_needs source (call app id input) needs p idle = (calls (once app id input), refl, idle_calls (once app id input) p idle)
+  idle_needs source (flood app id input times) needs p idle = (calls (often app id input times), refl, idle_calls (often app id input times) p idle)
   idle_needs source (file path f) needs p idle = absurd needs
   idle_needs source (create path) needs p idle = absurd needs
   idle_needs source (reboot_old vsn) needs p idle = absurd needs

@@ -127,6 +127,7 @@ module _ {D : Type 0} (v : Device D) where
   files_stay files asked.Modules other = refl
   files_stay files (asked.Peek app id) other = refl
   files_stay files (asked.Call app id input) other = refl
+  files_stay files (asked.Flood app id input times) other = refl
   files_stay files (asked.Relup new ups downs) other = refl
   files_stay files asked.Quit other = absurd (other.1 refl)
   files_stay files asked.Bad other = refl

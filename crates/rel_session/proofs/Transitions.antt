@@ -152,10 +152,10 @@ acts (running events end ps) tells_start a (inr is) = keeps_as (running events e
 acts (raw bytes) tells_start a is = still_as (raw bytes) _ a is
 acts (closed s) tells_start a is = still_as (closed s) _ a is
 acts (dead s) tells_start a is = still_as (dead s) _ a is
-acts (running events end ps) (calls app id input) a is = keeps_as (running events end ps) a _ is (keeps_known (running events end ps) _ events refl (sym (append-nil events)) tt)
-acts (raw bytes) (calls app id input) a is = still_as (raw bytes) _ a is
-acts (closed s) (calls app id input) a is = still_as (closed s) _ a is
-acts (dead s) (calls app id input) a is = still_as (dead s) _ a is
+acts (running events end ps) (calls c) a is = keeps_as (running events end ps) a _ is (keeps_known (running events end ps) _ events refl (sym (append-nil events)) tt)
+acts (raw bytes) (calls c) a is = still_as (raw bytes) _ a is
+acts (closed s) (calls c) a is = still_as (closed s) _ a is
+acts (dead s) (calls c) a is = still_as (dead s) _ a is
 
 pub each_keeps : (source : Source) (p : Place) (c : Command) (a : Reply) → Transition.Transition source p c a → Keeps p a
 each_keeps source p c a (does, comes, is) = acts p does a is

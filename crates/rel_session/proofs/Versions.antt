@@ -41,7 +41,7 @@ use Rattle.rel_session.specs.Transition
 use Rattle.rel_session.specs.Transition.Action.{answers, makes_node, changes_node, installs, reboots_node, boots_node, tells_start, calls}
 use Rattle.rel_session.proofs.ActionLemmas.{OfEvent, TellsFilesLine, IsGoodAction, good_action}
 use Rattle.rel_session.proofs.ListLemmas.{list_after-more}
-use Rattle.rel_session.proofs.ProcessLines.{call_whole}
+use Rattle.rel_session.proofs.ProcessLines.{calls_whole}
 use Rattle.rel_session.proofs.Transitions.{may_have}
 use Rattle.rel_session.proofs.AnswerLines.{IsWhole, ok_whole, done_whole, installed_whole, listed_whole, refusal_whole, boot_line_whole}
 use Rattle.node_processes.specs.Scripts.{behind_run}
@@ -281,10 +281,10 @@ acts (running events end ps) tells_start good all a (inr is) = good_as a _ is (d
 acts (raw x) tells_start good all a is = good_as a _ is ((λ behind. refl), all)
 acts (closed s) tells_start good all a is = good_as a _ is ((λ behind. refl), all)
 acts (dead s) tells_start good all a is = good_as a _ is ((λ behind. refl), all)
-acts (running events end ps) (calls app id input) good all a is = good_as a _ is (call_whole app id input ps, all)
-acts (raw x) (calls app id input) good all a is = good_as a _ is ((λ behind. refl), all)
-acts (closed s) (calls app id input) good all a is = good_as a _ is ((λ behind. refl), all)
-acts (dead s) (calls app id input) good all a is = good_as a _ is ((λ behind. refl), all)
+acts (running events end ps) (calls c) good all a is = good_as a _ is (calls_whole c ps, all)
+acts (raw x) (calls c) good all a is = good_as a _ is ((λ behind. refl), all)
+acts (closed s) (calls c) good all a is = good_as a _ is ((λ behind. refl), all)
+acts (dead s) (calls c) good all a is = good_as a _ is ((λ behind. refl), all)
 
 pub each_good : (source : Source) (p : Place) (c : Command) → HasLinePath c → HasVersionsAt p → HasModuleVersionsAt p → (a : Reply) → Transition.Transition source p c a → IsGood a
 each_good source p c line all tells a (does, comes, is) = acts p does (good_action source p c does line tells comes) all a is

@@ -17,7 +17,7 @@ use Rattle.rel_session.specs.declared.place.Place.TheVariants as memory
 use Rattle.node_command.specs.declared.error.HandlerError.{HandlerError}
 use Rattle.node_command.specs.declared.error.HandlerError.TheVariants as handler_error
 use Rattle.session_input.specs.Commands.{Command}
-use Rattle.session_input.specs.Commands.Command.{set_unpacked, check, install, permanent, remove, start, procs, modules, peek, call, quit}
+use Rattle.session_input.specs.Commands.Command.{set_unpacked, check, install, permanent, remove, start, procs, modules, peek, call, flood, quit}
 use Rattle.session_input.specs.declared.command.Command.{Command as CommandInMemory}
 use Rattle.session_input.specs.declared.command.Command.TheVariants as asked
 use Rattle.session_input.specs.declared.given.GivenFile.{GivenFile}
@@ -163,6 +163,7 @@ NeedsNode procs = Unit {0}
 NeedsNode modules = Unit {0}
 NeedsNode (peek app id) = Unit {0}
 NeedsNode (call app id input) = Unit {0}
+NeedsNode (flood app id input times) = Unit {0}
 NeedsNode command = ⊥
 
 -- It answered a command by its transition, over a source of files.

@@ -22,9 +22,11 @@ use Rattle.rel_unpack.specs.Unpacking.{Brought}
 use Rattle.session_input.specs.Commands.{Command}
 use Rattle.relup_command.specs.Answer.{AnswerAt}
 use Rattle.relup_script.specs.Search.{FoundForm}
-use Rattle.session_input.specs.Commands.Command.{file, create, set_unpacked, check, install, permanent, remove, reboot_old, boot, start, releases, procs, modules, peek, call, relup, quit, bad}
+use Rattle.session_input.specs.Commands.Command.{file, create, set_unpacked, check, install, permanent, remove, reboot_old, boot, start, releases, procs, modules, peek, call, flood, relup, quit, bad}
 use Rattle.node_listing.specs.Listing.{listing, text_value}
-use Rattle.node_processes.specs.Answers.{processes_line, modules_line, peek_line, call_line, called}
+use Rattle.node_processes.specs.Answers.{processes_line, modules_line, peek_line}
+use Rattle.node_processes.specs.Calls.{Calls, calls_line, left_by}
+use Rattle.node_processes.specs.Calls.Calls.{once, often}
 use Rattle.node_processes.specs.Processes.{Processes}
 use Rattle.rel_session.specs.Node.{Place, releases_after, just_booted, at_rest, Reply, reply, refused, failed, nothing, done, failed_with, behind}
 use Rattle.rel_session.specs.Node.Place.{raw, closed, running, dead}
@@ -77,7 +79,7 @@ pub data Action : Type 0 where
   reboots_node : List ℕ → Action
   boots_node : Action
   tells_start : Action
-  calls : List ℕ → List ℕ → ℕ → Action
+  calls : Calls → Action
 
 abbrev pub refuses : Refusal → Action
 refuses why = answers (refusal_line why)
@@ -150,7 +152,8 @@ ComesTo source p releases does = does ≡ answers (listed p)
 ComesTo source p procs does = does ≡ answers (asked processes_line p)
 ComesTo source p modules does = does ≡ answers (asked modules_line p)
 ComesTo source p (peek app id) does = does ≡ answers (asked (peek_line app id) p)
-ComesTo source p (call app id input) does = does ≡ calls app id input
+ComesTo source p (call app id input) does = does ≡ calls (once app id input)
+ComesTo source p (flood app id input times) does = does ≡ calls (often app id input times)
 ComesTo source p (relup new ups downs) does =
     (found : Result (List ℕ) FilesRefusal) × AnswerAt source new ups downs found × (does ≡ relup_telling found)
 ComesTo source p bad does = does ≡ answers (codes "error session 1 BadCommand\n")
@@ -269,9 +272,8 @@ Acts p (reboots_node vsn) a = a ≡ refused dead_node p
 Acts p boots_node a = Boots p a
 Acts (running events end ps) tells_start a = TellsStart events end ps a
 Acts p tells_start a = a ≡ refused dead_node p
-Acts (running events end ps) (calls app id input) a =
-    a ≡ reply (call_line app id input ps) nothing (running events end (called app id input ps))
-Acts p (calls app id input) a = a ≡ refused dead_node p
+Acts (running events end ps) (calls c) a = a ≡ reply (calls_line c ps) nothing (running events end (left_by c ps))
+Acts p (calls c) a = a ≡ refused dead_node p
 
 -- The reply to a command.
 abbrev pub Transition : Source → Place → Command → Reply → Type 0

@@ -12,7 +12,7 @@ use crate::change::{make_permanent, remove, set_unpacked};
 use crate::check::check_install;
 use crate::install::install;
 use crate::place::{Place, answer_of};
-use crate::processes::{call, list_modules, list_processes, peek};
+use crate::processes::{call, flood, list_modules, list_processes, peek};
 use crate::start::start;
 use file_source::Files;
 use node_command::HandlerError;
@@ -22,10 +22,11 @@ use relup_command::relup_answer;
 use session_input::Command;
 use std::alloc::Global;
 use std::sync::Wait;
+use std::thread::Threads;
 
 impl<D: Disk> Place<D> {
     /// Does what the command says, with the files that it names.
-    pub fn answer<R: Wait, F: Files>(
+    pub fn answer<R: Threads + Wait + Sync, F: Files>(
         self,
         rt: &R,
         alloc: Global,
@@ -63,13 +64,14 @@ impl<D: Disk> Place<D> {
             | Command::Procs
             | Command::Modules
             | Command::Peek(_, _)
-            | Command::Call(_, _, _) => self.on_node(rt, alloc, files, command),
+            | Command::Call(_, _, _)
+            | Command::Flood(_, _, _, _) => self.on_node(rt, alloc, files, command),
             Command::File(_, _) | Command::Quit => unreachable!(),
         }
     }
 
     /// Has the node do what the command says. Where there is none, nothing is done.
-    fn on_node<R: Wait, F: Files>(
+    fn on_node<R: Threads + Wait + Sync, F: Files>(
         self,
         rt: &R,
         alloc: Global,
@@ -114,7 +116,7 @@ impl<D: Disk> Place<D> {
 }
 
 /// Has a node do what the command says, unless the device has failed it.
-fn done_by<D: Disk, R: Wait, F: Files>(
+fn done_by<D: Disk, R: Threads + Wait + Sync, F: Files>(
     rt: &R,
     alloc: Global,
     node: &mut BootedNode<D>,
@@ -142,6 +144,9 @@ fn done_by<D: Disk, R: Wait, F: Files>(
         Command::Modules => list_modules(alloc, node),
         Command::Peek(app, id) => peek(rt, alloc, node, app.as_str(), id.as_str()),
         Command::Call(app, id, input) => call(rt, alloc, node, app.as_str(), id.as_str(), *input),
+        Command::Flood(app, id, input, times) => {
+            flood(rt, alloc, node, app.as_str(), id.as_str(), *input, *times)
+        }
         Command::File(_, _)
         | Command::Create(_)
         | Command::RebootOld(_)

@@ -15,10 +15,11 @@ use session_input::{Input, SessionError};
 use std::alloc::Global;
 use std::io::{Read, Write};
 use std::sync::Wait;
+use std::thread::Threads;
 
 /// Follows the commands of an input on a disk, and writes each answer as soon as its command was read. A file that isn't given
 /// in the session is read from `files`. The disk comes back with the result.
-pub fn session<H: Wait, D: Disk, F: Files, R: Read + Drop, W: Write + Drop>(
+pub fn session<H: Threads + Wait + Sync, D: Disk, F: Files, R: Read + Drop, W: Write + Drop>(
     rt: &H,
     alloc: Global,
     disk: D,

@@ -14,6 +14,7 @@ use rel_disk::Disk;
 use session_input::{Command, GivenFile, SessionError};
 use std::alloc::{AllocError, Global};
 use std::sync::Wait;
+use std::thread::Threads;
 
 /// The node of a session: the disk that it is on, and the files that were given.
 pub struct Node<D: Disk> {
@@ -45,7 +46,7 @@ impl<D: Disk> Node<D> {
 
     /// Does what the command says. A file that wasn't given is read from `base`. The answer is its text, or none where the
     /// session ends.
-    pub fn follow<R: Wait, F: Files>(
+    pub fn follow<R: Threads + Wait + Sync, F: Files>(
         self,
         rt: &R,
         alloc: Global,

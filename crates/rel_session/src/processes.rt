@@ -5,6 +5,7 @@ ghost use Rattle.rel_handler.specs.State.{is_dead};
 ghost use Rattle.rel_session.specs.InMemory.{IsSoundNode, Answers, AnswersAsked};
 ghost use Rattle.rel_session.specs.Transition.{Acts};
 ghost use Rattle.rel_session.specs.Transition.Action.{calls};
+ghost use Rattle.node_processes.specs.Calls.Calls.{once, often};
 ghost use Rattle.rel_session.specs.declared.place.Place.TheVariants.{Made};
 
 use crate::booted_node::BootedNode;
@@ -13,6 +14,7 @@ use node_command::HandlerError;
 use rel_disk::Disk;
 use std::alloc::Global;
 use std::sync::Wait;
+use std::thread::Threads;
 
 /// Lists the processes.
 pub(crate) fn list_processes<D: Disk, R: Wait>(
@@ -70,8 +72,28 @@ pub(crate) fn call<D: Disk, R: Wait>(
     requires sound { IsSoundNode D.seen D.may_leave node.old }
     requires works { is_dead node.old.handler ≡ false }
     ensures sound { IsSoundNode D.seen D.may_leave node.new }
-    ensures called { Answers D.Disk (λ p a. Acts p (calls app.now id.now input) a)
+    ensures called { Answers D.Disk (λ p a. Acts p (calls (once app.now id.now input)) a)
         result (Made node.old) (Made node.new) }
 {
     answer_of(node.processes.call(rt, alloc, app, id, input))
+}
+
+/// Calls a process so often from threads, and tells how often each outcome came.
+pub(crate) fn flood<D: Disk, R: Threads + Wait + Sync>(
+    rt: &R,
+    alloc: Global,
+    node: &mut BootedNode<D>,
+    app: &str,
+    id: &str,
+    input: u32,
+    times: u32,
+) -> Result<String, HandlerError>
+    requires sound { IsSoundNode D.seen D.may_leave node.old }
+    requires works { is_dead node.old.handler ≡ false }
+    ensures sound { IsSoundNode D.seen D.may_leave node.new }
+    ensures flooded { Answers D.Disk
+        (λ p a. Acts p (calls (often app.now id.now input times)) a)
+        result (Made node.old) (Made node.new) }
+{
+    answer_of(node.processes.flood(rt, alloc, app, id, input, times))
 }

@@ -17,6 +17,7 @@ use session_input::{Input, SessionError};
 use std::alloc::Global;
 use std::process::ExitCode;
 use std::sync::Wait;
+use std::thread::Threads;
 use std::{env, io};
 
 /// How many bytes the disk in memory holds.
@@ -62,7 +63,7 @@ fn main(rt: HostRuntime) -> ExitCode {
 }
 
 /// A session on the disk that the arguments name.
-fn run<R: Wait>(rt: &R, host: &HostRuntime, alloc: Global) -> Result<(), Failure> {
+fn run<R: Threads + Wait + Sync>(rt: &R, host: &HostRuntime, alloc: Global) -> Result<(), Failure> {
     let Options { store, root } = arguments(host, alloc)?;
     let files = RootFiles::new(host, root);
     match store {
@@ -75,7 +76,7 @@ fn run<R: Wait>(rt: &R, host: &HostRuntime, alloc: Global) -> Result<(), Failure
 }
 
 /// A session on the disk over the file of this path.
-fn run_on_file<R: Wait, F: Files>(
+fn run_on_file<R: Threads + Wait + Sync, F: Files>(
     rt: &R,
     host: &HostRuntime,
     alloc: Global,
@@ -106,7 +107,7 @@ fn arguments(host: &HostRuntime, alloc: Global) -> Result<Options, Failure> {
 }
 
 /// A session on standard input and output, on this disk and over these files.
-fn run_on<R: Wait, D: Disk + Drop, F: Files>(
+fn run_on<R: Threads + Wait + Sync, D: Disk + Drop, F: Files>(
     rt: &R,
     host: &HostRuntime,
     alloc: Global,

@@ -45,6 +45,7 @@ pub data Command : Type 0 where
   modules : Command
   peek : List ℕ → List ℕ → Command
   call : List ℕ → List ℕ → ℕ → Command
+  flood : List ℕ → List ℕ → ℕ → ℕ → Command
   relup : List ℕ → List (List ℕ) → List (List ℕ) → Command
   quit : Command
   bad : Command
@@ -132,6 +133,14 @@ is_input word = list_all is_ascii_digit word && (nat_lt 0 (length word) && nat_l
 abbrev pub input_of : List ℕ → Option ℕ
 input_of word = if is_input word then Some (digits_value 10 word) else None
 
+-- how often a process is called at once: from 1 to 1,000 times
+abbrev pub times_in : Option ℕ → Option ℕ
+times_in None = None
+times_in (Some n) = if is_in_range 1 1000 n then Some n else None
+
+abbrev pub times_of : List ℕ → Option ℕ
+times_of word = times_in (input_of word)
+
 -- a command on a process, where each of its words is of its kind
 abbrev pub peek_of : List ℕ → List ℕ → Command
 peek_of app id = if names_process app id then peek app id else bad
@@ -139,6 +148,10 @@ peek_of app id = if names_process app id then peek app id else bad
 abbrev pub call_of : List ℕ → List ℕ → Option ℕ → Command
 call_of app id None = bad
 call_of app id (Some input) = if names_process app id then call app id input else bad
+
+abbrev pub flood_of : List ℕ → List ℕ → Option ℕ → Option ℕ → Command
+flood_of app id (Some input) (Some times) = if names_process app id then flood app id input times else bad
+flood_of app id input times = bad
 
 -- what the word of such a command says with the words behind it
 abbrev pub parse_peek : List (List ℕ) → ParsedLine
@@ -148,6 +161,10 @@ parse_peek words = whole_command bad
 abbrev pub parse_call : List (List ℕ) → ParsedLine
 parse_call (app ∷ id ∷ input ∷ []) = whole_command (call_of app id (input_of input))
 parse_call words = whole_command bad
+
+abbrev pub parse_flood : List (List ℕ) → ParsedLine
+parse_flood (app ∷ id ∷ input ∷ times ∷ []) = whole_command (flood_of app id (input_of input) (times_of times))
+parse_flood words = whole_command bad
 
 -- what the word of a command on a file says with the words behind it
 abbrev pub parse_path_command : List ℕ → List (List ℕ) → ParsedLine
@@ -163,6 +180,7 @@ abbrev pub parse_process_command : List ℕ → List (List ℕ) → ParsedLine
 parse_process_command word words =
     if bytes_eq word (codes "peek") then parse_peek words
     else if bytes_eq word (codes "call") then parse_call words
+    else if bytes_eq word (codes "flood") then parse_flood words
     else parse_path_command word words
 
 -- what a command's word says with the words behind it
@@ -241,6 +259,7 @@ command_of memory.Procs = procs
 command_of memory.Modules = modules
 command_of (memory.Peek a i) = peek (string_bytes a) (string_bytes i)
 command_of (memory.Call a i n) = call (string_bytes a) (string_bytes i) n
+command_of (memory.Flood a i n t) = flood (string_bytes a) (string_bytes i) n t
 command_of (memory.Relup n u d) = relup (string_bytes n) (map string_bytes u.items) (map string_bytes d.items)
 command_of memory.Quit = quit
 command_of memory.Bad = bad

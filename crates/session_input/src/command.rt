@@ -34,6 +34,8 @@ pub enum Command {
     Peek(String, String),
     /// Calls a process: the name of its application, its id there, and the input.
     Call(String, String, u32),
+    /// Calls a process so often from threads: the name of its application, its id there, the input, and how often.
+    Flood(String, String, u32, u32),
     /// Makes the relup of the release of a file, up from those of the second files and down to those of the third.
     Relup(String, Vec<String>, Vec<String>),
     /// Ends the session.

@@ -3,7 +3,7 @@ ghost use Rattle.std.specs.Prelude.{◌≡◌, ℕ, List, length, map, chars, na
 ghost use Rattle.std.specs.Char.{is_ascii_digit};
 ghost use Rattle.std.specs.List.{list_all};
 ghost use Rattle.std.specs.Option.{option_map};
-ghost use Rattle.session_input.specs.Commands.{command_of, is_blank as blank, is_id, names_process, input_of, peek_of, call_of, is_path, path_in as path_within, path_of, paths_of, relup_of, version_in as version_of, change_named as named_change};
+ghost use Rattle.session_input.specs.Commands.{command_of, is_blank as blank, is_id, names_process, input_of, times_of, peek_of, call_of, flood_of, is_path, path_in as path_within, path_of, paths_of, relup_of, version_in as version_of, change_named as named_change};
 
 use crate::command::Command;
 use crate::line::Line;
@@ -27,7 +27,7 @@ pub enum ParsedLine {
 
 impl ParsedLine {
     ghost use Rattle.session_input.specs.ParsedLine.{parsed_line_of};
-    ghost use Rattle.session_input.specs.Commands.{parse_line, parse_words, parse_command, parse_process_command, parse_peek, parse_call, parse_path_command, parse_relup, parse_change, without_words, with_word, command_of, words_of, most_line};
+    ghost use Rattle.session_input.specs.Commands.{parse_line, parse_words, parse_command, parse_process_command, parse_peek, parse_call, parse_flood, parse_path_command, parse_relup, parse_change, without_words, with_word, command_of, words_of, most_line};
     ghost use Rattle.session_input.specs.Commands.Command.{create, set_unpacked};
     ghost use Rattle.session_input.specs.Commands.ParsedLine.{file_begins, whole_command};
     ghost use Rattle.session_input.specs.Lines.{IsKept};
@@ -94,6 +94,7 @@ impl ParsedLine {
         match word {
             "peek" => ParsedLine::of_peek(alloc, words),
             "call" => ParsedLine::of_call(alloc, words),
+            "flood" => ParsedLine::of_flood(alloc, words),
             _ => ParsedLine::of_path_command(alloc, word, words),
         }
     }
@@ -177,6 +178,20 @@ impl ParsedLine {
         match words {
             [app, id, input] => {
                 Ok(ParsedLine::Command(call_of(alloc, app, id, input_of(input))?))
+            }
+            _ => Ok(ParsedLine::Command(Command::Bad)),
+        }
+    }
+
+    // What the word of a flood says with the words behind it.
+    fn of_flood(alloc: Global, words: &[&str]) -> Result<ParsedLine, AllocError>
+        ensures { IfOk result (λ parsed.
+            parsed_line_of parsed ≡ parse_flood (map (λ word. word.now) words.now)) }
+    {
+        match words {
+            [app, id, input, times] => {
+                let flood = flood_of(alloc, app, id, input_of(input), times_of(times))?;
+                Ok(ParsedLine::Command(flood))
             }
             _ => Ok(ParsedLine::Command(Command::Bad)),
         }
@@ -341,6 +356,28 @@ fn call_of(alloc: Global, app: &str, id: &str, input: Option<u32>) -> Result<Com
     Ok(Command::Call(app, id, input))
 }
 
+// The flood that these words, an input and a number of times ask, or a bad command where one of them is not of its kind.
+fn flood_of(
+    alloc: Global,
+    app: &str,
+    id: &str,
+    input: Option<u32>,
+    times: Option<u32>,
+) -> Result<Command, AllocError>
+    ensures { IfOk result (λ command.
+        command_of command ≡ flood_of app.now id.now input times) }
+{
+    let (Some(input), Some(times)) = (input, times) else {
+        return Ok(Command::Bad);
+    };
+    if !names_process(app, id) {
+        return Ok(Command::Bad);
+    }
+    let app = String::from_str(alloc, app)?;
+    let id = String::from_str(alloc, id)?;
+    Ok(Command::Flood(app, id, input, times))
+}
+
 // Whether they can name a process: its application, and its id there.
 fn names_process(app: &str, id: &str) -> bool
     ensures { result ≡ names_process app.now id.now }
@@ -378,6 +415,16 @@ fn input_of(word: &str) -> Option<u32>
         word.parse().ok()
     } else {
         None
+    }
+}
+
+// How often a process is called at once, if the word is a number from 1 to 1,000.
+fn times_of(word: &str) -> Option<u32>
+    ensures { result ≡ times_of word.now }
+{
+    match input_of(word) {
+        Some(times) if 1 <= times && times <= 1_000 => Some(times),
+        _ => None,
     }
 }
 

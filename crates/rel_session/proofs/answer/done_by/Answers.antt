@@ -1,7 +1,8 @@
 use Rattle.std.proofs.Common.{rules, refl, sym, ap, ◌∙◌}
 use Rattle.session_input.specs.Commands.{command_of}
-use Rattle.session_input.specs.Commands.Command.{set_unpacked, check, install, permanent, remove, start, procs, modules, peek, call}
+use Rattle.session_input.specs.Commands.Command.{set_unpacked, check, install, permanent, remove, start, procs, modules, peek, call, flood}
 use Rattle.node_processes.specs.Answers.{processes_line, modules_line, peek_line}
+use Rattle.node_processes.specs.Calls.Calls.{once, often}
 use Rattle.rel_session.specs.Transition.{check_line, permanence, removal}
 use Rattle.rel_session.specs.Transition.Action.{changes_node, installs, tells_start, calls}
 use Rattle.rel_session.specs.declared.place.Place.TheVariants as memory
@@ -68,4 +69,13 @@ returns-in-Call-clause-answered g c =
     let app = c.as_str-in-Call.result.now in
     let id = c.as_str-in-Call-2.result.now in
     answers_action g.D.Disk (memory.Made c.args.node.now) (memory.Made c.call.new.node) (g.F.Files.gives c.args.files.now) (command_of c.args.command.now) (call app id c.in-Call.input) c.call.result
-    (ap command_of c.in-Call.is ∙ (λ i. call (sym c.as_str-in-Call.ensures.value i) (sym c.as_str-in-Call-2.ensures.value i) c.in-Call.input)) (calls app id c.in-Call.input) (λ p. refl) c.call.ensures.called
+    (ap command_of c.in-Call.is ∙ (λ i. call (sym c.as_str-in-Call.ensures.value i) (sym c.as_str-in-Call-2.ensures.value i) c.in-Call.input)) (calls (once app id c.in-Call.input)) (λ p. refl) c.call.ensures.called
+
+pub returns-in-Flood-clause-answered : goal.returns-in-Flood-clause-answered
+returns-in-Flood-clause-answered g c =
+    let app = c.as_str-in-Flood.result.now in
+    let id = c.as_str-in-Flood-2.result.now in
+    let input = c.in-Flood.input in
+    let times = c.in-Flood.times in
+    answers_action g.D.Disk (memory.Made c.args.node.now) (memory.Made c.flood.new.node) (g.F.Files.gives c.args.files.now) (command_of c.args.command.now) (flood app id input times) c.flood.result
+    (ap command_of c.in-Flood.is ∙ (λ i. flood (sym c.as_str-in-Flood.ensures.value i) (sym c.as_str-in-Flood-2.ensures.value i) input times)) (calls (often app id input times)) (λ p. refl) c.flood.ensures.flooded

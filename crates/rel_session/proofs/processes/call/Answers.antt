@@ -1,5 +1,6 @@
 use Rattle.std.proofs.Common.{refl}
-use Rattle.node_processes.specs.Answers.{call_line, called}
+use Rattle.node_processes.specs.Calls.{calls_line, left_by}
+use Rattle.node_processes.specs.Calls.Calls.{once}
 use Rattle.rel_session.specs.Node.{Place, Reply}
 use Rattle.rel_session.specs.Transition.{Acts}
 use Rattle.rel_session.specs.Transition.Action.{calls}
@@ -10,8 +11,7 @@ use Rattle.rel_session.proofs.processes.call.Goals as goal
 pub returns-clause-called : goal.returns-clause-called
 returns-clause-called g c =
     let laws : IsDevice g.D.Disk = record { reads_an_image = g.met.D.Disk.reads_an_image; counts_now = g.met.D.Disk.counts_now; only_now = g.met.D.Disk.only_now } in
-    let app = c.args.app.now in
-    let id = c.args.id.now in
-    let Does : Place → Reply → Type 0 = λ p a. Acts p (calls app id c.args.input) a in
-    answers_of_node g.D.Disk laws Does (λ list ps. call_line app id c.args.input ps) (called app id c.args.input) (λ events end ps. refl) c.args.node.now (record c.args.node.now { processes = c.call.new.self }) c.requires.works refl c.call.ensures.called
+    let asked = once c.args.app.now c.args.id.now c.args.input in
+    let Does : Place → Reply → Type 0 = λ p a. Acts p (calls asked) a in
+    answers_of_node g.D.Disk laws Does (λ list ps. calls_line asked ps) (left_by asked) (λ events end ps. refl) c.args.node.now (record c.args.node.now { processes = c.call.new.self }) c.requires.works refl c.call.ensures.called
     c.call.result c.answer_of.result c.answer_of.ensures.same c.call.ensures.told

@@ -17,9 +17,6 @@ returns-in-File-clause-followed g c =
 pub returns-in-Quit-clause-followed : goal.returns-in-Quit-clause-followed
 returns-in-Quit-clause-followed g c = (ap command_of c.in-Quit.is, refl)
 
-pub answer-place-requires-clause-asked : goal.answer-place-requires-clause-asked
-answer-place-requires-clause-asked g c = (c.in_default.not-File, c.in_default.not-Quit)
-
 pub returns-in_default-clause-followed : goal.returns-in_default-clause-followed
 returns-in_default-clause-followed g c =
     follows g.D.Disk (g.F.Files.gives c.args.base.now) c.args.self c.answer-place.result.0 c.args.command (c.in_default.not-File, c.in_default.not-Quit) c.answer-place.result.1 c.line_of.result

@@ -1,0 +1,17 @@
+use Rattle.std.proofs.Common.{◌≡◌, List, ℕ, Ok, Err, sym, subst, ◌∙◌, string_bytes}
+use Rattle.std.specs.Result.{IfOk}
+use Rattle.sup_tree.specs.Loaded.{listed_in}
+use Rattle.node_processes.proofs.FloodLemmas.{always_ok, is_flood_of}
+use Rattle.node_processes.proofs.processes.Processes.flood.Goals as goal
+
+pub returns-in_ok-counts-in-Some-clause-flooded : goal.returns-in_ok-counts-in-Some-clause-flooded
+returns-in_ok-counts-in-Some-clause-flooded g c =
+    let flood = is_flood_of c.args.app.now c.args.id.now c.args.input c.args.times c.args.self.now.seat.view _ c.args.self.now.tree (listed_in c.args.self.now.loaded) c.in-Some.pid c.in_ok-counts-in-Some.counts
+    (sym c.find.ensures ∙ c.in-Some.is) c.in_ok-counts-in-Some.ensures.flooded in
+    always_ok c.line_of_counts.result _ (sym flood.leaves)
+
+pub returns-in_ok-counts-in-Some-clause-told : goal.returns-in_ok-counts-in-Some-clause-told
+returns-in_ok-counts-in-Some-clause-told g c =
+    let flood = is_flood_of c.args.app.now c.args.id.now c.args.input c.args.times c.args.self.now.seat.view _ c.args.self.now.tree (listed_in c.args.self.now.loaded) c.in-Some.pid c.in_ok-counts-in-Some.counts
+    (sym c.find.ensures ∙ c.in-Some.is) c.in_ok-counts-in-Some.ensures.flooded in
+    subst (λ (line : List ℕ). IfOk c.line_of_counts.result (λ text. string_bytes text ≡ line)) (sym flood.told) c.line_of_counts.ensures
