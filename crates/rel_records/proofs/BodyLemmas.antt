@@ -15,8 +15,11 @@ use Rattle.relup_file.proofs.RelupLemmas.{relup_in-term}
 use Rattle.library.specs.Library.{Library}
 use Rattle.library.specs.Reading.{AreOfLibraries}
 use Rattle.library.proofs.TermCases.{libraries_once}
-use Rattle.rel_records.specs.Record.{Record, makes, adds, assigns, removes, release_term}
-use Rattle.rel_records.specs.Reading.{change_in, Brings, Says, Spells, StandsForRelup}
+use Rattle.library.proofs.TermRows.{says_one_row}
+use Rattle.rel_list.specs.declared.status.Status.{Status}
+use Rattle.rel_records.specs.Parts.{lists_in}
+use Rattle.rel_records.specs.Record.{Imaged, Record, makes, adds, assigns, removes, images, release_term, row_term, image_term}
+use Rattle.rel_records.specs.Reading.{change_in, status_in, AreImaged, Brings, Says, SaysImage, SaysImaged, Spells, StandsForRelup}
 
 -- a text has one term at most
 pub one_term : (limit : ℕ) (bytes : List ℕ) (v w : Value) → HasTerm limit bytes v → HasTerm limit bytes w → v ≡ w
@@ -100,6 +103,62 @@ brings_apart v r s ls ks o p b c =
     let same : release_term (codes "made") b.rel b.libs b.last ≡ release_term (codes "unpacked") c.rel c.libs c.last = sym b.is ∙ c.is in
     differ (one_word same)
 
+-- A row of an image says one release.
+module _ {rel again : Value} {status other : Value} {last end : Value} (same : row_term rel status last ≡ row_term again other end) where
+  pub same_rel : rel ≡ again
+  same_rel = ap first same
+    where
+      first : Value → Value
+      first (tuple (value v vs)) = v
+      first v = v
+
+  pub same_status : status ≡ other
+  same_status = ap rel_in same
+
+  pub same_last : last ≡ end
+  same_last = ap third same
+    where
+      third : Value → Value
+      third (tuple (value v (value w (value x vs)))) = x
+      third v = v
+
+one_status : (o : Option Status) (s t : Status) → o ≡ Some s → o ≡ Some t → s ≡ t
+one_status o s t p q = cc
+
+one_imaged : (v : Value) (x y : Imaged) → SaysImaged v x → SaysImaged v y → x ≡ y
+one_imaged v x y a b =
+    let same : row_term a.rel a.status a.last ≡ row_term b.rel b.status b.last = sym a.is ∙ b.is in
+    let release = one_release b.rel x.release y.release (subst (λ t. IsReleaseTerm t x.release) (same_rel same) a.release) b.release in
+    let status = one_status (status_in b.status) x.status y.status (ap status_in (sym (same_status same)) ∙ a.has_status) b.has_status in
+    let relup = stands_once b.last x.relup y.relup (subst (λ t. StandsForRelup t x.relup) (same_last same) a.relup) b.relup in
+    λ j. record { release = release j; status = status j; relup = relup j }
+
+-- the terms of its releases, and of its libraries
+pub same_lists : (rows also libs others : Values) → image_term rows libs ≡ image_term also others → (rows ≡ also) × (libs ≡ others)
+same_lists rows also libs others same = (ap rows_of same, ap libs_of same)
+  where
+    rows_of : Value → Values
+    rows_of (tuple (value w (value (list vs) ws))) = vs
+    rows_of v = no_values
+
+    libs_of : Value → Values
+    libs_of (tuple (value w (value v (value (list vs) ws)))) = vs
+    libs_of v = no_values
+
+one_image : (v : Value) (xs ys : List Imaged) (ls ks : List Library) → SaysImage v xs ls → SaysImage v ys ks → images xs ls ≡ images ys ks
+one_image v xs ys ls ks a b =
+    let (rows, libs) = same_lists a.rows b.rows a.libs b.libs (sym a.is ∙ b.is) in
+    let releases = says_one_row SaysImaged one_imaged b.rows xs ys (subst (λ vs. AreImaged vs xs) rows a.releases) b.releases in
+    let libraries = libraries_once b.libs ls ks (subst (λ vs. AreOfLibraries vs ls) libs a.libraries) b.libraries in
+    λ j. images (releases j) (libraries j)
+
+-- the term of an image brings no release of its own, and changes none
+image_no_release : (v : Value) (xs : List Imaged) (ls : List Library) (word : List ℕ) (rel : Value) (libs : Values) (last : Value) → SaysImage v xs ls → v ≡ release_term word rel libs last → ⊥
+image_no_release v xs ls word rel libs last s is = cc (ap lists_in s.is, ap lists_in is)
+
+image_no_change : (v : Value) (xs : List Imaged) (ls : List Library) (r : Record) → SaysImage v xs ls → change_in v ≡ Some r → ⊥
+image_no_change v xs ls r s changes = cc (changes, ap change_in s.is)
+
 one_change : (o : Option Record) (r s : Record) → o ≡ Some r → o ≡ Some s → r ≡ s
 one_change o r s p q = cc
 
@@ -109,6 +168,15 @@ says_once v (makes x ls o) (makes y ks p) b c =
     let same = brings_once (codes "made") v x y ls ks o p b c in λ j. makes (same.release j) (same.libraries j) (same.relup j)
 says_once v (adds x ls o) (adds y ks p) b c =
     let same = brings_once (codes "unpacked") v x y ls ks o p b c in λ j. adds (same.release j) (same.libraries j) (same.relup j)
+says_once v (images xs ls) (images ys ks) a b = one_image v xs ys ls ks a b
+says_once v (images xs ls) (makes y ks p) a b = absurd (image_no_release v xs ls (codes "made") b.rel b.libs b.last a b.is)
+says_once v (images xs ls) (adds y ks p) a b = absurd (image_no_release v xs ls (codes "unpacked") b.rel b.libs b.last a b.is)
+says_once v (images xs ls) (assigns bs) a q = absurd (image_no_change v xs ls (assigns bs) a q)
+says_once v (images xs ls) (removes u) a q = absurd (image_no_change v xs ls (removes u) a q)
+says_once v (makes x ls o) (images ys ks) b a = absurd (image_no_release v ys ks (codes "made") b.rel b.libs b.last a b.is)
+says_once v (adds x ls o) (images ys ks) b a = absurd (image_no_release v ys ks (codes "unpacked") b.rel b.libs b.last a b.is)
+says_once v (assigns given) (images ys ks) q a = absurd (image_no_change v ys ks (assigns given) a q)
+says_once v (removes w) (images ys ks) q a = absurd (image_no_change v ys ks (removes w) a q)
 says_once v (makes x ls o) (adds y ks p) b c = absurd (brings_apart v x y ls ks o p b c)
 says_once v (adds x ls o) (makes y ks p) b c = absurd (brings_apart v y x ks ls p o c b)
 says_once v (assigns given) (assigns bs) p q = one_change (change_in v) (assigns given) (assigns bs) p q

@@ -26,17 +26,17 @@ pub first_different-booted : (es : Releases) (ls : List Library) → first_diffe
 first_different-booted es ls = ap (λ named. find (λ (l : Library). not (agrees (library_at l.app.name l.app.vsn named) l)) ls) (libraries-booted es)
 
 -- the library of an application has its name and its version
-at_names : (a : Application) (l : Library) → is_at a.name a.vsn l ≡ true → (l.app.name ≡ a.name) × (l.app.vsn ≡ a.vsn)
+pub at_names : (a : Application) (l : Library) → is_at a.name a.vsn l ≡ true → (l.app.name ≡ a.name) × (l.app.vsn ≡ a.vsn)
 at_names a l at =
     let (name, vsn) = both (bytes_eq l.app.name a.name) (bytes_eq l.app.vsn a.vsn) at in
     ((bytes_eq-Decides l.app.name a.name).0 name, (bytes_eq-Decides l.app.vsn a.vsn).0 vsn)
 
 -- so a look-up by the one's is one by the other's
-looked_up : (es : Releases) (a : Application) (l : Library) → is_at a.name a.vsn l ≡ true → library_in es a.name a.vsn ≡ library_in es l.app.name l.app.vsn
+pub looked_up : (es : Releases) (a : Application) (l : Library) → is_at a.name a.vsn l ≡ true → library_in es a.name a.vsn ≡ library_in es l.app.name l.app.vsn
 looked_up es a l at = let names = at_names a l at in λ k. library_in es (sym names.0 k) (sym names.1 k)
 
 -- what is found passes the test
-found_passes : (test : Library → Bool) (ls : List Library) (l : Library) → find test ls ≡ Some l → test l ≡ true
+pub found_passes : (test : Library → Bool) (ls : List Library) (l : Library) → find test ls ≡ Some l → test l ≡ true
 found_passes test [] l is = absurd cc
 found_passes test (k ∷ ls) l is = go (test k) refl (found_passes test ls l) is
   where

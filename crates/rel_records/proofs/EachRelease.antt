@@ -1,22 +1,22 @@
 -- What holds of each release of a list that records make, whatever its status.
-use Rattle.std.proofs.Common.{◌≡◌, ℕ, Bool, true, false, cond, List, [], ◌∷◌, ◌++◌, length, Option, Some, sym, subst, find}
+use Rattle.std.proofs.Common.{◌≡◌, ℕ, Bool, true, false, cond, List, [], ◌∷◌, ◌++◌, length, Option, Some, subst, find}
 use Rattle.std.specs.Prelude.{◌&&◌, nat_lt, if◌then◌else◌}
 use Rattle.std.specs.List.{AllByRecursion}
+use Rattle.std.specs.Option.{option_and_then}
 use Rattle.std.specs.Str.{bytes_eq}
-use Rattle.erl_term.specs.Value.{Value}
 use Rattle.rel_files.specs.Release.{Release}
 use Rattle.relup_file.specs.Relup.{RelupForm}
-use Rattle.library.specs.Library.{Library}
+use Rattle.library.specs.Library.{Library, IsLibrary}
 use Rattle.rel_list.specs.declared.status.Status.{Status}
 use Rattle.rel_list.specs.declared.status.Status.TheVariants.{Unpacked, Permanent}
 use Rattle.rel_list.specs.Releases.{Bundle, Releases, Entry, entry, status_of}
 use Rattle.rel_list.specs.Event.{booted, booted_status, step, without, assigned_status, list_assigned, may_be_removed}
-use Rattle.rel_list.specs.Event.Event.{made, unpacked}
+use Rattle.rel_list.specs.Event.Event.{made, removed, unpacked}
 use Rattle.rel_records.specs.Limits.{is_small, most_releases}
-use Rattle.rel_records.specs.Lists.{may_be_assigned, assign_all, taken_by, MakesFrom, Makes}
-use Rattle.rel_records.specs.Reading.{Brings, Says}
-use Rattle.rel_records.specs.Record.{Assignment, Record, makes, adds, assigns, removes}
-use Rattle.rel_records.proofs.RecordPlaces.{IsOfRecord, chosen, assigned_so, event_of_record, pushed_last}
+use Rattle.rel_records.specs.Lists.{may_be_assigned, added_by, assign_all, brought_by, made_by, Makes}
+use Rattle.rel_records.specs.Record.{Assignment}
+use Rattle.rel_records.proofs.MadeLemmas.{AreSaid, kept_made}
+use Rattle.rel_records.proofs.RecordPlaces.{IsOfRecord, both, chosen, event_of_record, pushed_last}
 
 module _ (P : Entry → Type 0) where
   -- what holds of each holds of the one that is found
@@ -36,13 +36,18 @@ module _ (P : Entry → Type 0) where
       go true rest = all.1
       go false rest = (all.0, rest)
 
+  pub each_left : (v : List ℕ) (es next : Releases) → step (removed v) es ≡ Some next → AllByRecursion P es → AllByRecursion P next
+  each_left v es next e all =
+      let (may, is) = chosen (may_be_removed (status_of v es)) (Some (without v es)) next e in
+      let gone : without v es ≡ next = cc is in subst (AllByRecursion P) gone (each-without v es all)
+
   each-push : (es : Releases) (e : Entry) → AllByRecursion P es → P e → AllByRecursion P (es ++ e ∷ [])
   each-push [] e all has = (has, tt)
   each-push (f ∷ es) e all has = (all.0, each-push es e all.1 has)
 
-  each_first : (p : Bundle) (es next : Releases) → step (made p) es ≡ Some next → P (entry p Permanent) → AllByRecursion P next
-  each_first p [] next is has = let one : entry p Permanent ∷ [] ≡ next = cc is in subst (AllByRecursion P) one (has, tt)
-  each_first p (f ∷ fs) next is has = absurd cc
+  each_one : (p : Bundle) (es next : Releases) → step (made p) es ≡ Some next → P (entry p Permanent) → AllByRecursion P next
+  each_one p [] next is has = let one : entry p Permanent ∷ [] ≡ next = cc is in subst (AllByRecursion P) one (has, tt)
+  each_one p (f ∷ fs) next is has = absurd cc
 
   -- It holds whatever the status is.
   module _ (still : (e : Entry) (s : Status) → P e → P (record e { status = s })) where
@@ -65,24 +70,27 @@ module _ (P : Entry → Type 0) where
         let (may, rest) = chosen (may_be_assigned a es) (assign_all given (list_assigned a.vsn a.status es)) next is in
         each-assign_all given (list_assigned a.vsn a.status es) next (each-assigned a.vsn a.status es all) rest
 
-    -- Where it holds of each release that a record brings, it holds of each of a list that records make.
-    module _ (brings : (word : List ℕ) (v : Value) (es : Releases) (r : Release) (ls : List Library) (o : Option RelupForm) (p : Bundle) (s : Status) → AllByRecursion P es → Brings word v r ls o → IsOfRecord es r ls o p → P (entry p s)) where
-      each_behind : (v : Value) (r : Record) (es next : Releases) → Says v r → taken_by r es ≡ Some next → AllByRecursion P es → AllByRecursion P next
-      each_behind v (makes r ls o) es next says e all =
-          let (p, of, is) = event_of_record made (is_small r) r ls o es next e in
-          each_first p es next is (brings _ v es r ls o p Permanent all says of)
-      each_behind v (adds r ls o) es next says e all =
-          let (p, of, is) = event_of_record unpacked (is_small r && nat_lt (length es) most_releases) r ls o es next e in
-          subst (AllByRecursion P) (pushed_last p es next is) (each-push es (entry p Unpacked) all (brings _ v es r ls o p Unpacked all says of))
-      each_behind v (assigns given) es next says e all = each-assign_all given es next all e
-      each_behind v (removes w) es next says e all =
-          let (may, is) = chosen (may_be_removed (status_of w es)) (Some (without w es)) next e in
-          let left : without w es ≡ next = cc is in subst (AllByRecursion P) left (each-without w es all)
+    pub each_set : (given : List Assignment) (es next : Releases) → assign_all given es ≡ Some next → AllByRecursion P es → AllByRecursion P next
+    each_set given es next is all = each-assign_all given es next all is
 
-      each_from : (es : Releases) (bodies : List (List ℕ)) (end : Releases) → MakesFrom es bodies end → AllByRecursion P es → AllByRecursion P end
-      each_from es [] end is all = subst (AllByRecursion P) (sym is) all
-      each_from es (body ∷ bodies) end (r, next, spelled, taken, rest) all =
-          each_from next bodies end rest (each_behind spelled.term r es next spelled.says (assigned_so r es next taken).0 all)
+    -- Where it holds of each release that a record brings, it holds of each of a list that records make.
+    module _ (brings : (es : Releases) (r : Release) (ls : List Library) (o : Option RelupForm) (p : Bundle) (s : Status)
+        → AllByRecursion P es → is_small r ≡ true → AreSaid r o → AllByRecursion IsLibrary ls → IsOfRecord es r ls o p → P (entry p s)) where
+      pub each_first : (r : Release) (ls : List Library) (o : Option RelupForm) (es next : Releases) → AreSaid r o → AllByRecursion IsLibrary ls → made_by r ls o es ≡ Some next
+          → AllByRecursion P es → AllByRecursion P next
+      each_first r ls o es next said libraries e all =
+          let (small, rest) = chosen (is_small r) (option_and_then (λ (p : Bundle). step (made p) es) (brought_by es r ls o)) next e in
+          let (p, of, is) = event_of_record made (is_small r) r ls o es next e in
+          each_one p es next is (brings es r ls o p Permanent all small said libraries of)
+
+      pub each_further : (r : Release) (ls : List Library) (o : Option RelupForm) (es next : Releases) → AreSaid r o → AllByRecursion IsLibrary ls → added_by r ls o es ≡ Some next
+          → AllByRecursion P es → AllByRecursion P next
+      each_further r ls o es next said libraries e all =
+          let allowed = is_small r && nat_lt (length es) most_releases in
+          let (may, rest) = chosen allowed (option_and_then (λ (p : Bundle). step (unpacked p) es) (brought_by es r ls o)) next e in
+          let small = (both (is_small r) (nat_lt (length es) most_releases) may).0 in
+          let (p, of, is) = event_of_record unpacked allowed r ls o es next e in
+          subst (AllByRecursion P) (pushed_last p es next is) (each-push es (entry p Unpacked) all (brings es r ls o p Unpacked all small said libraries of))
 
       pub each_made : (bodies : List (List ℕ)) (es : Releases) → Makes bodies es → AllByRecursion P es
-      each_made bodies es makes_it = each_from [] bodies es makes_it.0 tt
+      each_made = kept_made (AllByRecursion P) each_first each_further each_set each_left tt

@@ -17,7 +17,7 @@ use Rattle.rel_list.specs.Event.Event.{made, unpacked, installed, made_permanent
 use Rattle.rel_list.proofs.EventLaws.{one_permanent-step}
 use Rattle.rel_list.proofs.Orderly.{status_or, is_itself, differs_back, first_differs, none_behind, listed-with_statuses, unlisted-with_statuses, just_as_many}
 use Rattle.rel_records.specs.Limits.{has_one_permanent, is_small, most_releases}
-use Rattle.rel_records.specs.Record.{Assignment, Record, makes, adds, assigns, removes}
+use Rattle.rel_records.specs.Record.{Assignment, Record, makes, adds, assigns, removes, images}
 use Rattle.rel_records.specs.Lists.{may_be_assigned, assign_all, completed, if_faultless, brought_by, taken_by, with_one_permanent, assigned, HaveLibraries}
 use Rattle.rel_records.specs.Writing.{is_same, is_changed, assignment_of, changes, new_libraries, record_of, IsComplete, IsWithinLimits, IsOfListed, Tells}
 use Rattle.rel_records.specs.Laws.{IsOfEvent, IsOfOneRelease, RecordsAreOfEvents, RecordsTellEvents}
@@ -84,10 +84,10 @@ same_so Permanent Current e = absurd cc
 same_so Permanent Old e = absurd cc
 
 -- an assignment to another release leaves the first one
-abbrev AreOfOthers : List ℕ → List Assignment → Type 0
+abbrev pub AreOfOthers : List ℕ → List Assignment → Type 0
 AreOfOthers v given = AllByRecursion (λ (a : Assignment). bytes_eq a.vsn v ≡ false) given
 
-behind_first : (x : Entry) (given : List Assignment) (es end : Releases) → AreOfOthers x.release.vsn given → assign_all given es ≡ Some end → assign_all given (x ∷ es) ≡ Some (x ∷ end)
+pub behind_first : (x : Entry) (given : List Assignment) (es end : Releases) → AreOfOthers x.release.vsn given → assign_all given es ≡ Some end → assign_all given (x ∷ es) ≡ Some (x ∷ end)
 behind_first x [] es end others is = let same : es ≡ end = cc is in ap (λ l. Some (x ∷ l)) same
 behind_first x (a ∷ given) es end others is =
     let (may, rest) = chosen (may_be_assigned a es) (assign_all given (list_assigned a.vsn a.status es)) end is in
@@ -98,7 +98,7 @@ behind_first x (a ∷ given) es end others is =
     ∙ behind_first x given (list_assigned a.vsn a.status es) end others.1 rest
 
 -- where no release has the version, an assignment to it changes nothing
-unassigned : (v : List ℕ) (t : Status) (es : Releases) → status_of v es ≡ None → list_assigned v t es ≡ es
+pub unassigned : (v : List ℕ) (t : Status) (es : Releases) → status_of v es ≡ None → list_assigned v t es ≡ es
 unassigned v t [] none = refl
 unassigned v t (x ∷ es) none =
     ap (λ b. record x { status = assigned_status t b x.status } ∷ list_assigned v t es) (first_differs v x es none) ∙ ap (λ l. x ∷ l) (unassigned v t es (none_behind v x es none))
@@ -163,13 +163,13 @@ module _ (e : Event) where
 -- Releases that come in
 
 -- a record brings the release with the libraries that its new ones complete
-brought_whole : (es : Releases) (p : Bundle) (ls : List Library) → completed es p.release.apps ls ≡ Some p.libraries → IsComplete p → brought_by es p.release ls p.relup ≡ Some p
+pub brought_whole : (es : Releases) (p : Bundle) (ls : List Library) → completed es p.release.apps ls ≡ Some p.libraries → IsComplete p → brought_by es p.release ls p.relup ≡ Some p
 brought_whole es p ls found complete =
     ap (option_and_then (λ (ks : List Library). if_faultless (record p { libraries = ks }))) found
     ∙ (λ j. if is_some (complete.faultless j) || is_some (complete.matching j) then None else Some p)
 
 -- nothing bars a release that came in
-unbarred : (p : Bundle) (es next : Releases) → step (unpacked p) es ≡ Some next → (is_some (status_of p.release.vsn es) ≡ false) × (first_different es p.libraries ≡ None)
+pub unbarred : (p : Bundle) (es next : Releases) → step (unpacked p) es ≡ Some next → (is_some (status_of p.release.vsn es) ≡ false) × (first_different es p.libraries ≡ None)
 unbarred p es next is = by (is_some (status_of p.release.vsn es)) (first_different es p.libraries) refl refl is
   where
     by : (listed : Bool) (o : Option Library) → is_some (status_of p.release.vsn es) ≡ listed → first_different es p.libraries ≡ o
@@ -178,7 +178,7 @@ unbarred p es next is = by (is_some (status_of p.release.vsn es)) (first_differe
     by false (Some l) fresh agree e = absurd cc
     by true o fresh agree e = absurd cc
 
-comes_in : (p : Bundle) (es next : Releases) → HaveLibraries es → IsWithinLimits (unpacked p) es → step (unpacked p) es ≡ Some next
+pub comes_in : (p : Bundle) (es next : Releases) → HaveLibraries es → IsWithinLimits (unpacked p) es → step (unpacked p) es ≡ Some next
     → taken_by (adds p.release (new_libraries es p.libraries) p.relup) (booted es) ≡ Some (booted next)
 comes_in p es next have fits is =
     let (fresh, agree) = unbarred p es next is in
@@ -269,7 +269,7 @@ pub told_by_record : (e : Event) (es : Releases) → HasDistinctVersions es → 
 told_by_record e es distinct listed next is one = change_tells e es next listed distinct is (one_behind_step e es next distinct is one)
 
 -- a further release that isn't permanent leaves one permanent
-one-push : (es : Releases) (x : Entry) → is_permanent x.status ≡ false → of_status is_permanent (es ++ x ∷ []) ≡ of_status is_permanent es
+pub one-push : (es : Releases) (x : Entry) → is_permanent x.status ≡ false → of_status is_permanent (es ++ x ∷ []) ≡ of_status is_permanent es
 one-push [] x not_it = ap (λ b. cond b (x ∷ []) []) not_it
 one-push (e ∷ es) x not_it = ap (λ l. cond (is_permanent e.status) (e ∷ l) l) (one-push es x not_it)
 
@@ -279,7 +279,7 @@ unpacked_tells p es have fits next is one = ap with_one_permanent (comes_in p es
     behind : has_one_permanent next ≡ true
     behind = ap has_one_permanent (sym (pushed_last p es next is)) ∙ ap (λ l. length l == 1) (one-push es (entry p Unpacked) refl) ∙ one
 
-below : (n : ℕ) → nat_lt n most_releases ≡ true → n < most_releases
+pub below : (n : ℕ) → nat_lt n most_releases ≡ true → n < most_releases
 below n e = grind (arith, nat_tests)
 
 -- a node's first release brings all its libraries
@@ -311,6 +311,7 @@ of_event v (adds r ls o) es next have says one taken =
     }
 of_event v (removes w) es next have says one taken = record { event = removed w; leads = taken; fits = tt; own = refl }
 of_event v (assigns given) es next have says one taken = absurd one
+of_event v (images xs ls) es next have says one taken = absurd one
 
 pub are_of_events : RecordsAreOfEvents
 are_of_events body r es next have spelled one taken = of_event spelled.term r es next have spelled.says one (assigned_so r es next taken).0

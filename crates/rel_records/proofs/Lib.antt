@@ -1,8 +1,11 @@
 pub mod BodyLemmas
+pub mod ImageTerms
 pub mod ReadingLemmas
 pub mod BundleLemmas
 pub mod ListLemmas
+pub mod InvariantLemmas
 pub mod RecordPlaces
+pub mod MadeLemmas
 pub mod CompletionLemmas
 pub mod Progress
 pub mod Within
@@ -13,3 +16,10 @@ pub mod RecordLaws
 pub mod EventRecords
 pub mod Characters
 pub mod WritingLemmas
+pub mod DepthLemmas
+pub mod FileTermLemmas
+pub mod AgreementLemmas
+pub mod MentionLemmas
+pub mod RestorationLemmas
+pub mod ImageLemmas
+pub mod ImageEvents

@@ -5,7 +5,7 @@ use Rattle.std.specs.Result.{IsErrAnd}
 use Rattle.std.specs.Option.{option_map, option_and_then}
 use Rattle.std.specs.Str.{bytes_eq}
 use Rattle.std.proofs.lemmas.Slice.Eq.{bytes_eq-Decides}
-use Rattle.erl_term.specs.Value.{Value}
+use Rattle.erl_term.specs.Value.{Value, Values}
 use Rattle.erl_term.specs.Grammar.{Reading, Reads}
 use Rattle.erl_term.specs.Faults.{IsFault}
 use Rattle.erl_term.specs.OneTerm.{HasTerm}
@@ -22,19 +22,21 @@ use Rattle.library.specs.Library.{Library}
 use Rattle.library.specs.Reading.{AreOfLibraries, SaysLibrary}
 use Rattle.library.proofs.TermRows.{RowOrNot}
 use Rattle.library.proofs.TermCases.{libraries_or_not}
-use Rattle.rel_records.specs.Parts.{ReleaseParts, parts_in, parts_term, record_read, fault_of_text, fault_of_release}
+use Rattle.rel_records.specs.Parts.{ReleaseParts, lists_in, parts_in, parts_term, record_read, fault_of_text, fault_of_release}
 use Rattle.rel_records.specs.declared.reading.Record.{Record as RecordInMemory}
-use Rattle.rel_records.specs.Record.{Assignment, Record, makes, adds, assigns, removes}
-use Rattle.rel_records.specs.Reading.{change_of, change_in, assignments_of, version_in, Brings, Says, Spells, StandsForRelup}
+use Rattle.rel_records.specs.Record.{Assignment, Imaged, Record, makes, adds, assigns, removes, images, image_term}
+use Rattle.rel_records.specs.Reading.{change_of, change_in, assignments_of, version_in, AreImaged, Brings, Says, SaysImage, SaysImaged, Spells, StandsForRelup}
 use Rattle.rel_records.specs.declared.fault.RecordFault.{RecordFault}
 use Rattle.rel_records.specs.declared.fault.RecordFault.TheVariants.{Bad}
-use Rattle.rel_records.proofs.BodyLemmas.{one_term, one_word, one_rel, one_row, one_last, no_change}
+use Rattle.rel_records.proofs.BodyLemmas.{one_term, one_word, one_rel, one_row, one_last, no_change, same_lists}
+use Rattle.rel_records.proofs.ImageTerms.{all_imaged_or_not, is_image_term}
 use Rattle.rel_records.proofs.TermLemmas.{SaysOrNot, says_or_not, StandsOrNot, stands_or_not, is_parts_term}
 
 -- the record is of releases that are there
 abbrev ChangesAlone : Record → Type 0
 ChangesAlone (makes x ls o) = ⊥
 ChangesAlone (adds x ls o) = ⊥
+ChangesAlone (images xs ls) = ⊥
 ChangesAlone r = Unit {0}
 
 -- a change assigns or removes
@@ -55,15 +57,17 @@ changes_only v r e = by_pair (pair_in v) e
 pub change_says : (v : Value) (r : Record) → change_in v ≡ Some r → Says v r
 change_says v (makes x ls o) e = absurd (changes_only v (makes x ls o) e)
 change_says v (adds x ls o) e = absurd (changes_only v (adds x ls o) e)
+change_says v (images xs ls) e = absurd (changes_only v (images xs ls) e)
 change_says v (assigns given) e = e
 change_says v (removes w) e = e
 
--- what is said by no release's term and no change is no record
-pub says_none : (v : Value) → None ≡ parts_in v → change_in v ≡ None → (r : Record) → Says v r → ⊥
-says_none v none still (makes x ls o) b = cc (none, ap parts_in b.is)
-says_none v none still (adds x ls o) b = cc (none, ap parts_in b.is)
-says_none v none still (assigns given) says = cc (still, says)
-says_none v none still (removes w) says = cc (still, says)
+-- what is said by no release's term, no image's and no change is no record
+pub says_none : (v : Value) → None ≡ parts_in v → None ≡ lists_in v → change_in v ≡ None → (r : Record) → Says v r → ⊥
+says_none v none no_lists still (makes x ls o) b = cc (none, ap parts_in b.is)
+says_none v none no_lists still (adds x ls o) b = cc (none, ap parts_in b.is)
+says_none v none no_lists still (assigns given) says = cc (still, says)
+says_none v none no_lists still (removes w) says = cc (still, says)
+says_none v none no_lists still (images xs ls) s = cc (no_lists, ap lists_in s.is)
 
 -- A term says a record, or none.
 abbrev pub SaysRecordOrNot : Value → Type 0
@@ -74,10 +78,15 @@ module _ (p : ReleaseParts) where
   no_change_there : change_in (parts_term p) ≡ None
   no_change_there = no_change (parts_term p) p.word p.rel p.libs p.relup refl
 
+  -- it says no image
+  no_image : (xs : List Imaged) (ls : List Library) → SaysImage (parts_term p) xs ls → ⊥
+  no_image xs ls s = cc (ap lists_in s.is)
+
   -- a word that is none of the two says none
   no_word : bytes_eq p.word (codes "made") ≡ false → bytes_eq p.word (codes "unpacked") ≡ false → (r : Record) → Says (parts_term p) r → ⊥
   no_word made unpacked (makes x ls o) b = cc (made, ap (λ w. bytes_eq w (codes "made")) (one_word b.is))
   no_word made unpacked (adds x ls o) b = cc (unpacked, ap (λ w. bytes_eq w (codes "unpacked")) (one_word b.is))
+  no_word made unpacked (images xs ls) s = no_image xs ls s
   no_word made unpacked (assigns given) says = cc (says, no_change_there)
   no_word made unpacked (removes w) says = cc (says, no_change_there)
 
@@ -85,6 +94,7 @@ module _ (p : ReleaseParts) where
   no_record : ((word : List ℕ) (x : Release) (ls : List Library) (o : Option RelupForm) → Brings word (parts_term p) x ls o → ⊥) → (r : Record) → Says (parts_term p) r → ⊥
   no_record never (makes x ls o) b = never (codes "made") x ls o b
   no_record never (adds x ls o) b = never (codes "unpacked") x ls o b
+  no_record never (images xs ls) s = no_image xs ls s
   no_record never (assigns given) says = cc (says, no_change_there)
   no_record never (removes w) says = cc (says, no_change_there)
 
@@ -137,15 +147,52 @@ module _ (p : ReleaseParts) where
       by_word false is true other = by_release (λ x ls o. adds x ls o) (brings (codes "unpacked") ((bytes_eq-Decides p.word (codes "unpacked")).0 other)) (says_or_not p.rel)
       by_word false is false other = inr (no_word is other)
 
+-- What the term of an image with these lists doesn't say.
+module _ (rows libs : Values) where
+  -- it says images alone
+  images_alone : ((xs : List Imaged) (ls : List Library) → SaysImage (image_term rows libs) xs ls → ⊥) → (r : Record) → Says (image_term rows libs) r → ⊥
+  images_alone never (makes x ls o) b = cc (ap lists_in b.is)
+  images_alone never (adds x ls o) b = cc (ap lists_in b.is)
+  images_alone never (assigns given) says = cc says
+  images_alone never (removes w) says = cc says
+  images_alone never (images xs ls) s = never xs ls s
+
+  -- one of its rows says no release
+  pub no_rows : ((xs : List Imaged) → AreImaged rows xs → ⊥) → (r : Record) → Says (image_term rows libs) r → ⊥
+  no_rows never = images_alone (λ xs ls s. never xs (subst (λ vs. AreImaged vs xs) (sym (same_lists rows s.rows libs s.libs s.is).0) s.releases))
+
+  -- or one of its libraries is none
+  pub no_row_of_libraries : ((ls : List Library) → AreOfLibraries libs ls → ⊥) → (r : Record) → Says (image_term rows libs) r → ⊥
+  no_row_of_libraries never = images_alone (λ xs ls s. never ls (subst (λ vs. AreOfLibraries vs ls) (sym (same_lists rows s.rows libs s.libs s.is).1) s.libraries))
+
+  -- what it says
+  pub image_says : (xs : List Imaged) (ls : List Library) → AreImaged rows xs → AreOfLibraries libs ls → Says (image_term rows libs) (images xs ls)
+  image_says xs ls are also = record { rows = rows; libs = libs; is = refl; releases = are; libraries = also }
+
+  lists_say : SaysRecordOrNot (image_term rows libs)
+  lists_say = by_rows (all_imaged_or_not rows)
+    where
+      by_libraries : (xs : List Imaged) → AreImaged rows xs → RowOrNot SaysLibrary libs → SaysRecordOrNot (image_term rows libs)
+      by_libraries xs are (inl (ls, also)) = inl (images xs ls, image_says xs ls are also)
+      by_libraries xs are (inr never) = inr (no_row_of_libraries never)
+
+      by_rows : RowOrNot SaysImaged rows → SaysRecordOrNot (image_term rows libs)
+      by_rows (inl (xs, are)) = by_libraries xs are (libraries_or_not libs)
+      by_rows (inr never) = inr (no_rows never)
+
 says_record_or_not : (v : Value) → SaysRecordOrNot v
 says_record_or_not v = by_parts (parts_in v) refl
   where
-    by_change : parts_in v ≡ None → (o : Option Record) → change_in v ≡ o → SaysRecordOrNot v
-    by_change none (Some r) is = inl (r, change_says v r is)
-    by_change none None is = inr (says_none v (sym none) is)
+    by_change : parts_in v ≡ None → lists_in v ≡ None → (o : Option Record) → change_in v ≡ o → SaysRecordOrNot v
+    by_change none no_lists (Some r) is = inl (r, change_says v r is)
+    by_change none no_lists None is = inr (says_none v (sym none) (sym no_lists) is)
+
+    by_lists : parts_in v ≡ None → (o : Option (Values × Values)) → lists_in v ≡ o → SaysRecordOrNot v
+    by_lists none None is = by_change none is (change_in v) refl
+    by_lists none (Some q) is = subst SaysRecordOrNot (sym (is_image_term v q is)) (lists_say q.0 q.1)
 
     by_parts : (o : Option ReleaseParts) → parts_in v ≡ o → SaysRecordOrNot v
-    by_parts None is = by_change is (change_in v) refl
+    by_parts None is = by_lists is (lists_in v) refl
     by_parts (Some p) is = subst SaysRecordOrNot (sym (is_parts_term v p is)) (parts_say p)
 
 -- A body spells a record, or none.
@@ -206,15 +253,17 @@ module _ (body : List ℕ) (v : Value) (has : HasTerm 72 body v) where
   pub release_spelled : {E : Type 0} → (p : ReleaseParts) → Some p ≡ parts_in v → (result : Result RecordInMemory E) → IfOk result (λ r. Says (parts_term p) (record_read r)) → IfOk result (λ r. Spells body (record_read r))
   release_spelled p parts result says = spelled_so result (subst (λ t. IfOk result (λ r. Says t (record_read r))) (sym (is_parts_term v p (sym parts))) says)
 
-  pub change_spelled : {E : Type 0} → (result : Result RecordInMemory E) → IfOk result (λ r. change_in v ≡ Some (record_read r)) → IfOk result (λ r. Spells body (record_read r))
-  change_spelled {E = E} result says = spelled_so result (go result says)
-    where
-      go : (o : Result RecordInMemory E) → IfOk o (λ r. change_in v ≡ Some (record_read r)) → IfOk o (λ r. Says v (record_read r))
-      go (Ok r) is = change_says v (record_read r) is
-      go (Err e) is = tt
-
   pub no_release_spelled : (p : ReleaseParts) → Some p ≡ parts_in v → ((r : Record) → Says (parts_term p) r → ⊥) → (r : Record) → Spells body r → ⊥
   no_release_spelled p parts never = unspelled body v has (subst (λ t. (r : Record) → Says t r → ⊥) (sym (is_parts_term v p (sym parts))) never)
 
-  pub no_change_spelled : None ≡ parts_in v → change_in v ≡ None → (r : Record) → Spells body r → ⊥
-  no_change_spelled none still = unspelled body v has (says_none v none still)
+-- what a change says, in place of what its term reads as
+pub says_change : {E : Type 0} → (v : Value) (result : Result RecordInMemory E) → IfOk result (λ r. change_in v ≡ Some (record_read r)) → IfOk result (λ r. Says v (record_read r))
+says_change v (Ok r) is = change_says v (record_read r) is
+says_change v (Err e) is = tt
+
+-- what the lists of a term say, it says
+pub says_lists : {E : Type 0} → (v : Value) (q : Values × Values) → Some q ≡ lists_in v → (result : Result RecordInMemory E) → IfOk result (λ r. Says (image_term q.0 q.1) (record_read r)) → IfOk result (λ r. Says v (record_read r))
+says_lists v q lists result says = subst (λ t. IfOk result (λ r. Says t (record_read r))) (sym (is_image_term v q (sym lists))) says
+
+pub no_lists_say : (v : Value) (q : Values × Values) → Some q ≡ lists_in v → ((r : Record) → Says (image_term q.0 q.1) r → ⊥) → (r : Record) → Says v r → ⊥
+no_lists_say v q lists never = subst (λ t. (r : Record) → Says t r → ⊥) (sym (is_image_term v q (sym lists))) never

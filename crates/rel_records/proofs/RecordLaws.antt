@@ -1,20 +1,21 @@
 -- Records make one list, of releases with versions and their libraries, or one of them is bad.
 use Rattle.std.proofs.Common.{◌≡◌, ◌⊎◌, inl, inr, ℕ, ◌+◌, true, List, [], ◌∷◌, ◌++◌, length, Option, Some, None, refl, sym, subst, append_assoc, append-nil}
-use Rattle.erl_term.specs.Value.{Value}
+use Rattle.std.specs.List.{AllByRecursion}
 use Rattle.rel_files.specs.File.{HasVersions}
 use Rattle.rel_files.specs.Release.{Release}
 use Rattle.relup_file.specs.Relup.{RelupForm}
-use Rattle.library.specs.Library.{Library}
+use Rattle.library.specs.Library.{Library, IsLibrary}
 use Rattle.rel_list.specs.declared.status.Status.{Status}
 use Rattle.rel_list.specs.Releases.{Bundle, Releases, Entry}
 use Rattle.rel_list.specs.Event.{booted}
 use Rattle.rel_records.specs.Laws.{MakeOrHaveABadOne, MakeOneList, NeverBothRecords, MakeVersions, MakeLibraries}
-use Rattle.rel_records.specs.Limits.{has_one_permanent}
+use Rattle.rel_records.specs.Limits.{has_one_permanent, is_small}
 use Rattle.rel_records.specs.Lists.{assigned, MakesFrom, Makes, IsBadRecord, none_at_all, bad_after, HaveVersions}
-use Rattle.rel_records.specs.Reading.{Brings, Spells}
+use Rattle.rel_records.specs.Reading.{Spells}
 use Rattle.rel_records.specs.Record.{Record}
 use Rattle.rel_records.proofs.EachRelease.{each_made}
 use Rattle.rel_records.proofs.ListLemmas.{makes-push, makes_once, makes_not_bad, cannot_stand}
+use Rattle.rel_records.proofs.MadeLemmas.{AreSaid}
 use Rattle.rel_records.proofs.ReadingLemmas.{SpellsOrNot, spells_or_not}
 use Rattle.rel_records.proofs.RecordPlaces.{IsOfRecord, one_behind, settled_made}
 use Rattle.rel_records.proofs.StartableLemmas.{make_startable, startable_libraries}
@@ -49,9 +50,9 @@ pub never_bad : NeverBothRecords
 never_bad bodies es i makes_it is_bad = makes_not_bad bodies es i makes_it is_bad
 
 -- the releases that records bring have the versions of files
-brought_versions : (word : List ℕ) (v : Value) (es : Releases) (r : Release) (ls : List Library) (o : Option RelupForm) (p : Bundle) (s : Status)
-    → HaveVersions es → Brings word v r ls o → IsOfRecord es r ls o p → HasVersions p.release
-brought_versions word v es r ls o p s all brings of = subst HasVersions of.release brings.release.versions
+brought_versions : (es : Releases) (r : Release) (ls : List Library) (o : Option RelupForm) (p : Bundle) (s : Status)
+    → HaveVersions es → is_small r ≡ true → AreSaid r o → AllByRecursion IsLibrary ls → IsOfRecord es r ls o p → HasVersions p.release
+brought_versions es r ls o p s all small said libraries of = subst HasVersions of.release said.release.versions
 
 pub make_versions : MakeVersions
 make_versions = each_made (λ (e : Entry). HasVersions e.release) (λ e s has. has) brought_versions

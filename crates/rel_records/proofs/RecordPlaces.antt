@@ -1,6 +1,7 @@
 -- What stands behind a record.
 use Rattle.std.proofs.Common.{◌≡◌, ℕ, Bool, true, false, List, [], ◌∷◌, ◌++◌, length, Some, None, Option, refl, sym, ap, ◌∙◌, subst}
 use Rattle.std.specs.Prelude.{◌&&◌, ◌||◌, not, is_some, nat_lt, if◌then◌else◌}
+use Rattle.std.specs.List.{AllByRecursion}
 use Rattle.std.specs.Option.{option_and_then}
 use Rattle.std.specs.Str.{bytes_eq}
 use Rattle.rel_files.specs.Release.{Release}
@@ -14,10 +15,11 @@ use Rattle.rel_list.specs.declared.status.Status.TheVariants.{Unpacked, Current,
 use Rattle.rel_list.specs.Status.{is_current}
 use Rattle.rel_list.specs.Releases.{Bundle, Releases, Entry, status_of}
 use Rattle.rel_list.specs.Event.{Event, entry, is_barred, booted, booted_status, step, without, list_assigned, assigned_status, may_be_removed}
-use Rattle.rel_list.specs.Event.Event.{made, unpacked}
+use Rattle.rel_list.specs.Event.Event.{made, removed, unpacked}
 use Rattle.rel_records.specs.Limits.{has_one_permanent, is_small, most_releases}
-use Rattle.rel_records.specs.Record.{Assignment, Record, makes, adds, assigns, removes}
-use Rattle.rel_records.specs.Lists.{may_be_assigned, assign_all, brought_by, completed, if_faultless, mismatch_in, taken_by, with_one_permanent, assigned, MakesFrom}
+use Rattle.rel_records.specs.Record.{Assignment, Record, makes, adds, assigns, removes, images}
+use Rattle.rel_records.specs.Lists.{may_be_assigned, added_by, assign_all, brought_by, completed, if_faultless, made_by, mismatch_in, taken_by, with_one_permanent, assigned, MakesFrom}
+use Rattle.rel_records.proofs.InvariantLemmas.{IsOf, kept_behind}
 
 -- a choice that gives a value
 pub chosen : {A : Type 0} (b : Bool) (o : Option A) (x : A) → (if b then o else None) ≡ Some x → (b ≡ true) × (o ≡ Some x)
@@ -60,14 +62,14 @@ booted-assigned : (t : Status) → booted_status t ≡ t → (b : Bool) (s : Sta
 booted-assigned t new true s old = new
 booted-assigned t new false s old = old
 
-first_booted : (e : Entry) (es : Releases) → booted (e ∷ es) ≡ e ∷ es → booted_status e.status ≡ e.status
+pub first_booted : (e : Entry) (es : Releases) → booted (e ∷ es) ≡ e ∷ es → booted_status e.status ≡ e.status
 first_booted e es is = ap status_at is
   where
     status_at : Releases → Status
     status_at [] = e.status
     status_at (f ∷ fs) = f.status
 
-rest_booted : (e : Entry) (es : Releases) → booted (e ∷ es) ≡ e ∷ es → booted es ≡ es
+pub rest_booted : (e : Entry) (es : Releases) → booted (e ∷ es) ≡ e ∷ es → booted es ≡ es
 rest_booted e es is = ap rest is
   where
     rest : Releases → Releases
@@ -143,17 +145,36 @@ settled_first : (p : Bundle) (es next : Releases) → step (made p) es ≡ Some 
 settled_first p [] next is = let one : entry p Permanent ∷ [] ≡ next = cc is in subst (λ l. booted l ≡ l) one refl
 settled_first p (f ∷ fs) next is = absurd cc
 
+-- what always holds holds of each
+always : {A : Type 0} (xs : List A) → AllByRecursion (λ (x : A). Unit {0}) xs
+always [] = tt
+always (x ∷ xs) = (tt, always xs)
+
+any_record : (r : Record) → IsOf (λ (r : Release) (o : Option RelupForm). Unit {0}) (λ (l : Library). Unit {0}) r
+any_record (makes r ls o) = (tt, always ls)
+any_record (adds r ls o) = (tt, always ls)
+any_record (assigns given) = tt
+any_record (removes w) = tt
+any_record (images xs ls) = (always xs, always ls)
+
 -- no record makes a release current
 pub settled_behind : (r : Record) (es next : Releases) → taken_by r es ≡ Some next → booted es ≡ es → booted next ≡ next
-settled_behind (makes r ls o) es next e same = let (p, of, is) = event_of_record made (is_small r) r ls o es next e in settled_first p es next is
-settled_behind (adds r ls o) es next e same =
-    let (p, of, is) = event_of_record unpacked (is_small r && nat_lt (length es) most_releases) r ls o es next e in
-    subst (λ l. booted l ≡ l) (pushed_last p es next is) (booted-push es (entry p Unpacked) ∙ ap (λ l. l ++ entry p Unpacked ∷ []) same)
-settled_behind (assigns given) es next e same = booted-assign_all given es next e same
-settled_behind (removes w) es next e same =
-    let (may, is) = chosen (may_be_removed (status_of w es)) (Some (without w es)) next e in
-    let left : without w es ≡ next = cc is in
-    subst (λ l. booted l ≡ l) left (booted-without w es ∙ ap (without w) same)
+settled_behind r es next e same =
+    kept_behind (λ (r : Release) (o : Option RelupForm). Unit {0}) (λ (l : Library). Unit {0}) (λ (l : Releases). booted l ≡ l) first further booted-assign_all left r es next (any_record r) e same
+  where
+    first : (r : Release) (ls : List Library) (o : Option RelupForm) (es next : Releases) → Unit {0} → AllByRecursion (λ (l : Library). Unit {0}) ls → made_by r ls o es ≡ Some next → booted es ≡ es → booted next ≡ next
+    first r ls o es next of all e same = let (p, of, is) = event_of_record made (is_small r) r ls o es next e in settled_first p es next is
+
+    further : (r : Release) (ls : List Library) (o : Option RelupForm) (es next : Releases) → Unit {0} → AllByRecursion (λ (l : Library). Unit {0}) ls → added_by r ls o es ≡ Some next → booted es ≡ es → booted next ≡ next
+    further r ls o es next of all e same =
+        let (p, of, is) = event_of_record unpacked (is_small r && nat_lt (length es) most_releases) r ls o es next e in
+        subst (λ l. booted l ≡ l) (pushed_last p es next is) (booted-push es (entry p Unpacked) ∙ ap (λ l. l ++ entry p Unpacked ∷ []) same)
+
+    left : (w : List ℕ) (es next : Releases) → step (removed w) es ≡ Some next → booted es ≡ es → booted next ≡ next
+    left w es next e same =
+        let (may, is) = chosen (may_be_removed (status_of w es)) (Some (without w es)) next e in
+        let gone : without w es ≡ next = cc is in
+        subst (λ l. booted l ≡ l) gone (booted-without w es ∙ ap (without w) same)
 
 pub settled_made : (es : Releases) (bodies : List (List ℕ)) (end : Releases) → MakesFrom es bodies end → booted es ≡ es → booted end ≡ end
 settled_made es [] end is same = ap booted is ∙ same ∙ sym is

@@ -1,23 +1,23 @@
 -- Releases that a boot can start.
-use Rattle.std.proofs.Common.{◌≡◌, ℕ, List, [], ◌∷◌, map, Option, Some, refl, ap, subst, find}
-use Rattle.erl_term.specs.Value.{Value}
+use Rattle.std.proofs.Common.{◌≡◌, ℕ, true, List, [], ◌∷◌, map, Option, Some, refl, ap, subst, find}
+use Rattle.std.specs.List.{AllByRecursion}
 use Rattle.rel_files.specs.Form.{AppForm, app_form_of}
 use Rattle.rel_files.specs.Name.{AreDistinct}
 use Rattle.rel_files.specs.Release.{Application, Release}
 use Rattle.relup_file.specs.Relup.{RelupForm}
 use Rattle.library.specs.Library.{Library, IsLibrary}
-use Rattle.library.proofs.TermCases.{are_libraries}
 use Rattle.rel_list.specs.declared.status.Status.{Status}
 use Rattle.rel_list.specs.Status.{is_permanent}
 use Rattle.rel_list.specs.Releases.{Bundle, Releases, Entry, entry, libraries_named}
 use Rattle.rel_list.specs.Event.{booted}
 use Rattle.rel_list.proofs.LibraryLaws.{all-append}
 use Rattle.rel_records.specs.Laws.{MakeStartableReleases}
+use Rattle.rel_records.specs.Limits.{is_small}
 use Rattle.rel_records.specs.Lists.{HaveLibraries}
-use Rattle.rel_records.specs.Reading.{Brings}
 use Rattle.rel_records.specs.Startable.{IsStartable, AreStartable}
 use Rattle.rel_records.proofs.CompletionLemmas.{are_completed, brought_complete, of_applications}
 use Rattle.rel_records.proofs.EachRelease.{each-found, each-booted, each-of_booted, each_made}
+use Rattle.rel_records.proofs.MadeLemmas.{AreSaid}
 use Rattle.rel_records.proofs.RecordPlaces.{IsOfRecord}
 
 -- the permanent release of a list is startable
@@ -25,7 +25,7 @@ pub permanent_is_startable : (es : Releases) (e : Entry) → AreStartable es →
 permanent_is_startable = each-found IsStartable (λ (f : Entry). is_permanent f.status)
 
 -- whatever its status is
-still_startable : (e : Entry) (s : Status) → IsStartable e → IsStartable (record e { status = s })
+pub still_startable : (e : Entry) (s : Status) → IsStartable e → IsStartable (record e { status = s })
 still_startable e s is = record { complete = is.complete; distinct = is.distinct }
 
 pub startable-booted : (es : Releases) → AreStartable es → AreStartable (booted es)
@@ -46,11 +46,11 @@ form_app_names [] = refl
 form_app_names (a ∷ apps) = ap (λ (ns : List (List ℕ)). a.name ∷ ns) (form_app_names apps)
 
 -- what a record brings to startable releases is startable
-brought_startable : (word : List ℕ) (v : Value) (es : Releases) (r : Release) (ls : List Library) (o : Option RelupForm) (p : Bundle) (s : Status)
-    → AreStartable es → Brings word v r ls o → IsOfRecord es r ls o p → IsStartable (entry p s)
-brought_startable word v es r ls o p s all brings of = record {
-  complete = brought_complete es r ls o p of (are_completed es (startable_libraries es all) r.apps ls p.libraries (are_libraries brings.libs ls brings.libraries) of.libraries);
-  distinct = subst (λ (q : Release). AreDistinct (map (λ (a : Application). a.name) q.apps)) of.release (subst AreDistinct (form_app_names r.apps) brings.release.distinct);
+pub brought_startable : (es : Releases) (r : Release) (ls : List Library) (o : Option RelupForm) (p : Bundle) (s : Status)
+    → AreStartable es → is_small r ≡ true → AreSaid r o → AllByRecursion IsLibrary ls → IsOfRecord es r ls o p → IsStartable (entry p s)
+brought_startable es r ls o p s all small said libraries of = record {
+  complete = brought_complete es r ls o p of (are_completed es (startable_libraries es all) r.apps ls p.libraries libraries of.libraries);
+  distinct = subst (λ (q : Release). AreDistinct (map (λ (a : Application). a.name) q.apps)) of.release (subst AreDistinct (form_app_names r.apps) said.release.distinct);
 }
 
 pub make_startable : MakeStartableReleases

@@ -56,11 +56,11 @@ atom_named : (v : Value) (word : List ℕ) → name_in v ≡ Some word → v ≡
 atom_named (atom s) word e = let same : s ≡ word = cc in ap atom same
 atom_named v word e = absurd cc
 
-word_term : (word : List ℕ) (v : Value) → is_word word v ≡ true → v ≡ atom word
+pub word_term : (word : List ℕ) (v : Value) → is_word word v ≡ true → v ≡ atom word
 word_term word (atom s) e = ap atom ((bytes_eq-Decides s word).0 e)
 word_term word v e = absurd cc
 
-list_of_members : (v : Value) (vs : Values) → list_in v ≡ Some vs → v ≡ list vs
+pub list_of_members : (v : Value) (vs : Values) → list_in v ≡ Some vs → v ≡ list vs
 list_of_members (list ws) vs e = let same : ws ≡ vs = cc in ap list same
 list_of_members v vs e = absurd cc
 

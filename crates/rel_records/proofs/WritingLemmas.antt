@@ -44,7 +44,7 @@ where_ok (Err e) p = tt
 version_back : (v : List ℕ) → IsVersion v → version_in (numbers_term (numbers_of v)) ≡ Some v
 version_back v is = text_in-numbers 0x21 v is
 
-status_back : (s : Status) → not (is_current s) ≡ true → status_in (atom (status_word s)) ≡ Some s
+pub status_back : (s : Status) → not (is_current s) ≡ true → status_in (atom (status_word s)) ≡ Some s
 status_back Unpacked e = refl
 status_back Current e = absurd cc
 status_back Old e = refl

@@ -5,7 +5,7 @@ use Rattle.rel_list.specs.Event.{Event, step, booted}
 use Rattle.rel_records.specs.Limits.{has_one_permanent}
 use Rattle.rel_records.specs.Lists.{assigned, Makes, IsBadRecord, HaveVersions, HaveLibraries}
 use Rattle.rel_records.specs.Reading.{Spells}
-use Rattle.rel_records.specs.Record.{Record, assigns}
+use Rattle.rel_records.specs.Record.{Record, assigns, images}
 use Rattle.rel_records.specs.Startable.{AreStartable}
 use Rattle.rel_records.specs.Writing.{record_of, IsWithinLimits}
 
@@ -27,9 +27,10 @@ RecordsTellEvents =
     (e : Event) (es next : Releases) → HasDistinctVersions es → HaveLibraries es → step e es ≡ Some next → IsWithinLimits e es
     → has_one_permanent next ≡ true → assigned (record_of e es) (booted es) ≡ Some (booted next)
 
--- the record is of a release that comes in or leaves
+-- The record is of a release that comes in or leaves: an image is of a whole list, which no single event makes.
 abbrev pub IsOfOneRelease : Record → Type 0
 IsOfOneRelease (assigns given) = ⊥
+IsOfOneRelease (images xs ls) = ⊥
 IsOfOneRelease r = Unit {0}
 
 -- The record is that of an event behind this list, which leads to that one and is within the limits.

@@ -1,8 +1,11 @@
 pub mod Limits
+pub mod ReleaseTerm
 pub mod Record
 pub mod Reading
 pub mod Lists
 pub mod Writing
+pub mod Depth
+pub mod Image
 pub mod Startable
 pub mod Parts
 pub mod Laws

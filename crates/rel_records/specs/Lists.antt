@@ -1,5 +1,5 @@
 -- What records make of a list.
-use Rattle.std.specs.Prelude.{◌≡◌, ℕ, ◌+◌, Bool, true, ◌&&◌, ◌||◌, not, List, [], ◌∷◌, ◌++◌, length, nat_lt, is_some, if◌then◌else◌, Option, None, Some}
+use Rattle.std.specs.Prelude.{◌≡◌, ℕ, ◌+◌, Bool, true, ◌&&◌, ◌||◌, not, List, [], ◌∷◌, ◌++◌, map, filter, take, drop, length, nat_lt, is_some, if◌then◌else◌, Option, None, Some}
 use Rattle.std.specs.List.{AllByRecursion}
 use Rattle.std.specs.Option.{option_map, option_and_then}
 use Rattle.rel_files.specs.File.{HasVersions}
@@ -14,7 +14,7 @@ use Rattle.rel_list.specs.Status.{is_current}
 use Rattle.rel_list.specs.Event.{step, list_assigned}
 use Rattle.rel_list.specs.Event.Event.{made, unpacked, removed}
 use Rattle.rel_records.specs.Limits.{most_releases, is_small, has_one_permanent}
-use Rattle.rel_records.specs.Record.{Assignment, Record, makes, adds, assigns, removes}
+use Rattle.rel_records.specs.Record.{Assignment, Imaged, Record, makes, adds, assigns, removes, images}
 use Rattle.rel_records.specs.Reading.{Spells}
 
 -- An assignment may be made to a release that is there. None makes a release current.
@@ -58,13 +58,52 @@ if_faultless p = if has_fault p then None else Some p
 abbrev pub brought_by : Releases → Release → List Library → Option RelupForm → Option Bundle
 brought_by es r ls o = option_and_then (λ ks. if_faultless (record { release = r; libraries = ks; relup = o })) (completed es r.apps ls)
 
+-- the list behind the record of its first release, with these libraries and this relup
+abbrev pub made_by : Release → List Library → Option RelupForm → Releases → Option Releases
+made_by r ls o es = if is_small r then option_and_then (λ p. step (made p) es) (brought_by es r ls o) else None
+
+-- the list behind the record of a further one
+abbrev pub added_by : Release → List Library → Option RelupForm → Releases → Option Releases
+added_by r ls o es =
+    if is_small r && nat_lt (length es) most_releases then option_and_then (λ p. step (unpacked p) es) (brought_by es r ls o) else None
+
+-- how many libraries are new with a release of these applications: one for each of which the list has none
+abbrev pub count_new : Releases → List Application → ℕ
+count_new es as' = length (filter (λ (a : Application). not (is_some (library_in es a.name a.vsn))) as')
+
+-- A release of an image comes in with these new libraries, as by a record of its own: the first one is made, a further one is
+-- added.
+abbrev pub comes_in : Imaged → List Library → Releases → Option Releases
+comes_in x ls [] = made_by x.release ls x.relup []
+comes_in x ls (e ∷ es) = added_by x.release ls x.relup (e ∷ es)
+
+-- The releases of an image come in one after another, each with as many of the libraries as are new with it. None is left over.
+abbrev pub all_come_in : List Imaged → List Library → Releases → Option Releases
+all_come_in [] [] es = Some es
+all_come_in [] (l ∷ ls) es = None
+all_come_in (x ∷ xs) ls es =
+    option_and_then (all_come_in xs (drop (count_new es x.release.apps) ls)) (comes_in x (take (count_new es x.release.apps) ls) es)
+
+-- the status that a release of an image gets
+abbrev pub own_status : Imaged → Assignment
+own_status x = record { vsn = x.release.vsn; status = x.status }
+
+-- what an image makes of an empty list: its releases come in, and then each gets its status
+abbrev pub restored : List Imaged → List Library → Option Releases
+restored xs ls = option_and_then (assign_all (map own_status xs)) (all_come_in xs ls [])
+
+-- An image stands on an empty list alone.
+abbrev pub restored_on : Releases → List Imaged → List Library → Option Releases
+restored_on [] xs ls = restored xs ls
+restored_on (e ∷ es) xs ls = None
+
 -- what a record makes of a list
 abbrev pub taken_by : Record → Releases → Option Releases
-taken_by (makes r ls o) es = if is_small r then option_and_then (λ p. step (made p) es) (brought_by es r ls o) else None
-taken_by (adds r ls o) es =
-    if is_small r && nat_lt (length es) most_releases then option_and_then (λ p. step (unpacked p) es) (brought_by es r ls o) else None
+taken_by (makes r ls o) es = made_by r ls o es
+taken_by (adds r ls o) es = added_by r ls o es
 taken_by (assigns given) es = assign_all given es
 taken_by (removes v) es = step (removed v) es
+taken_by (images xs ls) es = restored_on es xs ls
 
 -- the list, where exactly one release is permanent
 abbrev pub with_one_permanent : Option Releases → Option Releases
@@ -83,6 +122,10 @@ MakesFrom es (body ∷ bodies) end = (r : Record) × (next : Releases) × Spells
 -- These bodies, taken in order, make this list: there are some, so that one release is permanent.
 abbrev pub Makes : List (List ℕ) → Releases → Type 0
 Makes bodies es = MakesFrom [] bodies es × (has_one_permanent es ≡ true)
+
+-- some bodies make this list
+abbrev pub IsMade : Releases → Type 0
+IsMade es = (bodies : List (List ℕ)) × Makes bodies es
 
 -- the body is that of no record which may stand behind this list
 abbrev pub CannotStand : List ℕ → Releases → Type 0

@@ -1,12 +1,12 @@
 -- What was read from a body, without where it lies in memory.
-use Rattle.std.specs.Prelude.{ℕ, List, map, Option, None, Some, string_bytes}
+use Rattle.std.specs.Prelude.{ℕ, List, map, codes, if◌then◌else◌, Option, None, Some, string_bytes}
 use Rattle.std.specs.Option.{option_map, option_and_then}
 use Rattle.erl_term.specs.declared.term.Term.{Term}
 use Rattle.erl_term.specs.Value.{Value, Values, members_of, value_of}
-use Rattle.erl_term.specs.Value.Value.{atom}
+use Rattle.erl_term.specs.Value.Value.{atom, tuple}
 use Rattle.erl_term.specs.TermFault.{TermFault}
 use Rattle.erl_term.specs.TermFault.TheVariants as term
-use Rattle.rel_files.specs.Parts.{four_in, list_in}
+use Rattle.rel_files.specs.Parts.{four_in, is_word, list_in, three}
 use Rattle.rel_files.specs.Release.{release_of}
 use Rattle.rel_files.specs.declared.fault.FileFault.{FileFault}
 use Rattle.rel_files.specs.declared.fault.FileFault.TheVariants as file
@@ -17,8 +17,9 @@ use Rattle.library.specs.InMemory.{shared_of}
 use Rattle.rel_list.specs.declared.fault.ListError.{ListError}
 use Rattle.rel_list.specs.declared.fault.ListError.TheVariants as list_error
 use Rattle.rel_records.specs.Reading.{Brings}
-use Rattle.rel_records.specs.Record.{Assignment, FileTerms, Record, makes, adds, assigns, removes, release_term}
+use Rattle.rel_records.specs.Record.{Assignment, FileTerms, Imaged, Record, makes, adds, assigns, removes, images, release_term}
 use Rattle.rel_records.specs.declared.assignment.Assignment.{Assignment as AssignmentInMemory}
+use Rattle.rel_records.specs.declared.imaged.Imaged.{Imaged as ImagedInMemory}
 use Rattle.rel_records.specs.declared.reading.Record.{Record as RecordInMemory}
 use Rattle.rel_records.specs.declared.new_release.NewRelease.{NewRelease}
 use Rattle.rel_records.specs.declared.new_release.ReleaseParts.{ReleaseParts as PartsInMemory}
@@ -53,6 +54,19 @@ parts_in v = option_and_then (λ m. option_and_then (λ word. option_map (parts_
 abbrev pub parts_of : PartsInMemory → ReleaseParts
 parts_of p = record { word = p.word.now; rel = value_of p.rel.now; libs = members_of p.libs.now; relup = value_of p.relup.now }
 
+-- the three members of a tuple
+abbrev pub row_in : Value → Option (Value × Value × Value)
+row_in (tuple vs) = three vs
+row_in v = None
+
+-- the terms of an image: those of its releases, and those of its libraries
+abbrev pub lists_of : Value × Value × Value → Option (Values × Values)
+lists_of m =
+    if is_word (codes "image") m.0 then option_and_then (λ rows. option_map (λ libs. (rows, libs)) (list_in m.2)) (list_in m.1) else None
+
+abbrev pub lists_in : Value → Option (Values × Values)
+lists_in v = option_and_then lists_of (row_in v)
+
 -- the terms of a release's files
 abbrev pub files_of : Term → Option Term → FileTerms
 files_of rel relup = record { rel = value_of rel; relup = option_map value_of relup }
@@ -64,11 +78,15 @@ BringsNew word v n = Brings word v (release_of n.release) (map shared_of n.libra
 abbrev pub assignment_read : AssignmentInMemory → Assignment
 assignment_read a = record { vsn = string_bytes a.vsn; status = a.status }
 
+abbrev pub imaged_read : ImagedInMemory → Imaged
+imaged_read x = record { release = release_of x.release; status = x.status; relup = option_map relup_of x.relup }
+
 abbrev pub record_read : RecordInMemory → Record
 record_read (memory.Made n) = makes (release_of n.release) (map shared_of n.libraries.items) (option_map relup_of n.relup)
 record_read (memory.Unpacked n) = adds (release_of n.release) (map shared_of n.libraries.items) (option_map relup_of n.relup)
 record_read (memory.Statuses given) = assigns (map assignment_read given.items)
 record_read (memory.Removed v) = removes (string_bytes v)
+record_read (memory.Image i) = images (map imaged_read i.releases.items) (map shared_of i.libraries.items)
 
 -- what a fault of its text, of its release, of its relup or of the list says of a record
 abbrev pub fault_of_text : TermFault → RecordFault

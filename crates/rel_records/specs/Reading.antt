@@ -12,10 +12,10 @@ use Rattle.rel_files.specs.Release.{Release}
 use Rattle.relup_file.specs.Form.{IsRelupTerm}
 use Rattle.relup_file.specs.Relup.{RelupForm}
 use Rattle.library.specs.Library.{Library}
-use Rattle.library.specs.Reading.{AreOfLibraries}
+use Rattle.library.specs.Reading.{AreOfLibraries, EachSays}
 use Rattle.rel_list.specs.declared.status.Status.{Status}
 use Rattle.rel_list.specs.declared.status.Status.TheVariants.{Unpacked, Old, Permanent}
-use Rattle.rel_records.specs.Record.{Assignment, FileTerms, Record, makes, adds, assigns, removes, release_term, relup_or_none}
+use Rattle.rel_records.specs.Record.{Assignment, FileTerms, Imaged, Record, makes, adds, assigns, removes, images, release_term, relup_or_none, row_term, image_term}
 
 -- the text of a version
 abbrev pub version_in : Value → Option (List ℕ)
@@ -67,10 +67,33 @@ pub record Brings (word : List ℕ) (v : Value) (r : Release) (ls : List Library
   pub libraries : AreOfLibraries libs ls
   pub relup : StandsForRelup last o
 
+-- The term says this release of an image.
+pub record SaysImaged (v : Value) (x : Imaged) : Type 0 where
+  pub rel : Value
+  pub status : Value
+  pub last : Value
+  pub is : v ≡ row_term rel status last
+  pub release : IsReleaseTerm rel x.release
+  pub has_status : status_in status ≡ Some x.status
+  pub relup : StandsForRelup last x.relup
+
+-- The terms say these releases of an image, in their order.
+abbrev pub AreImaged : Values → List Imaged → Type 0
+AreImaged vs xs = EachSays SaysImaged vs xs
+
+-- It is the term of an image of these releases with these libraries.
+pub record SaysImage (v : Value) (xs : List Imaged) (ls : List Library) : Type 0 where
+  pub rows : Values
+  pub libs : Values
+  pub is : v ≡ image_term rows libs
+  pub releases : AreImaged rows xs
+  pub libraries : AreOfLibraries libs ls
+
 -- The term says this record.
 abbrev pub Says : Value → Record → Type 0
 Says v (makes r ls o) = Brings (codes "made") v r ls o
 Says v (adds r ls o) = Brings (codes "unpacked") v r ls o
+Says v (images xs ls) = SaysImage v xs ls
 Says v r = change_in v ≡ Some r
 
 -- This body of a store's record spells this record. It is read with 72 brackets open at once.

@@ -1,14 +1,16 @@
 // Statuses as a record assigns them.
-ghost use Rattle.std.specs.Prelude.{◌≡◌, map, string_bytes, IfOk};
+ghost use Rattle.std.specs.Prelude.{◌≡◌, map, string_bytes, None, Some, IfOk, IfErr, OnOk};
 ghost use Rattle.std.specs.Option.{option_map};
 ghost use Rattle.erl_term.specs.Value.{value_of, members_of};
+ghost use Rattle.rel_records.specs.Lists.{assign_all};
 ghost use Rattle.rel_records.specs.Parts.{assignment_read};
 ghost use Rattle.rel_records.specs.Reading.{version_in, status_in, assignment_in, assignments_of};
 
+use crate::fault::RecordFault;
 use erl_term::Term;
 use rel_files::parts::{is_word, list_in, pair_in};
 use rel_files::text::text_in;
-use rel_list::Status;
+use rel_list::{ReleaseList, Status};
 use std::alloc::{AllocError, Global};
 
 // The release of this version gets this status.
@@ -29,7 +31,7 @@ pub(crate) fn version_in(alloc: Global, term: &Term) -> Result<Option<String>, A
 }
 
 // A status that is written: `current` never is.
-fn status_in(term: &Term) -> Option<Status>
+pub(crate) fn status_in(term: &Term) -> Option<Status>
     ensures { result ≡ status_in (value_of term.now) }
 {
     if is_word(term, "unpacked") {
@@ -75,4 +77,24 @@ pub(crate) fn assignments_in(
         all.push(assignment)?;
     }
     Ok(Some(all))
+}
+
+// Gives these releases these statuses, one after another.
+pub(crate) fn assign_all(
+    list: &mut ReleaseList,
+    assignments: &[Assignment],
+) -> Result<(), RecordFault>
+    ensures assigned { OnOk result
+        (assign_all (map assignment_read assignments.now) list.old ≡ Some list.new) }
+    ensures bad { IfErr result (λ _.
+        assign_all (map assignment_read assignments.now) list.old ≡ None) }
+{
+    for assignment in assignments {
+        if assignment.status.is_current()
+            || !list.assign(assignment.vsn.as_str(), assignment.status)
+        {
+            return Err(RecordFault::Bad);
+        }
+    }
+    Ok(())
 }

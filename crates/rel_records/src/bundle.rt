@@ -6,42 +6,37 @@ ghost use Rattle.rel_check.specs.Fault.{release_fault};
 ghost use Rattle.rel_files.specs.Release.{application_of, release_of};
 ghost use Rattle.rel_list.specs.Keyed.{bundle_of};
 ghost use Rattle.relup_file.specs.Relup.{relup_of};
-ghost use Rattle.rel_records.specs.Lists.{brought_by, completed, has_fault, mismatch_in, next_library};
+ghost use Rattle.rel_records.specs.Lists.{brought_by, completed, count_new, has_fault, mismatch_in, next_library};
 
 use crate::fault::RecordFault;
-use crate::new_release::NewRelease;
 use library::Library;
 use rel_check::{ReleaseFault, check_release, check_relup};
-use rel_files::RelApp;
+use rel_files::{Rel, RelApp};
 use rel_list::{Bundle, ReleaseList};
+use relup_file::Relup;
 use std::alloc::{AllocError, Global};
 use std::rc::Rc;
 
-// The release with the libraries of its applications and its relup, where it has no fault.
+// The release with the libraries of its applications, of which these are the new ones, and its relup, where it has no fault.
 pub(crate) fn bring(
     alloc: Global,
     list: &ReleaseList,
-    new: NewRelease,
+    release: Rel,
+    new: &[Rc<Library>],
+    relup: Option<Relup>,
 ) -> Result<Bundle, RecordFault>
-    ensures brought { IfOk result (λ bundle. brought_by list.now (release_of new.release)
-        (map shared_of new.libraries.items) (option_map relup_of new.relup)
-        ≡ Some (bundle_of bundle)) }
-    ensures bad { IsErrOf result RecordFault.Bad → brought_by list.now (release_of new.release)
-        (map shared_of new.libraries.items) (option_map relup_of new.relup) ≡ None }
+    ensures brought { IfOk result (λ bundle. brought_by list.now (release_of release)
+        (map shared_of new.now) (option_map relup_of relup) ≡ Some (bundle_of bundle)) }
+    ensures bad { IsErrOf result RecordFault.Bad → brought_by list.now (release_of release)
+        (map shared_of new.now) (option_map relup_of relup) ≡ None }
 {
-    let Some(libraries) = complete(
-        alloc,
-        list,
-        new.release.apps.as_slice(),
-        new.libraries.as_slice(),
-    )?
-    else {
+    let Some(libraries) = complete(alloc, list, release.apps.as_slice(), new)? else {
         return Err(RecordFault::Bad);
     };
     let bundle = Bundle {
-        release: new.release,
+        release,
         libraries,
-        relup: new.relup,
+        relup,
     };
     if has_fault(alloc, &bundle)? {
         return Err(RecordFault::Bad);
@@ -102,6 +97,19 @@ fn next_library<'a>(
     } else {
         Ok(None)
     }
+}
+
+// How many libraries are new with a release of these applications: one for each of which the list has none.
+pub(crate) fn count_new(list: &ReleaseList, apps: &[RelApp]) -> usize
+    ensures { result ≡ count_new list.now (map application_of apps.now) }
+{
+    let mut count = 0usize;
+    for app in apps {
+        if list.library(app.name.as_str(), app.vsn.as_str()).is_none() {
+            count += 1;
+        }
+    }
+    count
 }
 
 // Whether the release has a fault with its libraries, or can't have its relup.

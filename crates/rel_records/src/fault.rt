@@ -7,7 +7,7 @@ use erl_term::TermFault;
 use rel_files::FileFault;
 use rel_list::ListError;
 use relup_file::RelupFault;
-use std::alloc::AllocError;
+use std::alloc::{AllocError, AllocFailed};
 use thiserror::Error;
 
 /// Why the records of a store make no list.
@@ -33,6 +33,14 @@ impl From<AllocError> for RecordFault {
     ghost from_gives = { λ _ e. e ≡ NoMemory };
 
     fn from(_: AllocError) -> RecordFault {
+        RecordFault::NoMemory
+    }
+}
+
+impl<T: Drop> From<AllocFailed<T>> for RecordFault {
+    ghost from_gives = { λ _ e. e ≡ NoMemory };
+
+    fn from(_: AllocFailed<T>) -> RecordFault {
         RecordFault::NoMemory
     }
 }

@@ -2,11 +2,13 @@
 //!
 //! A record says that the node's first release was made, that a further one came in, that releases got other statuses, or
 //! that one left (specs/Record). One that brings a release carries its new libraries alone, those that the list doesn't have,
-//! and its relup. Its body is a printed term (`body_of`); a body spells one record at most (`Spells`).
+//! and its relup. Its body is a printed term (`body_of`); a body spells one record at most (`Spells`). An image says a whole
+//! list in one record, which stands first.
 //!
 //! `read_list` gives the list that records make, each taken as what it says of the list (`Makes`), or the first record that
 //! no command could have written where it stands (`IsBadRecord`). `made_body`, `unpacked_body` and `change_body` print the
-//! record of an event (`record_of`).
+//! record of an event (`record_of`). `image_body` prints the image of a list that records make (`image_of`): alone it makes
+//! that list again.
 //!
 //! The laws: bodies make one list or one of them is bad, and never both. The record of an event makes of a list what the
 //! event makes of it, each as it is behind a boot (`records_tell_events`): so records say nothing of what is current. And a
@@ -17,15 +19,22 @@
 
 mod assignment;
 mod bundle;
+mod depth;
 mod fault;
+mod image;
+mod imaged;
 pub mod laws;
 mod limits;
 mod lists;
 mod new_release;
 mod reading;
+mod release_term;
+mod releases;
+mod restoration;
 mod writing;
 
 pub use fault::RecordsError;
+pub use image::image_body;
 pub use limits::{MOST_APPLICATIONS, MOST_RELEASES, is_small};
 pub use lists::read_list;
 pub use writing::{change_body, made_body, unpacked_body};

@@ -1,36 +1,18 @@
 // What records make of a list.
 ghost use Rattle.std.specs.Prelude.{◌≡◌, ◌⊎◌, ℕ, map, None, Some, IsErrOf, IfOk, IfErr, OnOk};
 ghost use Rattle.rel_records.specs.Limits.{has_one_permanent};
-ghost use Rattle.rel_records.specs.Lists.{assign_all, taken_by, assigned, Makes, CannotStand, IsBadRecord};
-ghost use Rattle.rel_records.specs.Parts.{assignment_read, record_read};
+ghost use Rattle.rel_records.specs.Lists.{taken_by, assigned, Makes, CannotStand, IsBadRecord};
+ghost use Rattle.rel_records.specs.Parts.{record_read};
 ghost use Rattle.rel_records.specs.Reading.{Spells};
 ghost use Rattle.rel_records.specs.Record.{Record as RecordInSpecs};
 
-use crate::assignment::Assignment;
-use crate::bundle::bring;
+use crate::assignment::assign_all;
 use crate::fault::{RecordFault, RecordsError};
-use crate::limits::{MOST_RELEASES, is_small};
-use crate::new_release::NewRelease;
 use crate::reading::{Record, record_in};
+use crate::releases::{make_new, unpack_new};
+use crate::restoration::restore_on;
 use rel_list::{Event, ReleaseList};
 use std::alloc::Global;
-
-// Gives these releases these statuses, one after another.
-fn assign_all(list: &mut ReleaseList, assignments: &[Assignment]) -> Result<(), RecordFault>
-    ensures assigned { OnOk result
-        (assign_all (map assignment_read assignments.now) list.old ≡ Some list.new) }
-    ensures bad { IfErr result (λ _.
-        assign_all (map assignment_read assignments.now) list.old ≡ None) }
-{
-    for assignment in assignments {
-        if assignment.status.is_current()
-            || !list.assign(assignment.vsn.as_str(), assignment.status)
-        {
-            return Err(RecordFault::Bad);
-        }
-    }
-    Ok(())
-}
 
 // Changes the list as a record says, where it may stand behind it.
 fn take(alloc: Global, list: &mut ReleaseList, said: Record) -> Result<(), RecordFault>
@@ -51,39 +33,12 @@ fn change(alloc: Global, list: &mut ReleaseList, said: Record) -> Result<(), Rec
     ensures bad { IsErrOf result RecordFault.Bad → taken_by (record_read said) list.old ≡ None }
 {
     match said {
-        Record::Made(new) => make(alloc, list, new),
-        Record::Unpacked(new) => unpack(alloc, list, new),
+        Record::Made(new) => make_new(alloc, list, new),
+        Record::Unpacked(new) => unpack_new(alloc, list, new),
         Record::Statuses(assignments) => assign_all(list, assignments.as_slice()),
         Record::Removed(vsn) => Ok(list.accept(alloc, Event::Removed(vsn))?),
+        Record::Image(image) => restore_on(alloc, list, image),
     }
-}
-
-// Makes the list with its first release.
-fn make(alloc: Global, list: &mut ReleaseList, new: NewRelease) -> Result<(), RecordFault>
-    ensures taken { OnOk result
-        (taken_by (record_read (Record.Made new)) list.old ≡ Some list.new) }
-    ensures bad { IsErrOf result RecordFault.Bad
-        → taken_by (record_read (Record.Made new)) list.old ≡ None }
-{
-    if !is_small(&new.release) {
-        return Err(RecordFault::Bad);
-    }
-    let bundle = bring(alloc, list, new)?;
-    Ok(list.accept(alloc, Event::Made(bundle))?)
-}
-
-// Takes in a further release.
-fn unpack(alloc: Global, list: &mut ReleaseList, new: NewRelease) -> Result<(), RecordFault>
-    ensures taken { OnOk result
-        (taken_by (record_read (Record.Unpacked new)) list.old ≡ Some list.new) }
-    ensures bad { IsErrOf result RecordFault.Bad
-        → taken_by (record_read (Record.Unpacked new)) list.old ≡ None }
-{
-    if !is_small(&new.release) || list.len() >= MOST_RELEASES {
-        return Err(RecordFault::Bad);
-    }
-    let bundle = bring(alloc, list, new)?;
-    Ok(list.accept(alloc, Event::Unpacked(bundle))?)
 }
 
 // Whether exactly one release of the list is permanent.

@@ -56,7 +56,7 @@ pub(crate) fn parts_in(term: &Term) -> Option<ReleaseParts<'_>>
 }
 
 // The relup that a term stands for.
-fn relup_in(alloc: Global, term: &Term) -> Result<Option<Relup>, RecordFault>
+pub(crate) fn relup_in(alloc: Global, term: &Term) -> Result<Option<Relup>, RecordFault>
     ensures says { IfOk result (λ o. StandsForRelup (value_of term.now) (option_map relup_of o)) }
     ensures bad { IsErrOf result RecordFault.Bad → (o : Option RelupForm)
         → StandsForRelup (value_of term.now) o → ⊥ }

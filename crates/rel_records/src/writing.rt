@@ -99,7 +99,7 @@ pub fn change_body(alloc: Global, list: &ReleaseList, event: &Event) -> Result<S
 }
 
 // The printed term and a dot.
-fn body_of(alloc: Global, term: &Term) -> Result<String, AllocError>
+pub(crate) fn body_of(alloc: Global, term: &Term) -> Result<String, AllocError>
     ensures printed { IfOk result (λ body. string_bytes body ≡ printed (value_of term.now)) }
     ensures read_back { IsWithin 72 (value_of term.now)
         → IfOk result (λ body. HasTerm 72 (string_bytes body) (value_of term.now)) }
@@ -212,7 +212,7 @@ fn assignment_term(
 }
 
 // A text of a version as a term: the list of its characters.
-fn version_term(alloc: Global, vsn: &str) -> Result<Term, AllocError>
+pub(crate) fn version_term(alloc: Global, vsn: &str) -> Result<Term, AllocError>
     ensures { IfOk result (λ term. value_of term ≡ numbers_term (numbers_of vsn.now)) }
 {
     let bytes = vsn.as_bytes();
@@ -229,19 +229,19 @@ fn character_term(byte: u8) -> Term
     Term::Int(i64::from(byte))
 }
 
-fn list_term(members: Vec<Term>) -> Term
+pub(crate) fn list_term(members: Vec<Term>) -> Term
     ensures { value_of result ≡ list_of (map value_of members.items) }
 {
     Term::List(members)
 }
 
-fn atom_term(alloc: Global, word: &str) -> Result<Term, AllocError>
+pub(crate) fn atom_term(alloc: Global, word: &str) -> Result<Term, AllocError>
     ensures { IfOk result (λ term. value_of term ≡ atom word.now) }
 {
     Ok(Term::Atom(String::from_str(alloc, word)?))
 }
 
-fn pair_term(alloc: Global, first: Term, second: Term) -> Result<Term, AllocError>
+pub(crate) fn pair_term(alloc: Global, first: Term, second: Term) -> Result<Term, AllocError>
     ensures { IfOk result (λ term. value_of term ≡ pair_term (value_of first) (value_of second)) }
 {
     Ok(Term::Tuple(vec![in alloc; first, second]?))

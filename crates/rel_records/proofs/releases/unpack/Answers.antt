@@ -6,7 +6,7 @@ use Rattle.rel_list.specs.Keyed.{bundle_of}
 use Rattle.rel_records.specs.Limits.{is_small, most_releases}
 use Rattle.rel_records.proofs.BundleLemmas.{accepted, not_accepted, nothing_brought}
 use Rattle.rel_records.proofs.ReadingLemmas.{told_bad}
-use Rattle.rel_records.proofs.lists.unpack.Goals as goal
+use Rattle.rel_records.proofs.releases.unpack.Goals as goal
 
 -- the record brings nothing
 pub returns-in_err-bundle-clause-bad : goal.returns-in_err-bundle-clause-bad
@@ -22,5 +22,5 @@ returns-in_err-accept-clause-bad c = λ bad.
 -- it takes it
 pub returns-clause-taken : goal.returns-clause-taken
 returns-clause-taken c =
-    let may : is_small (release_of c.args.new.release) && nat_lt (length c.args.list.now) most_releases ≡ true = search rules in
+    let may : is_small (release_of c.args.release) && nat_lt (length c.args.list.now) most_releases ≡ true = search rules in
     accepted _ unpacked c.args.list.now _ (bundle_of c.in_ok-bundle.bundle) _ may c.in_ok-bundle.ensures.brought c.in_ok-accept.ensures.accepted

@@ -3,7 +3,7 @@ use Rattle.rel_list.specs.Event.Event.{made}
 use Rattle.rel_list.specs.Keyed.{bundle_of}
 use Rattle.rel_records.proofs.BundleLemmas.{accepted, not_accepted, nothing_brought}
 use Rattle.rel_records.proofs.ReadingLemmas.{told_bad}
-use Rattle.rel_records.proofs.lists.make.Goals as goal
+use Rattle.rel_records.proofs.releases.make.Goals as goal
 
 -- the record brings nothing
 pub returns-in_err-bundle-clause-bad : goal.returns-in_err-bundle-clause-bad
