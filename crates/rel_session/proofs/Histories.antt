@@ -1,5 +1,5 @@
 -- The events behind a list that a store's records make.
-use Rattle.std.proofs.Common.{◌≡◌, ◌⊎◌, inl, inr, ℕ, Bool, true, false, List, [], ◌∷◌, ◌++◌, length, Some, is_some, refl, sym, ap, ◌∙◌, subst, arith}
+use Rattle.std.proofs.Common.{◌≡◌, ◌⊎◌, inl, inr, ℕ, Bool, true, false, List, [], ◌∷◌, ◌++◌, length, map, Some, is_some, refl, sym, ap, ◌∙◌, subst, arith}
 use Rattle.std.specs.Prelude.{◌&&◌, ◌==◌, not, nat_lt}
 use Rattle.std.specs.Option.{option_and_then}
 use Rattle.std.proofs.lemmas.Bool.Decides.{nat_tests}
@@ -13,8 +13,9 @@ use Rattle.rel_list.specs.Event.Event.{made, unpacked, removed, boot as booting}
 use Rattle.rel_list.proofs.EventLaws.{orderly-after, orderly-assigned}
 use Rattle.rel_list.proofs.RestLaws.{rest_reached}
 use Rattle.rel_records.specs.Limits.{has_one_permanent, is_small, most_releases}
-use Rattle.rel_records.specs.Lists.{may_be_assigned, assign_all, assigned, MakesFrom}
-use Rattle.rel_records.specs.Record.{Assignment, Record, makes, adds, assigns, removes}
+use Rattle.rel_records.specs.Lists.{may_be_assigned, assign_all, assigned, own_status, MakesFrom}
+use Rattle.rel_records.specs.Record.{Assignment, Record, makes, adds, assigns, removes, images}
+use Rattle.rel_records.proofs.ImageEvents.{restored_by}
 use Rattle.rel_records.proofs.RecordPlaces.{chosen, both, assigned_so, event_of_record, settled_behind}
 use Rattle.rel_handler.specs.Events.{Events}
 use Rattle.rel_handler.specs.Image.{IsImageOf}
@@ -62,6 +63,14 @@ behind_record (makes x ls o) es next orderly still one taken =
 behind_record (adds x ls o) es next orderly still one taken =
     let (p, of, is) = event_of_record unpacked (is_small x && nat_lt (length es) most_releases) x ls o es next (assigned_so (adds x ls o) es next taken).0 in one_event (unpacked p) es next is
 behind_record (removes v) es next orderly still one taken = one_event (removed v) es next (assigned_so (removes v) es next taken).0
+behind_record (images xs ls) (f ∷ es) next orderly still one taken = absurd cc
+behind_record (images xs ls) [] next orderly still one taken =
+    let (is, permanent) = assigned_so (images xs ls) [] next taken in
+    let by = restored_by xs ls next taken in
+    let before = orderly-after by.events by.before by.leads in
+    let (so, same) = kept_by (map own_status xs) by.before next before by.set in
+    let (more, reached) = rest_reached by.before next (at_rest by.before before by.settled by.one) (at_rest next so (settled_behind (images xs ls) [] next is refl) permanent) same in
+    (by.events ++ more, list_from-append [] by.events more by.before next by.leads reached)
 behind_record (assigns given) es next orderly still one taken = by_one one
   where
     assigned_there : assign_all given es ≡ Some next
