@@ -32,7 +32,7 @@ pub refused_by_list : {D : Type 0} (failures : D → ℕ) (h : Handler D) (e : E
 refused_by_list failures h e size why alive barred = by_why why (subst IsListAnswer barred (of_command e (list_in h))) barred
   where
     same : IsSame h h
-    same = record { disk = refl; list = refl; dead = refl; end = refl }
+    same = record { disk = refl; list = refl; dead = refl; extent = refl }
 
     by_why : (why : HandlerError) → IsListRefusal why → commanded e (list_in h) ≡ Err why → CommandRefused failures e size h h why
     by_why told.Dead of barred = absurd of

@@ -1,5 +1,5 @@
 -- A handler at rest, and one that commits an event.
-use Rattle.std.proofs.Common.{◌≡◌, ◌⊎◌, inl, inr, ⊎_elim, ℕ, ◌+◌, ◌≤◌, true, false, List, [], ◌∷◌, ◌++◌, length, None, Some, Result, Ok, Err, true≢false, refl, sym, ap, ◌∙◌, subst, arith}
+use Rattle.std.proofs.Common.{◌≡◌, ◌⊎◌, inl, inr, ⊎_elim, ℕ, ◌+◌, ◌≤◌, true, false, List, [], ◌∷◌, ◌++◌, length, length-append, None, Some, Result, Ok, Err, true≢false, refl, sym, ap, ◌∙◌, subst, arith}
 use Rattle.std.proofs.lemmas.Bool.{cases_lt}
 use Rattle.std.specs.Prelude.{is_err, IfErr, IsErr, OnErr, OnOk}
 use Rattle.std.specs.List.{AllByRecursion}
@@ -30,11 +30,11 @@ use Rattle.rel_store.specs.State as store
 use Rattle.rel_store.specs.declared.error.StoreError.{StoreError}
 use Rattle.rel_store.specs.declared.error.StoreError.TheVariants as fault
 use Rattle.rel_store.specs.declared.store.Store.{Store}
-use Rattle.rel_handler.specs.Commits.{Commits, IsDone, IsRecordFor, Keeps, HasOldStartOr}
+use Rattle.rel_handler.specs.Commits.{Commits, IsAppended, IsRecordFor, Keeps, HasOldStartOr}
 use Rattle.rel_handler.specs.Events.{Events, uncertain, IsStoredAs}
-use Rattle.rel_handler.specs.Image.{IsImageAt, IsStarted, start_slot, end_behind, HasSpace}
+use Rattle.rel_handler.specs.Image.{extent_behind, HasSpace, IsImageAt, IsStarted, start_slot}
 use Rattle.rel_handler.specs.Refusals.{CommandRefused, HasNoRoom, IsAllowed}
-use Rattle.rel_handler.specs.State.{disk_in, list_in, is_dead, end_in, start_in, HasStarted, IsReady, IsSound, IsSame}
+use Rattle.rel_handler.specs.State.{disk_in, extent_in, list_in, is_dead, start_in, store_extent, HasStarted, IsReady, IsSound, IsSame}
 use Rattle.node_command.specs.Taking.{commanded}
 use Rattle.start_record.specs.Text.{Versions, AreVersions, start_text as text_of_start}
 use Rattle.rel_list.specs.declared.fault.ListError.{ListError}
@@ -47,7 +47,7 @@ use Rattle.node_command.specs.declared.error.HandlerError.{HandlerError}
 use Rattle.node_command.specs.declared.error.HandlerError.TheVariants.{Dead, Device, Exists, Full, NoMemory}
 use Rattle.rel_handler.specs.declared.handler.Handler.{Handler}
 use Rattle.node_command.proofs.CommandLemmas.{commanded_step, small_and_few}
-use Rattle.rel_handler.proofs.Images.{ends_so, each_image, stored_before, stored_after, started_by, started_by_text, while_committing, with_record}
+use Rattle.rel_handler.proofs.Images.{each_image, extent_so, same_extent, settled_so, stored_before, stored_after, started_by, started_by_text, while_committing, with_record}
 
 -- what holds of a call that didn't fail
 pub opened : {T E : Type 0} (r : Result T E) (P : Type 0) → false ≡ is_err r → OnOk r P → P
@@ -66,17 +66,21 @@ no_success P (Err e) err = tt
 
 -- nothing changed
 pub all_same : {D : Type 0} (h : Handler D) → IsSame h h
-all_same h = record { disk = refl; list = refl; dead = refl; end = refl }
+all_same h = record { disk = refl; list = refl; dead = refl; extent = refl }
 
 pub store_same : {D : Type 0} (s : Store D) → store.IsSame s s
-store_same s = record { disk = refl; records = refl; end = refl; failed = refl }
+store_same s = record { disk = refl; records = refl; base = refl; end = refl; failed = refl }
+
+-- it reaches as far as it did
+pub extent_kept : {D : Type 0} (old new : Store D) → store.IsSame old new → store_extent new ≡ store_extent old
+extent_kept old new same = same_extent (store_extent new) (store_extent old) same.base same.end (ap (λ bodies. length bodies) same.records)
 
 -- nothing but the memory of its store
 pub same_with : {D : Type 0} (h : Handler D) (s : Store D) → store.IsSame h.store s → IsSame h (record { store = s; list = h.list; dead = h.dead })
-same_with h s same = record { disk = same.disk; list = refl; dead = refl; end = same.end }
+same_with h s same = record { disk = same.disk; list = refl; dead = refl; extent = extent_kept h.store s same }
 
 pub same_both : {D : Type 0} (a b c : Handler D) → IsSame a b → IsSame b c → IsSame a c
-same_both a b c x y = record { disk = y.disk ∙ x.disk; list = y.list ∙ x.list; dead = y.dead ∙ x.dead; end = y.end ∙ x.end }
+same_both a b c x y = record { disk = y.disk ∙ x.disk; list = y.list ∙ x.list; dead = y.dead ∙ x.dead; extent = y.extent ∙ x.extent }
 
 -- the disk was not touched
 pub read_nothing : {D : Type 0} (v : Ghosts D) (h : Handler D) → ((c : List ℕ) → v.left_since (disk_in h) (v.moment (disk_in h)) c → v.may_leave (disk_in h) c)
@@ -120,7 +124,7 @@ failed_behind a b c first second (inl rose) = inl (omega arith)
 failed_behind a b c first second (inr stood) = ⊎_elim (λ less. inl (omega (arith, stood))) (λ same. inr (omega arith)) (cases_lt a b)
 
 -- there is no room for a record
-pub no_room : {D : Type 0} (failures : D → ℕ) (e : Event) (size : ℕ) (h mid : Handler D) (why : HandlerError) → IsAllowed e h → IsSame h mid → HasNoRoom (end_in h) size why
+pub no_room : {D : Type 0} (failures : D → ℕ) (e : Event) (size : ℕ) (h mid : Handler D) (why : HandlerError) → IsAllowed e h → IsSame h mid → HasNoRoom (extent_in h) size why
     → CommandRefused failures e size h mid why
 no_room failures e size h mid Full allowed same lacks = (allowed, lacks, same)
 no_room failures e size h mid NoMemory allowed same lacks = (allowed.0, same)
@@ -132,19 +136,19 @@ module _ {D : Type 0} (v : Ghosts D) (h mid : Handler D) (same : IsSame h mid) (
   commits_behind c = record {
     sound = c.sound;
     any_moment = λ living events after.
-        subst (λ d. LeavesOnly v.moment v.left_since d (disk_in new) (IsStoredAs (uncertain events (end_in h) e size))) same.disk
-        (subst (λ n. LeavesOnly v.moment v.left_since (disk_in mid) (disk_in new) (IsStoredAs (uncertain events n e size))) same.end
+        subst (λ d. LeavesOnly v.moment v.left_since d (disk_in new) (IsStoredAs (uncertain events (extent_in h) e size))) same.disk
+        (subst (λ x. LeavesOnly v.moment v.left_since (disk_in mid) (disk_in new) (IsStoredAs (uncertain events x e size))) same.extent
         (c.any_moment (same.dead ∙ living) events (after ∙ ap (λ l. Some l) (sym same.list))));
     counted = subst (λ d. v.failures d ≤ v.failures (disk_in new)) same.disk c.counted;
   }
 
-  pub done_behind : IsDone v e size mid new → IsDone v e size h new
-  done_behind d = record {
+  pub appended_behind : IsAppended v e size mid new → IsAppended v e size h new
+  appended_behind d = record {
     worked = sym same.dead ∙ d.worked;
     accepted = ap (commanded e) (sym same.list) ∙ d.accepted;
     acknowledged = d.acknowledged;
-    fits = subst (λ n. HasSpace n size) same.end d.fits;
-    end = d.end ∙ ap (λ n. end_behind n size) same.end;
+    fits = subst (λ x. HasSpace x size) same.extent d.fits;
+    reaches = d.reaches ∙ ap (λ x. extent_behind x size) same.extent;
   }
 
   allowed_behind : IsAllowed e mid → IsAllowed e h
@@ -152,10 +156,10 @@ module _ {D : Type 0} (v : Ghosts D) (h mid : Handler D) (same : IsSame h mid) (
 
   pub refused_behind : (why : HandlerError) → CommandRefused v.failures e size mid new why → CommandRefused v.failures e size h new why
   refused_behind Dead r = (sym same.dead ∙ r.0, same_both h mid new same r.1)
-  refused_behind Full r = (allowed_behind r.0, λ has. r.1 (subst (λ n. HasSpace n size) (sym same.end) has), same_both h mid new same r.2)
+  refused_behind Full r = (allowed_behind r.0, λ has. r.1 (subst (λ x. HasSpace x size) (sym same.extent) has), same_both h mid new same r.2)
   refused_behind NoMemory r = (sym same.dead ∙ r.0, same_both h mid new same r.1)
   refused_behind Device r =
-      ((sym same.dead ∙ r.0.0, (allowed_behind (r.0.0, r.0.1)).1, subst (λ n. HasSpace n size) same.end r.0.2), subst (λ d. HasFailed (v.failures d) (v.failures (disk_in new))) same.disk r.1, r.2)
+      ((sym same.dead ∙ r.0.0, (allowed_behind (r.0.0, r.0.1)).1, subst (λ x. HasSpace x size) same.extent r.0.2), subst (λ d. HasFailed (v.failures d) (v.failures (disk_in new))) same.disk r.1, r.2)
   refused_behind Exists r = absurd r
   refused_behind why r = ((sym same.dead ∙ r.0.0, ap (commanded e) (sym same.list) ∙ r.0.1), same_both h mid new same r.1)
 
@@ -189,7 +193,7 @@ revived_is_sound v h ready started = record { ready = λ alive. record { store =
 
 module _ {D : Type 0} (v : Ghosts D) (h : Handler D) (ready : IsReady v.seen v.may_leave h) where
   -- each image of its disk stands for its list
-  pub image_now : (c : List ℕ) → v.may_leave (disk_in h) c → IsImageAt c (list_in h) (end_in h)
+  pub image_now : (c : List ℕ) → v.may_leave (disk_in h) c → IsImageAt c (list_in h) (extent_in h)
   image_now c now = each_image v.seen v.may_leave h.store (list_in h) ready.store ready.list c now
 
   -- The start record is being written, and the records stay.
@@ -209,34 +213,36 @@ module _ {D : Type 0} (v : Ghosts D) (h : Handler D) (ready : IsReady v.seen v.m
         (λ c either. (
           record {
             image_of = record { bodies = store.records_in h.store; store = records_stay c either.0; list = ready.list };
-            ends =
-                ends_so c (store.records_in h.store) (base_of (v.seen (disk_in h))) (records_stay c either.0) (stores.base_kept_by_start v.moment v.left_since v.seen v.may_leave h.store ready.store c either.1)
-                ∙ ap (λ g. g + 1) (sym ready.store.end);
+            reaches =
+                extent_so c (store.records_in h.store) (base_of (v.seen (disk_in h))) (records_stay c either.0) (stores.base_kept_by_start v.moment v.left_since v.seen v.may_leave h.store ready.store c either.1)
+                ∙ settled_so v.seen v.may_leave h.store ready.store;
           },
           either_slot c either.0,
         ))
         (both v.moment v.left_since (disk_in h) (store.disk_in new) _ _ leaves kept)
 
-    pub keeps : store.end_in new ≡ end_in h → v.failures (disk_in h) ≤ v.failures (store.disk_in new) → Keeps v words h (record { store = new; list = h.list; dead = true })
-    keeps end counted = record { dead = refl; list = refl; end = end; any_moment = starting; counted = counted }
+    pub keeps : store.base_in new ≡ store.base_in h.store → store.records_in new ≡ store.records_in h.store → store.end_in new ≡ store.end_in h.store → v.failures (disk_in h) ≤ v.failures (store.disk_in new)
+        → Keeps v words h (record { store = new; list = h.list; dead = true })
+    keeps base records end counted =
+        record { dead = refl; list = refl; extent = same_extent (store_extent new) (extent_in h) base end (ap (λ bodies. length bodies) records); any_moment = starting; counted = counted }
 
   -- It is there, and the handler is ready.
   module _ (new : Store D) (settled : store.IsSettled v.seen v.may_leave new) (records : store.records_in new ≡ store.records_in h.store) where
     pub ready_still : IsReady v.seen v.may_leave (record { store = new; list = h.list; dead = true })
     ready_still = record { store = settled; list = subst (λ bodies. Makes bodies (booted h.list)) (sym records) ready.list }
 
-    pub images_still : (words : List ℕ) → store.text_in v.seen new ≡ slot_with words → (c : List ℕ) → v.may_leave (store.disk_in new) c → IsImageAt c h.list (store.end_in new) × (start_slot c ≡ slot_with words)
+    pub images_still : (words : List ℕ) → store.text_in v.seen new ≡ slot_with words → (c : List ℕ) → v.may_leave (store.disk_in new) c → IsImageAt c h.list (store_extent new) × (start_slot c ≡ slot_with words)
     images_still words written c now = (each_image v.seen v.may_leave new h.list settled ready_still.list c now, ap (λ l. start_slot l) (settled.durable c now) ∙ written)
 
 module _ {D : Type 0} (v : Ghosts D) (h : Handler D) (s : IsSound v.seen v.may_leave h) where
   module _ (only_now : (c : List ℕ) → v.left_since (disk_in h) (v.moment (disk_in h)) c → v.may_leave (disk_in h) c) (e : Event) (size : ℕ) where
     -- a command that hasn't touched the disk
     resting : (new : D) → new ≡ disk_in h → is_dead h ≡ false → (events : Events) → list_after events ≡ Some (list_in h)
-        → LeavesOnly v.moment v.left_since (disk_in h) new (IsStoredAs (uncertain events (end_in h) e size))
+        → LeavesOnly v.moment v.left_since (disk_in h) new (IsStoredAs (uncertain events (extent_in h) e size))
     resting new same alive events after =
-        subst (λ d. LeavesOnly v.moment v.left_since (disk_in h) d (IsStoredAs (uncertain events (end_in h) e size))) (sym same)
-        (started v.moment v.left_since (disk_in h) (IsStoredAs (uncertain events (end_in h) e size))
-        (λ c left. stored_before events (end_in h) e size (list_in h) c after (image_now v h (s.ready alive) c (only_now c left)) (s.started alive c (only_now c left))))
+        subst (λ d. LeavesOnly v.moment v.left_since (disk_in h) d (IsStoredAs (uncertain events (extent_in h) e size))) (sym same)
+        (started v.moment v.left_since (disk_in h) (IsStoredAs (uncertain events (extent_in h) e size))
+        (λ c left. stored_before events (extent_in h) e size (list_in h) c after (image_now v h (s.ready alive) c (only_now c left)) (s.started alive c (only_now c left))))
 
     -- a command that has changed nothing
     pub unchanged : Commits v e size h h
@@ -258,7 +264,7 @@ module _ {D : Type 0} (v : Ghosts D) (h : Handler D) (s : IsSound v.seen v.may_l
       }
 
       pub same_but_memory : IsSame h (record { store = reserved; list = h.list; dead = h.dead })
-      same_but_memory = record { disk = same.disk; list = refl; dead = refl; end = same.end }
+      same_but_memory = same_with h reserved same
 
   -- A record is appended behind a reservation.
   module _ (alive : is_dead h ≡ false) (reserved : Store D) (same : store.IsSame h.store reserved) (e : Event) (next : Releases) (body : List ℕ) (told : IsRecordFor body e (list_in h)) (is : step e (list_in h) ≡ Some next) where
@@ -273,11 +279,11 @@ module _ {D : Type 0} (v : Ghosts D) (h : Handler D) (s : IsSound v.seen v.may_l
 
     module _ (reads : (d : D) → v.may_leave d (v.seen d)) (new : Store D) (text : List ℕ) (leaves : LeavesOnly v.moment v.left_since (store.disk_in reserved) (store.disk_in new) (StandsEither (store.records_in reserved) body text))
         (kept : LeavesOnly v.moment v.left_since (store.disk_in reserved) (store.disk_in new) (LeavesOthers (IsInRecord (store.gate_in reserved) (length body)) (v.seen (store.disk_in reserved)))) (slot : text ≡ start_in v.seen h) where
-      committing : (events : Events) → list_after events ≡ Some (list_in h) → LeavesOnly v.moment v.left_since (disk_in h) (store.disk_in new) (IsStoredAs (uncertain events (end_in h) e (length body)))
+      committing : (events : Events) → list_after events ≡ Some (list_in h) → LeavesOnly v.moment v.left_since (disk_in h) (store.disk_in new) (IsStoredAs (uncertain events (extent_in h) e (length body)))
       committing events after =
-          subst (λ d. LeavesOnly v.moment v.left_since d (store.disk_in new) (IsStoredAs (uncertain events (end_in h) e (length body)))) same.disk
-          (weakened v.moment v.left_since (store.disk_in reserved) (store.disk_in new) _ (IsStoredAs (uncertain events (end_in h) e (length body)))
-          (λ c either. while_committing e (list_in h) next (store.records_in h.store) body text events (s.ready alive).list told is after (base_of (v.seen (disk_in h))) (end_in h) (ap (λ g. g + 1) (s.ready alive).store.end)
+          subst (λ d. LeavesOnly v.moment v.left_since d (store.disk_in new) (IsStoredAs (uncertain events (extent_in h) e (length body)))) same.disk
+          (weakened v.moment v.left_since (store.disk_in reserved) (store.disk_in new) _ (IsStoredAs (uncertain events (extent_in h) e (length body)))
+          (λ c either. while_committing e (list_in h) next (store.records_in h.store) body text events (s.ready alive).list told is after (base_of (v.seen (disk_in h))) (extent_in h) (settled_so v.seen v.may_leave h.store (s.ready alive).store)
           (v.seen (disk_in h)) (sym slot) (s.started alive (v.seen (disk_in h)) (reads (disk_in h))) c
           (subst (λ bodies. StandsEither bodies body text c) same.records either.0, base_there c (subst (λ d. LeavesOthers (IsInRecord (store.gate_in reserved) (length body)) (v.seen d) c) same.disk either.1)))
           (both v.moment v.left_since (store.disk_in reserved) (store.disk_in new) _ _ leaves kept))
@@ -298,30 +304,30 @@ module _ {D : Type 0} (v : Ghosts D) (h : Handler D) (s : IsSound v.seen v.may_l
             subst (λ bodies. Makes bodies (booted next)) (sym (added ∙ ap (λ bodies. bodies ++ body ∷ []) same.records)) (with_record e (list_in h) next (store.records_in h.store) body (s.ready alive).list told is);
       }
 
-      pub is_done : commanded e (list_in h) ≡ Ok next → HasSpace (end_in h) (length body) → store.end_in new ≡ store.end_in reserved + (5 + length body) → IsDone v e (length body) h (record { store = new; list = next; dead = true })
-      is_done accepted fits end = record {
+      pub is_appended : commanded e (list_in h) ≡ Ok next → HasSpace (extent_in h) (length body) → store.base_in new ≡ store.base_in reserved → store.end_in new ≡ store.end_in reserved + (5 + length body)
+          → IsAppended v e (length body) h (record { store = new; list = next; dead = true })
+      is_appended accepted fits base end = record {
         worked = alive;
         accepted = accepted;
         acknowledged = λ c now. each_image v.seen v.may_leave new next settled ready_next.list c now;
         fits = fits;
-        end = end ∙ ap (λ n. n + (5 + length body)) same.end;
+        reaches =
+            same_extent (store_extent new) (extent_behind (extent_in h) (length body)) (base ∙ same.base) (end ∙ ap (λ n. n + (5 + length body)) same.end)
+            (ap (λ bodies. length bodies) (added ∙ ap (λ bodies. bodies ++ body ∷ []) same.records) ∙ omega (arith, length-append (store.records_in h.store) (body ∷ [])));
       }
 
   -- A committed event, behind which the start slot is as it was.
-  module _ (alive : is_dead h ≡ false) (e : Event) (size : ℕ) (mid : Handler D) (commits : Commits v e size h mid) (is_done : IsDone v e size h mid) (ready : IsReady v.seen v.may_leave mid) (stays : start_in v.seen mid ≡ start_in v.seen h) (reads : (d : D) → v.may_leave d (v.seen d)) where
+  module _ (alive : is_dead h ≡ false) (e : Event) (size : ℕ) (mid : Handler D) (commits : Commits v e size h mid) (appended : IsAppended v e size h mid) (ready : IsReady v.seen v.may_leave mid) (stays : start_in v.seen mid ≡ start_in v.seen h) (reads : (d : D) → v.may_leave d (v.seen d)) where
     stepped : step e (list_in h) ≡ Some (list_in mid)
-    stepped = commanded_step e (list_in h) (list_in mid) is_done.accepted
+    stepped = commanded_step e (list_in h) (list_in mid) appended.accepted
 
     old_start : IsStarted (list_in h) (v.seen (disk_in h))
     old_start = s.started alive (v.seen (disk_in h)) (reads (disk_in h))
 
     -- The permanent release is the one that it was, so that the handler may work again.
     module _ (leaves : leaves_permanent e ≡ true) where
-      start_is_right : HasStarted v.may_leave mid
+      pub start_is_right : HasStarted v.may_leave mid
       start_is_right c now = started_by (list_in h) (list_in mid) (v.seen (disk_in h)) c (permanent_stays e (list_in h) (list_in mid) leaves stepped) (ap (λ l. start_slot l) (ready.store.durable c now) ∙ stays) old_start
-
-      pub commits_alive : Commits v e size h (revived mid)
-      commits_alive = record { sound = revived_is_sound v mid ready start_is_right; any_moment = commits.any_moment; counted = commits.counted }
 
     -- The start record is written behind it.
     module _ (versions : Versions) (release : Release) (are : AreVersions versions) (of : versions ≡ start_versions release) (listed : permanent (list_in mid) ≡ Some release)
@@ -334,25 +340,25 @@ module _ {D : Type 0} (v : Ghosts D) (h : Handler D) (s : IsSound v.seen v.may_l
       commits_then = record {
         sound = dead_is_sound v new keeps.dead;
         any_moment = λ living events after.
-            joined v.moment v.left_since (disk_in h) (disk_in mid) (disk_in new) (IsStoredAs (uncertain events (end_in h) e size)) (commits.any_moment living events after)
-            (weakened v.moment v.left_since (disk_in mid) (disk_in new) _ (IsStoredAs (uncertain events (end_in h) e size))
-            (λ c image. stored_after events (end_in h) e size (list_in h) (list_in mid) c after stepped (subst (IsImageAt c (list_in mid)) is_done.end image.0) (either_started c image.1))
+            joined v.moment v.left_since (disk_in h) (disk_in mid) (disk_in new) (IsStoredAs (uncertain events (extent_in h) e size)) (commits.any_moment living events after)
+            (weakened v.moment v.left_since (disk_in mid) (disk_in new) _ (IsStoredAs (uncertain events (extent_in h) e size))
+            (λ c image. stored_after events (extent_in h) e size (list_in h) (list_in mid) c after stepped image.0.image_of (inl (image.0.reaches ∙ appended.reaches)) (either_started c image.1))
             keeps.any_moment);
         counted = omega (arith, commits.counted, keeps.counted);
       }
 
-      pub is_started_then : ((c : List ℕ) → v.may_leave (disk_in new) c → IsImageAt c (list_in new) (end_in new) × (start_slot c ≡ slot_with (text_of_start versions))) → HasStarted v.may_leave new
+      pub is_started_then : ((c : List ℕ) → v.may_leave (disk_in new) c → IsImageAt c (list_in new) (extent_in new) × (start_slot c ≡ slot_with (text_of_start versions))) → HasStarted v.may_leave new
       is_started_then images c now = started_by_text (list_in new) release versions c are of (ap permanent keeps.list ∙ listed) (images c now).1
 
-      pub is_done_then : ((c : List ℕ) → v.may_leave (disk_in new) c → IsImageAt c (list_in new) (end_in new) × (start_slot c ≡ slot_with (text_of_start versions))) → IsDone v e size h new
-      is_done_then images = record {
+      pub is_appended_then : ((c : List ℕ) → v.may_leave (disk_in new) c → IsImageAt c (list_in new) (extent_in new) × (start_slot c ≡ slot_with (text_of_start versions))) → IsAppended v e size h new
+      is_appended_then images = record {
         worked = alive;
-        accepted = is_done.accepted ∙ ap (λ l. Ok l) (sym keeps.list);
+        accepted = appended.accepted ∙ ap (λ l. Ok l) (sym keeps.list);
         acknowledged = λ c now. (images c now).0;
-        fits = is_done.fits;
-        end = keeps.end ∙ is_done.end;
+        fits = appended.fits;
+        reaches = keeps.extent ∙ appended.reaches;
       }
 
       -- the device failed when the event was committed already
       pub fails_then : HasFailed (v.failures (disk_in mid)) (v.failures (disk_in new)) → CommandRefused v.failures e size h new Device
-      fails_then failed = ((alive, (list_in mid, is_done.accepted), is_done.fits), failed_behind _ _ _ commits.counted keeps.counted failed, keeps.dead)
+      fails_then failed = ((alive, (list_in mid, appended.accepted), appended.fits), failed_behind _ _ _ commits.counted keeps.counted failed, keeps.dead)

@@ -1,5 +1,5 @@
 -- Which lists the images of a disk stand for.
-use Rattle.std.proofs.Common.{◌≡◌, ◌⊎◌, inl, inr, ⊎_elim, ℕ, ◌+◌, length, arith, Bool, true, false, List, [], ◌∷◌, ◌++◌, Some, Ok, refl, sym, ap, ◌∙◌, subst}
+use Rattle.std.proofs.Common.{◌≡◌, ◌⊎◌, inl, inr, ⊎_elim, ℕ, ◌+◌, length, length-append, arith, Bool, true, false, List, [], ◌∷◌, ◌++◌, Some, Ok, refl, sym, ap, ◌∙◌, subst}
 use Rattle.std.specs.Prelude.{is_some, if◌then◌else◌}
 use Rattle.std.proofs.lemmas.List.{append-nil}
 use Rattle.rel_files.specs.File.{HasVersions}
@@ -19,12 +19,14 @@ use Rattle.rel_store.specs.Records.{records_of, StandsEither, space, records_or_
 use Rattle.rel_store.specs.Layout.{base_of, slot_with}
 use Rattle.rel_store.proofs.Scan.{space-push}
 use Rattle.rel_store.proofs.Whole.{sound}
-use Rattle.rel_store.specs.State.{records_in, end_in, IsSettled}
+use Rattle.rel_store.specs.State.{records_in, IsSettled}
 use Rattle.rel_store.specs.declared.store.Store.{Store}
 use Rattle.rel_handler.specs.Commits.{IsRecordFor}
-use Rattle.rel_handler.specs.Events.{Known, doubted, IsPrefix, IsOfPrefix, IsNoneOrOfPrefix, uncertain, IsStoredAs}
+use Rattle.rel_handler.specs.Events.{Known, doubted, IsPrefix, IsOfPrefix, IsNoneOrOfPrefix, compacted_or_same, uncertain, IsStoredAs}
 use Rattle.rel_handler.specs.Start.{started, start_text}
-use Rattle.rel_handler.specs.Image.{IsImageOf, IsImageAt, IsStarted, start_slot, holds_a_store}
+use Rattle.rel_handler.specs.Compaction.{compacted}
+use Rattle.rel_handler.specs.Image.{Extent, extent_behind, extent_of, IsImageOf, IsImageAt, IsStarted, start_slot, holds_a_store}
+use Rattle.rel_handler.specs.State.{store_extent}
 use Rattle.start_record.specs.Text.{Versions, AreVersions, SpellsStart, start_text as text_of_start}
 use Rattle.start_record.proofs.StartMoments.{reads_back}
 use Rattle.rel_handler.specs.Moments.{BootsTo}
@@ -34,16 +36,44 @@ use Rattle.rel_handler.proofs.Lists.{list_after-push}
 pub ends_so : (bytes : List ℕ) (bodies : List (List ℕ)) (base : ℕ) → records_of bytes ≡ Ok bodies → base_of bytes ≡ base → end_of bytes ≡ (base + space bodies) + 1
 ends_so bytes bodies base read at = ap (λ r. (base_of bytes + space (records_or_none r)) + 1) read ∙ ap (λ b. (b + space bodies) + 1) at
 
--- where a settled store ends
-pub settled_end : {D : Type 0} (seen : D → List ℕ) (may_leave : D → List ℕ → Type 0) (store : Store D) → IsSettled seen may_leave store → end_of (seen store.disk) ≡ end_in store
-settled_end seen may_leave store s = ends_so (seen store.disk) (records_in store) (base_of (seen store.disk)) s.records refl ∙ ap (λ g. g + 1) (sym s.end)
+-- two extents of the same numbers
+pub same_extent : (x y : Extent) → x.base ≡ y.base → x.end ≡ y.end → x.count ≡ y.count → x ≡ y
+same_extent x y base end count = λ k. record { base = base k; end = end k; count = count k }
+
+-- how far a store reaches that has these records from this place on
+abbrev pub extent_with_records : ℕ → List (List ℕ) → Extent
+extent_with_records base bodies = record { base = base; end = (base + space bodies) + 1; count = length bodies }
+
+pub extent_so : (bytes : List ℕ) (bodies : List (List ℕ)) (base : ℕ) → records_of bytes ≡ Ok bodies → base_of bytes ≡ base → extent_of bytes ≡ extent_with_records base bodies
+extent_so bytes bodies base read at =
+    same_extent (extent_of bytes) (extent_with_records base bodies) at (ends_so bytes bodies base read at) (ap (λ r. length (records_or_none r)) read)
+
+-- It reaches so far too where it is known to end there.
+pub extent_by_end : (bytes : List ℕ) (bodies : List (List ℕ)) (base end : ℕ) → records_of bytes ≡ Ok bodies → end_of bytes ≡ end → end ≡ (base + space bodies) + 1 → extent_of bytes ≡ extent_with_records base bodies
+extent_by_end bytes bodies base end read ends is =
+    let told = ends_so bytes bodies (base_of bytes) read refl in
+    let at : base_of bytes ≡ base = omega (arith, told, ends, is) in
+    extent_so bytes bodies base read at
+
+-- with one record more it reaches further
+pub extent-push : (base : ℕ) (bodies : List (List ℕ)) (body : List ℕ) → extent_with_records base (bodies ++ body ∷ []) ≡ extent_behind (extent_with_records base bodies) (length body)
+extent-push base bodies body =
+    same_extent (extent_with_records base (bodies ++ body ∷ [])) (extent_behind (extent_with_records base bodies) (length body)) refl (omega (arith, space-push bodies body)) (omega (arith, length-append bodies (body ∷ [])))
+
+-- how far a settled store reaches
+pub settled_so : {D : Type 0} (seen : D → List ℕ) (may_leave : D → List ℕ → Type 0) (store : Store D) → IsSettled seen may_leave store → extent_with_records (base_of (seen store.disk)) (records_in store) ≡ store_extent store
+settled_so seen may_leave store s =
+    same_extent (extent_with_records (base_of (seen store.disk)) (records_in store)) (store_extent store) (sym s.base) (ap (λ g. g + 1) (sym s.end)) refl
+
+pub settled_extent : {D : Type 0} (seen : D → List ℕ) (may_leave : D → List ℕ → Type 0) (store : Store D) → IsSettled seen may_leave store → extent_of (seen store.disk) ≡ store_extent store
+settled_extent seen may_leave store s = extent_so (seen store.disk) (records_in store) (base_of (seen store.disk)) s.records refl ∙ settled_so seen may_leave store s
 
 -- each image of a settled store's disk stands for the list that its records make
 pub each_image : {D : Type 0} (seen : D → List ℕ) (may_leave : D → List ℕ → Type 0) (store : Store D) (es : Releases) → IsSettled seen may_leave store → Makes (records_in store) (booted es)
-    → (c : List ℕ) → may_leave store.disk c → IsImageAt c es (end_in store)
+    → (c : List ℕ) → may_leave store.disk c → IsImageAt c es (store_extent store)
 each_image seen may_leave store es s makes_it c now = record {
   image_of = record { bodies = records_in store; store = ap records_of (s.durable c now) ∙ s.records; list = makes_it };
-  ends = ap end_of (s.durable c now) ∙ settled_end seen may_leave store s;
+  reaches = ap (λ d. extent_of d) (s.durable c now) ∙ settled_extent seen may_leave store s;
 }
 
 -- the acknowledged events are a prefix that lacks the one in doubt
@@ -65,20 +95,24 @@ prefix_with events e es after = record { lacks = []; of_accepted = ap (λ o. if 
     none = sym (append-nil _)
 
 -- A store of the list before a command is one that has the events without the one in doubt.
-pub stored_before : (events : List Event) (end : ℕ) (e : Event) (size : ℕ) (es : Releases) (c : List ℕ) → list_after events ≡ Some es → IsImageAt c es end → IsStarted es c → IsStoredAs (uncertain events end e size) c
-stored_before events end e size es c after image started =
-    record { events = events; has = inl (refl, image.ends); list = es; after = after; image_of = image.image_of; start = inl (es, after, started) }
+pub stored_before : (events : List Event) (x : Extent) (e : Event) (size : ℕ) (es : Releases) (c : List ℕ) → list_after events ≡ Some es → IsImageAt c es x → IsStarted es c → IsStoredAs (uncertain events x e size) c
+stored_before events x e size es c after image started =
+    record { events = events; has = inl (refl, image.reaches); list = es; after = after; image_of = image.image_of; start = inl (es, after, started) }
 
--- And one of the list after it has them all, with the start record from before it or that from behind it.
-pub stored_after : (events : List Event) (end : ℕ) (e : Event) (size : ℕ) (es next : Releases) (c : List ℕ) → list_after events ≡ Some es → step e es ≡ Some next → IsImageAt c next (end + (5 + size)) → IsStarted es c ⊎ IsStarted next c → IsStoredAs (uncertain events end e size) c
-stored_after events end e size es next c after is image started = record {
+-- And one of the list after it has them all, compacted or not, with the start record from before it or that from behind it.
+pub stored_after : (events : List Event) (x : Extent) (e : Event) (size : ℕ) (es next : Releases) (c : List ℕ) → list_after events ≡ Some es → step e es ≡ Some next
+    → IsImageOf c next → (extent_of c ≡ extent_behind x size) ⊎ (extent_of c ≡ compacted (extent_behind x size) next) → IsStarted es c ⊎ IsStarted next c → IsStoredAs (uncertain events x e size) c
+stored_after events x e size es next c after is image reaches started = record {
   events = events ++ e ∷ [];
-  has = inr (refl, image.ends);
+  has = inr (refl, ⊎_elim (λ appended. inl appended) (λ far. inr (far ∙ ap (compacted_or_same (extent_behind x size)) (sym all))) reaches);
   list = next;
-  after = list_after-push events e es next after is;
-  image_of = image.image_of;
-  start = ⊎_elim (λ old. inr (events, e, refl, (es, after, old))) (λ new. inl (next, list_after-push events e es next after is, new)) started;
+  after = all;
+  image_of = image;
+  start = ⊎_elim (λ old. inr (events, e, refl, (es, after, old))) (λ new. inl (next, all, new)) started;
 }
+  where
+    all : list_after (events ++ e ∷ []) ≡ Some next
+    all = list_after-push events e es next after is
 
 -- a start record is told by the start slot and the permanent release
 pub started_by : (es fs : Releases) (c d : List ℕ) → permanent fs ≡ permanent es → start_slot d ≡ start_slot c → IsStarted es c → IsStarted fs d
@@ -99,18 +133,17 @@ with_record e es next bodies body (so_far, one) told is =
 -- The record of an event is being appended: the store makes the list from before it or the one behind it.
 pub while_committing : (e : Event) (es next : Releases) (bodies : List (List ℕ)) (body text : List ℕ) (events : List Event)
     → Makes bodies (booted es) → IsRecordFor body e es → step e es ≡ Some next → list_after events ≡ Some es
-    → (base ends : ℕ) → ends ≡ (base + space bodies) + 1 → (old : List ℕ) → start_slot old ≡ text → IsStarted es old
-    → (c : List ℕ) → StandsEither bodies body text c × (base_of c ≡ base) → IsStoredAs (uncertain events ends e (length body)) c
-while_committing e es next bodies body text events makes_it told is after base ends at old slot started c (inl stands, kept) =
-    stored_before events ends e (length body) es c after (record {
+    → (base : ℕ) (x : Extent) → extent_with_records base bodies ≡ x → (old : List ℕ) → start_slot old ≡ text → IsStarted es old
+    → (c : List ℕ) → StandsEither bodies body text c × (base_of c ≡ base) → IsStoredAs (uncertain events x e (length body)) c
+while_committing e es next bodies body text events makes_it told is after base x at old slot started c (inl stands, kept) =
+    stored_before events x e (length body) es c after (record {
       image_of = record { bodies = bodies; store = stands.records; list = makes_it };
-      ends = ends_so c bodies base stands.records kept ∙ sym at;
+      reaches = extent_so c bodies base stands.records kept ∙ at;
     }) (started_by es es old c refl (stands.start ∙ sym slot) started)
-while_committing e es next bodies body text events makes_it told is after base ends at old slot started c (inr stands, kept) =
-    stored_after events ends e (length body) es next c after is (record {
-      image_of = record { bodies = bodies ++ body ∷ []; store = stands.records; list = with_record e es next bodies body makes_it told is };
-      ends = ends_so c (bodies ++ body ∷ []) base stands.records kept ∙ omega (arith, at, space-push bodies body);
-    }) (inl (started_by es es old c refl (stands.start ∙ sym slot) started))
+while_committing e es next bodies body text events makes_it told is after base x at old slot started c (inr stands, kept) =
+    stored_after events x e (length body) es next c after is (record { bodies = bodies ++ body ∷ []; store = stands.records; list = with_record e es next bodies body makes_it told is })
+    (inl (extent_so c (bodies ++ body ∷ []) base stands.records kept ∙ extent-push base bodies body ∙ ap (λ y. extent_behind y (length body)) at))
+    (inl (started_by es es old c refl (stands.start ∙ sym slot) started))
 
 -- the first record makes the list of its release
 pub first_record : (p : Bundle) (body : List ℕ) → IsWithinLimits (made p) [] → Spells body (record_of (made p) []) → Makes (body ∷ []) (booted (entry p Permanent ∷ []))

@@ -25,11 +25,12 @@ use Rattle.node_upgrade.specs.Running.{IsUntouched, NodeState, RunRefused}
 use Rattle.node_upgrade.specs.Upgrade.{IsNoUpgrade, IsUpgrade, UpgradeForm}
 use Rattle.rel_handler.specs.Image.{HasSpace}
 use Rattle.rel_handler.specs.Installing.{InstallRefused, install_size, must_boot}
-use Rattle.rel_handler.specs.Commits.{Commits, IsDone, IsRecordFor}
+use Rattle.rel_handler.specs.Commits.{Commits, IsAppended, IsRecordFor}
 use Rattle.rel_handler.specs.Refusals.{CommandRefused, HasNoRoom}
-use Rattle.rel_handler.specs.State.{disk_in, end_in, is_dead, list_in, start_in, IsReady, IsSame, IsSound}
+use Rattle.rel_handler.specs.State.{disk_in, extent_in, is_dead, list_in, start_in, IsReady, IsSame, IsSound}
 use Rattle.rel_handler.specs.declared.handler.Handler.{Handler}
-use Rattle.rel_handler.proofs.Commits.{all_same, commits_alive, commits_behind, done_behind, lost_commits, refused_behind, revived, revived_is_sound}
+use Rattle.rel_handler.proofs.Commits.{all_same, appended_behind, commits_behind, lost_commits, refused_behind, revived_is_sound, start_is_right}
+use Rattle.rel_handler.proofs.CompactionLemmas.{HasCommitted}
 
 -- An installation has these refusals.
 abbrev IsOfInstallation : HandlerError → Type 0
@@ -93,18 +94,18 @@ module _ {D : Type 0} (failures : D → ℕ) (vsn : List ℕ) (h : Handler D) (a
 
   module _ (mid : Handler D) (same : IsSame h mid) (u : UpgradeForm) (is : IsUpgrade vsn (list_in h) u) where
     -- there is no room for its record
-    pub no_room_for : (n : NodeState) (why : HandlerError) → IsUntouched n n → HasNoRoom (end_in h) (install_size vsn (list_in h)) why → InstallRefused failures vsn h mid n n (Command why)
+    pub no_room_for : (n : NodeState) (why : HandlerError) → IsUntouched n n → HasNoRoom (extent_in h) (install_size vsn (list_in h)) why → InstallRefused failures vsn h mid n n (Command why)
     no_room_for n Full untouched lacks = (alive, (u, is), lacks, (same, untouched))
     no_room_for n NoMemory untouched lacks = (alive, (same, untouched))
     no_room_for n why untouched lacks = absurd lacks
 
     -- it isn't carried out to its end
-    pub not_run : (old new : NodeState) (error : InstallError) → HasSpace (end_in h) (install_size vsn (list_in h)) → RunRefused u old new error
+    pub not_run : (old new : NodeState) (error : InstallError) → HasSpace (extent_in h) (install_size vsn (list_in h)) → RunRefused u old new error
         → InstallRefused failures vsn h (record { store = mid.store; list = mid.list; dead = must_boot error }) old new error
-    not_run old new (Command NoMemory) space r = (alive, (record { disk = same.disk; list = same.list; dead = sym alive; end = same.end }, r))
+    not_run old new (Command NoMemory) space r = (alive, (record { disk = same.disk; list = same.list; dead = sym alive; extent = same.extent }, r))
     not_run old new (Command why) space r = absurd r
-    not_run old new (Refused f) space r = (alive, inr (u, (is, space), r), (record { disk = same.disk; list = same.list; dead = sym alive; end = same.end }, r.4))
-    not_run old new (MustReboot f) space r = (alive, (u, (is, space), r), record { disk = same.disk; list = same.list; end = same.end; dead = refl })
+    not_run old new (Refused f) space r = (alive, inr (u, (is, space), r), (record { disk = same.disk; list = same.list; dead = sym alive; extent = same.extent }, r.4))
+    not_run old new (MustReboot f) space r = (alive, (u, (is, space), r), record { disk = same.disk; list = same.list; extent = same.extent; dead = refl })
 
 -- The handler works on, or is dead, where its disk wasn't written.
 abbrev pub with_dead : {D : Type 0} → Handler D → Bool → Handler D
@@ -119,13 +120,8 @@ module _ {D : Type 0} (v : Ghosts D) (h mid w : Handler D) (same : IsSame h mid)
   pub written : Commits v (installed text) size mid w → Commits v (installed vsn) size' h w
   written c = subst (λ t. Commits v (installed t) size' h w) is (subst (λ n. Commits v (installed text) n h w) long (commits_behind v h mid same (installed text) size w c))
 
-  pub written_done : IsDone v (installed text) size mid w → IsDone v (installed vsn) size' h w
-  written_done d = subst (λ t. IsDone v (installed t) size' h w) is (subst (λ n. IsDone v (installed text) n h w) long (done_behind v h mid same (installed text) size w d))
-
-  pub revived_done : IsDone v (installed text) size mid w → IsDone v (installed vsn) size' h (revived w)
-  revived_done d =
-      let done : IsDone v (installed vsn) size' h w = written_done d in
-      record { worked = done.worked; accepted = done.accepted; acknowledged = done.acknowledged; fits = done.fits; end = done.end }
+  is_written : IsAppended v (installed text) size mid w → IsAppended v (installed vsn) size' h w
+  is_written a = subst (λ t. IsAppended v (installed t) size' h w) is (subst (λ n. IsAppended v (installed text) n h w) long (appended_behind v h mid same (installed text) size w a))
 
   -- the device failed in it
   pub device_failed : (why : HandlerError) → why ≡ Device → CommandRefused v.failures (installed text) size mid w why
@@ -134,8 +130,8 @@ module _ {D : Type 0} (v : Ghosts D) (h mid w : Handler D) (same : IsSame h mid)
       let r = refused_behind v h mid same (installed text) size w Device (subst (CommandRefused v.failures (installed text) size mid w) device refused) in
       (r.1, r.2)
 
-module _ {D : Type 0} (v : Ghosts D) (h mid w : Handler D) (same : IsSame h mid) (sound : IsSound v.seen v.may_leave mid) (alive : is_dead h ≡ false) (reads : (d : D) → v.may_leave d (v.seen d)) (text vsn : List ℕ) (is : text ≡ vsn)
-    (size size' : ℕ) (long : size ≡ size') where
-  pub revived_commits : Commits v (installed text) size mid w → IsDone v (installed text) size mid w → IsReady v.seen v.may_leave w → start_in v.seen w ≡ start_in v.seen mid → Commits v (installed vsn) size' h (revived w)
-  revived_commits c d ready stays =
-      written v h mid (revived w) same text vsn is size size' long (commits_alive v mid sound (same.dead ∙ alive) (installed text) size w c d ready stays reads refl)
+  -- it is committed
+  pub written_committed : IsSound v.seen v.may_leave mid → is_dead h ≡ false → ((d : D) → v.may_leave d (v.seen d)) → Commits v (installed text) size mid w → IsAppended v (installed text) size mid w → IsReady v.seen v.may_leave w
+      → start_in v.seen w ≡ start_in v.seen mid → HasCommitted v (installed vsn) size' h w
+  written_committed sound alive reads c a ready stays =
+      record { commits = written c; appended = is_written a; right = start_is_right v mid sound (same.dead ∙ alive) (installed text) size w c a ready stays reads refl }

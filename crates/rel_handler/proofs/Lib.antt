@@ -6,6 +6,7 @@ pub mod PermanenceLemmas
 pub mod RepairLemmas
 mod BadRecords
 pub mod Commits
+pub mod CompactionLemmas
 pub mod ReleaseLemmas
 pub mod CreationLemmas
 pub mod PlaceLemmas

@@ -9,18 +9,18 @@ use Rattle.rel_records.specs.Writing.{IsOfListed}
 use Rattle.rel_store.specs.Layout.{slot_with}
 use Rattle.rel_store.specs.State.{records_in}
 use Rattle.start_record.specs.Text.{Versions, AreVersions, start_text}
-use Rattle.rel_handler.specs.Commits.{Commits, IsDone, Keeps, MakesPermanent}
+use Rattle.rel_handler.specs.Commits.{Commits, IsAppended, Keeps, MakesPermanent}
 use Rattle.rel_handler.specs.Start.{started}
 use Rattle.rel_handler.specs.Image.{IsImageAt, start_slot}
 use Rattle.rel_handler.specs.Refusals.{CommandRefused, IsStartRefusal}
-use Rattle.rel_handler.specs.State.{disk_in, list_in, is_dead, end_in, start_in, HasStarted, IsReady, IsSound}
+use Rattle.rel_handler.specs.State.{disk_in, extent_in, list_in, is_dead, start_in, HasStarted, IsReady, IsSound}
 use Rattle.node_command.specs.Taking.{change_size}
 use Rattle.node_command.specs.declared.error.HandlerError.{HandlerError}
 use Rattle.node_command.specs.declared.error.HandlerError.TheVariants.{Device, NoMemory}
 use Rattle.rel_handler.specs.declared.handler.Handler.{Handler}
 use Rattle.node_command.proofs.CommandLemmas.{commanded_step}
 use Rattle.rel_handler.proofs.CommandLemmas.{permanent_behind, listed_versions, unlisted}
-use Rattle.rel_handler.proofs.Commits.{all_same, have_versions, commits_then, is_started_then, is_done_then, fails_then}
+use Rattle.rel_handler.proofs.Commits.{all_same, have_versions, commits_then, is_started_then, is_appended_then, fails_then}
 
 -- it brings no release
 pub brings_none : (vsn : List ℕ) (e : Event) → MakesPermanent vsn e → IsOfListed e
@@ -44,22 +44,22 @@ module _ {D : Type 0} (v : Ghosts D) (h : Handler D) (s : IsSound v.seen v.may_l
       subst AreVersions (sym found.2) (has.erts, has.own)
 
   -- The event was appended, and the start record is being written.
-  module _ (e : Event) (moves : MakesPermanent vsn e) (mid : Handler D) (commits : Commits v e (change_size e (list_in h)) h mid) (is_done : IsDone v e (change_size e (list_in h)) h mid)
+  module _ (e : Event) (moves : MakesPermanent vsn e) (mid : Handler D) (commits : Commits v e (change_size e (list_in h)) h mid) (appended : IsAppended v e (change_size e (list_in h)) h mid)
       (ready : IsReady v.seen v.may_leave mid) (stays : start_in v.seen mid ≡ start_in v.seen h) (reads : (d : D) → v.may_leave d (v.seen d)) (new : Handler D) (keeps : Keeps v (start_text versions) mid new) where
     listed : permanent (list_in mid) ≡ Some found.0
-    listed = permanent_behind vsn e (list_in h) (list_in mid) moves (commanded_step e (list_in h) (list_in mid) is_done.accepted) ∙ found.1
+    listed = permanent_behind vsn e (list_in h) (list_in mid) moves (commanded_step e (list_in h) (list_in mid) appended.accepted) ∙ found.1
 
     pub moving : Commits v e (change_size e (list_in h)) h new
-    moving = commits_then v h s alive e _ mid commits is_done ready stays reads versions found.0 are_versions found.2 listed new keeps
+    moving = commits_then v h s alive e _ mid commits appended ready stays reads versions found.0 are_versions found.2 listed new keeps
 
     -- the device failed
     pub not_moved : HasFailed (v.failures (disk_in mid)) (v.failures (disk_in new)) → CommandRefused v.failures e (change_size e (list_in h)) h new Device
-    not_moved = fails_then v h s alive e _ mid commits is_done ready stays reads versions found.0 are_versions found.2 listed new keeps
+    not_moved = fails_then v h s alive e _ mid commits appended ready stays reads versions found.0 are_versions found.2 listed new keeps
 
     -- each crash leaves the new start record
-    module _ (images : (c : List ℕ) → v.may_leave (disk_in new) c → IsImageAt c (list_in new) (end_in new) × (start_slot c ≡ slot_with (start_text versions))) where
+    module _ (images : (c : List ℕ) → v.may_leave (disk_in new) c → IsImageAt c (list_in new) (extent_in new) × (start_slot c ≡ slot_with (start_text versions))) where
       pub moved_start : HasStarted v.may_leave new
-      moved_start = is_started_then v h s alive e _ mid commits is_done ready stays reads versions found.0 are_versions found.2 listed new keeps images
+      moved_start = is_started_then v h s alive e _ mid commits appended ready stays reads versions found.0 are_versions found.2 listed new keeps images
 
-      pub is_moved : IsDone v e (change_size e (list_in h)) h new
-      is_moved = is_done_then v h s alive e _ mid commits is_done ready stays reads versions found.0 are_versions found.2 listed new keeps images
+      pub is_moved : IsAppended v e (change_size e (list_in h)) h new
+      is_moved = is_appended_then v h s alive e _ mid commits appended ready stays reads versions found.0 are_versions found.2 listed new keeps images

@@ -28,7 +28,7 @@ use Rattle.rel_handler.specs.Start.{started as start_versions}
 use Rattle.rel_handler.specs.Events.{HasStart, Stored, MayHave, IsStoredAs}
 use Rattle.rel_handler.specs.Image.{IsImageOf, IsImageAt, IsStarted, IsRepairOf, start_slot}
 use Rattle.rel_handler.specs.Moments.{SettlesAt}
-use Rattle.rel_handler.specs.State.{disk_in, list_in, end_in, start_in, HasStarted, IsReady}
+use Rattle.rel_handler.specs.State.{disk_in, extent_in, list_in, start_in, HasStarted, IsReady}
 use Rattle.rel_handler.specs.declared.handler.Handler.{Handler}
 use Rattle.rel_handler.proofs.BadRecords.{stands_for_one}
 use Rattle.rel_handler.proofs.Images.{started_by, started_by_text}
@@ -64,7 +64,7 @@ permanent_versions (e ∷ es) r all is = go (is_permanent e.status) (permanent_v
 pub repairs_nothing : {D : Type 0} (v : Ghosts D) (h : Handler D) → ((c : List ℕ) → v.left_since (disk_in h) (v.moment (disk_in h)) c → v.may_leave (disk_in h) c) → Repairs v h h
 repairs_nothing v h only_now = record {
   list = refl;
-  end = refl;
+  extent = refl;
   any_moment = started v.moment v.left_since (disk_in h) _ (λ c left. inl (only_now c left));
   counted = omega arith;
 }
@@ -85,7 +85,7 @@ module _ {D : Type 0} (v : Ghosts D) (h mid : Handler D) (read : HasRead v h mid
   pub reads_alone : Repairs v h mid
   reads_alone = record {
     list = read.list;
-    end = read.end;
+    extent = read.extent;
     any_moment = weakened v.moment v.left_since (disk_in h) (disk_in mid) (v.may_leave (disk_in h)) _ (λ c now. inl now) read.only_read.any_moment;
     counted = read.counted;
   }
@@ -103,21 +103,21 @@ module _ {D : Type 0} (v : Ghosts D) (h mid : Handler D) (read : HasRead v h mid
     module _ (new : Handler D) (keeps : Keeps v (text_of_start versions) mid new) where
       writing : (c : List ℕ) → HasOldStartOr v.seen mid (λ d. start_slot d ≡ slot_with (text_of_start versions)) c → HasOldStartOr v.seen h (IsStarted (list_in h)) c
       writing c (image, slot) = (
-        subst (λ n. IsImageAt c (list_in h) n) read.end (subst (λ l. IsImageAt c l (end_in mid)) read.list image),
+        subst (λ x. IsImageAt c (list_in h) x) read.extent (subst (λ l. IsImageAt c l (extent_in mid)) read.list image),
         ⊎_elim (λ old. inl (old ∙ slot_same)) (λ new. inr (started_by_text (list_in h) r versions c are of listed new)) slot,
       )
 
       pub written_over : Repairs v h new
       written_over = record {
         list = keeps.list ∙ read.list;
-        end = keeps.end ∙ read.end;
+        extent = keeps.extent ∙ read.extent;
         any_moment =
             joined v.moment v.left_since (disk_in h) (disk_in mid) (disk_in new) _ reads_alone.any_moment
             (weakened v.moment v.left_since (disk_in mid) (disk_in new) _ (λ c. v.may_leave (disk_in h) c ⊎ HasOldStartOr v.seen h (IsStarted (list_in h)) c) (λ c old. inr (writing c old)) keeps.any_moment);
         counted = omega (arith, read.counted, keeps.counted);
       }
 
-      pub started_now : ((c : List ℕ) → v.may_leave (disk_in new) c → IsImageAt c (list_in new) (end_in new) × (start_slot c ≡ slot_with (text_of_start versions))) → HasStarted v.may_leave new
+      pub started_now : ((c : List ℕ) → v.may_leave (disk_in new) c → IsImageAt c (list_in new) (extent_in new) × (start_slot c ≡ slot_with (text_of_start versions))) → HasStarted v.may_leave new
       started_now images c now = started_by_text (list_in new) r versions c are of (ap permanent (keeps.list ∙ read.list) ∙ listed) (images c now).1
 
 -- why no start record is repaired
@@ -150,7 +150,7 @@ module _ {D : Type 0} (v : Ghosts D) (counts_now : (disk : D) (t : ℕ) (c : Lis
   repair_image c (image, slot) = record {
     list = list_in h;
     was = opened.image;
-    image_at = subst (IsImageAt c (list_in h)) opened.end image;
+    image_at = subst (IsImageAt c (list_in h)) opened.extent image;
     start = ⊎_elim (λ old. inl (old ∙ ap (λ l. start_slot l) opened.only_read.same)) (λ new. inr new) slot;
   }
 
@@ -173,7 +173,7 @@ module _ {D : Type 0} (v : Ghosts D) (counts_now : (disk : D) (t : ℕ) (c : Lis
 pub stored_still : (s : Stored) (bytes c : List ℕ) → IsStoredAs s bytes → IsRepairOf bytes c → IsStoredAs s c
 stored_still s bytes c of repair = record {
   events = of.events;
-  has = subst (MayHave s of.events) (sym repair.image_at.ends) of.has;
+  has = subst (MayHave s of.events) (sym repair.image_at.reaches) of.has;
   list = of.list;
   after = of.after;
   image_of = record { bodies = image.bodies; store = image.store; list = subst (Makes image.bodies) one image.list };

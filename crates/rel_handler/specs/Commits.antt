@@ -10,8 +10,9 @@ use Rattle.rel_records.specs.Writing.{record_of, Tells}
 use Rattle.rel_handler.specs.Events.{Events, IsStoredAs, uncertain}
 use Rattle.rel_store.specs.Contents.{HasOnlyRead}
 use Rattle.rel_store.specs.Layout.{slot_with}
-use Rattle.rel_handler.specs.Image.{IsImageAt, start_slot, end_behind, HasSpace}
-use Rattle.rel_handler.specs.State.{disk_in, list_in, is_dead, end_in, start_in, IsSound}
+use Rattle.rel_handler.specs.Compaction.{compacted, MayReach}
+use Rattle.rel_handler.specs.Image.{Extent, extent_behind, extent_of, HasSpace, IsImageAt, IsImageOf, start_slot}
+use Rattle.rel_handler.specs.State.{disk_in, extent_in, list_in, is_dead, start_in, IsReady, IsSound}
 use Rattle.node_command.specs.Taking.{commanded}
 use Rattle.rel_handler.specs.declared.handler.Handler.{Handler}
 
@@ -21,34 +22,42 @@ pub record IsRecordFor (body : List ℕ) (e : Event) (es : Releases) : Type 0 wh
   pub tells : Tells e es
 
 -- Whatever a command with this event, and a record with a body of so many bytes, answers. Whatever the events so far, a
--- crash at any moment of it leaves the store of their list, or of the list with this one, which is in doubt.
+-- crash at any moment of it leaves the store of their list, or of the list with this one, which is in doubt, compacted or not.
 pub record Commits {D : Type 0} (v : Ghosts D) (e : Event) (size : ℕ) (old new : Handler D) : Type 0 where
   pub sound : IsSound v.seen v.may_leave new
   pub any_moment : is_dead old ≡ false → (events : Events) → list_after events ≡ Some (list_in old)
-      → LeavesOnly v.moment v.left_since (disk_in old) (disk_in new) (IsStoredAs (uncertain events (end_in old) e size))
+      → LeavesOnly v.moment v.left_since (disk_in old) (disk_in new) (IsStoredAs (uncertain events (extent_in old) e size))
   pub counted : v.failures (disk_in old) ≤ v.failures (disk_in new)
 
--- Such a command was done, on a node that wasn't dead: the list has taken the event, and from now on each crash leaves a
--- disk that stands for it.
-pub record IsDone {D : Type 0} (v : Ghosts D) (e : Event) (size : ℕ) (old new : Handler D) : Type 0 where
+-- The list of a handler that wasn't dead has taken the event, and from now on each crash leaves a disk that stands for it, in a
+-- store that reaches so far.
+pub record IsTaken {D : Type 0} (v : Ghosts D) (e : Event) (size : ℕ) (Reaches : Extent → Type 0) (old new : Handler D) : Type 0 where
   pub worked : is_dead old ≡ false
   pub accepted : commanded e (list_in old) ≡ Ok (list_in new)
-  pub acknowledged : (c : List ℕ) → v.may_leave (disk_in new) c → IsImageAt c (list_in new) (end_in new)
-  pub fits : HasSpace (end_in old) size
-  pub end : end_in new ≡ end_behind (end_in old) size
+  pub acknowledged : (c : List ℕ) → v.may_leave (disk_in new) c → IsImageAt c (list_in new) (extent_in new)
+  pub fits : HasSpace (extent_in old) size
+  pub reaches : Reaches (extent_in new)
 
--- These bytes stand for the handler's list, in a store that ends where its store does; and they have its start slot, or P
+-- Its record was appended.
+abbrev pub IsAppended : {D : Type 0} → Ghosts D → Event → ℕ → Handler D → Handler D → Type 0
+IsAppended v e size old new = IsTaken v e size (λ x. x ≡ extent_behind (extent_in old) size) old new
+
+-- Such a command was done: its record was appended, and then the store was compacted, if it was long.
+abbrev pub IsDone : {D : Type 0} → Ghosts D → Event → ℕ → Handler D → Handler D → Type 0
+IsDone v e size old new = IsTaken v e size (MayReach (extent_behind (extent_in old) size) (list_in new)) old new
+
+-- These bytes stand for the handler's list, in a store that reaches as far as its store; and they have its start slot, or P
 -- holds of them.
 abbrev pub HasOldStartOr : {D : Type 0} → (D → List ℕ) → Handler D → (List ℕ → Type 0) → List ℕ → Type 0
 HasOldStartOr seen handler P c =
-    IsImageAt c (list_in handler) (end_in handler) × ((start_slot c ≡ start_in seen handler) ⊎ P c)
+    IsImageAt c (list_in handler) (extent_in handler) × ((start_slot c ≡ start_in seen handler) ⊎ P c)
 
 -- Whatever a write of this text as the start record answers: a crash at any moment of it leaves the old one or the new. The
 -- handler is dead behind it.
 pub record Keeps {D : Type 0} (v : Ghosts D) (text : List ℕ) (old new : Handler D) : Type 0 where
   pub dead : is_dead new ≡ true
   pub list : list_in new ≡ list_in old
-  pub end : end_in new ≡ end_in old
+  pub extent : extent_in new ≡ extent_in old
   pub any_moment : LeavesOnly v.moment v.left_since (disk_in old) (disk_in new)
       (HasOldStartOr v.seen old (λ c. start_slot c ≡ slot_with text))
   pub counted : v.failures (disk_in old) ≤ v.failures (disk_in new)
@@ -56,9 +65,31 @@ pub record Keeps {D : Type 0} (v : Ghosts D) (text : List ℕ) (old new : Handle
 -- Nothing was written, and the handler has its list.
 pub record HasRead {D : Type 0} (v : Ghosts D) (old new : Handler D) : Type 0 where
   pub list : list_in new ≡ list_in old
-  pub end : end_in new ≡ end_in old
+  pub extent : extent_in new ≡ extent_in old
   pub only_read : HasOnlyRead v.seen v.may_leave v.moment v.left_since (disk_in old) (disk_in new)
   pub counted : v.failures (disk_in old) ≤ v.failures (disk_in new)
+
+-- These bytes stand for the handler's list and have its start slot, in a store that reaches as far as its store does, or as far
+-- as behind a compaction.
+abbrev pub IsOldOrCompacted : {D : Type 0} → (D → List ℕ) → Handler D → List ℕ → Type 0
+IsOldOrCompacted seen handler c =
+    IsImageOf c (list_in handler)
+    × ((extent_of c ≡ extent_in handler) ⊎ (extent_of c ≡ compacted (extent_in handler) (list_in handler)))
+    × (start_slot c ≡ start_in seen handler)
+
+-- Whatever a compaction answers: a crash at any moment of it leaves the store that was there or the compacted one. The handler is
+-- dead behind it.
+pub record Compacts {D : Type 0} (v : Ghosts D) (old new : Handler D) : Type 0 where
+  pub dead : is_dead new ≡ true
+  pub list : list_in new ≡ list_in old
+  pub any_moment : LeavesOnly v.moment v.left_since (disk_in old) (disk_in new) (IsOldOrCompacted v.seen old)
+  pub counted : v.failures (disk_in old) ≤ v.failures (disk_in new)
+
+-- It didn't fail: the handler is ready, its start slot is as it was, and its store reaches as far as behind a compaction.
+pub record IsCompacted {D : Type 0} (v : Ghosts D) (old new : Handler D) : Type 0 where
+  pub ready : IsReady v.seen v.may_leave new
+  pub start : start_in v.seen new ≡ start_in v.seen old
+  pub reaches : MayReach (extent_in old) (list_in old) (extent_in new)
 
 -- The event makes the release of this version the permanent one.
 abbrev pub MakesPermanent : List ℕ → Event → Type 0

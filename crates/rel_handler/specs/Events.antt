@@ -2,9 +2,10 @@
 use Rattle.std.specs.Prelude.{◌≡◌, ◌⊎◌, ℕ, List, [], ◌∷◌, ◌++◌, is_some, if◌then◌else◌, Option, None, Some, Err}
 use Rattle.rel_list.specs.Releases.{Releases}
 use Rattle.rel_list.specs.Event.{Event, list_after}
-use Rattle.rel_store.specs.Records.{records_of, end_of}
+use Rattle.rel_store.specs.Records.{records_of}
 use Rattle.rel_store.specs.declared.error.StoreError.TheVariants.{NotAStore}
-use Rattle.rel_handler.specs.Image.{IsImageOf, IsStarted, end_behind}
+use Rattle.rel_handler.specs.Compaction.{compacted}
+use Rattle.rel_handler.specs.Image.{Extent, extent_behind, extent_of, IsImageOf, IsStarted}
 
 abbrev pub Events : Type 0
 Events = List Event
@@ -62,30 +63,44 @@ abbrev pub IsNoneOrOfPrefix : Known → List ℕ → Type 0
 IsNoneOrOfPrefix k image =
     (records_of image ≡ Err NotAStore) ⊎ ((of : IsOfPrefix k image) × HasStart of.events image)
 
--- What is known of a node's store: its events, and where it ends behind the acknowledged ones, and with the one in doubt.
+-- What is known of a node's store: its events, and how far it reaches behind the acknowledged ones; with the one in doubt, before
+-- and behind a compaction.
 pub record Stored : Type 0 where
   pub known : Known
-  pub end : ℕ
-  pub end_with_doubt : ℕ
+  pub extent : Extent
+  pub appended : Extent
+  pub compacted : Extent
 
--- a store with these events, none of them in doubt, that ends here
-abbrev pub certain : Events → ℕ → Stored
-certain events end = record { known = settled events; end = end; end_with_doubt = end }
+-- a store with these events, none of them in doubt, that reaches so far
+abbrev pub certain : Events → Extent → Stored
+certain events x = record { known = settled events; extent = x; appended = x; compacted = x }
 
--- Behind these events, where the store ends here, one is in doubt, whose record has a body of so many bytes.
-abbrev pub uncertain : Events → ℕ → Event → ℕ → Stored
-uncertain events end e size = record { known = doubted events e; end = end; end_with_doubt = end_behind end size }
+-- behind a compaction of a store that reaches so far, where its events lead to a list
+abbrev pub compacted_or_same : Extent → Option Releases → Extent
+compacted_or_same x None = x
+compacted_or_same x (Some es) = compacted x es
 
--- The store has these events and ends here: the acknowledged ones, or those with the one in doubt.
-abbrev pub MayHave : Stored → Events → ℕ → Type 0
-MayHave s events end =
-    ((events ≡ s.known.acknowledged) × (end ≡ s.end))
-    ⊎ ((events ≡ with_doubt s.known.acknowledged s.known.in_doubt) × (end ≡ s.end_with_doubt))
+-- Behind these events, where the store reaches so far, one is in doubt, whose record has a body of so many bytes.
+abbrev pub uncertain : Events → Extent → Event → ℕ → Stored
+uncertain events x e size =
+    let behind = extent_behind x size in
+    record {
+      known = doubted events e;
+      extent = x;
+      appended = behind;
+      compacted = compacted_or_same behind (list_after (events ++ e ∷ []));
+    }
+
+-- The store has these events and reaches so far: the acknowledged ones, or those with the one in doubt.
+abbrev pub MayHave : Stored → Events → Extent → Type 0
+MayHave s events x =
+    ((events ≡ s.known.acknowledged) × (x ≡ s.extent))
+    ⊎ ((events ≡ with_doubt s.known.acknowledged s.known.in_doubt) × ((x ≡ s.appended) ⊎ (x ≡ s.compacted)))
 
 -- These bytes are a store that has such events, stand for their list, and have a start record of theirs.
 pub record IsStoredAs (s : Stored) (image : List ℕ) : Type 0 where
   pub events : Events
-  pub has : MayHave s events (end_of image)
+  pub has : MayHave s events (extent_of image)
   pub list : Releases
   pub after : list_after events ≡ Some list
   pub image_of : IsImageOf image list

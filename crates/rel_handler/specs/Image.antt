@@ -1,10 +1,10 @@
--- What a disk stands for, where its store ends, and what fits behind it.
-use Rattle.std.specs.Prelude.{◌≡◌, ◌⊎◌, ℕ, ◌+◌, ◌≤◌, Bool, List, Some, Ok}
+-- What a disk stands for, how far its store reaches, and what fits behind it.
+use Rattle.std.specs.Prelude.{◌≡◌, ◌⊎◌, ℕ, ◌+◌, ◌≤◌, Bool, List, length, Some, Ok}
 use Rattle.rel_files.specs.Release.{Release}
 use Rattle.rel_list.specs.Releases.{Releases, permanent}
 use Rattle.rel_list.specs.Event.{booted}
-use Rattle.rel_store.specs.Layout.{has_magic, text_of}
-use Rattle.rel_store.specs.Records.{records_of, end_of}
+use Rattle.rel_store.specs.Layout.{base_of, has_magic, text_of}
+use Rattle.rel_store.specs.Records.{end_of, records_of, records_or_none}
 use Rattle.rel_records.specs.Lists.{Makes}
 use Rattle.rel_handler.specs.Start.{started}
 use Rattle.start_record.specs.Text.{SpellsStart}
@@ -15,14 +15,21 @@ pub record IsImageOf (image : List ℕ) (es : Releases) : Type 0 where
   pub store : records_of image ≡ Ok bodies
   pub list : Makes bodies (booted es)
 
--- They do, in a store that ends here.
-pub record IsImageAt (image : List ℕ) (es : Releases) (end : ℕ) : Type 0 where
-  pub image_of : IsImageOf image es
-  pub ends : end_of image ≡ end
+-- How far a store reaches: where its first record stands, where it ends, one past its closed gate, and how many records it has.
+pub record Extent : Type 0 where
+  pub base : ℕ
+  pub end : ℕ
+  pub count : ℕ
 
--- where the store of these bytes ends
-abbrev pub store_end : List ℕ → ℕ
-store_end image = end_of image
+-- how far the store of these bytes reaches
+abbrev pub extent_of : List ℕ → Extent
+extent_of image =
+    record { base = base_of image; end = end_of image; count = length (records_or_none (records_of image)) }
+
+-- They do, in a store that reaches so far.
+pub record IsImageAt (image : List ℕ) (es : Releases) (extent : Extent) : Type 0 where
+  pub image_of : IsImageOf image es
+  pub reaches : extent_of image ≡ extent
 
 -- the start slot that counts in these bytes
 abbrev pub start_slot : List ℕ → List ℕ
@@ -34,26 +41,26 @@ pub record IsStarted (es : Releases) (image : List ℕ) : Type 0 where
   pub listed : permanent es ≡ Some release
   pub spells : SpellsStart (start_slot image) (started release)
 
--- Nothing but the start record of these bytes was written: the image stands for their list, in a store that ends where
--- theirs does, with the start slot that they had, or with the start record of the list's permanent release.
+-- Nothing but the start record of these bytes was written: the image stands for their list, in a store that reaches as far as
+-- theirs, with the start slot that they had, or with the start record of the list's permanent release.
 pub record IsRepairOf (bytes image : List ℕ) : Type 0 where
   pub list : Releases
   pub was : IsImageOf bytes list
-  pub image_at : IsImageAt image list (store_end bytes)
+  pub image_at : IsImageAt image list (extent_of bytes)
   pub start : (start_slot image ≡ start_slot bytes) ⊎ IsStarted list image
 
 -- The bytes begin as those of a store do, whole or damaged. No node is made on such a disk.
 abbrev pub holds_a_store : List ℕ → Bool
 holds_a_store bytes = has_magic bytes
 
--- where a store ends behind one record more, whose body has so many bytes
-abbrev pub end_behind : ℕ → ℕ → ℕ
-end_behind end size = end + (5 + size)
+-- how far a store reaches behind one record more, whose body has so many bytes
+abbrev pub extent_behind : Extent → ℕ → Extent
+extent_behind x size = record { base = x.base; end = x.end + (5 + size); count = x.count + 1 }
 
--- where a store without records ends
-abbrev pub first_end : ℕ
-first_end = 289
+-- how far one without records reaches
+abbrev pub first_extent : Extent
+first_extent = record { base = 288; end = 289; count = 0 }
 
--- a record with a body of so many bytes fits into a store that ends here
-abbrev pub HasSpace : ℕ → ℕ → Type 0
-HasSpace end size = (size ≤ 16777216) × (end_behind end size ≤ 67108864)
+-- a record with a body of so many bytes fits into a store that reaches so far
+abbrev pub HasSpace : Extent → ℕ → Type 0
+HasSpace x size = (size ≤ 16777216) × ((extent_behind x size).end ≤ 67108864)

@@ -13,7 +13,7 @@ use Rattle.node_upgrade.specs.declared.upgrade.Installed.{Installed}
 use Rattle.node_upgrade.specs.Running.{NodeState, IsInstalled, IsUntouched, RunRefused, start_in}
 use Rattle.node_upgrade.specs.Upgrade.{IsNoUpgrade, IsUpgrade, UpgradeForm, site_for}
 use Rattle.rel_handler.specs.Image.{HasSpace}
-use Rattle.rel_handler.specs.State.{disk_in, list_in, is_dead, end_in, IsSame}
+use Rattle.rel_handler.specs.State.{disk_in, extent_in, list_in, is_dead, IsSame}
 use Rattle.rel_handler.specs.declared.handler.Handler.{Handler}
 
 -- how many bytes the body of its record has
@@ -33,7 +33,7 @@ must_boot e = false
 pub record IsLost {D : Type 0} (old new : Handler D) : Type 0 where
   pub disk : disk_in new ≡ disk_in old
   pub list : list_in new ≡ list_in old
-  pub end : end_in new ≡ end_in old
+  pub extent : extent_in new ≡ extent_in old
   pub dead : is_dead new ≡ true
 
 -- Nothing has changed, of the handler and of the processes.
@@ -42,7 +42,7 @@ NothingChanged h h' old new = IsSame h h' × IsUntouched old new
 
 -- There is a script that may begin, and its record has room.
 abbrev pub MayBegin : {D : Type 0} → List ℕ → Handler D → UpgradeForm → Type 0
-MayBegin vsn h u = IsUpgrade vsn (list_in h) u × HasSpace (end_in h) (install_size vsn (list_in h))
+MayBegin vsn h u = IsUpgrade vsn (list_in h) u × HasSpace (extent_in h) (install_size vsn (list_in h))
 
 -- Why a release isn't installed, and what stands then. A script that fails behind its point of no return, and a device that fails
 -- behind the script, leave the handler dead; else nothing has changed.
@@ -50,7 +50,7 @@ abbrev pub InstallRefused : {D : Type 0} → (D → ℕ) → List ℕ → Handle
 InstallRefused failures vsn h h' old new (Command Dead) = (is_dead h ≡ true) × NothingChanged h h' old new
 InstallRefused failures vsn h h' old new (Command Full) =
     (is_dead h ≡ false) × ((u : UpgradeForm) × IsUpgrade vsn (list_in h) u)
-    × (HasSpace (end_in h) (install_size vsn (list_in h)) → ⊥) × NothingChanged h h' old new
+    × (HasSpace (extent_in h) (install_size vsn (list_in h)) → ⊥) × NothingChanged h h' old new
 InstallRefused failures vsn h h' old new (Command NoMemory) = (is_dead h ≡ false) × NothingChanged h h' old new
 InstallRefused failures vsn h h' old new (Command Device) =
     (is_dead h ≡ false)

@@ -1,5 +1,6 @@
 pub mod Start
 pub mod Image
+pub mod Compaction
 pub mod Events
 pub mod State
 pub mod Commits

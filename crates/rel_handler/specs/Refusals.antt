@@ -1,16 +1,16 @@
 -- Why a call is refused, and what stands after it.
-use Rattle.std.specs.Prelude.{◌≡◌, ℕ, true, false, List, None, Ok, Err}
+use Rattle.std.specs.Prelude.{◌≡◌, ℕ, true, false, List, None, Result, Ok, Err}
 use Rattle.rel_disk.specs.Moments.{HasFailed}
 use Rattle.rel_list.specs.Releases.{Releases, release_at}
 use Rattle.rel_list.specs.Event.{Event}
 use Rattle.rel_store.specs.Records.{records_of}
 use Rattle.rel_store.specs.declared.error.StoreError.{StoreError}
 use Rattle.rel_store.specs.declared.error.StoreError.TheVariants as store
-use Rattle.rel_handler.specs.Image.{holds_a_store, first_end, HasSpace}
+use Rattle.rel_handler.specs.Image.{Extent, first_extent, HasSpace, holds_a_store}
 use Rattle.rel_records.specs.Lists.{IsBadRecord}
 use Rattle.rel_records.specs.declared.fault.RecordsError.{RecordsError}
 use Rattle.rel_records.specs.declared.fault.RecordsError.TheVariants as records
-use Rattle.rel_handler.specs.State.{disk_in, list_in, is_dead, end_in, IsSame}
+use Rattle.rel_handler.specs.State.{disk_in, extent_in, list_in, is_dead, IsSame}
 use Rattle.node_command.specs.Taking.{commanded}
 use Rattle.node_command.specs.declared.error.HandlerError.{HandlerError}
 use Rattle.node_command.specs.declared.error.HandlerError.TheVariants.{Device, Full, Dead, NoMemory, Exists, NoSuchRelease}
@@ -28,24 +28,24 @@ IsAllowed e old = (is_dead old ≡ false) × ((es : Releases) × (commanded e (l
 
 -- the list allows the event, and the store has room for a record with a body of so many bytes
 abbrev pub IsPossible : {D : Type 0} → Event → ℕ → Handler D → Type 0
-IsPossible e size old = (is_dead old ≡ false) × ((es : Releases) × (commanded e (list_in old) ≡ Ok es)) × HasSpace (end_in old) size
+IsPossible e size old = (is_dead old ≡ false) × ((es : Releases) × (commanded e (list_in old) ≡ Ok es)) × HasSpace (extent_in old) size
 
 -- Why a command with this event, and a record with a body of so many bytes, is refused: for the device, the store, memory,
 -- or as the list refuses it. Nothing has changed then, unless the device failed: then the handler is dead.
 abbrev pub CommandRefused : {D : Type 0} → (D → ℕ) → Event → ℕ → Handler D → Handler D → HandlerError → Type 0
 CommandRefused failures e size old new Dead = (is_dead old ≡ true) × IsSame old new
-CommandRefused failures e size old new Full = IsAllowed e old × (HasSpace (end_in old) size → ⊥) × IsSame old new
+CommandRefused failures e size old new Full = IsAllowed e old × (HasSpace (extent_in old) size → ⊥) × IsSame old new
 CommandRefused failures e size old new NoMemory = (is_dead old ≡ false) × IsSame old new
 CommandRefused failures e size old new Device = IsPossible e size old × HasFailed (failures (disk_in old)) (failures (disk_in new)) × (is_dead new ≡ true)
 CommandRefused failures e size old new Exists = ⊥
 CommandRefused failures e size old new why = IsRefused e old why × IsSame old new
 
--- Why there is no room for a record with a body of so many bytes in a store that ends here: it would be too long, or memory was
--- refused.
-abbrev pub HasNoRoom : ℕ → ℕ → HandlerError → Type 0
-HasNoRoom end size Full = HasSpace end size → ⊥
-HasNoRoom end size NoMemory = Unit {0}
-HasNoRoom end size why = ⊥
+-- Why there is no room for a record with a body of so many bytes in a store that reaches so far: it would be too long, or memory
+-- was refused.
+abbrev pub HasNoRoom : Extent → ℕ → HandlerError → Type 0
+HasNoRoom x size Full = HasSpace x size → ⊥
+HasNoRoom x size NoMemory = Unit {0}
+HasNoRoom x size why = ⊥
 
 -- Why no start is found for a version: no release has it, or memory was refused.
 abbrev pub IsStartRefusal : List ℕ → Releases → HandlerError → Type 0
@@ -64,7 +64,7 @@ StartRefused failures old new _ = ⊥
 -- the device failed.
 abbrev pub MakingRefused : List ℕ → ℕ → ℕ → ℕ → Type 0 → HandlerError → Type 0
 MakingRefused bytes size before now unwritten Exists = (holds_a_store bytes ≡ true) × unwritten
-MakingRefused bytes size before now unwritten Full = (holds_a_store bytes ≡ false) × (HasSpace first_end size → ⊥) × unwritten
+MakingRefused bytes size before now unwritten Full = (holds_a_store bytes ≡ false) × (HasSpace first_extent size → ⊥) × unwritten
 MakingRefused bytes size before now unwritten NoMemory = unwritten
 MakingRefused bytes size before now unwritten Device = HasFailed before now
 MakingRefused bytes size before now unwritten _ = ⊥
@@ -107,6 +107,11 @@ IsCreateError store.NotAStore = ⊥
 IsCreateError (store.Damaged at) = ⊥
 IsCreateError store.MustReopen = ⊥
 IsCreateError e = Unit {0}
+
+-- what a command is told of a compaction of its store: that the device failed, and nothing else
+abbrev pub told_compaction : Result (Unit {0}) StoreError → Result (Unit {0}) HandlerError
+told_compaction (Err store.Device) = Err Device
+told_compaction compaction = Ok tt
 
 -- what a boot tells of records that make no list
 abbrev pub told_records : RecordsError → BootError

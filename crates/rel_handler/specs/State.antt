@@ -1,11 +1,12 @@
 -- A handler as its callers see it: its disk, its list, and what is known of them.
-use Rattle.std.specs.Prelude.{◌≡◌, ℕ, Bool, false, List, [], Option, None, Some, Result, Ok, Err}
+use Rattle.std.specs.Prelude.{◌≡◌, ℕ, Bool, false, List, [], length, Option, None, Some, Result, Ok, Err}
 use Rattle.rel_files.specs.Release.{Release}
 use Rattle.rel_list.specs.Releases.{Releases}
 use Rattle.rel_list.specs.Event.{booted}
 use Rattle.rel_store.specs.State as of_store
+use Rattle.rel_store.specs.declared.store.Store.{Store}
 use Rattle.rel_records.specs.Lists.{Makes}
-use Rattle.rel_handler.specs.Image.{IsStarted}
+use Rattle.rel_handler.specs.Image.{Extent, IsStarted}
 use Rattle.rel_handler.specs.declared.handler.Handler.{Handler}
 
 -- its disk
@@ -25,9 +26,14 @@ list_in handler = handler.list
 abbrev pub is_dead : {D : Type 0} → Handler D → Bool
 is_dead handler = handler.dead
 
--- where its store ends
-abbrev pub end_in : {D : Type 0} → Handler D → ℕ
-end_in handler = of_store.end_in handler.store
+-- how far a store reaches
+abbrev pub store_extent : {D : Type 0} → Store D → Extent
+store_extent store =
+    record { base = of_store.base_in store; end = of_store.end_in store; count = length (of_store.records_in store) }
+
+-- how far its store reaches
+abbrev pub extent_in : {D : Type 0} → Handler D → Extent
+extent_in handler = store_extent handler.store
 
 -- the start slot that counts, on its disk
 abbrev pub start_in : {D : Type 0} → (D → List ℕ) → Handler D → List ℕ
@@ -52,7 +58,7 @@ pub record IsSame {D : Type 0} (old new : Handler D) : Type 0 where
   pub disk : disk_in new ≡ disk_in old
   pub list : list_in new ≡ list_in old
   pub dead : is_dead new ≡ is_dead old
-  pub end : end_in new ≡ end_in old
+  pub extent : extent_in new ≡ extent_in old
 
 -- the version of a release that a node has, as of the permanent one
 abbrev pub version_of : Option Release → List ℕ

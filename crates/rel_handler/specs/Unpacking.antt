@@ -13,10 +13,10 @@ use Rattle.rel_handler.specs.Events.{doubted}
 use Rattle.node_command.specs.Files.{Brings, IsOfFiles, IsToldAs, bundle_brought, made_size, unpacked_size}
 use Rattle.node_command.specs.Place.{files_refusal, own_refusal}
 use Rattle.rel_handler.specs.Start.{start_text}
-use Rattle.rel_handler.specs.Image.{IsImageAt, end_behind, first_end, holds_a_store, HasSpace}
+use Rattle.rel_handler.specs.Image.{extent_behind, first_extent, HasSpace, holds_a_store, IsImageAt}
 use Rattle.rel_handler.specs.Moments.{Begins, BeginsAt, WritesNothing}
 use Rattle.rel_handler.specs.Refusals.{CommandRefused, MakingRefused}
-use Rattle.rel_handler.specs.State.{disk_in, list_in, is_dead, end_in, start_in, IsSame}
+use Rattle.rel_handler.specs.State.{disk_in, extent_in, list_in, is_dead, start_in, IsSame}
 use Rattle.node_command.specs.declared.error.HandlerError.{HandlerError}
 use Rattle.node_command.specs.declared.error.HandlerError.TheVariants.{Dead, Device, Exists}
 use Rattle.rel_handler.specs.declared.handler.Handler.{Handler}
@@ -63,10 +63,10 @@ pub record IsMade {D : Type 0} (v : Ghosts D) (source : Source) (path : List ℕ
   pub read : Brings source path (Ok brought)
   pub free : own_refusal brought ≡ None
   pub list : list_in handler ≡ entry (bundle_brought brought) Permanent ∷ []
-  pub acknowledged : (c : List ℕ) → v.may_leave (disk_in handler) c → IsImageAt c (list_in handler) (end_in handler)
+  pub acknowledged : (c : List ℕ) → v.may_leave (disk_in handler) c → IsImageAt c (list_in handler) (extent_in handler)
   pub start : start_in v.seen handler ≡ slot_with (start_text brought.found.release)
-  pub fits : HasSpace first_end (made_size brought)
-  pub end : end_in handler ≡ end_behind first_end (made_size brought)
+  pub fits : HasSpace first_extent (made_size brought)
+  pub extent : extent_in handler ≡ extent_behind first_extent (made_size brought)
   pub synced : D
   pub begun : BeginsAt v.seen v.may_leave v.moment v.left_since (doubted [] (made (bundle_brought brought))) disk (disk_in handler) synced
 

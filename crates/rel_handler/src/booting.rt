@@ -7,10 +7,10 @@ ghost use Rattle.rel_store.specs.Contents.{OpenRefused, HasOnlyRead};
 ghost use Rattle.rel_handler.specs.Booting.{IsOpened, Repairs, RepairRefused};
 ghost use Rattle.rel_handler.specs.Commits.{HasRead};
 ghost use Rattle.rel_handler.specs.Events.{Known, IsOfPrefix, Stored, IsStoredAs};
-ghost use Rattle.rel_handler.specs.Image.{IsImageOf, IsImageAt, IsStarted, IsRepairOf, store_end};
+ghost use Rattle.rel_handler.specs.Image.{extent_of, IsImageOf, IsImageAt, IsStarted, IsRepairOf};
 ghost use Rattle.rel_handler.specs.Moments.{BootsTo, IsSynced};
 ghost use Rattle.rel_handler.specs.Refusals.{BootRefused, told_boot, IsOpenError};
-ghost use Rattle.rel_handler.specs.State.{disk_in, disk_of, list_in, is_dead, end_in, start_in, HasStarted, IsReady, IsSound};
+ghost use Rattle.rel_handler.specs.State.{disk_in, disk_of, extent_in, list_in, is_dead, start_in, HasStarted, IsReady, IsSound};
 ghost use Rattle.start_record.specs.Text.{versions_of, SpellsStart};
 
 use crate::start::start_of;
@@ -33,8 +33,8 @@ pub fn boot<D: Disk>(alloc: Global, disk: D) -> Result<Handler<D>, (BootError, D
     ensures image { IfOk result (λ handler. IsImageOf (D.seen disk) (list_in handler)
         × (booted (list_in handler) ≡ list_in handler)) }
     ensures acknowledged { IfOk result (λ handler. (c : List ℕ) → D.may_leave (disk_in handler) c
-        → IsImageAt c (list_in handler) (end_in handler)) }
-    ensures end { IfOk result (λ handler. end_in handler ≡ store_end (D.seen disk)) }
+        → IsImageAt c (list_in handler) (extent_in handler)) }
+    ensures extent { IfOk result (λ handler. extent_in handler ≡ extent_of (D.seen disk)) }
 
     // A start record that was that of the permanent release is not written; behind the boot it is (`sound`).
     ensures right { IfOk result (λ handler. IsStarted (list_in handler) (D.seen disk)
@@ -116,7 +116,7 @@ fn repair<D: Disk>(alloc: Global, handler: &mut Handler<D>) -> Result<(), BootEr
     ensures repairs { Repairs D.Disk handler.old handler.new }
     ensures ready { OnOk result (IsReady D.seen D.may_leave handler.new) }
     ensures acknowledged { OnOk result ((c : List ℕ) → D.may_leave (disk_in handler.new) c
-        → IsImageAt c (list_in handler.new) (end_in handler.new)) }
+        → IsImageAt c (list_in handler.new) (extent_in handler.new)) }
     ensures started { OnOk result (HasStarted D.may_leave handler.new) }
     ensures right { OnOk result (IsStarted (list_in handler.old) (D.seen (disk_in handler.old))
         → HasOnlyRead D.seen D.may_leave D.moment D.left_since

@@ -4,12 +4,12 @@ ghost use Rattle.rel_list.specs.Event.{event_of};
 ghost use Rattle.rel_list.specs.Laws.{leaves_permanent};
 ghost use Rattle.rel_list.specs.Refusal.{brings_release};
 ghost use Rattle.rel_records.specs.Writing.{IsOfListed};
-ghost use Rattle.rel_handler.specs.Commits.{Commits, IsDone, IsRecordFor};
+ghost use Rattle.rel_handler.specs.Commits.{Commits, IsAppended, IsDone, IsRecordFor};
 ghost use Rattle.rel_handler.specs.Image.{HasSpace};
 ghost use Rattle.rel_handler.specs.Refusals.{CommandRefused, HasNoRoom, IsAllowed};
-ghost use Rattle.rel_handler.specs.State.{end_in, list_in, is_dead, start_in, IsReady, IsSound};
+ghost use Rattle.rel_handler.specs.State.{extent_in, list_in, is_dead, start_in, store_extent, IsReady, IsSound};
 ghost use Rattle.node_command.specs.Taking.{change_size};
-ghost use Rattle.rel_store.specs.State.{end_in as store_end_in, HasRoom, IsSame as IsSameStore, IsSoundStore};
+ghost use Rattle.rel_store.specs.State.{HasRoom, IsSame as IsSameStore, IsSoundStore};
 
 use crate::Handler;
 use node_command::HandlerError;
@@ -28,9 +28,9 @@ pub(crate) fn make_room<D: Disk>(
     requires { IsSoundStore D.seen D.may_leave store.old }
     ensures sound { IsSoundStore D.seen D.may_leave store.new }
     ensures kept { IsSameStore store.old store.new }
-    ensures space { OnOk result (HasSpace (store_end_in store.old) size) }
+    ensures space { OnOk result (HasSpace (store_extent store.old) size) }
     ensures room { OnOk result (HasRoom size store.new) }
-    ensures refused { IfErr result (HasNoRoom (store_end_in store.old) size) }
+    ensures refused { IfErr result (HasNoRoom (store_extent store.old) size) }
 {
     if !store.fits(size) {
         return Err(HandlerError::Full);
@@ -53,12 +53,13 @@ impl<D: Disk> Handler<D> {
         requires sound { IsSound D.seen D.may_leave self.old }
         requires allowed { IsAllowed (event_of event) self.old }
         requires told { IsRecordFor body.now (event_of event) (list_in self.old) }
-        requires space { HasSpace (end_in self.old) (length body.now) }
+        requires space { HasSpace (extent_in self.old) (length body.now) }
         requires room { HasRoom (length body.now) self.old.store }
         ensures commits { Commits D.Disk (event_of event) (length body.now) self.old self.new }
-        ensures done { OnOk result
-            (IsDone D.Disk (event_of event) (length body.now) self.old self.new) }
+        ensures appended { OnOk result
+            (IsAppended D.Disk (event_of event) (length body.now) self.old self.new) }
         ensures ready { OnOk result (IsReady D.seen D.may_leave self.new) }
+        ensures dead { OnOk result (is_dead self.new ≡ true) }
         ensures start { OnOk result (start_in D.seen self.new ≡ start_in D.seen self.old) }
         ensures refused { IfErr result (CommandRefused D.failures (event_of event)
             (length body.now) self.old self.new) }
@@ -86,9 +87,10 @@ impl<D: Disk> Handler<D> {
         requires allowed { IsAllowed (event_of event) self.old }
         requires told { IsRecordFor body.now (event_of event) (list_in self.old) }
         ensures commits { Commits D.Disk (event_of event) (length body.now) self.old self.new }
-        ensures done { OnOk result
-            (IsDone D.Disk (event_of event) (length body.now) self.old self.new) }
+        ensures appended { OnOk result
+            (IsAppended D.Disk (event_of event) (length body.now) self.old self.new) }
         ensures ready { OnOk result (IsReady D.seen D.may_leave self.new) }
+        ensures dead { OnOk result (is_dead self.new ≡ true) }
         ensures start { OnOk result (start_in D.seen self.new ≡ start_in D.seen self.old) }
         ensures refused { IfErr result (CommandRefused D.failures (event_of event)
             (length body.now) self.old self.new) }
@@ -104,9 +106,10 @@ impl<D: Disk> Handler<D> {
         requires listed { IsOfListed (event_of event) }
         ensures commits { Commits D.Disk (event_of event)
             (change_size (event_of event) (list_in self.old)) self.old self.new }
-        ensures done { OnOk result (IsDone D.Disk (event_of event)
+        ensures appended { OnOk result (IsAppended D.Disk (event_of event)
             (change_size (event_of event) (list_in self.old)) self.old self.new) }
         ensures ready { OnOk result (IsReady D.seen D.may_leave self.new) }
+        ensures dead { OnOk result (is_dead self.new ≡ true) }
         ensures start { OnOk result (start_in D.seen self.new ≡ start_in D.seen self.old) }
         ensures refused { IfErr result (CommandRefused D.failures (event_of event)
             (change_size (event_of event) (list_in self.old)) self.old self.new) }
@@ -118,7 +121,7 @@ impl<D: Disk> Handler<D> {
         self.append(alloc, event, body.as_str())
     }
 
-    // Commits an event behind which the permanent release is the one that it was.
+    // Commits an event behind which the permanent release is the one that it was, and then compacts the store, if it is long.
     pub(crate) fn commit(
         &mut self,
         alloc: Global,
@@ -138,6 +141,7 @@ impl<D: Disk> Handler<D> {
             (length body.now) self.old self.new) }
     {
         self.append(alloc, event, body)?;
+        self.compact(alloc)?;
         self.dead = false;
         Ok(())
     }
@@ -158,6 +162,7 @@ impl<D: Disk> Handler<D> {
             (change_size (event_of event) (list_in self.old)) self.old self.new) }
     {
         self.append_change(alloc, event)?;
+        self.compact(alloc)?;
         self.dead = false;
         Ok(())
     }

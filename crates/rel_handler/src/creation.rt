@@ -13,10 +13,10 @@ ghost use Rattle.rel_handler.specs.Events.{doubted};
 ghost use Rattle.node_command.specs.Files.{HasFileTerms, IsWhole, bundle_brought, made_size};
 ghost use Rattle.node_command.specs.Place.{own_refusal};
 ghost use Rattle.rel_handler.specs.Start.{start_text};
-ghost use Rattle.rel_handler.specs.Image.{IsImageOf, IsImageAt, holds_a_store, end_behind, first_end, HasSpace};
+ghost use Rattle.rel_handler.specs.Image.{extent_behind, first_extent, IsImageOf, IsImageAt, holds_a_store, HasSpace};
 ghost use Rattle.rel_handler.specs.Moments.{Begins, BeginsAt, WritesNothing};
 ghost use Rattle.rel_handler.specs.Refusals.{MakingRefused, told_create, IsCreateError};
-ghost use Rattle.rel_handler.specs.State.{disk_in, disk_of, list_in, is_dead, end_in, start_in, IsSound};
+ghost use Rattle.rel_handler.specs.State.{disk_in, disk_of, extent_in, list_in, is_dead, start_in, IsSound};
 ghost use Rattle.rel_handler.specs.Unpacking.{IsExistingOr, IsMade, CreationRefused};
 ghost use Rattle.rel_unpack.specs.Unpacking.{brought_of};
 ghost use Rattle.rel_list.specs.declared.status.Status.TheVariants.{Permanent};
@@ -85,12 +85,12 @@ impl<D: Disk> Handler<D> {
         ensures list { IfOk result (λ handler. list_in handler
             ≡ entry (bundle_brought (brought_of brought)) Permanent ∷ []) }
         ensures acknowledged { IfOk result (λ handler. (c : List ℕ)
-            → D.may_leave (disk_in handler) c → IsImageAt c (list_in handler) (end_in handler)) }
+            → D.may_leave (disk_in handler) c → IsImageAt c (list_in handler) (extent_in handler)) }
         ensures start { IfOk result (λ handler. start_in D.seen handler
             ≡ slot_with (start_text (release_of brought.file.release))) }
-        ensures fits { OnOk result (HasSpace first_end (made_size (brought_of brought))) }
-        ensures end { IfOk result (λ handler. end_in handler
-            ≡ end_behind first_end (made_size (brought_of brought))) }
+        ensures fits { OnOk result (HasSpace first_extent (made_size (brought_of brought))) }
+        ensures extent { IfOk result (λ handler. extent_in handler
+            ≡ extent_behind first_extent (made_size (brought_of brought))) }
         ensures any_moment { Begins D.seen D.may_leave D.moment D.left_since
             (doubted [] (made (bundle_brought (brought_of brought)))) disk (disk_of result) }
         ensures begun { OnOk result ((at : D)

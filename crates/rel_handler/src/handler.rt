@@ -72,11 +72,12 @@ impl<D: Disk> Handler<D> {
         find_installation(self.which_releases()?, vsn)
     }
 
-    /// Makes the current release, of this version, the permanent one: the list is committed, then the start record. At `Ok`
-    /// both are acknowledged (`done`; `sound` of `commits` has `started`).
+    /// Makes the current release, of this version, the permanent one: the list is committed, then the start record, and then a
+    /// long store is compacted. At `Ok` both are acknowledged (`done`; `sound` of `commits` has `started`).
     ///
     /// Refusals, in this order: `Dead`, `NoSuchRelease`, `BadStatus`, `Full`; `NoMemory` as of `set_unpacked`. After a
-    /// `Device` the list has the event or not, and the start record is the old one or the new.
+    /// `Device` the list has the event or not, the start record is the old one or the new, and a store with both may be
+    /// compacted.
     pub fn make_permanent(&mut self, alloc: Global, vsn: &str) -> Result<(), HandlerError>
         requires { IsSound D.seen D.may_leave self.old }
         ensures commits { Commits D.Disk (made_permanent vsn.now)
@@ -92,12 +93,13 @@ impl<D: Disk> Handler<D> {
         }
         let event = Event::MadePermanent(String::from_str(alloc, vsn)?);
         self.move_permanent(alloc, vsn, event)?;
+        self.compact(alloc)?;
         self.dead = false;
         Ok(())
     }
 
-    /// Makes an old release the permanent one, and has the node boot: the list is committed, then the start record. At `Ok`
-    /// both are acknowledged (`done`, `started`), and the handler is dead until the next boot.
+    /// Makes an old release the permanent one, and has the node boot: the list is committed, then the start record, and then a
+    /// long store is compacted. At `Ok` both are acknowledged (`done`, `started`), and the handler is dead until the next boot.
     ///
     /// Refusals, in this order: `Dead`, `NoSuchRelease`, `BadStatus`, `Full`; else as `make_permanent`.
     pub fn reboot_old_release(&mut self, alloc: Global, vsn: &str) -> Result<(), HandlerError>
@@ -115,10 +117,11 @@ impl<D: Disk> Handler<D> {
             return Err(HandlerError::Dead);
         }
         let reboot = Event::RebootOld(String::from_str(alloc, vsn)?);
-        self.move_permanent(alloc, vsn, reboot)
+        self.move_permanent(alloc, vsn, reboot)?;
+        self.compact(alloc)
     }
 
-    /// Takes a release out of the list. At `Ok` that is acknowledged (`done`).
+    /// Takes a release out of the list, and then compacts a long store. At `Ok` the removal is acknowledged (`done`).
     ///
     /// Refusals, in this order: `Dead`, `NoSuchRelease`, `Permanent`, `Running`, `Full`; `NoMemory` and `Device`
     /// as of `set_unpacked`.

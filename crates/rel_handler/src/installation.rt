@@ -24,7 +24,8 @@ use sup_tree::{Loaded, Tree};
 
 impl<D: Disk> Handler<D> {
     /// Installs a release by its script: its processes are upgraded, and it is current until the next boot. The script is carried
-    /// out first, and then the event is committed; at `Ok` it is acknowledged (`done`). It waits for processes that clients have.
+    /// out first, then the event is committed, and then a long store is compacted; at `Ok` the event is acknowledged (`done`). It
+    /// waits for processes that clients have.
     ///
     /// Refusals, in this order: `Dead`, `NoSuchRelease`, `AlreadyInstalled`, `NoMatchingRelup`; `Refused` for a script that isn't
     /// run; `Full`; `Refused` for an instruction before the point of no return. Nothing has changed then. `MustReboot` for one
@@ -69,6 +70,7 @@ impl<D: Disk> Handler<D> {
         match upgrade.run(rt, alloc, table, seat, tree, loaded) {
             Ok(installed) => {
                 self.write(alloc, Event::Installed(version), text)?;
+                self.compact(alloc)?;
                 self.dead = false;
                 Ok(installed)
             }

@@ -22,6 +22,11 @@
 //! handler and of the processes (`NothingChanged`). A script that fails behind it leaves the handler dead, its list and its disk
 //! as they were (`IsLost`).
 //!
+//! Behind its commit a command compacts the store, where that has 64 records or more: one record stands for the whole list then
+//! (`compacted`). Where memory is refused to it, or the list has no such record that fits, the store stays as it was, and the
+//! command succeeds (`MayReach`). Where the device fails in it, the command answers `Device`, and its event is on the disk. Neither
+//! a creation nor a boot compacts.
+//!
 //! The start record is that of the permanent release between two calls of a handler that isn't dead (`HasStarted`), and at
 //! each moment that, or the one of the release that was permanent before the last event of the prefix (`HasStart`): a boot
 //! repairs it.
@@ -36,6 +41,7 @@
 
 mod booting;
 mod commit;
+mod compaction;
 mod creation;
 mod error;
 mod handler;

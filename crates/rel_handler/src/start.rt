@@ -4,11 +4,11 @@ ghost use Rattle.rel_disk.specs.Moments.{HasFailed};
 ghost use Rattle.rel_files.specs.Release.{Release, release_of};
 ghost use Rattle.rel_list.specs.Event.{event_of};
 ghost use Rattle.rel_list.specs.Releases.{permanent, release_at};
-ghost use Rattle.rel_handler.specs.Commits.{Commits, IsDone, Keeps, HasRead, MakesPermanent};
+ghost use Rattle.rel_handler.specs.Commits.{Commits, IsAppended, Keeps, HasRead, MakesPermanent};
 ghost use Rattle.rel_handler.specs.Start.{started};
 ghost use Rattle.rel_handler.specs.Image.{IsImageAt, start_slot};
 ghost use Rattle.rel_handler.specs.Refusals.{CommandRefused, StartRefused, IsStartRefusal};
-ghost use Rattle.rel_handler.specs.State.{disk_in, list_in, is_dead, end_in, HasStarted, IsReady, IsSound};
+ghost use Rattle.rel_handler.specs.State.{disk_in, extent_in, list_in, is_dead, HasStarted, IsReady, IsSound};
 ghost use Rattle.node_command.specs.Taking.{change_size};
 ghost use Rattle.rel_store.specs.Layout.{slot_with};
 ghost use Rattle.start_record.specs.Text.{AreVersions, versions_of, start_text};
@@ -62,7 +62,7 @@ impl<D: Disk> Handler<D> {
         requires moves { MakesPermanent vsn.now (event_of event) }
         ensures commits { Commits D.Disk (event_of event)
             (change_size (event_of event) (list_in self.old)) self.old self.new }
-        ensures done { OnOk result (IsDone D.Disk (event_of event)
+        ensures appended { OnOk result (IsAppended D.Disk (event_of event)
             (change_size (event_of event) (list_in self.old)) self.old self.new) }
         ensures ready { OnOk result (IsReady D.seen D.may_leave self.new) }
         ensures started { OnOk result (HasStarted D.may_leave self.new) }
@@ -83,7 +83,7 @@ impl<D: Disk> Handler<D> {
         ensures keeps { Keeps D.Disk (start_text (versions_of start.now)) self.old self.new }
         ensures ready { OnOk result (IsReady D.seen D.may_leave self.new) }
         ensures acknowledged { OnOk result ((c : List ℕ) → D.may_leave (disk_in self.new) c
-            → IsImageAt c (list_in self.new) (end_in self.new)
+            → IsImageAt c (list_in self.new) (extent_in self.new)
             × (start_slot c ≡ slot_with (start_text (versions_of start.now)))) }
         ensures failed { IfErr result (λ _.
             HasFailed (D.failures (disk_in self.old)) (D.failures (disk_in self.new))) }

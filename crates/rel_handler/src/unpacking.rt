@@ -24,7 +24,8 @@ use rel_unpack::ReleaseFiles;
 use std::alloc::Global;
 
 impl<D: Disk> Handler<D> {
-    /// Takes in the release in the file of this path as unpacked, and answers its version. At `Ok` it is acknowledged.
+    /// Takes in the release in the file of this path as unpacked, then compacts a long store, and answers the release's version.
+    /// At `Ok` it is acknowledged.
     ///
     /// All files are read first. Refusals, in this order: `Dead`; `MissingFile`, `BadFile`, `TooMany` for the release's file
     /// or its number of applications; `ExistingRelease`; application by application `MissingFile`, `BadFile`,
@@ -32,7 +33,7 @@ impl<D: Disk> Handler<D> {
     /// `TooMany` for the release as a whole; `TooMany` for the node's releases; `BadFile`, `TooMany`, `VsnMismatch` for its
     /// relup; `Full`. `NoMemory` may come in place of each but the first. Nothing has changed then. `Device` comes only where
     /// the list allows the release and its record fits; then the handler is dead, and the disk stands for its list with the
-    /// release or without.
+    /// release or without, and with it the store may be compacted.
     pub fn set_unpacked<F: Files>(
         &mut self,
         alloc: Global,

@@ -1,7 +1,7 @@
 -- No moment of a session loses an acknowledged event.
 use Rattle.std.proofs.Common.{◌≡◌, ◌≢◌, ◌⊎◌, inl, inr, ℕ, zero, suc, List, [], ◌∷◌, ◌++◌, Option, Some, None, refl, sym, ap, ◌∙◌, subst, append-nil, append_assoc, arith}
 use Rattle.rel_list.specs.Event.{Event, list_after}
-use Rattle.rel_handler.specs.Image.{store_end}
+use Rattle.rel_handler.specs.Image.{extent_of}
 use Rattle.rel_handler.specs.Events.{Known, Events, Stored, settled, certain, with_doubt, HasStart, IsStoredAs}
 use Rattle.session_input.specs.Commands.{Command}
 use Rattle.rel_session.specs.Device.{Device, LeavesOnly}
@@ -67,7 +67,7 @@ doubt_more events (Some e) found (inr is) = (e ∷ [], is)
 finds_more : (p : Place) (found : Events) → Finds p found → (more : Events) × (found ≡ acknowledged_at p ++ more)
 finds_more (raw bytes) found finds = (found, refl)
 finds_more (closed s) found finds = doubt_more s.known.acknowledged s.known.in_doubt found finds
-finds_more (running events end ps) found finds = ([], finds ∙ sym (append-nil events))
+finds_more (running events extent ps) found finds = ([], finds ∙ sym (append-nil events))
 finds_more (dead s) found finds = doubt_more s.known.acknowledged s.known.in_doubt found finds
 
 -- so do those behind a reply
@@ -136,11 +136,11 @@ stays_known base files p commands ending (a ∷ more) right known =
     )
 
 pub of_accepted : IsOfAccepted
-of_accepted s image of = record { events = of.events; prefix = prefix_of s of.events (store_end image) of.list of.has of.after; list = of.list; after = of.after; image_of = of.image_of }
+of_accepted s image of = record { events = of.events; prefix = prefix_of s of.events (extent_of image) of.list of.has of.after; list = of.list; after = of.after; image_of = of.image_of }
 
 stands_for : (s : Stored) (image : List ℕ) → IsStoredAs s image → StandsForAll s.known.acknowledged image
 stands_for s image of =
-    let prefix = prefix_of s of.events (store_end image) of.list of.has of.after in
+    let prefix = prefix_of s of.events (extent_of image) of.list of.has of.after in
     record { more = prefix.more; list = of.list; after = ap list_after (sym prefix.holds) ∙ of.after; image_of = of.image_of; start = subst (λ l. HasStart l image) prefix.holds of.start }
 
 stands_for_reached : (k : Known) (command : Events) (image : List ℕ) → IsReached k command image → StandsForAll k.acknowledged image
@@ -157,14 +157,14 @@ module _ {D : Type 0} (v : Device D) (laws : IsDevice v) where
   held_images : (p : Place) (disk : D) → IsKnown p → Holds v p disk → (c : List ℕ) → v.may_leave disk c → StandsForAll (acknowledged_at p) c
   held_images (raw bytes) disk known holds c now = absurd known
   held_images (closed s) disk known holds c now = stands_for s c (holds c now)
-  held_images (running events end ps) disk known holds c now = stands_for (certain events end) c (holds c now).0
+  held_images (running events extent ps) disk known holds c now = stands_for (certain events extent) c (holds c now).0
   held_images (dead s) disk known holds c now = stands_for s c (holds c now)
 
   -- and at each moment of a command
   command_images : (p : Place) (o : Outcome) (old new : D) → IsKnown p → Moments v p o old new → LeavesOnly v old new (StandsForAll (acknowledged_at p))
   command_images (raw bytes) o old new known moments = absurd known
   command_images (closed s) o old new known moments = weakened v old new _ _ (stands_for_reached s.known (events_of o)) moments
-  command_images (running events end ps) o old new known moments = weakened v old new _ _ (stands_for_reached (settled events) (events_of o)) moments
+  command_images (running events extent ps) o old new known moments = weakened v old new _ _ (stands_for_reached (settled events) (events_of o)) moments
   command_images (dead s) o old new known moments = weakened v old new _ _ (stands_for_reached s.known (events_of o)) moments
 
   -- and so at each moment of a session
@@ -211,7 +211,7 @@ module _ {D : Type 0} (v : Device D) (laws : IsDevice v) where
   starts_at_rest : (p : Place) (disk : D) → Holds v p disk → Starts v (at_rest p) disk
   starts_at_rest (raw bytes) disk holds = holds
   starts_at_rest (closed s) disk holds = holds
-  starts_at_rest (running events end ps) disk holds = λ c now. (holds c now).0
+  starts_at_rest (running events extent ps) disk holds = λ c now. (holds c now).0
   starts_at_rest (dead s) disk holds = holds
 
   pub begins_where_one_ended : BeginsWhereOneEnded v
@@ -220,14 +220,14 @@ module _ {D : Type 0} (v : Device D) (laws : IsDevice v) where
   pub begins_behind_a_crash : BeginsBehindACrash v
   begins_behind_a_crash events image disk of only = (
     of.more,
-    λ c now. subst (IsStoredAs (certain (events ++ of.more) (store_end image))) (sym (only c now))
+    λ c now. subst (IsStoredAs (certain (events ++ of.more) (extent_of image))) (sym (only c now))
         (record { events = events ++ of.more; has = inl (refl, refl); list = of.list; after = of.after; image_of = of.image_of; start = of.start }),
   )
 
   known_at_rest : (p : Place) → IsKnown p → (s : Stored) × (at_rest p ≡ closed s) × (s.known.acknowledged ≡ acknowledged_at p)
   known_at_rest (raw bytes) known = absurd known
   known_at_rest (closed s) known = (s, refl, refl)
-  known_at_rest (running events end ps) known = (certain events end, refl, refl)
+  known_at_rest (running events extent ps) known = (certain events extent, refl, refl)
   known_at_rest (dead s) known = (s, refl, refl)
 
   -- where all these events are acknowledged, with others behind them
@@ -242,7 +242,7 @@ module _ {D : Type 0} (v : Device D) (laws : IsDevice v) where
       (s, more, subst (λ q. Starts v q later) rests starts, are ∙ is)
   next_disk p replies mid new later moments still holds (inr (image, left, only)) =
       let (more, starts) = begins_behind_a_crash (acknowledged_at p) image later (moments.each image left) only in
-      (certain (acknowledged_at p ++ more) (store_end image), more, starts, refl)
+      (certain (acknowledged_at p ++ more) (extent_of image), more, starts, refl)
 
   lasts : (base : Source) (n : ℕ) (events : Events) (disk : D) → IsOn events disk → Lasts v base n events disk
   lasts base zero events disk on = on

@@ -20,7 +20,7 @@ use Rattle.node_command.proofs.ReleaseLemmas.{free_so, told_library}
 use Rattle.rel_list.specs.Releases.{Releases, differs, first_different, status_of}
 use Rattle.rel_list.specs.Event.{Event}
 use Rattle.rel_list.specs.Event.Event.{made, unpacked}
-use Rattle.rel_session.specs.AnswerLaws.{HasLinePath, IsOfFiles, HasModuleVersionsAt}
+use Rattle.rel_session.specs.AnswerLaws.{HasLinePath, HasModuleVersionsAt, HaveRecord, IsOfFiles}
 use Rattle.session_input.specs.Commands.{Command}
 use Rattle.session_input.specs.Commands.Command.{file, create, set_unpacked, check, install, permanent, remove, reboot_old, boot, start, releases, procs, modules, peek, call, flood, relup, quit, bad}
 use Rattle.rel_unpack.proofs.LineBrought.{IsLineBrought, good_brought}
@@ -51,11 +51,11 @@ pub data Kind : Type 0 where
 abbrev pub kind_of : Place → Kind
 kind_of (raw x) = of_bytes
 kind_of (closed s) = at_rest
-kind_of (running events end ps) = runs
+kind_of (running events extent ps) = runs
 kind_of (dead s) = fails
 
 on_node : (P : Action → Type 0) (x y : Action) (p q : Place) → kind_of p ≡ kind_of q → (P x → P y → x ≡ y) → OnNode p P x → OnNode q P y → x ≡ y
-on_node P x y (running events end ps) (running others stop qs) kinds one is also = one is also
+on_node P x y (running events extent ps) (running others stop qs) kinds one is also = one is also
 on_node P x y (raw b) (raw c) kinds one is also = is ∙ sym also
 on_node P x y (closed s) (closed t) kinds one is also = is ∙ sym also
 on_node P x y (dead s) (dead t) kinds one is also = is ∙ sym also
@@ -90,11 +90,55 @@ one_action source one p q (relup new ups downs) x y kinds (found, there, is) (ag
 one_action source one p q quit x y kinds is also = absurd is
 one_action source one p q bad x y kinds is also = inl (is ∙ sym also)
 
+-- A change of a node has a record.
+abbrev pub HasRecordOf : Action → Type 0
+HasRecordOf (changes_node c) = HaveRecord (c.event ∷ [])
+HasRecordOf does = Unit {0}
+
+record_as : (x y : Action) → x ≡ y → HasRecordOf y → HasRecordOf x
+record_as x y is has = subst HasRecordOf (sym is) has
+
+record_of_creation : (brought : Result Brought Refusal) → HasRecordOf (creation brought)
+record_of_creation (Err why) = tt
+record_of_creation (Ok b) = tt
+
+record_of_unpacking : (brought : Result Brought Refusal) → HasRecordOf (unpacking brought)
+record_of_unpacking (Err why) = tt
+record_of_unpacking (Ok b) = tt
+
+record_of_telling : (found : Result (List ℕ) Refusal) → HasRecordOf (relup_telling found)
+record_of_telling (Err why) = tt
+record_of_telling (Ok text) = tt
+
+pub has_record : (source : Source) (p : Place) (c : Command) (does : Action) → ComesTo source p c does → HasRecordOf does
+has_record source p (create path) does (found, there, is) = record_as does _ is (record_of_creation found)
+has_record source (running events extent ps) (set_unpacked path) does (found, there, is) = record_as does _ is (record_of_unpacking found)
+has_record source (raw x) (set_unpacked path) does is = record_as does _ is tt
+has_record source (closed s) (set_unpacked path) does is = record_as does _ is tt
+has_record source (dead s) (set_unpacked path) does is = record_as does _ is tt
+has_record source p (relup new ups downs) does (found, there, is) = record_as does _ is (record_of_telling found)
+has_record source p (file path f) does is = record_as does _ is tt
+has_record source p (check vsn) does is = record_as does _ is tt
+has_record source p (install vsn) does is = record_as does _ is tt
+has_record source p (permanent vsn) does is = record_as does _ is tt
+has_record source p (remove vsn) does is = record_as does _ is tt
+has_record source p (reboot_old vsn) does is = record_as does _ is tt
+has_record source p boot does is = record_as does _ is tt
+has_record source p start does is = record_as does _ is tt
+has_record source p releases does is = record_as does _ is tt
+has_record source p procs does is = record_as does _ is tt
+has_record source p modules does is = record_as does _ is tt
+has_record source p (peek app id) does is = record_as does _ is tt
+has_record source p (call app id input) does is = record_as does _ is tt
+has_record source p (flood app id input times) does is = record_as does _ is tt
+has_record source p bad does is = record_as does _ is tt
+has_record source p quit does is = absurd is
+
 -- Each command but `quit` comes to an action.
 pub some_action : (source : Source) → GivesEach source → (p : Place) (c : Command) → (c ≡ quit) ⊎ ((does : Action) × ComesTo source p c does)
 some_action source each p (file path f) = inr (_, refl)
 some_action source each p (create path) = let (brought, there) = some_brought source each path in inr (creation brought, (brought, there, refl))
-some_action source each (running events end ps) (set_unpacked path) = let (brought, there) = some_brought source each path in inr (unpacking brought, (brought, there, refl))
+some_action source each (running events extent ps) (set_unpacked path) = let (brought, there) = some_brought source each path in inr (unpacking brought, (brought, there, refl))
 some_action source each (raw x) (set_unpacked path) = inr (_, refl)
 some_action source each (closed s) (set_unpacked path) = inr (_, refl)
 some_action source each (dead s) (set_unpacked path) = inr (_, refl)
@@ -227,13 +271,13 @@ good_telling (Ok text) (t, line, is) = subst IsWhole (sym is) (translation_whole
 whole_told : (says : Releases → Processes → List ℕ) (p : Place) → HasModuleVersionsAt p → ((list : Releases) (ps : Processes) → HaveModuleVersions ps → IsWhole (says list ps)) → IsWhole (told says p)
 whole_told says (raw x) lines whole behind = refl
 whole_told says (closed s) lines whole behind = refl
-whole_told says (running events end ps) lines whole behind = whole (releases_after events) ps lines behind
+whole_told says (running events extent ps) lines whole behind = whole (releases_after events) ps lines behind
 whole_told says (dead s) lines whole behind = refl
 
 pub good_action : (source : Source) (p : Place) (c : Command) (does : Action) → HasLinePath c → HasModuleVersionsAt p → ComesTo source p c does → IsGoodAction does
 good_action source p (file path f) does line tells is = good_as does _ is (λ behind. refl)
 good_action source p (create path) does line tells (found, there, is) = good_as does _ is (good_creation source path found there (good_brought source path line found there))
-good_action source (running events end ps) (set_unpacked path) does line tells (found, there, is) = good_as does _ is (good_unpacking source path found there (good_brought source path line found there))
+good_action source (running events extent ps) (set_unpacked path) does line tells (found, there, is) = good_as does _ is (good_unpacking source path found there (good_brought source path line found there))
 good_action source (raw x) (set_unpacked path) does line tells is = good_as does _ is (λ behind. refl)
 good_action source (closed s) (set_unpacked path) does line tells is = good_as does _ is (λ behind. refl)
 good_action source (dead s) (set_unpacked path) does line tells is = good_as does _ is (λ behind. refl)

@@ -10,7 +10,7 @@ use Rattle.rel_handler.specs.declared.error.BootError.TheVariants as boot_error
 use Rattle.node_command.specs.declared.error.HandlerError.{HandlerError}
 use Rattle.node_command.specs.declared.error.HandlerError.TheVariants as handler_error
 use Rattle.rel_handler.specs.Events.{Events, Stored, certain}
-use Rattle.rel_handler.specs.Image.{holds_a_store}
+use Rattle.rel_handler.specs.Image.{Extent, holds_a_store}
 use Rattle.node_command.specs.Files.{bundle_brought, made_size}
 use Rattle.node_command.specs.Place.{own_refusal}
 use Rattle.rel_handler.specs.Refusals.{IsBootRefusal}
@@ -163,25 +163,25 @@ plain_files no_memory = refl
 
 -- a commit, by what its answers tell
 module _ (e : Event) (f : Report → Effect) (stays : f nothing_done ≡ effect nothing runs) (doubted : f it_failed ≡ effect (failed_with (Some e)) fails) where
-  commits : (events : Events) (end : ℕ) (ps : Processes) (size : ℕ) (o : Result Releases HandlerError) (P : Reply → Type 0) → IsPlainList o → ((a : Reply) → P a → HasEffect f a) → (a : Reply)
-      → Transition.IsCommit events end ps e size o P a → HasEffect f a
-  commits events end ps size (Err why) P plain done a is = effect_as f a _ is (sym stays ∙ ap f (sym plain))
-  commits events end ps size (Ok list) P plain done a (inl (fits, inl is)) = done a is
-  commits events end ps size (Ok list) P plain done a (inl (fits, inr is)) = effect_as f a _ is (sym doubted)
-  commits events end ps size (Ok list) P plain done a (inr (over_it, is)) = effect_as f a _ is (sym stays)
+  commits : (events : Events) (extent : Extent) (ps : Processes) (size : ℕ) (o : Result Releases HandlerError) (P : Extent → Reply → Type 0) → IsPlainList o → ((x : Extent) (a : Reply) → P x a → HasEffect f a) → (a : Reply)
+      → Transition.IsCommit events extent ps e size o P a → HasEffect f a
+  commits events extent ps size (Err why) P plain done a is = effect_as f a _ is (sym stays ∙ ap f (sym plain))
+  commits events extent ps size (Ok list) P plain done a (inl (fits, inl (x, reach, is))) = done x a is
+  commits events extent ps size (Ok list) P plain done a (inl (fits, inr is)) = effect_as f a _ is (sym doubted)
+  commits events extent ps size (Ok list) P plain done a (inr (over_it, is)) = effect_as f a _ is (sym stays)
 
-changes : (events : Events) (end : ℕ) (ps : Processes) (c : Transition.Change) (l : Releases) (f : Option Refusal) (o : Result Releases HandlerError) → IsPlainList o → (a : Reply) → Transition.Changes events end ps c l f o a → HasEffect (changed runs c) a
-changes events end ps c l (Some why) o plain a is = effect_as (changed runs c) a _ is (sym (ap (changed runs c) (plain_files why)))
-changes events end ps c l None o plain a is = commits c.event (changed runs c) refl refl events end ps (c.size l) o _ plain (λ a is. effect_as (changed runs c) a _ is refl) a is
+changes : (events : Events) (extent : Extent) (ps : Processes) (c : Transition.Change) (l : Releases) (f : Option Refusal) (o : Result Releases HandlerError) → IsPlainList o → (a : Reply) → Transition.Changes events extent ps c l f o a → HasEffect (changed runs c) a
+changes events extent ps c l (Some why) o plain a is = effect_as (changed runs c) a _ is (sym (ap (changed runs c) (plain_files why)))
+changes events extent ps c l None o plain a is = commits c.event (changed runs c) refl refl events extent ps (c.size l) o _ plain (λ x a is. effect_as (changed runs c) a _ is refl) a is
 
 -- the boot behind a commit
 boots_behind : (vsn : List ℕ) (s : Stored) (a b : Reply) → Transition.BootsStore s b → a ≡ behind (reboot_old vsn) b → HasEffect (rebooted runs vsn) a
-boots_behind vsn s a b (inl (events, end, has, (list, after, is))) told = effect_as (rebooted runs vsn) a _ (told ∙ ap (behind (reboot_old vsn)) is) refl
+boots_behind vsn s a b (inl (events, extent, has, (list, after, is))) told = effect_as (rebooted runs vsn) a _ (told ∙ ap (behind (reboot_old vsn)) is) refl
 boots_behind vsn s a b (inr is) told = effect_as (rebooted runs vsn) a _ (told ∙ ap (behind (reboot_old vsn)) is) refl
 
-reboots : (events : Events) (end : ℕ) (ps : Processes) (vsn : List ℕ) (l : Releases) (o : Result Releases HandlerError) → IsPlainList o → (a : Reply) → Transition.Reboots events end ps vsn l o a → HasEffect (rebooted runs vsn) a
-reboots events end ps vsn l o plain =
-    commits (reboot_old vsn) (rebooted runs vsn) refl refl events end ps _ o _ plain (λ a (b, boot, is). boots_behind vsn (Transition.rebooted events end vsn l) a b boot is)
+reboots : (events : Events) (extent : Extent) (ps : Processes) (vsn : List ℕ) (l : Releases) (o : Result Releases HandlerError) → IsPlainList o → (a : Reply) → Transition.Reboots events extent ps vsn l o a → HasEffect (rebooted runs vsn) a
+reboots events extent ps vsn l o plain =
+    commits (reboot_old vsn) (rebooted runs vsn) refl refl events extent ps _ o _ plain (λ x a (b, boot, is). boots_behind vsn (Transition.rebooted events x vsn) a b boot is)
 
 -- create
 makes_with : (x : List ℕ) (p : Bundle) (size : ℕ) (why : Option Refusal) (a : Reply) → Transition.MakesWith x p size why a → HasEffect (created of_bytes p) a
@@ -198,12 +198,12 @@ makes (raw x) b a (inl is) = makes_on x b (holds_a_store x) a is
 makes (raw x) b a (inr (torn, is)) = effect_as (created of_bytes (bundle_brought b)) a _ is refl
 makes (closed s) b a (inl is) = effect_as (created at_rest (bundle_brought b)) a _ is refl
 makes (closed s) b a (inr is) = effect_as (created at_rest (bundle_brought b)) a _ is refl
-makes (running events end ps) b a is = effect_as (created runs (bundle_brought b)) a _ is refl
+makes (running events extent ps) b a is = effect_as (created runs (bundle_brought b)) a _ is refl
 makes (dead s) b a is = effect_as (created fails (bundle_brought b)) a _ is refl
 
 -- boot
 boots_store : (k : Kind) (s : Stored) (a : Reply) → left k ≡ at_rest → Transition.BootsStore s a → HasEffect (booted k) a
-boots_store k s a there (inl (events, end, has, (list, after, is))) = effect_as (booted k) a _ is refl
+boots_store k s a there (inl (events, extent, has, (list, after, is))) = effect_as (booted k) a _ is refl
 boots_store k s a there (inr is) = effect_as (booted k) a _ is (ap (effect (failed_with None)) (sym there))
 
 boots_refused : (x : List ℕ) (why : BootError) → IsBootRefusal x why → HasEffect (booted of_bytes) (reply (boot_line why) nothing (raw x))
@@ -214,11 +214,11 @@ boots_refused x boot_error.Device is = absurd is
 boots_refused x boot_error.NoMemory is = absurd is
 
 boots : (p : Place) (a : Reply) → Transition.Boots p a → HasEffect (booted (kind_of p)) a
-boots (raw x) a (inl (events, list, end, after, image, (list_then, after_then, is))) = effect_as (booted of_bytes) a _ is refl
+boots (raw x) a (inl (events, list, extent, after, image, (list_then, after_then, is))) = effect_as (booted of_bytes) a _ is refl
 boots (raw x) a (inr (inl (why, refusal, is))) = effect_as (booted of_bytes) a _ is (boots_refused x why refusal)
 boots (raw x) a (inr (inr (torn, is))) = effect_as (booted of_bytes) a _ is refl
 boots (closed s) a is = boots_store at_rest s a refl is
-boots (running events end ps) a is = boots_store runs (certain events end) a refl is
+boots (running events extent ps) a is = boots_store runs (certain events extent) a refl is
 boots (dead s) a is = boots_store fails s a refl is
 
 -- Two replies with the same answer, from places of one kind.
@@ -243,34 +243,34 @@ acted k (calls c) t = effect nothing k
 acts : (p : Place) (does : Transition.Action) (a : Reply) → Transition.Acts p does a → HasEffect (acted (kind_of p) does) a
 acts p (answers text) a is = effect_as (acted (kind_of p) (answers text)) a _ is refl
 acts p (makes_node found) a is = makes p found a is
-acts (running events end ps) (changes_node c) a is = changes events end ps c (releases_after events) (c.files (releases_after events)) (commanded c.event (releases_after events)) (plain_list c.event (releases_after events)) a is
+acts (running events extent ps) (changes_node c) a is = changes events extent ps c (releases_after events) (c.files (releases_after events)) (commanded c.event (releases_after events)) (plain_list c.event (releases_after events)) a is
 acts (raw x) (changes_node c) a is = effect_as (changed of_bytes c) a _ is refl
 acts (closed s) (changes_node c) a is = effect_as (changed at_rest c) a _ is refl
 acts (dead s) (changes_node c) a is = effect_as (changed fails c) a _ is refl
-acts (running events end ps) (installs vsn) a is =
-    each_reply (HasEffect (installing runs vsn)) events end ps vsn (releases_after events) (record {
+acts (running events extent ps) (installs vsn) a is =
+    each_reply (HasEffect (installing runs vsn)) events extent ps vsn (releases_after events) (record {
       listed = λ why. sym (ap (installing runs vsn) (plain_listed why));
       unmatched = refl;
       not_run = λ f. refl;
       over_full = refl;
       broken = λ f. refl;
-      done_so = λ f r found comes. refl;
+      done_so = λ f r reach found comes. refl;
       doubted_so = λ f found. refl;
     }) a is
 acts (raw x) (installs vsn) a is = effect_as (installing of_bytes vsn) a _ is refl
 acts (closed s) (installs vsn) a is = effect_as (installing at_rest vsn) a _ is refl
 acts (dead s) (installs vsn) a is = effect_as (installing fails vsn) a _ is refl
-acts (running events end ps) (reboots_node vsn) a is = reboots events end ps vsn (releases_after events) (commanded (reboot_old vsn) (releases_after events)) (plain_list (reboot_old vsn) (releases_after events)) a is
+acts (running events extent ps) (reboots_node vsn) a is = reboots events extent ps vsn (releases_after events) (commanded (reboot_old vsn) (releases_after events)) (plain_list (reboot_old vsn) (releases_after events)) a is
 acts (raw x) (reboots_node vsn) a is = effect_as (rebooted of_bytes vsn) a _ is refl
 acts (closed s) (reboots_node vsn) a is = effect_as (rebooted at_rest vsn) a _ is refl
 acts (dead s) (reboots_node vsn) a is = effect_as (rebooted fails vsn) a _ is refl
 acts p boots_node a is = boots p a is
-acts (running events end ps) tells_start a (inl is) = effect_as (tells runs) a _ is refl
-acts (running events end ps) tells_start a (inr is) = effect_as (tells runs) a _ is refl
+acts (running events extent ps) tells_start a (inl is) = effect_as (tells runs) a _ is refl
+acts (running events extent ps) tells_start a (inr is) = effect_as (tells runs) a _ is refl
 acts (raw x) tells_start a is = effect_as (tells of_bytes) a _ is refl
 acts (closed s) tells_start a is = effect_as (tells at_rest) a _ is refl
 acts (dead s) tells_start a is = effect_as (tells fails) a _ is refl
-acts (running events end ps) (calls c) a is = effect_as (acted runs (calls c)) a _ is refl
+acts (running events extent ps) (calls c) a is = effect_as (acted runs (calls c)) a _ is refl
 acts (raw x) (calls c) a is = effect_as (acted of_bytes (calls c)) a _ is refl
 acts (closed s) (calls c) a is = effect_as (acted at_rest (calls c)) a _ is refl
 acts (dead s) (calls c) a is = effect_as (acted fails (calls c)) a _ is refl

@@ -12,9 +12,9 @@ use Rattle.node_processes.specs.Processes.{Processes}
 use Rattle.rel_session.specs.declared.booted_node.BootedNode.{BootedNode}
 use Rattle.rel_handler.specs.Commits.{Commits, IsDone}
 use Rattle.rel_handler.specs.Events.{Events, uncertain, IsStoredAs, settled}
-use Rattle.rel_handler.specs.Image.{end_behind, HasSpace}
+use Rattle.rel_handler.specs.Image.{Extent, HasSpace}
 use Rattle.rel_handler.specs.Refusals.{CommandRefused}
-use Rattle.rel_handler.specs.State.{disk_in, list_in, is_dead, end_in, IsSame}
+use Rattle.rel_handler.specs.State.{disk_in, list_in, is_dead, extent_in, IsSame}
 use Rattle.node_command.specs.Taking.{commanded}
 use Rattle.rel_session.specs.declared.place.Place.TheVariants as memory
 use Rattle.rel_session.specs.Device.{Device, LeavesOnly, HasFailed}
@@ -28,6 +28,7 @@ use Rattle.rel_session.specs.Run.{IsReached, Holds}
 use Rattle.rel_session.specs.Transition
 use Rattle.rel_session.specs.Transition.Action.{changes_node}
 use Rattle.node_command.proofs.CommandLemmas.{commanded_step}
+use Rattle.rel_session.proofs.ExtentLemmas.{reach_at}
 use Rattle.rel_session.proofs.DeviceLemmas.{IsDevice, weakened}
 use Rattle.rel_session.proofs.ListLemmas.{list_after-push}
 use Rattle.rel_session.proofs.Prefixes.{reached_with}
@@ -38,51 +39,51 @@ never e = absurd cc
 
 module _ {D : Type 0} (v : Device D) (laws : IsDevice v) (P : Place → Reply → Type 0) (n : BootedNode D) (alive : is_dead n.handler ≡ false) where
   -- An event comes to the node. Done says what is replied where it was committed.
-  module _ (e : Event) (size : Releases → ℕ) (Done : Events → ℕ → Processes → Releases → Reply → Type 0)
-      (right : (events : Events) (end : ℕ) (ps : Processes) (a : Reply) → list_after events ≡ Some (list_in n.handler) → Transition.IsCommit events end ps e (size (releases_after events)) (commanded e (releases_after events)) (Done events end ps (releases_after events)) a → P (running events end ps) a)
+  module _ (e : Event) (size : Releases → ℕ) (Done : Events → Processes → Releases → Extent → Reply → Type 0)
+      (right : (events : Events) (extent : Extent) (ps : Processes) (a : Reply) → list_after events ≡ Some (list_in n.handler) → Transition.IsCommit events extent ps e (size (releases_after events)) (commanded e (releases_after events)) (Done events ps (releases_after events)) a → P (running events extent ps) a)
       (new : BootedNode D) (kept_on : processes_in new.processes ≡ processes_in n.processes) (commits : Commits v e (size (list_in n.handler)) n.handler new.handler) where
     abbrev body_size : ℕ
     body_size = size (list_in n.handler)
 
     -- what the list allows, said of the events
-    pub right_for : (events : Events) (end : ℕ) (ps : Processes) (o : Result Releases HandlerError) (a : Reply) → list_after events ≡ Some (list_in n.handler) → commanded e (list_in n.handler) ≡ o
-        → Transition.IsCommit events end ps e body_size o (Done events end ps (list_in n.handler)) a → P (running events end ps) a
-    right_for events end ps o a after is so =
+    pub right_for : (events : Events) (extent : Extent) (ps : Processes) (o : Result Releases HandlerError) (a : Reply) → list_after events ≡ Some (list_in n.handler) → commanded e (list_in n.handler) ≡ o
+        → Transition.IsCommit events extent ps e body_size o (Done events ps (list_in n.handler)) a → P (running events extent ps) a
+    right_for events extent ps o a after is so =
         let of_list : releases_after events ≡ list_in n.handler = ap list_or_none after in
-        right events end ps a after (subst (λ l. Transition.IsCommit events end ps e (size l) (commanded e l) (Done events end ps l) a) (sym of_list) (subst (λ r. Transition.IsCommit events end ps e body_size r (Done events end ps (list_in n.handler)) a) (sym is) so))
+        right events extent ps a after (subst (λ l. Transition.IsCommit events extent ps e (size l) (commanded e l) (Done events ps l) a) (sym of_list) (subst (λ r. Transition.IsCommit events extent ps e body_size r (Done events ps (list_in n.handler)) a) (sym is) so))
 
     pub moments_at : (events : Events) → list_after events ≡ Some (list_in n.handler) → LeavesOnly v (disk_in n.handler) (disk_in new.handler) (IsReached (settled events) (e ∷ []))
-    moments_at events after = weakened v (disk_in n.handler) (disk_in new.handler) _ _ (reached_with events (end_in n.handler) e body_size) (commits.any_moment alive events after)
+    moments_at events after = weakened v (disk_in n.handler) (disk_in new.handler) _ _ (reached_with events (extent_in n.handler) e body_size) (commits.any_moment alive events after)
 
-    device_failed : (list : Releases) → commanded e (list_in n.handler) ≡ Ok list → HasSpace (end_in n.handler) body_size → HasFailed v (disk_in n.handler) (disk_in new.handler) → is_dead new.handler ≡ true
+    device_failed : (list : Releases) → commanded e (list_in n.handler) ≡ Ok list → HasSpace (extent_in n.handler) body_size → HasFailed v (disk_in n.handler) (disk_in new.handler) → is_dead new.handler ≡ true
         → (p : Place) → IsAt v (memory.Made n) p → Replied v p (λ a. P p a × (a.answer ≡ refusal_line device)) (memory.Made n) (memory.Made new)
     device_failed list allowed fits cause gone (raw bytes) at = absurd at
     device_failed list allowed fits cause gone (closed s) at = absurd at
     device_failed list allowed fits cause gone (dead s) at = never (sym alive ∙ at.1)
-    device_failed list allowed fits cause gone (running events end ps) (here, living, after, stop, has) =
-        let s = uncertain events end e body_size in
+    device_failed list allowed fits cause gone (running events extent ps) (here, living, after, stop, has) =
+        let s = uncertain events extent e body_size in
         let leaves = subst (λ m. LeavesOnly v (disk_in n.handler) (disk_in new.handler) (IsStoredAs (uncertain events m e body_size))) stop (commits.any_moment alive events after) in
         let holds : Holds v (dead s) (disk_in new.handler) = λ c now. leaves.each c (laws.counts_now (disk_in new.handler) (v.moment (disk_in n.handler)) c leaves.later now) in
         let a = failed (Some e) (dead s) in
         record {
           given = a;
-          right = (right_for events end ps (Ok list) a after allowed (inl (subst (λ n. HasSpace n body_size) stop fits, inr refl)), refl);
+          right = (right_for events extent ps (Ok list) a after allowed (inl (subst (λ n. HasSpace n body_size) stop fits, inr refl)), refl);
           at = (holds, gone);
           happens = record { moments = moments_at events after; holds = holds; cause = λ f. cause; counted = commits.counted };
         }
 
     same_reply : (why : Refusal) (o : Result Releases HandlerError) → commanded e (list_in n.handler) ≡ o → IsSame n.handler new.handler
-        → ((events : Events) (end : ℕ) (ps : Processes) → end_in n.handler ≡ end → Transition.IsCommit events end ps e body_size o (Done events end ps (list_in n.handler)) (refused why (running events end ps)))
+        → ((events : Events) (extent : Extent) (ps : Processes) → extent_in n.handler ≡ extent → Transition.IsCommit events extent ps e body_size o (Done events ps (list_in n.handler)) (refused why (running events extent ps)))
         → (p : Place) → IsAt v (memory.Made n) p → Replied v p (λ a. P p a × (a.answer ≡ refusal_line why)) (memory.Made n) (memory.Made new)
     same_reply why o is same barred (raw bytes) at = absurd at
     same_reply why o is same barred (closed s) at = absurd at
     same_reply why o is same barred (dead s) at = never (sym alive ∙ at.1)
-    same_reply why o is same barred (running events end ps) at =
-        stays v laws (running events end ps) (refusal_line why) _ (memory.Made n) (memory.Made new) at same.disk (same_at v laws n new (running events end ps) same kept_on at)
-        (right_for events end ps o _ at.2 is (barred events end ps at.3), refl)
+    same_reply why o is same barred (running events extent ps) at =
+        stays v laws (running events extent ps) (refusal_line why) _ (memory.Made n) (memory.Made new) at same.disk (same_at v laws n new (running events extent ps) same kept_on at)
+        (right_for events extent ps o _ at.2 is (barred events extent ps at.3), refl)
 
     by_list : (why : HandlerError) → (is_dead n.handler ≡ false) × (commanded e (list_in n.handler) ≡ Err why) → IsSame n.handler new.handler → Answers v P (Err why) (memory.Made n) (memory.Made new)
-    by_list why (living, barred) same p at = inl (same_reply (refusal_of why) (Err why) barred same (λ events end ps at. refl) p at)
+    by_list why (living, barred) same p at = inl (same_reply (refusal_of why) (Err why) barred same (λ events extent ps at. refl) p at)
 
     -- It was not committed.
     pub commits_none : (why : HandlerError) → CommandRefused v.failures e body_size n.handler new.handler why → Answers v P (Err why) (memory.Made n) (memory.Made new)
@@ -101,19 +102,19 @@ module _ {D : Type 0} (v : Device D) (laws : IsDevice v) (P : Place → Reply �
     commits_none (handler_error.MissingFile path) (barred, same) = by_list (handler_error.MissingFile path) barred same
     commits_none (handler_error.VsnMismatch path) (barred, same) = by_list (handler_error.VsnMismatch path) barred same
     commits_none handler_error.Full ((living, (list, allowed)), over, same) =
-        λ p at. inl (same_reply full (Ok list) allowed same (λ events end ps at. inr (subst (λ n. HasSpace n body_size → ⊥) at over, refl)) p at)
+        λ p at. inl (same_reply full (Ok list) allowed same (λ events extent ps at. inr (subst (λ n. HasSpace n body_size → ⊥) at over, refl)) p at)
     commits_none handler_error.NoMemory (living, same) = λ p at. inr (refl, inr (leaves_all v laws p (memory.Made n) (memory.Made new) same.disk (same_at v laws n new p same kept_on at)))
     commits_none handler_error.Device ((living, (list, allowed), fits), cause, gone) = λ p at. inl (device_failed list allowed fits cause gone p at)
     commits_none handler_error.Exists gone = absurd gone
 
   -- A command changes the node.
-  module _ (change : Transition.Change) (right : (events : Events) (end : ℕ) (ps : Processes) (a : Reply) → Transition.Acts (running events end ps) (changes_node change) a → P (running events end ps) a) where
+  module _ (change : Transition.Change) (right : (events : Events) (extent : Extent) (ps : Processes) (a : Reply) → Transition.Acts (running events extent ps) (changes_node change) a → P (running events extent ps) a) where
     -- what is replied by the files of the change
-    by_files : (events : Events) (end : ℕ) (ps : Processes) (a : Reply) (f : Option FilesRefusal) → list_after events ≡ Some (list_in n.handler) → change.files (list_in n.handler) ≡ f
-        → Transition.Changes events end ps change (releases_after events) f (commanded change.event (releases_after events)) a → P (running events end ps) a
-    by_files events end ps a f after is so =
+    by_files : (events : Events) (extent : Extent) (ps : Processes) (a : Reply) (f : Option FilesRefusal) → list_after events ≡ Some (list_in n.handler) → change.files (list_in n.handler) ≡ f
+        → Transition.Changes events extent ps change (releases_after events) f (commanded change.event (releases_after events)) a → P (running events extent ps) a
+    by_files events extent ps a f after is so =
         let here : change.files (releases_after events) ≡ f = ap (λ o. change.files (list_or_none o)) after ∙ is in
-        right events end ps a (subst (λ g. Transition.Changes events end ps change (releases_after events) g (commanded change.event (releases_after events)) a) (sym here) so)
+        right events extent ps a (subst (λ g. Transition.Changes events extent ps change (releases_after events) g (commanded change.event (releases_after events)) a) (sym here) so)
 
     -- They are refused, and nothing of the node has changed.
     module _ (new : BootedNode D) (kept_on : processes_in new.processes ≡ processes_in n.processes) (same : IsSame n.handler new.handler) (why : FilesRefusal) (is : change.files (list_in n.handler) ≡ Some why) where
@@ -121,35 +122,37 @@ module _ {D : Type 0} (v : Device D) (laws : IsDevice v) (P : Place → Reply �
       files_refused (raw bytes) at = absurd at
       files_refused (closed s) at = absurd at
       files_refused (dead s) at = never (sym alive ∙ at.1)
-      files_refused (running events end ps) at =
-          stays v laws (running events end ps) (refusal_line (refusal_for why)) _ (memory.Made n) (memory.Made new) at same.disk (same_at v laws n new (running events end ps) same kept_on at)
-          (by_files events end ps _ (Some why) at.2 is refl, refl)
+      files_refused (running events extent ps) at =
+          stays v laws (running events extent ps) (refusal_line (refusal_for why)) _ (memory.Made n) (memory.Made new) at same.disk (same_at v laws n new (running events extent ps) same kept_on at)
+          (by_files events extent ps _ (Some why) at.2 is refl, refl)
 
   -- It does, where its files are not refused.
-  module _ (change : Transition.Change) (right_so : (events : Events) (end : ℕ) (ps : Processes) (a : Reply) → Transition.Acts (running events end ps) (changes_node change) a → P (running events end ps) a)
+  module _ (change : Transition.Change) (right_so : (events : Events) (extent : Extent) (ps : Processes) (a : Reply) → Transition.Acts (running events extent ps) (changes_node change) a → P (running events extent ps) a)
       (free : change.files (list_in n.handler) ≡ None) (new : BootedNode D) (kept_on : processes_in new.processes ≡ processes_in n.processes)
       (commits : Commits v change.event (change.size (list_in n.handler)) n.handler new.handler) where
-    abbrev IsChanged : Events → ℕ → Processes → Releases → Reply → Type 0
-    IsChanged events end ps list a = a ≡ Transition.changed events end ps change list
+    abbrev IsChanged : Events → Processes → Releases → Extent → Reply → Type 0
+    IsChanged events ps list extent a = a ≡ Transition.changed events extent ps change list
 
-    right : (events : Events) (end : ℕ) (ps : Processes) (a : Reply) → list_after events ≡ Some (list_in n.handler)
-        → Transition.IsCommit events end ps change.event (change.size (releases_after events)) (commanded change.event (releases_after events)) (IsChanged events end ps (releases_after events)) a → P (running events end ps) a
-    right events end ps a after is = by_files change right_so events end ps a None after free is
+    right : (events : Events) (extent : Extent) (ps : Processes) (a : Reply) → list_after events ≡ Some (list_in n.handler)
+        → Transition.IsCommit events extent ps change.event (change.size (releases_after events)) (commanded change.event (releases_after events)) (IsChanged events ps (releases_after events)) a → P (running events extent ps) a
+    right events extent ps a after is = by_files change right_so events extent ps a None after free is
 
     replies_done : is_dead new.handler ≡ false → IsDone v change.event (change.size (list_in n.handler)) n.handler new.handler → (p : Place) → IsAt v (memory.Made n) p
         → Replied v p (λ a. P p a × (a.answer ≡ Transition.done_line (change.details (list_in n.handler)))) (memory.Made n) (memory.Made new)
     replies_done works is_done (raw bytes) at = absurd at
     replies_done works is_done (closed s) at = absurd at
     replies_done works is_done (dead s) at = never (sym alive ∙ at.1)
-    replies_done works is_done (running events end ps) (here, living, after, stop, has) =
+    replies_done works is_done (running events extent ps) (here, living, after, stop, has) =
         let size = change.size (list_in n.handler) in
         let then = events ++ change.event ∷ [] in
-        let place = runs_at v laws new then (end_behind end size) ps works (list_after-push events change.event (list_in n.handler) (list_in new.handler) after (commanded_step change.event (list_in n.handler) (list_in new.handler) is_done.accepted))
-        (is_done.end ∙ ap (λ n. end_behind n size) stop) is_done.acknowledged (commits.sound.started works) (kept_on ∙ has) in
-        let a = Transition.changed events end ps change (list_in n.handler) in
+        let x = extent_in new.handler in
+        let grown = list_after-push events change.event (list_in n.handler) (list_in new.handler) after (commanded_step change.event (list_in n.handler) (list_in new.handler) is_done.accepted) in
+        let place = runs_at v laws new then x ps works grown refl is_done.acknowledged (commits.sound.started works) (kept_on ∙ has) in
+        let reach = reach_at (extent_in n.handler) extent x size (list_in new.handler) (releases_after then) stop (ap list_or_none grown) is_done.reaches in
+        let a = Transition.changed events x ps change (list_in n.handler) in
         record {
           given = a;
-          right = (right_for change.event change.size IsChanged right new kept_on commits events end ps (Ok (list_in new.handler)) a after is_done.accepted (inl (subst (λ n. HasSpace n size) stop is_done.fits, inl refl)), refl);
+          right = (right_for change.event change.size IsChanged right new kept_on commits events extent ps (Ok (list_in new.handler)) a after is_done.accepted (inl (subst (λ n. HasSpace n size) stop is_done.fits, inl (x, reach, refl))), refl);
           at = place;
           happens = record { moments = moments_at change.event change.size IsChanged right new kept_on commits events after; holds = place.0; cause = λ f. never f; counted = commits.counted };
         }

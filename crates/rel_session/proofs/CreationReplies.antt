@@ -11,7 +11,7 @@ use Rattle.rel_handler.specs.declared.handler.Handler.{Handler}
 use Rattle.rel_handler.specs.Events.{IsStoredAs, Stored}
 use Rattle.node_command.specs.Files.{bundle_brought, made_size, Brings, IsOfFiles}
 use Rattle.node_command.specs.Place.{own_refusal}
-use Rattle.rel_handler.specs.Image.{IsImageOf, holds_a_store, first_end, end_behind, HasSpace}
+use Rattle.rel_handler.specs.Image.{extent_behind, first_extent, HasSpace, holds_a_store, IsImageOf}
 use Rattle.rel_handler.specs.Moments.{WritesNothing}
 use Rattle.rel_handler.specs.Refusals.{MakingRefused}
 use Rattle.rel_handler.specs.State.{disk_in, list_in, is_dead, HasStarted}
@@ -58,7 +58,7 @@ module _ {D : Type 0} (v : Device D) (laws : IsDevice v) (source : Source) (path
       there : (p : Place) → IsAt v (memory.Made n) p → Replied v p (λ a. Creates p a × (a.answer ≡ refusal_line exists)) (memory.Made n) (memory.Made n)
       there (raw bytes) at = absurd at
       there (closed s) at = absurd at
-      there (running events end ps) at = stays v laws (running events end ps) (refusal_line exists) _ (memory.Made n) (memory.Made n) at refl at (making found read (running events end ps) _ refl, refl)
+      there (running events extent ps) at = stays v laws (running events extent ps) (refusal_line exists) _ (memory.Made n) (memory.Made n) at refl at (making found read (running events extent ps) _ refl, refl)
       there (dead s) at = stays v laws (dead s) (refusal_line exists) _ (memory.Made n) (memory.Made n) at refl at (making found read (dead s) _ refl, refl)
 
   -- There is none on this disk.
@@ -78,14 +78,14 @@ module _ {D : Type 0} (v : Device D) (laws : IsDevice v) (source : Source) (path
       replies : (p : Place) → IsAt v (memory.Idle disk) p
           → HasBooted v laws p (λ a. Creates p a × (a.answer ≡ Transition.ok_line (Transition.version_of (running_release (list_in h))))) (memory.Idle disk) h
       replies (closed s) at = absurd (free (store_there s at))
-      replies (running events end ps) at = absurd at
+      replies (running events extent ps) at = absurd at
       replies (dead s) at = absurd at
       replies (raw bytes) at =
           let found = is_made.brought in
           let events = made (bundle_brought found) ∷ booting ∷ [] in
-          let end = end_behind first_end (made_size found) in
-          let place = booted_at v laws h events end alive (ap (λ l. Some l) (sym is_made.list)) is_made.end is_made.acknowledged started in
-          let a = reply (Transition.ok_line found.found.release.vsn) (done events) (just_booted events end) in
+          let extent = extent_behind first_extent (made_size found) in
+          let place = booted_at v laws h events extent alive (ap (λ l. Some l) (sym is_made.list)) is_made.extent is_made.acknowledged started in
+          let a = reply (Transition.ok_line found.found.release.vsn) (done events) (just_booted events extent) in
           record {
             given = a;
             right = (making is_made.brought is_made.read (raw bytes) a (on_raw is_made.brought bytes false a (no_store (holds_a_store bytes) refl) (by_refusal is_made.brought bytes _ a is_made.free (inl (is_made.fits, refl)))), ap (λ l. Transition.ok_line (Transition.version_of (running_release l))) (sym is_made.list));
@@ -107,7 +107,7 @@ module _ {D : Type 0} (v : Device D) (laws : IsDevice v) (source : Source) (path
       unwritten_at : (p : Place) → IsAt v (memory.Idle disk) p → WritesNothing v.seen v.may_leave v.moment v.left_since disk new → IsAt v (memory.Idle new) p
       unwritten_at (raw bytes) at u = u.same ∙ at
       unwritten_at (closed s) at u = kept v laws (IsStoredAs s) disk new at u.any_moment
-      unwritten_at (running events end ps) at u = absurd at
+      unwritten_at (running events extent ps) at u = absurd at
       unwritten_at (dead s) at u = absurd at
 
       refuses : (p : Place) (why : Refusal) → IsAt v (memory.Idle disk) p → WritesNothing v.seen v.may_leave v.moment v.left_since disk new → Creates p (refused why p)
@@ -143,7 +143,7 @@ module _ {D : Type 0} (v : Device D) (laws : IsDevice v) (source : Source) (path
           there : (p : Place) → IsAt v (memory.Idle disk) p → Transition.MakesNode p n.brought (refused (refusal_for (of_files.refusal_of n.barred.error)) p)
           there (raw bytes) at = on_raw n.brought bytes false _ (ap holds_a_store (sym at) ∙ n.free) (by_refusal n.brought bytes _ _ n.barred.refused refl)
           there (closed s) at = never (sym n.free ∙ store_there s at)
-          there (running events end ps) at = absurd at
+          there (running events extent ps) at = absurd at
           there (dead s) at = absurd at
 
       -- the disk, the store or memory is
@@ -170,21 +170,21 @@ module _ {D : Type 0} (v : Device D) (laws : IsDevice v) (source : Source) (path
               at = holds;
               happens = record { moments = quiet v laws s (made (bundle_brought found) ∷ []) disk new at u.any_moment; holds = holds; cause = λ e. cause; counted = counted };
             }
-        device_fails cause (running events end ps) at = absurd at
+        device_fails cause (running events extent ps) at = absurd at
         device_fails cause (dead s) at = absurd at
 
         exists_there : holds_a_store (v.seen disk) ≡ true → (p : Place) → IsAt v (memory.Idle disk) p → Transition.MakesNode p is_not.brought (refused exists p)
         exists_there stored_there (raw bytes) at = on_raw is_not.brought bytes true (refused exists (raw bytes)) (ap holds_a_store (sym at) ∙ stored_there) refl
         exists_there stored_there (closed s) at = inl refl
-        exists_there stored_there (running events end ps) at = absurd at
+        exists_there stored_there (running events extent ps) at = absurd at
         exists_there stored_there (dead s) at = absurd at
 
-        full_there : own_refusal is_not.brought ≡ None → holds_a_store (v.seen disk) ≡ false → (HasSpace first_end (made_size found) → ⊥) → (p : Place) → IsAt v (memory.Idle disk) p
+        full_there : own_refusal is_not.brought ≡ None → holds_a_store (v.seen disk) ≡ false → (HasSpace first_extent (made_size found) → ⊥) → (p : Place) → IsAt v (memory.Idle disk) p
             → Transition.MakesNode p is_not.brought (refused full p)
         full_there clear stored_there over (raw bytes) at =
             on_raw is_not.brought bytes false (refused full (raw bytes)) (ap holds_a_store (sym at) ∙ stored_there) (by_refusal is_not.brought bytes _ _ clear (inr (over, refl)))
         full_there clear stored_there over (closed s) at = never (sym stored_there ∙ store_there s at)
-        full_there clear stored_there over (running events end ps) at = absurd at
+        full_there clear stored_there over (running events extent ps) at = absurd at
         full_there clear stored_there over (dead s) at = absurd at
 
         by_error : (e : HandlerError) → (e ≢ handler_error.Exists → e ≢ handler_error.Device → own_refusal is_not.brought ≡ None) → MakingRefused (v.seen disk) (made_size found) (v.failures disk) (v.failures new) (WritesNothing v.seen v.may_leave v.moment v.left_since disk new) e

@@ -1,4 +1,4 @@
--- Each input has an answer in which the device does not fail.
+-- Each input has an answer in which neither the device fails nor memory is refused to a compaction.
 use Rattle.std.proofs.Common.{◌≡◌, ◌⊎◌, inl, inr, ℕ, ◌+◌, ◌<◌, ◌≤◌, Bool, true, false, List, [], ◌∷◌, ◌++◌, Option, None, Some, Result, Ok, Err, refl, sym, ap, ◌∙◌, subst, arith}
 use Rattle.std.proofs.lemmas.Bool.{cases_lt}
 use Rattle.rel_list.specs.Releases.{Bundle}
@@ -10,11 +10,12 @@ use Rattle.rel_list.specs.declared.status.Status.TheVariants.{Permanent}
 use Rattle.rel_handler.specs.declared.error.BootError.{BootError}
 use Rattle.node_command.specs.declared.error.HandlerError.{HandlerError}
 use Rattle.rel_handler.specs.Events.{Events, certain}
-use Rattle.rel_handler.specs.Image.{IsImageOf, holds_a_store, store_end, first_end, end_behind, HasSpace}
+use Rattle.rel_handler.specs.Compaction.{compacted}
+use Rattle.rel_handler.specs.Image.{Extent, extent_behind, extent_of, first_extent, HasSpace, holds_a_store, IsImageOf}
 use Rattle.node_command.specs.Files.{bundle_brought, made_size}
 use Rattle.node_command.specs.Place.{own_refusal}
 use Rattle.rel_handler.specs.Refusals.{IsBootRefusal}
-use Rattle.node_command.specs.Taking.{commanded}
+use Rattle.node_command.specs.Taking.{change_size, commanded}
 use Rattle.session_input.specs.Commands.{Command}
 use Rattle.session_input.specs.Commands.Command.{quit}
 use Rattle.session_input.specs.Feed.{Feed}
@@ -31,7 +32,7 @@ use Rattle.rel_session.specs.Node.{Place, Reply, reply, nothing, releases_after,
 use Rattle.rel_session.specs.Node.Place.{raw, closed, running, dead}
 use Rattle.rel_session.specs.Refusals.{boot_line}
 use Rattle.rel_session.specs.Run.Ending.{ended, cut_off}
-use Rattle.rel_session.specs.AnswerLaws.{IsCertain, HasList, HasAnswer, EachHasAnAnswer}
+use Rattle.rel_session.specs.AnswerLaws.{EachHasAnAnswer, HasAnswer, HasList, HaveRecord, IsCertain, IsCompact}
 use Rattle.rel_session.specs.Transition
 use Rattle.rel_session.specs.Transition.Action.{answers, makes_node, changes_node, installs, reboots_node, boots_node, tells_start, calls}
 use Rattle.node_command.proofs.CommandLemmas.{commanded_step}
@@ -47,84 +48,101 @@ use Rattle.rel_session.proofs.SourceLemmas.{gives_each}
 use Rattle.rel_session.proofs.ActionLemmas.{some_action}
 use Rattle.rel_session.proofs.Histories.{events_of_image}
 use Rattle.rel_session.proofs.ListLemmas.{list_after-push}
+use Rattle.rel_session.proofs.ExtentLemmas.{booted_reach, compacted_twice}
 use Rattle.rel_session.proofs.LoopLemmas.{replies_next}
 
 -- A record fits or it does not.
-fits_or_not : (end size : ℕ) → HasSpace end size ⊎ (HasSpace end size → ⊥)
-fits_or_not end size = by_size (cases_lt 16777216 size)
+fits_or_not : (x : Extent) (size : ℕ) → HasSpace x size ⊎ (HasSpace x size → ⊥)
+fits_or_not x size = by_size (cases_lt 16777216 size)
   where
-    by_end : size ≤ 16777216 → (67108864 < end + (5 + size)) ⊎ (end + (5 + size) ≤ 67108864) → HasSpace end size ⊎ (HasSpace end size → ⊥)
-    by_end short (inl past) = inr (λ fits. let stop : end + (5 + size) ≤ 67108864 = fits.1 in omega arith)
+    by_end : size ≤ 16777216 → (67108864 < x.end + (5 + size)) ⊎ (x.end + (5 + size) ≤ 67108864) → HasSpace x size ⊎ (HasSpace x size → ⊥)
+    by_end short (inl past) = inr (λ fits. let stop : x.end + (5 + size) ≤ 67108864 = fits.1 in omega arith)
     by_end short (inr within) = inl (short, within)
 
-    by_size : (16777216 < size) ⊎ (size ≤ 16777216) → HasSpace end size ⊎ (HasSpace end size → ⊥)
+    by_size : (16777216 < size) ⊎ (size ≤ 16777216) → HasSpace x size ⊎ (HasSpace x size → ⊥)
     by_size (inl long) = inr (λ fits. let short : size ≤ 16777216 = fits.0 in omega arith)
-    by_size (inr short) = by_end short (cases_lt 67108864 (end + (5 + size)))
+    by_size (inr short) = by_end short (cases_lt 67108864 (x.end + (5 + size)))
 
 -- Where the device does not fail, the place behind a reply is one of these again.
 pub data IsFair : Place → Type 0 where
   of_raw : (x : List ℕ) → IsFair (raw x)
-  rests : (events : Events) (end : ℕ) (list : Releases) → list_after events ≡ Some list → IsFair (closed (certain events end))
-  runs : (events : Events) (end : ℕ) (ps : Processes) (list : Releases) → list_after events ≡ Some list → IsFair (running events end ps)
-  died : (events : Events) (end : ℕ) (list : Releases) → list_after events ≡ Some list → IsFair (dead (certain events end))
+  rests : (events : Events) (extent : Extent) (list : Releases) → list_after events ≡ Some list → IsFair (closed (certain events extent))
+  runs : (events : Events) (extent : Extent) (ps : Processes) (list : Releases) → list_after events ≡ Some list → IsFair (running events extent ps)
+  died : (events : Events) (extent : Extent) (list : Releases) → list_after events ≡ Some list → IsFair (dead (certain events extent))
 
--- A reply that is had there, in which the device does not fail.
+-- A reply that is had there, in which neither the device fails nor memory is refused to a compaction.
 pub record Has (P : Reply → Type 0) : Type 0 where
   pub given : Reply
   pub is : P given
   pub works : given.outcome.failed ≡ false
   pub fair : IsFair given.after
+  pub compact : HaveRecord given.outcome.acknowledged → IsCompact given.after
 
-fair_reply : (P : Reply → Type 0) (a : Reply) → P a → a.outcome.failed ≡ false → IsFair a.after → Has P
-fair_reply P a is works fair = record { given = a; is = is; works = works; fair = fair }
+fair_reply : (P : Reply → Type 0) (a : Reply) → P a → a.outcome.failed ≡ false → IsFair a.after → (HaveRecord a.outcome.acknowledged → IsCompact a.after) → Has P
+fair_reply P a is works fair compact = record { given = a; is = is; works = works; fair = fair; compact = compact }
+
+-- an answer alone
+told_reply : (P : Reply → Type 0) (text : List ℕ) (p : Place) → P (reply text nothing p) → IsFair p → Has P
+told_reply P text p is fair = fair_reply P (reply text nothing p) is refl fair (λ r. absurd r)
 
 mapped : (P Q : Reply → Type 0) → ((a : Reply) → P a → Q a) → Has P → Has Q
-mapped P Q f has = record { given = has.given; is = f has.given has.is; works = has.works; fair = has.fair }
+mapped P Q f has = record { given = has.given; is = f has.given has.is; works = has.works; fair = has.fair; compact = has.compact }
+
+-- how far the store reaches behind a commit, once it was compacted
+abbrev reach : Events → Extent → Event → ℕ → Extent
+reach events extent e size = compacted (extent_behind extent size) (releases_after (events ++ e ∷ []))
 
 -- a commit has one where what is committed has one
-commits : (events : Events) (end : ℕ) (ps : Processes) (list : Releases) (c : Event) (size : ℕ) (P : Reply → Type 0) → list_after events ≡ Some list → ((grown : Releases) → list_after (events ++ c ∷ []) ≡ Some grown → Has P)
-    → Has (Transition.IsCommit events end ps c size (commanded c (releases_after events)) P)
-commits events end ps list c size P after done = by_list (commanded c (releases_after events)) refl
+commits : (events : Events) (extent : Extent) (ps : Processes) (list : Releases) (c : Event) (size : ℕ) (P : Extent → Reply → Type 0) → list_after events ≡ Some list
+    → ((grown : Releases) → list_after (events ++ c ∷ []) ≡ Some grown → Has (P (reach events extent c size)))
+    → Has (Transition.IsCommit events extent ps c size (commanded c (releases_after events)) P)
+commits events extent ps list c size P after done = by_list (commanded c (releases_after events)) refl
   where
-    by_room : (grown : Releases) → commanded c (releases_after events) ≡ Ok grown → HasSpace end size ⊎ (HasSpace end size → ⊥) → Has (Transition.IsCommit events end ps c size (Ok grown) P)
+    by_room : (grown : Releases) → commanded c (releases_after events) ≡ Ok grown → HasSpace extent size ⊎ (HasSpace extent size → ⊥) → Has (Transition.IsCommit events extent ps c size (Ok grown) P)
     by_room grown e (inl fits) =
         let allowed : commanded c list ≡ Ok grown = ap (λ o. commanded c (list_or_none o)) (sym after) ∙ e in
-        mapped P (Transition.IsCommit events end ps c size (Ok grown) P) (λ a is. inl (fits, inl is)) (done grown (list_after-push events c list grown after (commanded_step c list grown allowed)))
-    by_room grown e (inr over_it) = fair_reply _ _ (inr (over_it, refl)) refl (runs events end ps list after)
+        mapped (P (reach events extent c size)) (Transition.IsCommit events extent ps c size (Ok grown) P) (λ a is. inl (fits, inl (reach events extent c size, inl refl, is)))
+        (done grown (list_after-push events c list grown after (commanded_step c list grown allowed)))
+    by_room grown e (inr over_it) = told_reply _ _ _ (inr (over_it, refl)) (runs events extent ps list after)
 
-    by_list : (o : Result Releases HandlerError) → commanded c (releases_after events) ≡ o → Has (Transition.IsCommit events end ps c size o P)
-    by_list (Err why) e = fair_reply _ _ refl refl (runs events end ps list after)
-    by_list (Ok grown) e = by_room grown e (fits_or_not end size)
+    by_list : (o : Result Releases HandlerError) → commanded c (releases_after events) ≡ o → Has (Transition.IsCommit events extent ps c size o P)
+    by_list (Err why) e = told_reply _ _ _ refl (runs events extent ps list after)
+    by_list (Ok grown) e = by_room grown e (fits_or_not extent size)
 
-changes : (events : Events) (end : ℕ) (ps : Processes) (list : Releases) (c : Transition.Change) (f : Option Refusal) → list_after events ≡ Some list → Has (Transition.Changes events end ps c (releases_after events) f (commanded c.event (releases_after events)))
-changes events end ps list c (Some why) after = fair_reply _ _ refl refl (runs events end ps list after)
-changes events end ps list c None after =
+-- so short it is behind a commit
+stays_compact : (events : Events) (extent : Extent) (e : Event) (size : ℕ) → reach events extent e size ≡ compacted (reach events extent e size) (releases_after (events ++ e ∷ []))
+stays_compact events extent e size = compacted_twice (extent_behind extent size) (releases_after (events ++ e ∷ []))
+
+changes : (events : Events) (extent : Extent) (ps : Processes) (list : Releases) (c : Transition.Change) (f : Option Refusal) → list_after events ≡ Some list → Has (Transition.Changes events extent ps c (releases_after events) f (commanded c.event (releases_after events)))
+changes events extent ps list c (Some why) after = told_reply _ _ _ refl (runs events extent ps list after)
+changes events extent ps list c None after =
     let size = c.size (releases_after events) in
-    commits events end ps list c.event size _ after (λ grown then. fair_reply _ _ refl refl (runs (events ++ c.event ∷ []) (end_behind end size) ps grown then))
+    commits events extent ps list c.event size (λ x a. a ≡ Transition.changed events x ps c (releases_after events)) after (λ grown then.
+    fair_reply _ _ refl refl (runs (events ++ c.event ∷ []) (reach events extent c.event size) ps grown then) (λ r. stays_compact events extent c.event size))
 
 makes_with : (x : List ℕ) (p : Bundle) (size : ℕ) (why : Option Refusal) → Has (Transition.MakesWith x p size why)
-makes_with x p size (Some why) = fair_reply _ _ refl refl (of_raw x)
-makes_with x p size None = go (fits_or_not first_end size)
+makes_with x p size (Some why) = told_reply _ _ _ refl (of_raw x)
+makes_with x p size None = go (fits_or_not first_extent size)
   where
-    go : HasSpace first_end size ⊎ (HasSpace first_end size → ⊥) → Has (Transition.MakesWith x p size None)
-    go (inl fits) = fair_reply _ _ (inl (fits, refl)) refl (runs (made p ∷ booting ∷ []) (end_behind first_end size) (fresh (entry p Permanent ∷ [])) (entry p Permanent ∷ []) refl)
-    go (inr over_it) = fair_reply _ _ (inr (over_it, refl)) refl (of_raw x)
+    go : HasSpace first_extent size ⊎ (HasSpace first_extent size → ⊥) → Has (Transition.MakesWith x p size None)
+    go (inl fits) = fair_reply _ _ (inl (fits, refl)) refl (runs (made p ∷ booting ∷ []) (extent_behind first_extent size) (fresh (entry p Permanent ∷ [])) (entry p Permanent ∷ []) refl) (λ r. refl)
+    go (inr over_it) = told_reply _ _ _ (inr (over_it, refl)) (of_raw x)
 
 makes_on : (x : List ℕ) (b : Brought) (there : Bool) → Has (Transition.MakesOn x b there)
-makes_on x b true = fair_reply _ _ refl refl (of_raw x)
+makes_on x b true = told_reply _ _ _ refl (of_raw x)
 makes_on x b false = makes_with x (bundle_brought b) (made_size b) (own_refusal b)
 
 makes : (p : Place) (found : Brought) → IsFair p → Has (Transition.MakesNode p found)
 makes p found (of_raw x) =
     mapped (Transition.MakesOn x found (holds_a_store x)) (Transition.MakesNode (raw x) found) (λ a is. inl is) (makes_on x found (holds_a_store x))
-makes p found (rests events end list after) = fair_reply _ _ (inl refl) refl (rests events end list after)
-makes p found (runs events end ps list after) = fair_reply _ _ refl refl (runs events end ps list after)
-makes p found (died events end list after) = fair_reply _ _ refl refl (died events end list after)
+makes p found (rests events extent list after) = told_reply _ _ _ (inl refl) (rests events extent list after)
+makes p found (runs events extent ps list after) = told_reply _ _ _ refl (runs events extent ps list after)
+makes p found (died events extent list after) = told_reply _ _ _ refl (died events extent list after)
 
-booted_there : (events : Events) (end : ℕ) (list : Releases) → list_after events ≡ Some list → Has (Transition.IsBooted events end)
-booted_there events end list after =
+booted_there : (events : Events) (extent : Extent) (list : Releases) → list_after events ≡ Some list → Has (Transition.IsBooted events extent)
+booted_there events extent list after =
     let then = list_after-push events booting list (booted list) after refl in
-    fair_reply _ _ (booted list, then, refl) refl (runs (events ++ booting ∷ []) end (fresh (releases_after (events ++ booting ∷ []))) (booted list) then)
+    fair_reply _ _ (booted list, then, refl) refl (runs (events ++ booting ∷ []) extent (fresh (releases_after (events ++ booting ∷ []))) (booted list) then) (λ r. absurd r)
 
 boots_bytes : BootLaws → (x : List ℕ) → Has (Transition.BootsBytes x)
 boots_bytes laws x = go (laws.either x)
@@ -132,83 +150,86 @@ boots_bytes laws x = go (laws.either x)
     go : ((es : Releases) × IsImageOf x es × (booted es ≡ es)) ⊎ ((why : BootError) × IsBootRefusal x why) → Has (Transition.BootsBytes x)
     go (inl (es, image, still)) =
         let (events, before, after) = events_of_image x es image still in
-        let end = store_end x in
-        mapped (Transition.IsBooted events end) (Transition.BootsBytes x) (λ a is. inl (events, es, end, before, record { image_of = image; ends = refl }, is)) (booted_there events end es before)
-    go (inr (why, is)) = fair_reply _ (reply (boot_line why) nothing (raw x)) (inr (inl (why, is, refl))) refl (of_raw x)
+        let extent = extent_of x in
+        mapped (Transition.IsBooted events extent) (Transition.BootsBytes x) (λ a is. inl (events, es, extent, before, record { image_of = image; reaches = refl }, is)) (booted_there events extent es before)
+    go (inr (why, is)) = told_reply _ (boot_line why) (raw x) (inr (inl (why, is, refl))) (of_raw x)
 
 boots : BootLaws → (p : Place) → IsFair p → Has (Transition.Boots p)
 boots laws p (of_raw x) = boots_bytes laws x
-boots laws p (rests events end list after) = mapped (Transition.IsBooted events end) (Transition.BootsStore (certain events end)) (λ a is. inl (events, end, inl (refl, refl), is)) (booted_there events end list after)
-boots laws p (died events end list after) = mapped (Transition.IsBooted events end) (Transition.BootsStore (certain events end)) (λ a is. inl (events, end, inl (refl, refl), is)) (booted_there events end list after)
-boots laws p (runs events end ps list after) = mapped (Transition.IsBooted events end) (Transition.BootsStore (certain events end)) (λ a is. inl (events, end, inl (refl, refl), is)) (booted_there events end list after)
+boots laws p (rests events extent list after) = mapped (Transition.IsBooted events extent) (Transition.BootsStore (certain events extent)) (λ a is. inl (events, extent, inl (refl, refl), is)) (booted_there events extent list after)
+boots laws p (died events extent list after) = mapped (Transition.IsBooted events extent) (Transition.BootsStore (certain events extent)) (λ a is. inl (events, extent, inl (refl, refl), is)) (booted_there events extent list after)
+boots laws p (runs events extent ps list after) = mapped (Transition.IsBooted events extent) (Transition.BootsStore (certain events extent)) (λ a is. inl (events, extent, inl (refl, refl), is)) (booted_there events extent list after)
 
-reboots : (events : Events) (end : ℕ) (ps : Processes) (list : Releases) (vsn : List ℕ) → list_after events ≡ Some list
-    → Has (Transition.Reboots events end ps vsn (releases_after events) (commanded (rebooting vsn) (releases_after events)))
-reboots events end ps list vsn after =
+reboots : (events : Events) (extent : Extent) (ps : Processes) (list : Releases) (vsn : List ℕ) → list_after events ≡ Some list
+    → Has (Transition.Reboots events extent ps vsn (releases_after events) (commanded (rebooting vsn) (releases_after events)))
+reboots events extent ps list vsn after =
     let e = rebooting vsn in
-    let s = Transition.rebooted events end vsn (releases_after events) in
-    commits events end ps list e _ _ after (λ grown then.
-    let booted = booted_there (events ++ e ∷ []) s.end grown then in
-    fair_reply _ (behind e booted.given) (booted.given, inl (events ++ e ∷ [], s.end, inl (refl, refl), booted.is), refl) booted.works booted.fair)
+    let size = change_size e (releases_after events) in
+    let x = reach events extent e size in
+    commits events extent ps list e size _ after (λ grown then.
+    let booted = booted_there (events ++ e ∷ []) x grown then in
+    fair_reply _ (behind e booted.given) (booted.given, inl (events ++ e ∷ [], x, inl (refl, refl), booted.is), refl) booted.works booted.fair
+    (λ r. subst (λ (t : Reply). IsCompact t.after) (sym booted.is.2) (stays_compact events extent e size ∙ sym (booted_reach x (events ++ e ∷ [])))))
 
 rebooted : (p : Place) (vsn : List ℕ) → IsFair p → Has (Transition.Acts p (reboots_node vsn))
-rebooted p vsn (of_raw x) = fair_reply _ _ refl refl (of_raw x)
-rebooted p vsn (rests events end list after) = fair_reply _ _ refl refl (rests events end list after)
-rebooted p vsn (died events end list after) = fair_reply _ _ refl refl (died events end list after)
-rebooted p vsn (runs events end ps list after) = reboots events end ps list vsn after
+rebooted p vsn (of_raw x) = told_reply _ _ _ refl (of_raw x)
+rebooted p vsn (rests events extent list after) = told_reply _ _ _ refl (rests events extent list after)
+rebooted p vsn (died events extent list after) = told_reply _ _ _ refl (died events extent list after)
+rebooted p vsn (runs events extent ps list after) = reboots events extent ps list vsn after
 
 changed : (p : Place) (c : Transition.Change) → IsFair p → Has (Transition.Acts p (changes_node c))
-changed p c (of_raw x) = fair_reply _ _ refl refl (of_raw x)
-changed p c (rests events end list after) = fair_reply _ _ refl refl (rests events end list after)
-changed p c (died events end list after) = fair_reply _ _ refl refl (died events end list after)
-changed p c (runs events end ps list after) = changes events end ps list c (c.files (releases_after events)) after
+changed p c (of_raw x) = told_reply _ _ _ refl (of_raw x)
+changed p c (rests events extent list after) = told_reply _ _ _ refl (rests events extent list after)
+changed p c (died events extent list after) = told_reply _ _ _ refl (died events extent list after)
+changed p c (runs events extent ps list after) = changes events extent ps list c (c.files (releases_after events)) after
 
 -- an installation
-installs_there : (events : Events) (end : ℕ) (ps : Processes) (list : Releases) (vsn : List ℕ) → list_after events ≡ Some list
-    → Has (Installs events end ps vsn (releases_after events) (installation vsn (releases_after events)))
-installs_there events end ps list vsn after = by_found (installation vsn (releases_after events)) refl
+installs_there : (events : Events) (extent : Extent) (ps : Processes) (list : Releases) (vsn : List ℕ) → list_after events ≡ Some list
+    → Has (Installs events extent ps vsn (releases_after events) (installation vsn (releases_after events)))
+installs_there events extent ps list vsn after = by_found (installation vsn (releases_after events)) refl
   where
-    by_outcome : (f : FoundForm) → installation vsn (releases_after events) ≡ Ok f → (o : script.Outcome) → Has (Leads events end ps vsn (releases_after events) f o)
-    by_outcome f found (script.Outcome.refuses n c) = fair_reply _ _ refl refl (runs events end ps list after)
-    by_outcome f found (script.Outcome.breaks n c) = fair_reply _ _ refl refl (died events end list after)
+    by_outcome : (f : FoundForm) → installation vsn (releases_after events) ≡ Ok f → (o : script.Outcome) → Has (Leads events extent ps vsn (releases_after events) f o)
+    by_outcome f found (script.Outcome.refuses n c) = told_reply _ _ _ refl (runs events extent ps list after)
+    by_outcome f found (script.Outcome.breaks n c) = told_reply _ _ _ refl (died events extent list after)
     by_outcome f found (script.Outcome.ends r) =
         let of_list : releases_after events ≡ list = ap list_or_none after in
         let (grown, allowed) = installation_is_commanded vsn list f (subst (λ l. installation vsn l ≡ Ok f) of_list found) in
         let then = list_after-push events (installed vsn) list grown after (commanded_step (installed vsn) list grown allowed) in
-        fair_reply _ _ (inl refl) refl (runs (events ++ installed vsn ∷ []) _ _ grown then)
+        let size = install_size vsn (releases_after events) in
+        fair_reply _ _ (inl (reach events extent (installed vsn) size, inl refl, refl)) refl (runs (events ++ installed vsn ∷ []) _ _ grown then) (λ r. stays_compact events extent (installed vsn) size)
 
-    by_room : (f : FoundForm) → installation vsn (releases_after events) ≡ Ok f → HasSpace end (install_size vsn (releases_after events)) ⊎ (HasSpace end (install_size vsn (releases_after events)) → ⊥) → Has (Begins events end ps vsn (releases_after events) f None)
-    by_room f found (inl fits) = mapped _ (Begins events end ps vsn (releases_after events) f None) (λ a is. inl (fits, is)) (by_outcome f found (upgrade_outcome vsn (releases_after events) f ps))
-    by_room f found (inr over_it) = fair_reply _ _ (inr (over_it, refl)) refl (runs events end ps list after)
+    by_room : (f : FoundForm) → installation vsn (releases_after events) ≡ Ok f → HasSpace extent (install_size vsn (releases_after events)) ⊎ (HasSpace extent (install_size vsn (releases_after events)) → ⊥) → Has (Begins events extent ps vsn (releases_after events) f None)
+    by_room f found (inl fits) = mapped _ (Begins events extent ps vsn (releases_after events) f None) (λ a is. inl (fits, is)) (by_outcome f found (upgrade_outcome vsn (releases_after events) f ps))
+    by_room f found (inr over_it) = told_reply _ _ _ (inr (over_it, refl)) (runs events extent ps list after)
 
-    by_failure : (f : FoundForm) → installation vsn (releases_after events) ≡ Ok f → (o : Option Failure) → Has (Begins events end ps vsn (releases_after events) f o)
-    by_failure f found (Some why) = fair_reply _ _ refl refl (runs events end ps list after)
-    by_failure f found None = by_room f found (fits_or_not end (install_size vsn (releases_after events)))
+    by_failure : (f : FoundForm) → installation vsn (releases_after events) ≡ Ok f → (o : Option Failure) → Has (Begins events extent ps vsn (releases_after events) f o)
+    by_failure f found (Some why) = told_reply _ _ _ refl (runs events extent ps list after)
+    by_failure f found None = by_room f found (fits_or_not extent (install_size vsn (releases_after events)))
 
-    by_found : (o : Result FoundForm HandlerError) → installation vsn (releases_after events) ≡ o → Has (Installs events end ps vsn (releases_after events) o)
-    by_found (Err why) found = fair_reply _ _ refl refl (runs events end ps list after)
+    by_found : (o : Result FoundForm HandlerError) → installation vsn (releases_after events) ≡ o → Has (Installs events extent ps vsn (releases_after events) o)
+    by_found (Err why) found = told_reply _ _ _ refl (runs events extent ps list after)
     by_found (Ok f) found = by_failure f found (script_failure vsn (releases_after events) f)
 
 installed_there : (p : Place) (vsn : List ℕ) → IsFair p → Has (Transition.Acts p (installs vsn))
-installed_there p vsn (of_raw x) = fair_reply _ _ refl refl (of_raw x)
-installed_there p vsn (rests events end list after) = fair_reply _ _ refl refl (rests events end list after)
-installed_there p vsn (died events end list after) = fair_reply _ _ refl refl (died events end list after)
-installed_there p vsn (runs events end ps list after) = installs_there events end ps list vsn after
+installed_there p vsn (of_raw x) = told_reply _ _ _ refl (of_raw x)
+installed_there p vsn (rests events extent list after) = told_reply _ _ _ refl (rests events extent list after)
+installed_there p vsn (died events extent list after) = told_reply _ _ _ refl (died events extent list after)
+installed_there p vsn (runs events extent ps list after) = installs_there events extent ps list vsn after
 
 told : (p : Place) → IsFair p → Has (Transition.Acts p tells_start)
-told p (of_raw x) = fair_reply _ _ refl refl (of_raw x)
-told p (rests events end list after) = fair_reply _ _ refl refl (rests events end list after)
-told p (died events end list after) = fair_reply _ _ refl refl (died events end list after)
-told p (runs events end ps list after) = fair_reply _ _ (inl refl) refl (runs events end ps list after)
+told p (of_raw x) = told_reply _ _ _ refl (of_raw x)
+told p (rests events extent list after) = told_reply _ _ _ refl (rests events extent list after)
+told p (died events extent list after) = told_reply _ _ _ refl (died events extent list after)
+told p (runs events extent ps list after) = told_reply _ _ _ (inl refl) (runs events extent ps list after)
 
 called_there : (p : Place) (c : Calls) → IsFair p → Has (Transition.Acts p (calls c))
-called_there p c (of_raw x) = fair_reply _ _ refl refl (of_raw x)
-called_there p c (rests events end list after) = fair_reply _ _ refl refl (rests events end list after)
-called_there p c (died events end list after) = fair_reply _ _ refl refl (died events end list after)
-called_there p c (runs events end ps list after) = fair_reply _ _ refl refl (runs events end (left_by c ps) list after)
+called_there p c (of_raw x) = told_reply _ _ _ refl (of_raw x)
+called_there p c (rests events extent list after) = told_reply _ _ _ refl (rests events extent list after)
+called_there p c (died events extent list after) = told_reply _ _ _ refl (died events extent list after)
+called_there p c (runs events extent ps list after) = told_reply _ _ _ refl (runs events extent (left_by c ps) list after)
 
 acts : BootLaws → (p : Place) (does : Transition.Action) → IsFair p → Has (Transition.Acts p does)
-acts laws p (answers text) fair = fair_reply _ (reply text nothing p) refl refl fair
+acts laws p (answers text) fair = told_reply _ text p refl fair
 acts laws p (makes_node found) fair = makes p found fair
 acts laws p (changes_node c) fair = changed p c fair
 acts laws p (installs vsn) fair = installed_there p vsn fair
@@ -218,31 +239,32 @@ acts laws p tells_start fair = told p fair
 acts laws p (calls c) fair = called_there p c fair
 
 -- A reply to the first command, and what follows it.
-one_more : (base : Source) (files : Files) (p : Place) (c : Command) (rest : Feed Command) (a : Reply) → Transition.Transition (source_of base files) p c a → a.outcome.failed ≡ false → HasAnswer base (files_behind files c) a.after rest → HasAnswer base files p (next c rest)
-one_more base files p c rest a is works behind = record {
+one_more : (base : Source) (files : Files) (p : Place) (c : Command) (rest : Feed Command) (a : Reply) → Transition.Transition (source_of base files) p c a → a.outcome.failed ≡ false → (HaveRecord a.outcome.acknowledged → IsCompact a.after) → HasAnswer base (files_behind files c) a.after rest → HasAnswer base files p (next c rest)
+one_more base files p c rest a is works compact behind = record {
   ending = behind.ending;
   whole = behind.whole;
   replies = a ∷ behind.replies;
   works = (works, behind.works);
+  compact = (compact, behind.compact);
   right = replies_next base files p c rest behind.ending a behind.replies is behind.right;
 }
 
 each : BootLaws → (base : Source) → GivesEach base → (files : Files) (p : Place) (commands : Feed Command) → IsFair p → HasAnswer base files p commands
-each laws base some files p over fair = record { ending = ended; whole = λ e. cc e; replies = []; works = tt; right = refl }
-each laws base some files p cut fair = record { ending = cut_off; whole = λ e. cc e; replies = []; works = tt; right = refl }
+each laws base some files p over fair = record { ending = ended; whole = λ e. cc e; replies = []; works = tt; compact = tt; right = refl }
+each laws base some files p cut fair = record { ending = cut_off; whole = λ e. cc e; replies = []; works = tt; compact = tt; right = refl }
 each laws base some files p (next c rest) fair = by_action (some_action (source_of base files) (gives_each base files some) p c) (λ next_files q there. each laws base some next_files q rest there)
   where
     by_action : (c ≡ quit) ⊎ ((does : Transition.Action) × Transition.ComesTo (source_of base files) p c does) → ((next_files : Files) (q : Place) → IsFair q → HasAnswer base next_files q rest) → HasAnswer base files p (next c rest)
-    by_action (inl is) behind = record { ending = ended; whole = λ e. cc e; replies = []; works = tt; right = (is, refl) }
+    by_action (inl is) behind = record { ending = ended; whole = λ e. cc e; replies = []; works = tt; compact = tt; right = (is, refl) }
     by_action (inr (does, comes)) behind =
         let has = acts laws p does fair in
-        one_more base files p c rest has.given (does, comes, has.is) has.works (behind (files_behind files c) has.given.after has.fair)
+        one_more base files p c rest has.given (does, comes, has.is) has.works has.compact (behind (files_behind files c) has.given.after has.fair)
 
 fair_place : (p : Place) → IsCertain p → HasList p → IsFair p
 fair_place (raw x) sure has = of_raw x
-fair_place (closed s) sure (list, after) = subst (λ t. IsFair (closed t)) (sym sure) (rests s.known.acknowledged s.end list after)
-fair_place (running events end ps) sure (list, after) = runs events end ps list after
-fair_place (dead s) sure (list, after) = subst (λ t. IsFair (dead t)) (sym sure) (died s.known.acknowledged s.end list after)
+fair_place (closed s) sure (list, after) = subst (λ t. IsFair (closed t)) (sym sure) (rests s.known.acknowledged s.extent list after)
+fair_place (running events extent ps) sure (list, after) = runs events extent ps list after
+fair_place (dead s) sure (list, after) = subst (λ t. IsFair (dead t)) (sym sure) (died s.known.acknowledged s.extent list after)
 
 pub each_has_an_answer : BootLaws → (base : Source) → EachHasAnAnswer base
 each_has_an_answer laws base some files p commands sure has = each laws base some files p commands (fair_place p sure has)

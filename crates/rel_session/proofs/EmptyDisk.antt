@@ -43,7 +43,7 @@ makes b a (inl is) = makes_with (bundle_brought b) (made_size b) (own_refusal b)
 makes b a (inr (torn, is)) = on_empty_as a _ is (inl (refl, inr refl))
 
 boots : (a : Reply) → Transition.BootsBytes [] a → OnEmpty a
-boots a (inl (events, list, end, after, image, is)) = cc image.image_of.store
+boots a (inl (events, list, extent, after, image, is)) = cc image.image_of.store
 boots a (inr (inl (why, told, is))) = on_empty_as a _ is (inl (refl, inl refl))
 boots a (inr (inr (torn, is))) = on_empty_as a _ is (inl (refl, inr refl))
 

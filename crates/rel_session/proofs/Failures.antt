@@ -5,7 +5,7 @@ use Rattle.rel_list.specs.Event.{Event}
 use Rattle.rel_list.specs.Event.Event.{reboot_old as rebooting}
 use Rattle.node_command.specs.declared.error.HandlerError.{HandlerError}
 use Rattle.rel_handler.specs.Events.{Events, Stored, certain}
-use Rattle.rel_handler.specs.Image.{holds_a_store}
+use Rattle.rel_handler.specs.Image.{Extent, holds_a_store}
 use Rattle.node_command.specs.Files.{bundle_brought, made_size}
 use Rattle.node_command.specs.Place.{own_refusal}
 use Rattle.node_command.specs.Taking.{commanded}
@@ -36,15 +36,15 @@ IsPlain a = (a.outcome.in_doubt ≡ None) ⊎ ((a.outcome.failed ≡ true) × (a
 plain : (a b : Reply) → a ≡ b → IsPlain b → IsPlain a
 plain a b is of = subst IsPlain (sym is) of
 
-commits : (events : Events) (end : ℕ) (ps : Processes) (e : Event) (size : ℕ) (o : Result Releases HandlerError) (P : Reply → Type 0) → ((a : Reply) → P a → IsPlain a) → (a : Reply) → Transition.IsCommit events end ps e size o P a → IsPlain a
-commits events end ps e size (Err why) P done a is = plain a _ is (inl refl)
-commits events end ps e size (Ok list) P done a (inl (fits, inl is)) = done a is
-commits events end ps e size (Ok list) P done a (inl (fits, inr is)) = plain a _ is (inr (refl, refl))
-commits events end ps e size (Ok list) P done a (inr (over, is)) = plain a _ is (inl refl)
+commits : (events : Events) (extent : Extent) (ps : Processes) (e : Event) (size : ℕ) (o : Result Releases HandlerError) (P : Extent → Reply → Type 0) → ((x : Extent) (a : Reply) → P x a → IsPlain a) → (a : Reply) → Transition.IsCommit events extent ps e size o P a → IsPlain a
+commits events extent ps e size (Err why) P done a is = plain a _ is (inl refl)
+commits events extent ps e size (Ok list) P done a (inl (fits, inl (x, reach, is))) = done x a is
+commits events extent ps e size (Ok list) P done a (inl (fits, inr is)) = plain a _ is (inr (refl, refl))
+commits events extent ps e size (Ok list) P done a (inr (over, is)) = plain a _ is (inl refl)
 
-changes : (events : Events) (end : ℕ) (ps : Processes) (c : Transition.Change) (l : Releases) (f : Option Refusal) (o : Result Releases HandlerError) (a : Reply) → Transition.Changes events end ps c l f o a → IsPlain a
-changes events end ps c l (Some why) o a is = plain a _ is (inl refl)
-changes events end ps c l None o a is = commits events end ps c.event (c.size l) o _ (λ a is. plain a _ is (inl refl)) a is
+changes : (events : Events) (extent : Extent) (ps : Processes) (c : Transition.Change) (l : Releases) (f : Option Refusal) (o : Result Releases HandlerError) (a : Reply) → Transition.Changes events extent ps c l f o a → IsPlain a
+changes events extent ps c l (Some why) o a is = plain a _ is (inl refl)
+changes events extent ps c l None o a is = commits events extent ps c.event (c.size l) o _ (λ x a is. plain a _ is (inl refl)) a is
 
 makes_with : (bytes : List ℕ) (p : Bundle) (size : ℕ) (why : Option Refusal) (a : Reply) → Transition.MakesWith bytes p size why a → IsPlain a
 makes_with bytes p size (Some why) a is = plain a _ is (inl refl)
@@ -60,23 +60,23 @@ makes (raw bytes) found a (inl is) = makes_on bytes found (holds_a_store bytes) 
 makes (raw bytes) found a (inr (torn, is)) = plain a _ is (inr (refl, refl))
 makes (closed s) found a (inl is) = plain a _ is (inl refl)
 makes (closed s) found a (inr is) = plain a _ is (inr (refl, refl))
-makes (running events end ps) found a is = plain a _ is (inl refl)
+makes (running events extent ps) found a is = plain a _ is (inl refl)
 makes (dead s) found a is = plain a _ is (inl refl)
 
 -- a boot leaves nothing in doubt
 boots_store : (s : Stored) (a : Reply) → Transition.BootsStore s a → a.outcome.in_doubt ≡ None
-boots_store s a (inl (events, end, has, (list, after, is))) = ap (λ (r : Reply). r.outcome.in_doubt) is
+boots_store s a (inl (events, extent, has, (list, after, is))) = ap (λ (r : Reply). r.outcome.in_doubt) is
 boots_store s a (inr is) = ap (λ (r : Reply). r.outcome.in_doubt) is
 
-reboots : (events : Events) (end : ℕ) (ps : Processes) (vsn : List ℕ) (l : Releases) (o : Result Releases HandlerError) (a : Reply) → Transition.Reboots events end ps vsn l o a → IsPlain a
-reboots events end ps vsn l o = commits events end ps (rebooting vsn) _ o _ (λ a (b, boot, is). plain a _ is (inl (boots_store (Transition.rebooted events end vsn l) b boot)))
+reboots : (events : Events) (extent : Extent) (ps : Processes) (vsn : List ℕ) (l : Releases) (o : Result Releases HandlerError) (a : Reply) → Transition.Reboots events extent ps vsn l o a → IsPlain a
+reboots events extent ps vsn l o = commits events extent ps (rebooting vsn) _ o _ (λ x a (b, boot, is). plain a _ is (inl (boots_store (Transition.rebooted events x vsn) b boot)))
 
 boots : (p : Place) (a : Reply) → Transition.Boots p a → IsPlain a
-boots (raw bytes) a (inl (events, list, end, after, image, (list_then, after_then, is))) = plain a _ is (inl refl)
+boots (raw bytes) a (inl (events, list, extent, after, image, (list_then, after_then, is))) = plain a _ is (inl refl)
 boots (raw bytes) a (inr (inl (why, told, is))) = plain a _ is (inl refl)
 boots (raw bytes) a (inr (inr (torn, is))) = plain a _ is (inl refl)
 boots (closed s) a is = inl (boots_store s a is)
-boots (running events end ps) a is = inl (boots_store (certain events end) a is)
+boots (running events extent ps) a is = inl (boots_store (certain events extent) a is)
 boots (dead s) a is = inl (boots_store s a is)
 
 acts : (p : Place) (does : Transition.Action) (a : Reply) → Transition.Acts p does a → IsPlain a
@@ -84,32 +84,32 @@ acts p (answers text) a is = plain a _ is (inl refl)
 acts p (makes_node found) a is = makes p found a is
 acts (raw bytes) (changes_node c) a is = plain a _ is (inl refl)
 acts (closed s) (changes_node c) a is = plain a _ is (inl refl)
-acts (running events end ps) (changes_node c) a is = changes events end ps c (releases_after events) (c.files (releases_after events)) (commanded c.event (releases_after events)) a is
+acts (running events extent ps) (changes_node c) a is = changes events extent ps c (releases_after events) (c.files (releases_after events)) (commanded c.event (releases_after events)) a is
 acts (dead s) (changes_node c) a is = plain a _ is (inl refl)
-acts (running events end ps) (installs vsn) a is =
-    each_reply IsPlain events end ps vsn (releases_after events) (record {
+acts (running events extent ps) (installs vsn) a is =
+    each_reply IsPlain events extent ps vsn (releases_after events) (record {
       listed = λ why. inl refl;
       unmatched = inl refl;
       not_run = λ f. inl refl;
       over_full = inl refl;
       broken = λ f. inl refl;
-      done_so = λ f r found comes. inl refl;
+      done_so = λ f r reach found comes. inl refl;
       doubted_so = λ f found. inr (refl, refl);
     }) a is
 acts (raw bytes) (installs vsn) a is = plain a _ is (inl refl)
 acts (closed s) (installs vsn) a is = plain a _ is (inl refl)
 acts (dead s) (installs vsn) a is = plain a _ is (inl refl)
-acts (running events end ps) (reboots_node vsn) a is = reboots events end ps vsn (releases_after events) (commanded (rebooting vsn) (releases_after events)) a is
+acts (running events extent ps) (reboots_node vsn) a is = reboots events extent ps vsn (releases_after events) (commanded (rebooting vsn) (releases_after events)) a is
 acts (raw bytes) (reboots_node vsn) a is = plain a _ is (inl refl)
 acts (closed s) (reboots_node vsn) a is = plain a _ is (inl refl)
 acts (dead s) (reboots_node vsn) a is = plain a _ is (inl refl)
 acts p boots_node a is = boots p a is
-acts (running events end ps) tells_start a (inl is) = plain a _ is (inl refl)
-acts (running events end ps) tells_start a (inr is) = plain a _ is (inl refl)
+acts (running events extent ps) tells_start a (inl is) = plain a _ is (inl refl)
+acts (running events extent ps) tells_start a (inr is) = plain a _ is (inl refl)
 acts (raw bytes) tells_start a is = plain a _ is (inl refl)
 acts (closed s) tells_start a is = plain a _ is (inl refl)
 acts (dead s) tells_start a is = plain a _ is (inl refl)
-acts (running events end ps) (calls c) a is = plain a _ is (inl refl)
+acts (running events extent ps) (calls c) a is = plain a _ is (inl refl)
 acts (raw bytes) (calls c) a is = plain a _ is (inl refl)
 acts (closed s) (calls c) a is = plain a _ is (inl refl)
 acts (dead s) (calls c) a is = plain a _ is (inl refl)

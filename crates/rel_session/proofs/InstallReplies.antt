@@ -31,9 +31,9 @@ use Rattle.node_upgrade.specs.Stale.{stale_modules}
 use Rattle.node_upgrade.specs.Upgrade.{IsNoUpgrade, IsUpgrade, UpgradeForm, libraries_at, site_for}
 use Rattle.rel_handler.specs.Commits.{Commits, IsDone}
 use Rattle.rel_handler.specs.Events.{Events, certain, uncertain, settled, IsStoredAs}
-use Rattle.rel_handler.specs.Image.{end_behind, HasSpace}
+use Rattle.rel_handler.specs.Image.{Extent, HasSpace}
 use Rattle.rel_handler.specs.Installing.{InstallRefused, IsInstalledBy, IsLost, MayBegin, NothingChanged, install_size}
-use Rattle.rel_handler.specs.State.{disk_in, list_in, is_dead, end_in}
+use Rattle.rel_handler.specs.State.{disk_in, list_in, is_dead, extent_in}
 use Rattle.rel_session.specs.declared.booted_node.BootedNode.{BootedNode}
 use Rattle.rel_session.specs.declared.place.Place.TheVariants as memory
 use Rattle.rel_session.specs.Device.{Device, LeavesOnly, HasFailed}
@@ -46,6 +46,7 @@ use Rattle.rel_session.specs.Refusals.Refusal.{device, full, script_refused, mus
 use Rattle.rel_session.specs.Run.{Holds, IsReached}
 use Rattle.rel_session.specs.Transition
 use Rattle.rel_session.specs.Transition.Action.{installs}
+use Rattle.rel_session.proofs.ExtentLemmas.{reach_at}
 use Rattle.rel_session.proofs.DeviceLemmas.{IsDevice, weakened, still}
 use Rattle.rel_session.proofs.ListLemmas.{list_after-push}
 use Rattle.rel_session.proofs.Prefixes.{reached_with}
@@ -76,16 +77,16 @@ module _ {D : Type 0} (v : Device D) (laws : IsDevice v) (vsn : List ℕ) (n new
   Does p a = Transition.Acts p (installs vsn) a
 
   -- what is replied by the list, of these events
-  right_for : (events : Events) (end : ℕ) (a : Reply) → list_after events ≡ Some es → Installs events end ps vsn es (installation vsn es) a → Does (running events end ps) a
-  right_for events end a after is =
+  right_for : (events : Events) (extent : Extent) (a : Reply) → list_after events ≡ Some es → Installs events extent ps vsn es (installation vsn es) a → Does (running events extent ps) a
+  right_for events extent a after is =
       let of_list : releases_after events ≡ es = ap list_or_none after in
-      subst (λ l. Installs events end ps vsn l (installation vsn l) a) (sym of_list) is
+      subst (λ l. Installs events extent ps vsn l (installation vsn l) a) (sym of_list) is
 
   -- at each place where the node may be
-  where_it_runs : (P : Place → Type 0) → ((events : Events) (end : ℕ) → IsAt v (memory.Made n) (running events end ps) → P (running events end ps)) → (p : Place) → IsAt v (memory.Made n) p → P p
+  where_it_runs : (P : Place → Type 0) → ((events : Events) (extent : Extent) → IsAt v (memory.Made n) (running events extent ps) → P (running events extent ps)) → (p : Place) → IsAt v (memory.Made n) p → P p
   where_it_runs P there (raw bytes) at = absurd at
   where_it_runs P there (closed s) at = absurd at
-  where_it_runs P there (running events end qs) (here, living, after, stop, has) = subst (λ q. P (running events end q)) has (there events end (here, living, after, stop, refl))
+  where_it_runs P there (running events extent qs) (here, living, after, stop, has) = subst (λ q. P (running events extent q)) has (there events extent (here, living, after, stop, refl))
   where_it_runs P there (dead s) at = never (sym alive ∙ at.1)
 
   -- A line that tells what was done, or memory was refused for it.
@@ -108,19 +109,19 @@ module _ {D : Type 0} (v : Device D) (laws : IsDevice v) (vsn : List ℕ) (n new
       inr (told, inl (record { given = r.given; right = r.right.0; at = r.at; happens = r.happens }))
 
   moments_at : (events : Events) → list_after events ≡ Some es → LeavesOnly v (disk_in n.handler) (disk_in new.handler) (IsReached (settled events) (e ∷ []))
-  moments_at events after = weakened v (disk_in n.handler) (disk_in new.handler) _ _ (reached_with events (end_in n.handler) e size) (commits.any_moment alive events after)
+  moments_at events after = weakened v (disk_in n.handler) (disk_in new.handler) _ _ (reached_with events (extent_in n.handler) e size) (commits.any_moment alive events after)
 
   -- a script that may begin, and what comes of it on these processes
   comes_to : (u : UpgradeForm) → IsUpgrade vsn es u → (o : Outcome) → outcome (site_for u ps.modules) (run_on (site_for u ps.modules) ps) u.found.script ≡ o → upgrade_outcome vsn es u.found ps ≡ o
   comes_to u is o comes = subst (λ (w : UpgradeForm). outcome (site_for w ps.modules) (run_on (site_for w ps.modules) ps) u.found.script ≡ o) is.is comes
 
-  begins_so : (u : UpgradeForm) → IsUpgrade vsn es u → (events : Events) (end : ℕ) (a : Reply) → Begins events end ps vsn es u.found None a → Installs events end ps vsn es (installation vsn es) a
-  begins_so u is events end a begins =
-      subst (λ o. Installs events end ps vsn es o a) (sym is.found) (subst (λ o. Begins events end ps vsn es u.found o a) (sym is.begins) begins)
+  begins_so : (u : UpgradeForm) → IsUpgrade vsn es u → (events : Events) (extent : Extent) (a : Reply) → Begins events extent ps vsn es u.found None a → Installs events extent ps vsn es (installation vsn es) a
+  begins_so u is events extent a begins =
+      subst (λ o. Installs events extent ps vsn es o a) (sym is.found) (subst (λ o. Begins events extent ps vsn es u.found o a) (sym is.begins) begins)
 
-  leads_so : (u : UpgradeForm) → IsUpgrade vsn es u → (events : Events) (end : ℕ) (a : Reply) (o : Outcome) → HasSpace end size → upgrade_outcome vsn es u.found ps ≡ o → Leads events end ps vsn es u.found o a
-      → Installs events end ps vsn es (installation vsn es) a
-  leads_so u is events end a o fits comes leads = begins_so u is events end a (inl (fits, subst (λ w. Leads events end ps vsn es u.found w a) (sym comes) leads))
+  leads_so : (u : UpgradeForm) → IsUpgrade vsn es u → (events : Events) (extent : Extent) (a : Reply) (o : Outcome) → HasSpace extent size → upgrade_outcome vsn es u.found ps ≡ o → Leads events extent ps vsn es u.found o a
+      → Installs events extent ps vsn es (installation vsn es) a
+  leads_so u is events extent a o fits comes leads = begins_so u is events extent a (inl (fits, subst (λ w. Leads events extent ps vsn es u.found w a) (sym comes) leads))
 
   -- the release was installed
   abbrev line_of : Installed → List ℕ
@@ -132,20 +133,21 @@ module _ {D : Type 0} (v : Device D) (laws : IsDevice v) (vsn : List ℕ) (n new
       target_is : u.target ≡ libraries_at vsn es
       target_is = ap (λ (w : UpgradeForm). w.target) is.is
 
-      there : (events : Events) (end : ℕ) → IsAt v (memory.Made n) (running events end ps) → RepliesAt (line_of i) (running events end ps)
-      there events end (here, living, after, stop, has) =
+      there : (events : Events) (extent : Extent) → IsAt v (memory.Made n) (running events extent ps) → RepliesAt (line_of i) (running events extent ps)
+      there events extent (here, living, after, stop, has) =
           let (r, comes, behind) =
           script_ends (site_for u ps.modules) n.processes.seat.view n.processes.tree ps.modules u.found.script (listed_in new.processes.loaded) new.processes.tree new.processes.seat.view sound.alone by.finished in
-          let a = installed_reply events end vsn es u.found (behind_run r) in
-          let place = runs_at v laws new (events ++ e ∷ []) (end_behind end size) (behind_run r) works
-          (list_after-push events e es (list_in new.handler) after (commanded_step e es (list_in new.handler) is_done.accepted))
-          (is_done.end ∙ ap (λ m. end_behind m size) stop) is_done.acknowledged (commits.sound.started works) (sym behind) in
+          let x = extent_in new.handler in
+          let grown = list_after-push events e es (list_in new.handler) after (commanded_step e es (list_in new.handler) is_done.accepted) in
+          let reach = reach_at (extent_in n.handler) extent x size (list_in new.handler) (releases_after (events ++ e ∷ [])) stop (ap list_or_none grown) is_done.reaches in
+          let a = installed_reply events x vsn es u.found (behind_run r) in
+          let place = runs_at v laws new (events ++ e ∷ []) x (behind_run r) works grown refl is_done.acknowledged (commits.sound.started works) (sym behind) in
           let stale : stale_modules (behind_run r).modules (libraries_at vsn es) ≡ i.stale.items =
           ap (λ (q : Processes). stale_modules q.modules (libraries_at vsn es)) behind ∙ ap (stale_modules (listed_in new.processes.loaded)) (sym target_is) ∙ sym by.stale in
           record {
             given = a;
             right = (
-              right_for events end a after (leads_so u is events end a (ends r) (subst (λ m. HasSpace m size) stop is_done.fits) (comes_to u is (ends r) comes) (inl refl)),
+              right_for events extent a after (leads_so u is events extent a (ends r) (subst (λ m. HasSpace m size) stop is_done.fits) (comes_to u is (ends r) comes) (inl (x, reach, refl))),
               (λ j. installed_text (sym by.other j) (sym by.descr j) (stale j)),
             );
             at = place;
@@ -157,17 +159,17 @@ module _ {D : Type 0} (v : Device D) (laws : IsDevice v) (vsn : List ℕ) (n new
       → HasFailed v (disk_in n.handler) (disk_in new.handler) → is_dead new.handler ≡ true → Replies (refusal_line device)
   device_replies u (is, fits) finished cause gone = where_it_runs (RepliesAt (refusal_line device)) there
     where
-      there : (events : Events) (end : ℕ) → IsAt v (memory.Made n) (running events end ps) → RepliesAt (refusal_line device) (running events end ps)
-      there events end (here, living, after, stop, has) =
+      there : (events : Events) (extent : Extent) → IsAt v (memory.Made n) (running events extent ps) → RepliesAt (refusal_line device) (running events extent ps)
+      there events extent (here, living, after, stop, has) =
           let (r, comes, behind) =
           script_ends (site_for u ps.modules) n.processes.seat.view n.processes.tree ps.modules u.found.script (listed_in new.processes.loaded) new.processes.tree new.processes.seat.view sound.alone finished in
-          let s = uncertain events end e size in
+          let s = uncertain events extent e size in
           let a = failed (Some e) (dead s) in
           let leaves = subst (λ m. LeavesOnly v (disk_in n.handler) (disk_in new.handler) (IsStoredAs (uncertain events m e size))) stop (commits.any_moment alive events after) in
           let holds : Holds v (dead s) (disk_in new.handler) = λ c now. leaves.each c (laws.counts_now (disk_in new.handler) (v.moment (disk_in n.handler)) c leaves.later now) in
           record {
             given = a;
-            right = (right_for events end a after (leads_so u is events end a (ends r) (subst (λ m. HasSpace m size) stop fits) (comes_to u is (ends r) comes) (inr refl)), refl);
+            right = (right_for events extent a after (leads_so u is events extent a (ends r) (subst (λ m. HasSpace m size) stop fits) (comes_to u is (ends r) comes) (inr refl)), refl);
             at = (holds, gone);
             happens = record { moments = moments_at events after; holds = holds; cause = λ f. cause; counted = commits.counted };
           }
@@ -181,22 +183,22 @@ module _ {D : Type 0} (v : Device D) (laws : IsDevice v) (vsn : List ℕ) (n new
   broken_replies f u (is, fits) (c, told, inr (memory, at_its_end, finished)) known lost = absurd (known (ap (λ (g : Failure). g.why) told ∙ ap fails memory))
   broken_replies f u (is, fits) (c, told, inl broken) known lost = where_it_runs (RepliesAt (refusal_line (must_reboot (failure_of f)))) there
     where
-      there : (events : Events) (end : ℕ) → IsAt v (memory.Made n) (running events end ps) → RepliesAt (refusal_line (must_reboot (failure_of f))) (running events end ps)
-      there events end (here, living, after, stop, has) =
+      there : (events : Events) (extent : Extent) → IsAt v (memory.Made n) (running events extent ps) → RepliesAt (refusal_line (must_reboot (failure_of f))) (running events extent ps)
+      there events extent (here, living, after, stop, has) =
           let comes =
           script_breaks (site_for u ps.modules) n.processes.seat.view n.processes.tree ps.modules u.found.script f.instr c new.processes.seat.view sound.alone
           (λ memory. known (ap (λ (g : Failure). g.why) told ∙ ap fails memory)) broken in
-          let a = refused (must_reboot (failure f.instr (fails c))) (dead (certain events end)) in
-          let holds : Holds v (dead (certain events end)) (disk_in new.handler) = subst (λ d. Holds v (dead (certain events end)) d) (sym lost.disk) (λ image now. (here image now).0) in
+          let a = refused (must_reboot (failure f.instr (fails c))) (dead (certain events extent)) in
+          let holds : Holds v (dead (certain events extent)) (disk_in new.handler) = subst (λ d. Holds v (dead (certain events extent)) d) (sym lost.disk) (λ image now. (here image now).0) in
           record {
             given = a;
             right = (
-              right_for events end a after (leads_so u is events end a (breaks f.instr c) (subst (λ m. HasSpace m size) stop fits) (comes_to u is (breaks f.instr c) comes) refl),
+              right_for events extent a after (leads_so u is events extent a (breaks f.instr c) (subst (λ m. HasSpace m size) stop fits) (comes_to u is (breaks f.instr c) comes) refl),
               ap (λ g. refusal_line (must_reboot g)) (sym told),
             );
             at = (holds, lost.dead);
             happens = record {
-              moments = moments_of_nothing v laws (running events end ps) (disk_in n.handler) (disk_in new.handler) here (still_there lost);
+              moments = moments_of_nothing v laws (running events extent ps) (disk_in n.handler) (disk_in new.handler) here (still_there lost);
               holds = holds;
               cause = λ f. never f;
               counted = commits.counted;
@@ -219,34 +221,34 @@ module _ {D : Type 0} (v : Device D) (laws : IsDevice v) (vsn : List ℕ) (n new
         let values = untouched_values n.processes.seat.view new.processes.seat.view sound.alone untouched.view in
         (λ j. record { values = values j; apps = untouched.apps j; modules = untouched.modules j })
 
-    same_replies : (why : Refusal) → ((events : Events) (end : ℕ) → end_in n.handler ≡ end → Installs events end ps vsn es (installation vsn es) (refused why (running events end ps))) → Replies (refusal_line why)
+    same_replies : (why : Refusal) → ((events : Events) (extent : Extent) → extent_in n.handler ≡ extent → Installs events extent ps vsn es (installation vsn es) (refused why (running events extent ps))) → Replies (refusal_line why)
     same_replies why right = where_it_runs (RepliesAt (refusal_line why)) there
       where
-        there : (events : Events) (end : ℕ) → IsAt v (memory.Made n) (running events end ps) → RepliesAt (refusal_line why) (running events end ps)
-        there events end at =
-            stays v laws (running events end ps) (refusal_line why) _ (memory.Made n) (memory.Made new) at nothing_new.0.disk (same_at v laws n new (running events end ps) nothing_new.0 kept_on at)
-            (right_for events end _ at.2 (right events end at.3), refl)
+        there : (events : Events) (extent : Extent) → IsAt v (memory.Made n) (running events extent ps) → RepliesAt (refusal_line why) (running events extent ps)
+        there events extent at =
+            stays v laws (running events extent ps) (refusal_line why) _ (memory.Made n) (memory.Made new) at nothing_new.0.disk (same_at v laws n new (running events extent ps) nothing_new.0 kept_on at)
+            (right_for events extent _ at.2 (right events extent at.3), refl)
 
     by_list : (why : HandlerError) → installation vsn es ≡ Err why → Answers v Does (Err why) (memory.Made n) (memory.Made new)
-    by_list why found p at = inl (same_replies (refusal_of why) (λ events end stop. subst (λ o. Installs events end ps vsn es o (refused (refusal_of why) (running events end ps))) (sym found) refl) p at)
+    by_list why found p at = inl (same_replies (refusal_of why) (λ events extent stop. subst (λ o. Installs events extent ps vsn es o (refused (refusal_of why) (running events extent ps))) (sym found) refl) p at)
 
-    full_replies : (u : UpgradeForm) → IsUpgrade vsn es u → (HasSpace (end_in n.handler) size → ⊥) → Replies (refusal_line full)
-    full_replies u is over = same_replies full (λ events end stop. begins_so u is events end _ (inr (subst (λ m. HasSpace m size → ⊥) stop over, refl)))
+    full_replies : (u : UpgradeForm) → IsUpgrade vsn es u → (HasSpace (extent_in n.handler) size → ⊥) → Replies (refusal_line full)
+    full_replies u is over = same_replies full (λ events extent stop. begins_so u is events extent _ (inr (subst (λ m. HasSpace m size → ⊥) stop over, refl)))
 
     -- the script isn't run
     not_begun : (f : ScriptFailure) → IsNoUpgrade vsn es (install_error.Refused f) → Replies (refusal_line (script_refused (failure_of f)))
     not_begun f (found, is, why) =
-        same_replies (script_refused (failure_of f)) (λ events end stop.
-        subst (λ o. Installs events end ps vsn es o (refused (script_refused (failure_of f)) (running events end ps))) (sym is)
-        (subst (λ o. Begins events end ps vsn es found o (refused (script_refused (failure_of f)) (running events end ps))) (sym why) refl))
+        same_replies (script_refused (failure_of f)) (λ events extent stop.
+        subst (λ o. Installs events extent ps vsn es o (refused (script_refused (failure_of f)) (running events extent ps))) (sym is)
+        (subst (λ o. Begins events extent ps vsn es found o (refused (script_refused (failure_of f)) (running events extent ps))) (sym why) refl))
 
     -- an instruction before the point fails
     turned_back : (f : ScriptFailure) (u : UpgradeForm) → MayBegin vsn n.handler u → RunRefused u (state_in n) (state_in new) (install_error.Refused f) → Replies (refusal_line (script_refused (failure_of f)))
     turned_back f u (is, fits) (c, known, told, refused_so, untouched) =
         let comes = script_refuses (site_for u ps.modules) n.processes.seat.view n.processes.tree ps.modules u.found.script f.instr c new.processes.seat.view sound.alone known refused_so in
-        same_replies (script_refused (failure_of f)) (λ events end stop.
-        leads_so u is events end _ (refuses f.instr c) (subst (λ m. HasSpace m size) stop fits) (comes_to u is (refuses f.instr c) comes)
-        (ap (λ g. refused (script_refused g) (running events end ps)) told))
+        same_replies (script_refused (failure_of f)) (λ events extent stop.
+        leads_so u is events extent _ (refuses f.instr c) (subst (λ m. HasSpace m size) stop fits) (comes_to u is (refuses f.instr c) comes)
+        (ap (λ g. refused (script_refused g) (running events extent ps)) told))
 
   -- what the handler refused
   command_refused : (why : HandlerError) → InstallRefused v.failures vsn n.handler new.handler (state_in n) (state_in new) (install_error.Command why) → Answers v Does (Err why) (memory.Made n) (memory.Made new)

@@ -12,6 +12,7 @@ use Rattle.node_upgrade.specs.Failure.{Failure, failure}
 use Rattle.node_upgrade.specs.Failure.Why.{fails}
 use Rattle.node_upgrade.specs.Upgrade.{script_failure}
 use Rattle.rel_handler.specs.Events.{Events, certain, uncertain}
+use Rattle.rel_handler.specs.Image.{Extent}
 use Rattle.relup_exec.specs.Alone.{Outcome}
 use Rattle.relup_exec.specs.Alone.Outcome.{ends, refuses, breaks}
 use Rattle.relup_script.specs.Search.{FoundForm}
@@ -24,34 +25,34 @@ use Rattle.rel_session.specs.Refusals.{refusal_of}
 use Rattle.rel_session.specs.Refusals.Refusal.{full, no_matching_relup, script_refused, must_reboot}
 
 -- What holds of each reply that there may be holds of the reply.
-module _ (K : Reply → Type 0) (events : Events) (end : ℕ) (ps : Processes) (vsn : List ℕ) (list : Releases) where
+module _ (K : Reply → Type 0) (events : Events) (extent : Extent) (ps : Processes) (vsn : List ℕ) (list : Releases) where
   pub record OfEach : Type 0 where
-    pub listed : (why : ListError) → K (refused (refusal_of (list_refusal why)) (running events end ps))
-    pub unmatched : K (refused no_matching_relup (running events end ps))
-    pub not_run : (f : Failure) → K (refused (script_refused f) (running events end ps))
-    pub over_full : K (refused full (running events end ps))
-    pub broken : (f : Failure) → K (refused (must_reboot f) (dead (certain events end)))
-    pub done_so : (f : FoundForm) (r : Run) → installation vsn list ≡ Ok f → upgrade_outcome vsn list f ps ≡ ends r → K (installed_reply events end vsn list f (behind_run r))
-    pub doubted_so : (f : FoundForm) → installation vsn list ≡ Ok f → K (failed (Some (installed vsn)) (dead (uncertain events end (installed vsn) (install_size vsn list))))
+    pub listed : (why : ListError) → K (refused (refusal_of (list_refusal why)) (running events extent ps))
+    pub unmatched : K (refused no_matching_relup (running events extent ps))
+    pub not_run : (f : Failure) → K (refused (script_refused f) (running events extent ps))
+    pub over_full : K (refused full (running events extent ps))
+    pub broken : (f : Failure) → K (refused (must_reboot f) (dead (certain events extent)))
+    pub done_so : (f : FoundForm) (r : Run) (reach : Extent) → installation vsn list ≡ Ok f → upgrade_outcome vsn list f ps ≡ ends r → K (installed_reply events reach vsn list f (behind_run r))
+    pub doubted_so : (f : FoundForm) → installation vsn list ≡ Ok f → K (failed (Some (installed vsn)) (dead (uncertain events extent (installed vsn) (install_size vsn list))))
 
   so : (a b : Reply) → a ≡ b → K b → K a
   so a b is of = subst K (sym is) of
 
-  by_outcome : OfEach → (f : FoundForm) → installation vsn list ≡ Ok f → (a : Reply) (o : Outcome) → upgrade_outcome vsn list f ps ≡ o → Leads events end ps vsn list f o a → K a
+  by_outcome : OfEach → (f : FoundForm) → installation vsn list ≡ Ok f → (a : Reply) (o : Outcome) → upgrade_outcome vsn list f ps ≡ o → Leads events extent ps vsn list f o a → K a
   by_outcome of f found a (refuses n c) comes is = so a _ is (of.not_run (failure n (fails c)))
   by_outcome of f found a (breaks n c) comes is = so a _ is (of.broken (failure n (fails c)))
-  by_outcome of f found a (ends r) comes (inl is) = so a _ is (of.done_so f r found comes)
+  by_outcome of f found a (ends r) comes (inl (x, reach, is)) = so a _ is (of.done_so f r x found comes)
   by_outcome of f found a (ends r) comes (inr is) = so a _ is (of.doubted_so f found)
 
-  by_failure : OfEach → (f : FoundForm) → installation vsn list ≡ Ok f → (a : Reply) (o : Option Failure) → Begins events end ps vsn list f o a → K a
+  by_failure : OfEach → (f : FoundForm) → installation vsn list ≡ Ok f → (a : Reply) (o : Option Failure) → Begins events extent ps vsn list f o a → K a
   by_failure of f found a (Some why) is = so a _ is (of.not_run why)
   by_failure of f found a None (inl (fits, is)) = by_outcome of f found a (upgrade_outcome vsn list f ps) refl is
   by_failure of f found a None (inr (over, is)) = so a _ is of.over_full
 
-  by_list : OfEach → (a : Reply) (o : Option ListError) (found : Option FoundForm) → installation vsn list ≡ unless_listed_refusal o found → Installs events end ps vsn list (unless_listed_refusal o found) a → K a
+  by_list : OfEach → (a : Reply) (o : Option ListError) (found : Option FoundForm) → installation vsn list ≡ unless_listed_refusal o found → Installs events extent ps vsn list (unless_listed_refusal o found) a → K a
   by_list of a (Some why) found e is = so a _ is (of.listed why)
   by_list of a None None e is = so a _ is of.unmatched
   by_list of a None (Some f) e is = by_failure of f e a (script_failure vsn list f) is
 
-  pub each_reply : OfEach → (a : Reply) → Installs events end ps vsn list (installation vsn list) a → K a
+  pub each_reply : OfEach → (a : Reply) → Installs events extent ps vsn list (installation vsn list) a → K a
   each_reply of a is = by_list of a (refusal (installed vsn) list) (script_to vsn list) refl is

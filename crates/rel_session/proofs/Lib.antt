@@ -1,6 +1,7 @@
 pub mod ReleaseLemmas
 pub mod DeviceLemmas
 pub mod ListLemmas
+pub mod ExtentLemmas
 pub mod Prefixes
 pub mod Replies
 pub mod CommitReplies

@@ -9,7 +9,7 @@ use Rattle.erl_term.specs.Lines.{is_one_line}
 use Rattle.rel_files.specs.Name.{is_text}
 use Rattle.rel_list.specs.Releases.{Releases}
 use Rattle.rel_list.specs.Event.{list_after}
-use Rattle.rel_handler.specs.Image.{store_end}
+use Rattle.rel_handler.specs.Image.{Extent, extent_of}
 use Rattle.rel_handler.specs.Events.{Stored, Events, MayHave, IsStoredAs, certain}
 use Rattle.session_input.specs.Commands.{Command, ParsedLine, parse_line, parse_words, parse_command, parse_process_command, parse_path_command, parse_peek, parse_call, parse_flood, call_of, flood_of, names_process, input_of, times_of, parse_change, change_named, with_word, without_words, path_of, path_in, paths_of, is_path, relup_of, parse_relup, split_at, version_in, is_blank, words_of, is_end, file_of, most_line, put_parsed, commands_of, commands_behind}
 use Rattle.session_input.specs.Commands.Command.{file, create, set_unpacked, check, install, permanent, remove, reboot_old, boot, start, releases, procs, modules, peek, call, flood, quit, bad}
@@ -232,30 +232,30 @@ pub reads_line_paths : ReadsLinePaths
 reads_line_paths input = (commands_plain (lines_of (bytes_within most_bytes input)) (lines_plain (bytes_within most_bytes input))).0
 
 -- the list of events that an image stands for
-image_versions : (events : Events) (end : ℕ) (c : List ℕ) → IsStoredAs (certain events end) c → (list : Releases) → list_after events ≡ Some list → AreOfFiles list
-image_versions events end c of list after =
+image_versions : (events : Events) (extent : Extent) (c : List ℕ) → IsStoredAs (certain events extent) c → (list : Releases) → list_after events ≡ Some list → AreOfFiles list
+image_versions events extent c of list after =
     let versions = of_image c of.list of.image_of in
     let same : Some of.list ≡ Some list = sym of.after ∙ ap list_after (only of.has) ∙ after in
     let one : of.list ≡ list = cc in
     subst AreOfFiles one versions
   where
-    only : MayHave (certain events end) of.events (store_end c) → of.events ≡ events
+    only : MayHave (certain events extent) of.events (extent_of c) → of.events ≡ events
     only (inl has) = has.0
     only (inr has) = has.0
 
 -- a store with nothing in doubt
-certain_store : {D : Type 0} (v : Device D) → IsDevice v → (s : Stored) (disk : D) → s ≡ certain s.known.acknowledged s.end → ((c : List ℕ) → v.may_leave disk c → IsStoredAs s c) → HasVersionsAt (closed s)
+certain_store : {D : Type 0} (v : Device D) → IsDevice v → (s : Stored) (disk : D) → s ≡ certain s.known.acknowledged s.extent → ((c : List ℕ) → v.may_leave disk c → IsStoredAs s c) → HasVersionsAt (closed s)
 certain_store v laws s disk sure holds =
     subst (λ t. HasVersionsAt (closed t)) (sym sure) (λ events list is after.
-    image_versions s.known.acknowledged s.end (v.seen disk) (subst (λ t. IsStoredAs t (v.seen disk)) sure (holds (v.seen disk) (laws.reads_an_image disk))) list (sym (ap list_after (only events is)) ∙ after))
+    image_versions s.known.acknowledged s.extent (v.seen disk) (subst (λ t. IsStoredAs t (v.seen disk)) sure (holds (v.seen disk) (laws.reads_an_image disk))) list (sym (ap list_after (only events is)) ∙ after))
   where
-    only : (events : Events) → MayBe (certain s.known.acknowledged s.end) events → events ≡ s.known.acknowledged
+    only : (events : Events) → MayBe (certain s.known.acknowledged s.extent) events → events ≡ s.known.acknowledged
     only events (inl same) = same
     only events (inr same) = same
 
 pub keeps_versions : {D : Type 0} (v : Device D) → IsDevice v → KeepsVersions v
 keeps_versions v laws (raw x) disk sure holds = tt
-keeps_versions v laws (running events end ps) disk sure holds = image_versions events end (v.seen disk) (holds (v.seen disk) (laws.reads_an_image disk)).0
+keeps_versions v laws (running events extent ps) disk sure holds = image_versions events extent (v.seen disk) (holds (v.seen disk) (laws.reads_an_image disk)).0
 keeps_versions v laws (dead s) disk sure holds = certain_store v laws s disk sure holds
 keeps_versions v laws (closed s) disk sure holds = certain_store v laws s disk sure holds
 
@@ -263,7 +263,7 @@ keeps_versions v laws (closed s) disk sure holds = certain_store v laws s disk s
 no_processes : {D : Type 0} (v : Device D) (p : Place) (disk : D) → Starts v p disk → HasModuleVersionsAt p
 no_processes v (raw x) disk starts = tt
 no_processes v (closed s) disk starts = tt
-no_processes v (running events end ps) disk starts = absurd starts
+no_processes v (running events extent ps) disk starts = absurd starts
 no_processes v (dead s) disk starts = tt
 
 pub keeps_module_versions : {D : Type 0} (v : Device D) (source : Source) → KeepsModuleVersions v source

@@ -123,7 +123,7 @@ module _ {D : Type 0} (v : Device D) (laws : IsDevice v) (base : Source) where
   starts_at : (start : Place) (disk : D) → Starts v start disk → IsAt v (memory.Idle disk) start
   starts_at (raw bytes) disk starts = starts
   starts_at (closed s) disk starts = starts
-  starts_at (running events end ps) disk starts = absurd starts
+  starts_at (running events extent ps) disk starts = absurd starts
   starts_at (dead s) disk starts = absurd starts
 
   -- before the first command

@@ -1,4 +1,4 @@
--- A device that does not fail leaves one answer to each command.
+-- Where neither the device fails nor memory is refused to a compaction, each command has one answer.
 use Rattle.std.proofs.Common.{◌≡◌, ◌≢◌, ◌⊎◌, inl, inr, ℕ, Bool, true, false, List, [], ◌∷◌, ◌++◌, Option, None, Some, Result, Ok, Err, refl, sym, ap, ◌∙◌, subst}
 use Rattle.std.specs.Option.{option_and_then}
 use Rattle.rel_list.specs.Releases.{Releases, running as running_release, permanent}
@@ -9,7 +9,8 @@ use Rattle.rel_handler.specs.declared.error.BootError.{BootError}
 use Rattle.rel_handler.specs.declared.error.BootError.TheVariants as boot_error
 use Rattle.node_command.specs.declared.error.HandlerError.{HandlerError}
 use Rattle.rel_handler.specs.Events.{Events, MayHave, certain}
-use Rattle.rel_handler.specs.Image.{holds_a_store, first_end, end_behind}
+use Rattle.rel_handler.specs.Compaction.{compacted, MayReach}
+use Rattle.rel_handler.specs.Image.{Extent, extent_behind, first_extent, holds_a_store}
 use Rattle.node_command.specs.Files.{bundle_brought, made_size}
 use Rattle.node_command.specs.Place.{own_refusal}
 use Rattle.rel_handler.specs.Refusals.{IsBootRefusal}
@@ -32,35 +33,36 @@ use Rattle.rel_session.specs.Node.Place.{raw, closed, running, dead}
 use Rattle.rel_session.specs.Refusals.{boot_line}
 use Rattle.rel_session.specs.Run.{Replies, Ending}
 use Rattle.rel_session.specs.Run.Ending.{ended, cut_off, early}
-use Rattle.rel_session.specs.AnswerLaws.{IsCertain, AreSame, HaveOneAnswer}
+use Rattle.rel_session.specs.AnswerLaws.{AreSame, HaveOneAnswer, HaveRecord, IsCertain, IsCompact, LeaveCompactStores}
 use Rattle.rel_session.specs.RunLaws.{NoneFails}
 use Rattle.rel_session.specs.Transition
 use Rattle.rel_session.specs.Transition.Action.{answers, makes_node, changes_node, installs, reboots_node, boots_node, tells_start, calls}
 use Rattle.rel_session.proofs.AcknowledgedEvents.{next_answered, none_left}
 use Rattle.rel_session.proofs.SourceLemmas.{gives_one}
-use Rattle.rel_session.proofs.ActionLemmas.{kind_of, AreTold, one_action}
+use Rattle.rel_session.proofs.ActionLemmas.{AreTold, has_record, HasRecordOf, kind_of, one_action}
+use Rattle.rel_session.proofs.ExtentLemmas.{booted_reach, has_only, one_reach}
 use Rattle.node_command.specs.Installing.{installation}
 use Rattle.node_processes.specs.Scripts.{behind_run}
 use Rattle.node_upgrade.specs.Failure.{Failure}
 use Rattle.node_upgrade.specs.Upgrade.{script_failure}
 use Rattle.relup_exec.specs.Alone as script
 use Rattle.relup_script.specs.Search.{FoundForm}
-use Rattle.rel_session.specs.Installation.{Begins, Installs, Leads, upgrade_outcome}
+use Rattle.rel_session.specs.Installation.{Begins, installed_reply, Installs, Leads, upgrade_outcome}
 use Rattle.rel_handler.specs.Installing.{install_size}
 use Rattle.rel_session.proofs.ListLemmas.{list_after-more, same_list}
 
 -- Two places that nothing tells apart: the events of a boot of bytes are any that have the list.
 data Alike : Place → Place → Type 0 where
   same_bytes : (x : List ℕ) → Alike (raw x) (raw x)
-  same_store : (events : Events) (end : ℕ) → Alike (closed (certain events end)) (closed (certain events end))
-  same_lists : (events others : Events) (end : ℕ) (ps qs : Processes) → list_after events ≡ list_after others → ps ≡ qs → Alike (running events end ps) (running others end qs)
-  same_dead : (events others : Events) (end : ℕ) → list_after events ≡ list_after others → Alike (dead (certain events end)) (dead (certain others end))
+  same_store : (events : Events) (extent : Extent) → Alike (closed (certain events extent)) (closed (certain events extent))
+  same_lists : (events others : Events) (extent : Extent) (ps qs : Processes) → list_after events ≡ list_after others → ps ≡ qs → Alike (running events extent ps) (running others extent qs)
+  same_dead : (events others : Events) (extent : Extent) → list_after events ≡ list_after others → Alike (dead (certain events extent)) (dead (certain others extent))
 
 alike_itself : (p : Place) → IsCertain p → Alike p p
 alike_itself (raw x) sure = same_bytes x
-alike_itself (closed s) sure = subst (λ t. Alike (closed t) (closed t)) (sym sure) (same_store s.known.acknowledged s.end)
-alike_itself (running events end ps) sure = same_lists events events end ps ps refl refl
-alike_itself (dead s) sure = subst (λ t. Alike (dead t) (dead t)) (sym sure) (same_dead s.known.acknowledged s.known.acknowledged s.end refl)
+alike_itself (closed s) sure = subst (λ t. Alike (closed t) (closed t)) (sym sure) (same_store s.known.acknowledged s.extent)
+alike_itself (running events extent ps) sure = same_lists events events extent ps ps refl refl
+alike_itself (dead s) sure = subst (λ t. Alike (dead t) (dead t)) (sym sure) (same_dead s.known.acknowledged s.known.acknowledged s.extent refl)
 
 -- Commands come to the same there.
 same_action : (source : Source) → GivesOne source → (p q : Place) (c : Command) (x y : Transition.Action) → Alike p q → Transition.ComesTo source p c x → Transition.ComesTo source q c y → x ≡ y
@@ -68,15 +70,15 @@ same_action source one p q c x y alike comes comes_too = go (one_action source o
   where
     same_kind : (p q : Place) → Alike p q → kind_of p ≡ kind_of q
     same_kind p q (same_bytes b) = refl
-    same_kind p q (same_store events end) = refl
-    same_kind p q (same_lists events others end ps qs same one) = refl
-    same_kind p q (same_dead events others end same) = refl
+    same_kind p q (same_store events extent) = refl
+    same_kind p q (same_lists events others extent ps qs same one) = refl
+    same_kind p q (same_dead events others extent same) = refl
 
     told_same : (says : Releases → Processes → List ℕ) (p q : Place) → Alike p q → Transition.told says p ≡ Transition.told says q
     told_same says p q (same_bytes b) = refl
-    told_same says p q (same_store events end) = refl
-    told_same says p q (same_dead events others end same) = refl
-    told_same says p q (same_lists events others end ps qs same one) = ap (λ o. says (list_or_none o) ps) same ∙ ap (λ r. says (releases_after others) r) one
+    told_same says p q (same_store events extent) = refl
+    told_same says p q (same_dead events others extent same) = refl
+    told_same says p q (same_lists events others extent ps qs same one) = ap (λ o. says (list_or_none o) ps) same ∙ ap (λ r. says (releases_after others) r) one
 
     go : (x ≡ y) ⊎ AreTold p q x y → x ≡ y
     go (inl one) = one
@@ -85,9 +87,16 @@ same_action source one p q c x y alike comes comes_too = go (one_action source o
 abbrev Same : Reply → Reply → Type 0
 Same a b = (a.answer ≡ b.answer) × (a.outcome ≡ b.outcome) × Alike a.after b.after
 
--- Replies in which the device does not fail.
+-- where an event was committed, memory was not refused to a compaction
+abbrev IsSmall : Reply → Type 0
+IsSmall a = HaveRecord a.outcome.acknowledged → IsCompact a.after
+
+-- Replies in which the device does not fail, and no memory is refused to a compaction.
 abbrev Both : Reply → Reply → Type 0
-Both a b = (a.outcome.failed ≡ false) × (b.outcome.failed ≡ false)
+Both a b = (a.outcome.failed ≡ false) × (b.outcome.failed ≡ false) × IsSmall a × IsSmall b
+
+small_as : (a x : Reply) → a ≡ x → IsSmall a → IsSmall x
+small_as a x is small = subst IsSmall is small
 
 as_these : (a b x y : Reply) → a ≡ x → b ≡ y → Same x y → Same a b
 as_these a b x y is also same = subst (λ z. Same z b) (sym is) (subst (Same x) (sym also) same)
@@ -97,28 +106,37 @@ failure a x is failed works = let lost : true ≡ false = sym failed ∙ ap (λ 
 
 module _ (a b : Reply) (both : Both a b) where
   -- a commit, where what is committed leaves one reply
-  commits : (events others : Events) (end : ℕ) (ps qs : Processes) (e : Event) (size : ℕ) (o : Result Releases HandlerError) (P Q : Reply → Type 0) → (P a → Q b → Same a b) → Alike (running events end ps) (running others end qs)
-      → Transition.IsCommit events end ps e size o P a → Transition.IsCommit others end qs e size o Q b → Same a b
-  commits events others end ps qs e size (Err why) P Q one alike is also = as_these a b _ _ is also (refl, refl, alike)
-  commits events others end ps qs e size (Ok list) P Q one alike (inl (fits, inl is)) (inl (fits_too, inl also)) = one is also
-  commits events others end ps qs e size (Ok list) P Q one alike (inl (fits, inl is)) (inl (fits_too, inr also)) = failure b _ also refl both.1
-  commits events others end ps qs e size (Ok list) P Q one alike (inl (fits, inl is)) (inr (over_it, also)) = absurd (over_it fits)
-  commits events others end ps qs e size (Ok list) P Q one alike (inl (fits, inr is)) other = failure a _ is refl both.0
-  commits events others end ps qs e size (Ok list) P Q one alike (inr (over_it, is)) (inl (fits, also)) = absurd (over_it fits)
-  commits events others end ps qs e size (Ok list) P Q one alike (inr (over_it, is)) (inr (over_too, also)) = as_these a b _ _ is also (refl, refl, alike)
+  commits : (events others : Events) (extent : Extent) (ps qs : Processes) (e : Event) (size : ℕ) (o : Result Releases HandlerError) (P Q : Extent → Reply → Type 0) → list_after events ≡ list_after others
+      → ((x : Extent) → P x a → x ≡ compacted x (releases_after (events ++ e ∷ []))) → ((x : Extent) → Q x b → x ≡ compacted x (releases_after (others ++ e ∷ [])))
+      → ((x : Extent) → P x a → Q x b → Same a b) → Alike (running events extent ps) (running others extent qs)
+      → Transition.IsCommit events extent ps e size o P a → Transition.IsCommit others extent qs e size o Q b → Same a b
+  commits events others extent ps qs e size (Err why) P Q same small small_too one alike is also = as_these a b _ _ is also (refl, refl, alike)
+  commits events others extent ps qs e size (Ok list) P Q same small small_too one alike (inl (fits, inl (x, reach, is))) (inl (fits_too, inl (y, reach_too, also))) =
+      let lists : releases_after (others ++ e ∷ []) ≡ releases_after (events ++ e ∷ []) = ap list_or_none (sym (same_list events others e same)) in
+      let here = one_reach (extent_behind extent size) x (releases_after (events ++ e ∷ [])) reach (small x is) in
+      let there = one_reach (extent_behind extent size) y (releases_after (others ++ e ∷ [])) reach_too (small_too y also) in
+      let both_reach : y ≡ x = there ∙ (ap (compacted (extent_behind extent size)) lists ∙ sym here) in
+      one x is (subst (λ z. Q z b) both_reach also)
+  commits events others extent ps qs e size (Ok list) P Q same small small_too one alike (inl (fits, inl is)) (inl (fits_too, inr also)) = failure b _ also refl both.1
+  commits events others extent ps qs e size (Ok list) P Q same small small_too one alike (inl (fits, inl is)) (inr (over_it, also)) = absurd (over_it fits)
+  commits events others extent ps qs e size (Ok list) P Q same small small_too one alike (inl (fits, inr is)) other = failure a _ is refl both.0
+  commits events others extent ps qs e size (Ok list) P Q same small small_too one alike (inr (over_it, is)) (inl (fits, also)) = absurd (over_it fits)
+  commits events others extent ps qs e size (Ok list) P Q same small small_too one alike (inr (over_it, is)) (inr (over_too, also)) = as_these a b _ _ is also (refl, refl, alike)
 
-  changes : (events others : Events) (end : ℕ) (ps qs : Processes) (c : Transition.Change) (l : Releases) (f : Option Refusal) (o : Result Releases HandlerError) → list_after events ≡ list_after others → ps ≡ qs
-      → Transition.Changes events end ps c l f o a → Transition.Changes others end qs c l f o b → Same a b
-  changes events others end ps qs c l (Some why) o same one is also = as_these a b _ _ is also (refl, refl, same_lists events others end ps qs same one)
-  changes events others end ps qs c l None o same one is also =
-      let behind_it = same_lists (events ++ c.event ∷ []) (others ++ c.event ∷ []) (end_behind end (c.size l)) ps qs (same_list events others c.event same) one in
-      commits events others end ps qs c.event (c.size l) o _ _ (λ is also. as_these a b _ _ is also (refl, refl, behind_it)) (same_lists events others end ps qs same one) is also
+  changes : (events others : Events) (extent : Extent) (ps qs : Processes) (c : Transition.Change) (l : Releases) (f : Option Refusal) (o : Result Releases HandlerError) → HaveRecord (c.event ∷ []) → list_after events ≡ list_after others → ps ≡ qs
+      → Transition.Changes events extent ps c l f o a → Transition.Changes others extent qs c l f o b → Same a b
+  changes events others extent ps qs c l (Some why) o has same one is also = as_these a b _ _ is also (refl, refl, same_lists events others extent ps qs same one)
+  changes events others extent ps qs c l None o has same one is also =
+      commits events others extent ps qs c.event (c.size l) o (λ x r. r ≡ Transition.changed events x ps c l) (λ x r. r ≡ Transition.changed others x qs c l) same
+      (λ x is. small_as a _ is both.2 has) (λ x is. small_as b _ is both.3 has)
+      (λ x is also. as_these a b _ _ is also (refl, refl, same_lists (events ++ c.event ∷ []) (others ++ c.event ∷ []) x ps qs (same_list events others c.event same) one))
+      (same_lists events others extent ps qs same one) is also
 
   makes_with : (x : List ℕ) (p : Bundle) (size : ℕ) (why : Option Refusal) → Transition.MakesWith x p size why a → Transition.MakesWith x p size why b → Same a b
   makes_with x p size (Some why) is also = as_these a b _ _ is also (refl, refl, same_bytes x)
   makes_with x p size None (inl (fits, is)) (inl (fits_too, also)) =
       let events = made p ∷ booting ∷ [] in
-      as_these a b _ _ is also (refl, refl, same_lists events events (end_behind first_end size) (fresh (releases_after events)) (fresh (releases_after events)) refl refl)
+      as_these a b _ _ is also (refl, refl, same_lists events events (extent_behind first_extent size) (fresh (releases_after events)) (fresh (releases_after events)) refl refl)
   makes_with x p size None (inl (fits, is)) (inr (over_it, also)) = absurd (over_it fits)
   makes_with x p size None (inr (over_it, is)) (inl (fits, also)) = absurd (over_it fits)
   makes_with x p size None (inr (over_it, is)) (inr (over_too, also)) = as_these a b _ _ is also (refl, refl, same_bytes x)
@@ -131,31 +149,32 @@ module _ (a b : Reply) (both : Both a b) where
   makes p q found (same_bytes x) (inl is) (inl also) = makes_on x found (holds_a_store x) is also
   makes p q found (same_bytes x) (inl is) (inr (torn, also)) = failure b _ also refl both.1
   makes p q found (same_bytes x) (inr (torn, is)) other = failure a _ is refl both.0
-  makes p q found (same_store events end) (inl is) (inl also) = as_these a b _ _ is also (refl, refl, same_store events end)
-  makes p q found (same_store events end) (inl is) (inr also) = failure b _ also refl both.1
-  makes p q found (same_store events end) (inr is) other = failure a _ is refl both.0
-  makes p q found (same_dead events others end same) is also = as_these a b _ _ is also (refl, refl, same_dead events others end same)
-  makes p q found (same_lists events others end ps qs same one) is also = as_these a b _ _ is also (refl, refl, same_lists events others end ps qs same one)
+  makes p q found (same_store events extent) (inl is) (inl also) = as_these a b _ _ is also (refl, refl, same_store events extent)
+  makes p q found (same_store events extent) (inl is) (inr also) = failure b _ also refl both.1
+  makes p q found (same_store events extent) (inr is) other = failure a _ is refl both.0
+  makes p q found (same_dead events others extent same) is also = as_these a b _ _ is also (refl, refl, same_dead events others extent same)
+  makes p q found (same_lists events others extent ps qs same one) is also = as_these a b _ _ is also (refl, refl, same_lists events others extent ps qs same one)
 
   -- boots of the same list
-  booted_same : (events others : Events) (end : ℕ) → list_after (events ++ booting ∷ []) ≡ list_after (others ++ booting ∷ [])
-      → Transition.IsBooted events end a → Transition.IsBooted others end b → Same a b
-  booted_same events others end same (list, after, is) (again, after_too, also) =
+  booted_same : (events others : Events) (extent : Extent) → list_after (events ++ booting ∷ []) ≡ list_after (others ++ booting ∷ [])
+      → Transition.IsBooted events extent a → Transition.IsBooted others extent b → Same a b
+  booted_same events others extent same (list, after, is) (again, after_too, also) =
       let one : list ≡ again = let e : Some list ≡ Some again = sym after ∙ same ∙ after_too in cc in
       let first = events ++ booting ∷ [] in
       let second = others ++ booting ∷ [] in
-      let just_alike = same_lists first second end (fresh (releases_after first)) (fresh (releases_after second)) same (ap (λ o. fresh (list_or_none o)) same) in
+      let just_alike = same_lists first second extent (fresh (releases_after first)) (fresh (releases_after second)) same (ap (λ o. fresh (list_or_none o)) same) in
       as_these a b _ _ is also (ap (λ (l : Releases). Transition.ok_line (Transition.version_of (running_release l))) one, refl, just_alike)
 
-  boots_store : (events others : Events) (end : ℕ) → list_after events ≡ list_after others → Transition.BootsStore (certain events end) a → Transition.BootsStore (certain others end) b → Same a b
-  boots_store events others end same (inl (es, n, has, is)) (inl (fs, m, has_too, also)) =
-      booted_same events others end (same_list events others booting same) (only events end a es n has is) (only others end b fs m has_too also)
+  boots_store : (events others : Events) (extent : Extent) → list_after events ≡ list_after others → Transition.BootsStore (certain events extent) a → Transition.BootsStore (certain others extent) b → Same a b
+  boots_store events others extent same (inl (es, n, has, is)) (inl (fs, m, has_too, also)) =
+      booted_same events others extent (same_list events others booting same) (only events extent a es n has is) (only others extent b fs m has_too also)
     where
-      only : (events : Events) (end : ℕ) (r : Reply) (es : Events) (n : ℕ) → MayHave (certain events end) es n → Transition.IsBooted es n r → Transition.IsBooted events end r
-      only events end r es n (inl (here, ends)) is = subst (λ l. Transition.IsBooted l end r) here (subst (λ k. Transition.IsBooted es k r) ends is)
-      only events end r es n (inr (here, ends)) is = subst (λ l. Transition.IsBooted l end r) here (subst (λ k. Transition.IsBooted es k r) ends is)
-  boots_store events others end same (inl is) (inr also) = failure b _ also refl both.1
-  boots_store events others end same (inr is) other = failure a _ is refl both.0
+      only : (events : Events) (extent : Extent) (r : Reply) (es : Events) (n : Extent) → MayHave (certain events extent) es n → Transition.IsBooted es n r → Transition.IsBooted events extent r
+      only events extent r es n has is =
+          let (here, reaches) = has_only events es extent n has in
+          subst (λ l. Transition.IsBooted l extent r) here (subst (λ k. Transition.IsBooted es k r) reaches is)
+  boots_store events others extent same (inl is) (inr also) = failure b _ also refl both.1
+  boots_store events others extent same (inr is) other = failure a _ is refl both.0
 
   -- one list for the bytes, or one line for what is wrong with them
   refusal_line_once : (x : List ℕ) (why other : BootError) → IsBootRefusal x why → IsBootRefusal x other → boot_line why ≡ boot_line other
@@ -174,118 +193,135 @@ module _ (a b : Reply) (both : Both a b) where
   refusal_line_once x why boot_error.NoMemory p q = absurd q
 
   boots_bytes : BootLaws → (x : List ℕ) → Transition.BootsBytes x a → Transition.BootsBytes x b → Same a b
-  boots_bytes laws x (inl (events, list, end, after, image, is)) (inl (others, again, stop, after_too, image_too, also)) =
+  boots_bytes laws x (inl (events, list, extent, after, image, is)) (inl (others, again, stop, after_too, image_too, also)) =
       let one : booted list ≡ booted again = laws.one x list again image.image_of image_too.image_of in
-      let there : stop ≡ end = sym image_too.ends ∙ image.ends in
-      booted_same events others end
+      let there : stop ≡ extent = sym image_too.reaches ∙ image.reaches in
+      booted_same events others extent
       (list_after-more events booting ∙ ap (option_and_then (step booting)) after ∙ ap (λ l. Some l) one ∙ sym (list_after-more others booting ∙ ap (option_and_then (step booting)) after_too))
       is (subst (λ n. Transition.IsBooted others n b) there also)
-  boots_bytes laws x (inl (events, list, end, after, image, is)) (inr (inl (why, told, also))) = absurd (laws.never_both x list why image.image_of told)
+  boots_bytes laws x (inl (events, list, extent, after, image, is)) (inr (inl (why, told, also))) = absurd (laws.never_both x list why image.image_of told)
   boots_bytes laws x (inl is) (inr (inr (torn, also))) = failure b _ also refl both.1
-  boots_bytes laws x (inr (inl (why, told, is))) (inl (events, list, end, after, image, also)) = absurd (laws.never_both x list why image.image_of told)
+  boots_bytes laws x (inr (inl (why, told, is))) (inl (events, list, extent, after, image, also)) = absurd (laws.never_both x list why image.image_of told)
   boots_bytes laws x (inr (inl (why, told, is))) (inr (inl (other, told_too, also))) = as_these a b _ _ is also (refusal_line_once x why other told told_too, refl, same_bytes x)
   boots_bytes laws x (inr (inl is)) (inr (inr (torn, also))) = failure b _ also refl both.1
   boots_bytes laws x (inr (inr (torn, is))) other = failure a _ is refl both.0
 
   boots : BootLaws → (p q : Place) → Alike p q → Transition.Boots p a → Transition.Boots q b → Same a b
   boots laws p q (same_bytes x) is also = boots_bytes laws x is also
-  boots laws p q (same_store events end) is also = boots_store events events end refl is also
-  boots laws p q (same_dead events others end same) is also = boots_store events others end same is also
-  boots laws p q (same_lists events others end ps qs same one) is also = boots_store events others end same is also
+  boots laws p q (same_store events extent) is also = boots_store events events extent refl is also
+  boots laws p q (same_dead events others extent same) is also = boots_store events others extent same is also
+  boots laws p q (same_lists events others extent ps qs same one) is also = boots_store events others extent same is also
 
 -- replies behind an event
 behind_same : (e : Event) (x y : Reply) → Same x y → Same (behind e x) (behind e y)
 behind_same e x y (told, outcomes, then) = (told, ap (λ (o : Outcome). (behind e (record { answer = []; outcome = o; after = x.after })).outcome) outcomes, then)
 
 module _ (a b : Reply) (both : Both a b) where
-  reboots : (events others : Events) (end : ℕ) (ps qs : Processes) (vsn : List ℕ) (l : Releases) (o : Result Releases HandlerError) → list_after events ≡ list_after others → ps ≡ qs
-      → Transition.Reboots events end ps vsn l o a → Transition.Reboots others end qs vsn l o b → Same a b
-  reboots events others end ps qs vsn l o same one =
+  reboots : (events others : Events) (extent : Extent) (ps qs : Processes) (vsn : List ℕ) (l : Releases) (o : Result Releases HandlerError) → list_after events ≡ list_after others → ps ≡ qs
+      → Transition.Reboots events extent ps vsn l o a → Transition.Reboots others extent qs vsn l o b → Same a b
+  reboots events others extent ps qs vsn l o same one =
       let e = rebooting vsn in
-      commits a b both events others end ps qs e _ o _ _ (λ (x, boot, is) (y, boot_too, also).
-      as_these a b _ _ is also (behind_same e x y (boots_store x y (works a x is both.0, works b y also both.1) (events ++ e ∷ []) (others ++ e ∷ []) _ (same_list events others e same) boot boot_too))) (same_lists events others end ps qs same one)
+      commits a b both events others extent ps qs e _ o (Rebooted events) (Rebooted others) same (λ x r. rests events x a both.0 both.2 r) (λ x r. rests others x b both.1 both.3 r)
+      (λ z (x, boot, is) (y, boot_too, also).
+      as_these a b _ _ is also (behind_same e x y (boots_store x y (works a x is both.0, works b y also both.1, (λ r. small_as a _ is both.2 tt), λ r. small_as b _ also both.3 tt) (events ++ e ∷ []) (others ++ e ∷ []) z (same_list events others e same) boot boot_too))) (same_lists events others extent ps qs same one)
     where
       works : (r x : Reply) → r ≡ behind (rebooting vsn) x → r.outcome.failed ≡ false → x.outcome.failed ≡ false
       works r x is fine = ap (λ (s : Reply). s.outcome.failed) (sym is) ∙ fine
 
-  changed : (p q : Place) (c : Transition.Change) → Alike p q → Transition.Acts p (changes_node c) a → Transition.Acts q (changes_node c) b → Same a b
-  changed p q c (same_bytes x) is also = as_these a b _ _ is also (refl, refl, same_bytes x)
-  changed p q c (same_store events end) is also = as_these a b _ _ is also (refl, refl, same_store events end)
-  changed p q c (same_dead events others end same) is also = as_these a b _ _ is also (refl, refl, same_dead events others end same)
-  changed p q c (same_lists events others end ps qs same one) is also =
+      Rebooted : Events → Extent → Reply → Type 0
+      Rebooted events x r = (b : Reply) × Transition.BootsStore (Transition.rebooted events x vsn) b × (r ≡ behind (rebooting vsn) b)
+
+      rests : (events : Events) (x : Extent) (r : Reply) → r.outcome.failed ≡ false → IsSmall r → Rebooted events x r → x ≡ compacted x (releases_after (events ++ rebooting vsn ∷ []))
+      rests events x r fine small (s, inl (es, n, has, (list, after, told)), is) =
+          let only = has_only (events ++ rebooting vsn ∷ []) es x n has in
+          let compact : n ≡ compacted n (releases_after (es ++ booting ∷ [])) = subst (λ (t : Reply). IsCompact t.after) told (small_as r _ is small tt) in
+          subst (λ l. x ≡ compacted x (releases_after l)) only.0 (subst (λ y. y ≡ compacted y (releases_after es)) only.1 (compact ∙ booted_reach n es))
+      rests events x r fine small (s, inr fails, is) = failure s _ fails refl (works r s is fine)
+
+  changed : (p q : Place) (c : Transition.Change) → HaveRecord (c.event ∷ []) → Alike p q → Transition.Acts p (changes_node c) a → Transition.Acts q (changes_node c) b → Same a b
+  changed p q c has (same_bytes x) is also = as_these a b _ _ is also (refl, refl, same_bytes x)
+  changed p q c has (same_store events extent) is also = as_these a b _ _ is also (refl, refl, same_store events extent)
+  changed p q c has (same_dead events others extent same) is also = as_these a b _ _ is also (refl, refl, same_dead events others extent same)
+  changed p q c has (same_lists events others extent ps qs same one) is also =
       let then : releases_after others ≡ releases_after events = ap list_or_none (sym same) in
-      changes a b both events others end ps qs c (releases_after events) (c.files (releases_after events)) (commanded c.event (releases_after events)) same one is (subst (λ l. Transition.Changes others end qs c l (c.files l) (commanded c.event l) b) then also)
+      changes a b both events others extent ps qs c (releases_after events) (c.files (releases_after events)) (commanded c.event (releases_after events)) has same one is (subst (λ l. Transition.Changes others extent qs c l (c.files l) (commanded c.event l) b) then also)
 
   rebooted : (p q : Place) (vsn : List ℕ) → Alike p q → Transition.Acts p (reboots_node vsn) a → Transition.Acts q (reboots_node vsn) b → Same a b
   rebooted p q vsn (same_bytes x) is also = as_these a b _ _ is also (refl, refl, same_bytes x)
-  rebooted p q vsn (same_store events end) is also = as_these a b _ _ is also (refl, refl, same_store events end)
-  rebooted p q vsn (same_dead events others end same) is also = as_these a b _ _ is also (refl, refl, same_dead events others end same)
-  rebooted p q vsn (same_lists events others end ps qs same one) is also =
+  rebooted p q vsn (same_store events extent) is also = as_these a b _ _ is also (refl, refl, same_store events extent)
+  rebooted p q vsn (same_dead events others extent same) is also = as_these a b _ _ is also (refl, refl, same_dead events others extent same)
+  rebooted p q vsn (same_lists events others extent ps qs same one) is also =
       let then : releases_after others ≡ releases_after events = ap list_or_none (sym same) in
-      reboots events others end ps qs vsn (releases_after events) (commanded (rebooting vsn) (releases_after events)) same one is (subst (λ l. Transition.Reboots others end qs vsn l (commanded (rebooting vsn) l) b) then also)
+      reboots events others extent ps qs vsn (releases_after events) (commanded (rebooting vsn) (releases_after events)) same one is (subst (λ l. Transition.Reboots others extent qs vsn l (commanded (rebooting vsn) l) b) then also)
 
   -- an installation
-  leads : (events others : Events) (end : ℕ) (ps qs : Processes) (vsn : List ℕ) (l : Releases) (f : FoundForm) (o : script.Outcome) → list_after events ≡ list_after others → ps ≡ qs
-      → Leads events end ps vsn l f o a → Leads others end qs vsn l f o b → Same a b
-  leads events others end ps qs vsn l f (script.Outcome.refuses n c) same one is also = as_these a b _ _ is also (refl, refl, same_lists events others end ps qs same one)
-  leads events others end ps qs vsn l f (script.Outcome.breaks n c) same one is also = as_these a b _ _ is also (refl, refl, same_dead events others end same)
-  leads events others end ps qs vsn l f (script.Outcome.ends r) same one (inl is) (inl also) =
-      as_these a b _ _ is also (refl, refl, same_lists (events ++ installed vsn ∷ []) (others ++ installed vsn ∷ []) (end_behind end (install_size vsn l)) (behind_run r) (behind_run r) (same_list events others (installed vsn) same) refl)
-  leads events others end ps qs vsn l f (script.Outcome.ends r) same one (inl is) (inr also) = failure b _ also refl both.1
-  leads events others end ps qs vsn l f (script.Outcome.ends r) same one (inr is) other = failure a _ is refl both.0
+  leads : (events others : Events) (extent : Extent) (ps qs : Processes) (vsn : List ℕ) (l : Releases) (f : FoundForm) (o : script.Outcome) → list_after events ≡ list_after others → ps ≡ qs
+      → Leads events extent ps vsn l f o a → Leads others extent qs vsn l f o b → Same a b
+  leads events others extent ps qs vsn l f (script.Outcome.refuses n c) same one is also = as_these a b _ _ is also (refl, refl, same_lists events others extent ps qs same one)
+  leads events others extent ps qs vsn l f (script.Outcome.breaks n c) same one is also = as_these a b _ _ is also (refl, refl, same_dead events others extent same)
+  leads events others extent ps qs vsn l f (script.Outcome.ends r) same one (inl (x, reach, is)) (inl (y, reach_too, also)) =
+      let behind_it = extent_behind extent (install_size vsn l) in
+      let lists : releases_after (others ++ installed vsn ∷ []) ≡ releases_after (events ++ installed vsn ∷ []) = ap list_or_none (sym (same_list events others (installed vsn) same)) in
+      let here = one_reach behind_it x (releases_after (events ++ installed vsn ∷ [])) reach (small_as a _ is both.2 tt) in
+      let there = one_reach behind_it y (releases_after (others ++ installed vsn ∷ [])) reach_too (small_as b _ also both.3 tt) in
+      let both_reach : y ≡ x = there ∙ (ap (compacted behind_it) lists ∙ sym here) in
+      as_these a b _ _ is (subst (λ z. b ≡ installed_reply others z vsn l f (behind_run r)) both_reach also)
+      (refl, refl, same_lists (events ++ installed vsn ∷ []) (others ++ installed vsn ∷ []) x (behind_run r) (behind_run r) (same_list events others (installed vsn) same) refl)
+  leads events others extent ps qs vsn l f (script.Outcome.ends r) same one (inl is) (inr also) = failure b _ also refl both.1
+  leads events others extent ps qs vsn l f (script.Outcome.ends r) same one (inr is) other = failure a _ is refl both.0
 
-  begins : (events others : Events) (end : ℕ) (ps qs : Processes) (vsn : List ℕ) (l : Releases) (f : FoundForm) (o : Option Failure) → list_after events ≡ list_after others → ps ≡ qs
-      → Begins events end ps vsn l f o a → Begins others end qs vsn l f o b → Same a b
-  begins events others end ps qs vsn l f (Some why) same one is also = as_these a b _ _ is also (refl, refl, same_lists events others end ps qs same one)
-  begins events others end ps qs vsn l f None same one (inl (fits, is)) (inl (fits_too, also)) =
-      leads events others end ps qs vsn l f (upgrade_outcome vsn l f ps) same one is (subst (λ o. Leads others end qs vsn l f o b) (ap (upgrade_outcome vsn l f) (sym one)) also)
-  begins events others end ps qs vsn l f None same one (inl (fits, is)) (inr (over_it, also)) = absurd (over_it fits)
-  begins events others end ps qs vsn l f None same one (inr (over_it, is)) (inl (fits, also)) = absurd (over_it fits)
-  begins events others end ps qs vsn l f None same one (inr (over_it, is)) (inr (over_too, also)) = as_these a b _ _ is also (refl, refl, same_lists events others end ps qs same one)
+  begins : (events others : Events) (extent : Extent) (ps qs : Processes) (vsn : List ℕ) (l : Releases) (f : FoundForm) (o : Option Failure) → list_after events ≡ list_after others → ps ≡ qs
+      → Begins events extent ps vsn l f o a → Begins others extent qs vsn l f o b → Same a b
+  begins events others extent ps qs vsn l f (Some why) same one is also = as_these a b _ _ is also (refl, refl, same_lists events others extent ps qs same one)
+  begins events others extent ps qs vsn l f None same one (inl (fits, is)) (inl (fits_too, also)) =
+      leads events others extent ps qs vsn l f (upgrade_outcome vsn l f ps) same one is (subst (λ o. Leads others extent qs vsn l f o b) (ap (upgrade_outcome vsn l f) (sym one)) also)
+  begins events others extent ps qs vsn l f None same one (inl (fits, is)) (inr (over_it, also)) = absurd (over_it fits)
+  begins events others extent ps qs vsn l f None same one (inr (over_it, is)) (inl (fits, also)) = absurd (over_it fits)
+  begins events others extent ps qs vsn l f None same one (inr (over_it, is)) (inr (over_too, also)) = as_these a b _ _ is also (refl, refl, same_lists events others extent ps qs same one)
 
-  installs_so : (events others : Events) (end : ℕ) (ps qs : Processes) (vsn : List ℕ) (l : Releases) (o : Result FoundForm HandlerError) → list_after events ≡ list_after others → ps ≡ qs
-      → Installs events end ps vsn l o a → Installs others end qs vsn l o b → Same a b
-  installs_so events others end ps qs vsn l (Err why) same one is also = as_these a b _ _ is also (refl, refl, same_lists events others end ps qs same one)
-  installs_so events others end ps qs vsn l (Ok f) same one is also = begins events others end ps qs vsn l f (script_failure vsn l f) same one is also
+  installs_so : (events others : Events) (extent : Extent) (ps qs : Processes) (vsn : List ℕ) (l : Releases) (o : Result FoundForm HandlerError) → list_after events ≡ list_after others → ps ≡ qs
+      → Installs events extent ps vsn l o a → Installs others extent qs vsn l o b → Same a b
+  installs_so events others extent ps qs vsn l (Err why) same one is also = as_these a b _ _ is also (refl, refl, same_lists events others extent ps qs same one)
+  installs_so events others extent ps qs vsn l (Ok f) same one is also = begins events others extent ps qs vsn l f (script_failure vsn l f) same one is also
 
   installed_alike : (p q : Place) (vsn : List ℕ) → Alike p q → Transition.Acts p (installs vsn) a → Transition.Acts q (installs vsn) b → Same a b
   installed_alike p q vsn (same_bytes x) is also = as_these a b _ _ is also (refl, refl, same_bytes x)
-  installed_alike p q vsn (same_store events end) is also = as_these a b _ _ is also (refl, refl, same_store events end)
-  installed_alike p q vsn (same_dead events others end same) is also = as_these a b _ _ is also (refl, refl, same_dead events others end same)
-  installed_alike p q vsn (same_lists events others end ps qs same one) is also =
+  installed_alike p q vsn (same_store events extent) is also = as_these a b _ _ is also (refl, refl, same_store events extent)
+  installed_alike p q vsn (same_dead events others extent same) is also = as_these a b _ _ is also (refl, refl, same_dead events others extent same)
+  installed_alike p q vsn (same_lists events others extent ps qs same one) is also =
       let then : releases_after others ≡ releases_after events = ap list_or_none (sym same) in
-      installs_so events others end ps qs vsn (releases_after events) (installation vsn (releases_after events)) same one is (subst (λ l. Installs others end qs vsn l (installation vsn l) b) then also)
+      installs_so events others extent ps qs vsn (releases_after events) (installation vsn (releases_after events)) same one is (subst (λ l. Installs others extent qs vsn l (installation vsn l) b) then also)
 
   told : (p q : Place) → Alike p q → Transition.Acts p tells_start a → Transition.Acts q tells_start b → Same a b
   told p q (same_bytes x) is also = as_these a b _ _ is also (refl, refl, same_bytes x)
-  told p q (same_store events end) is also = as_these a b _ _ is also (refl, refl, same_store events end)
-  told p q (same_dead events others end same) is also = as_these a b _ _ is also (refl, refl, same_dead events others end same)
-  told p q (same_lists events others end ps qs same one) (inl is) (inl also) =
-      as_these a b _ _ is also (ap (λ o. Transition.ok_line (Transition.start_versions (permanent (list_or_none o)))) same, refl, same_lists events others end ps qs same one)
-  told p q (same_lists events others end ps qs same one) (inl is) (inr also) = failure b _ also refl both.1
-  told p q (same_lists events others end ps qs same one) (inr is) other = failure a _ is refl both.0
+  told p q (same_store events extent) is also = as_these a b _ _ is also (refl, refl, same_store events extent)
+  told p q (same_dead events others extent same) is also = as_these a b _ _ is also (refl, refl, same_dead events others extent same)
+  told p q (same_lists events others extent ps qs same one) (inl is) (inl also) =
+      as_these a b _ _ is also (ap (λ o. Transition.ok_line (Transition.start_versions (permanent (list_or_none o)))) same, refl, same_lists events others extent ps qs same one)
+  told p q (same_lists events others extent ps qs same one) (inl is) (inr also) = failure b _ also refl both.1
+  told p q (same_lists events others extent ps qs same one) (inr is) other = failure a _ is refl both.0
 
   called_alike : (p q : Place) (c : Calls) → Alike p q → Transition.Acts p (calls c) a → Transition.Acts q (calls c) b → Same a b
   called_alike p q c (same_bytes x) is also = as_these a b _ _ is also (refl, refl, same_bytes x)
-  called_alike p q c (same_store events end) is also = as_these a b _ _ is also (refl, refl, same_store events end)
-  called_alike p q c (same_dead events others end same) is also = as_these a b _ _ is also (refl, refl, same_dead events others end same)
-  called_alike p q c (same_lists events others end ps qs same one) is also =
-      as_these a b _ _ is also (ap (calls_line c) one, refl, same_lists events others end (left_by c ps) (left_by c qs) same (ap (left_by c) one))
+  called_alike p q c (same_store events extent) is also = as_these a b _ _ is also (refl, refl, same_store events extent)
+  called_alike p q c (same_dead events others extent same) is also = as_these a b _ _ is also (refl, refl, same_dead events others extent same)
+  called_alike p q c (same_lists events others extent ps qs same one) is also =
+      as_these a b _ _ is also (ap (calls_line c) one, refl, same_lists events others extent (left_by c ps) (left_by c qs) same (ap (left_by c) one))
 
-  acts : BootLaws → (p q : Place) (does : Transition.Action) → Alike p q → Transition.Acts p does a → Transition.Acts q does b → Same a b
-  acts laws p q (answers text) alike is also = as_these a b _ _ is also (refl, refl, alike)
-  acts laws p q (makes_node found) alike is also = makes a b both p q found alike is also
-  acts laws p q (changes_node c) alike is also = changed p q c alike is also
-  acts laws p q (installs vsn) alike is also = installed_alike p q vsn alike is also
-  acts laws p q (reboots_node vsn) alike is also = rebooted p q vsn alike is also
-  acts laws p q boots_node alike is also = boots a b both laws p q alike is also
-  acts laws p q tells_start alike is also = told p q alike is also
-  acts laws p q (calls c) alike is also = called_alike p q c alike is also
+  acts : BootLaws → (p q : Place) (does : Transition.Action) → HasRecordOf does → Alike p q → Transition.Acts p does a → Transition.Acts q does b → Same a b
+  acts laws p q (answers text) has alike is also = as_these a b _ _ is also (refl, refl, alike)
+  acts laws p q (makes_node found) has alike is also = makes a b both p q found alike is also
+  acts laws p q (changes_node c) has alike is also = changed p q c has alike is also
+  acts laws p q (installs vsn) has alike is also = installed_alike p q vsn alike is also
+  acts laws p q (reboots_node vsn) has alike is also = rebooted p q vsn alike is also
+  acts laws p q boots_node has alike is also = boots a b both laws p q alike is also
+  acts laws p q tells_start has alike is also = told p q alike is also
+  acts laws p q (calls c) has alike is also = called_alike p q c alike is also
 
   one_reply : BootLaws → (source : Source) → GivesOne source → (p q : Place) (c : Command) → Alike p q → Transition.Transition source p c a → Transition.Transition source q c b → Same a b
   one_reply laws source single p q c alike (does, comes, is) (again, comes_too, also) =
       let one = same_action source single p q c does again alike comes comes_too in
-      acts laws p q does alike is (subst (λ d. Transition.Acts q d b) (sym one) also)
+      acts laws p q does (has_record source p c does comes) alike is (subst (λ d. Transition.Acts q d b) (sym one) also)
 
 -- how a session ends where no reply is left
 abbrev pub Ends : Feed Command → Ending → Type 0
@@ -315,17 +351,17 @@ never_goes_on base files p (next c rest) a b r more not_early (quitting, end) ri
     let (does, comes, is) = subst (λ d. Transition.Transition (source_of base files) p d r) quitting (next_answered base files p c rest b r more not_early right).0 in comes
 
 one_run : BootLaws → (base : Source) → GivesOne base → (files : Files) (p q : Place) (commands : Feed Command) (a b : Ending) (first second : List Reply) → Alike p q → a ≢ early → b ≢ early → NoneFails first → NoneFails second
-    → Replies base files p commands a first → Replies base files q commands b second → (a ≡ b) × AreSame first second
-one_run laws base single files p q commands a b [] [] alike not_a not_b works works_too right right_too = (one_end commands a b (ends base files p commands a not_a right) (ends base files q commands b not_b right_too), tt)
-one_run laws base single files p q commands a b [] (s ∷ second) alike not_a not_b works works_too right right_too = absurd (never_goes_on base files q commands a b s second not_b (ends base files p commands a not_a right) right_too)
-one_run laws base single files p q commands a b (r ∷ first) [] alike not_a not_b works works_too right right_too = absurd (never_goes_on base files p commands b a r first not_a (ends base files q commands b not_b right_too) right)
-one_run laws base single files p q over a b (r ∷ first) (s ∷ second) alike not_a not_b works works_too right right_too = absurd (none_left base files p over a r first (inl refl) right)
-one_run laws base single files p q cut a b (r ∷ first) (s ∷ second) alike not_a not_b works works_too right right_too = absurd (none_left base files p cut a r first (inr refl) right)
-one_run laws base single files p q (next c rest) a b (r ∷ first) (s ∷ second) alike not_a not_b (works, all) (works_too, all_too) right right_too =
+    → LeaveCompactStores first → LeaveCompactStores second → Replies base files p commands a first → Replies base files q commands b second → (a ≡ b) × AreSame first second
+one_run laws base single files p q commands a b [] [] alike not_a not_b works works_too small small_too right right_too = (one_end commands a b (ends base files p commands a not_a right) (ends base files q commands b not_b right_too), tt)
+one_run laws base single files p q commands a b [] (s ∷ second) alike not_a not_b works works_too small small_too right right_too = absurd (never_goes_on base files q commands a b s second not_b (ends base files p commands a not_a right) right_too)
+one_run laws base single files p q commands a b (r ∷ first) [] alike not_a not_b works works_too small small_too right right_too = absurd (never_goes_on base files p commands b a r first not_a (ends base files q commands b not_b right_too) right)
+one_run laws base single files p q over a b (r ∷ first) (s ∷ second) alike not_a not_b works works_too small small_too right right_too = absurd (none_left base files p over a r first (inl refl) right)
+one_run laws base single files p q cut a b (r ∷ first) (s ∷ second) alike not_a not_b works works_too small small_too right right_too = absurd (none_left base files p cut a r first (inr refl) right)
+one_run laws base single files p q (next c rest) a b (r ∷ first) (s ∷ second) alike not_a not_b (works, all) (works_too, all_too) (small, rests) (small_too, rests_too) right right_too =
     let (is, behind) = next_answered base files p c rest a r first not_a right in
     let (also, behind_too) = next_answered base files q c rest b s second not_b right_too in
-    let (told, outcomes, then) = one_reply r s (works, works_too) laws (source_of base files) (gives_one base files single) p q c alike is also in
-    let (end, same) = one_run laws base single (files_behind files c) r.after s.after rest a b first second then not_a not_b all all_too behind behind_too in
+    let (told, outcomes, then) = one_reply r s (works, works_too, small, small_too) laws (source_of base files) (gives_one base files single) p q c alike is also in
+    let (end, same) = one_run laws base single (files_behind files c) r.after s.after rest a b first second then not_a not_b all all_too rests rests_too behind behind_too in
     (end, (told, outcomes, same))
 
 pub have_one_answer : BootLaws → (base : Source) → HaveOneAnswer base

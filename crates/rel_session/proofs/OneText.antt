@@ -1,4 +1,4 @@
--- Sessions in which the device did not fail have written one text.
+-- Sessions in which neither the device failed nor memory was refused to a compaction have written one text.
 use Rattle.std.proofs.Common.{◌≡◌, ◌≢◌, ℕ, List, [], ◌∷◌, ◌++◌, refl, sym, ◌∙◌}
 use Rattle.rel_unpack.specs.Source.{Source}
 use Rattle.rel_session.specs.AnswerLaws.{AreSame, HaveOneText}
@@ -23,8 +23,8 @@ whole_text cut_off replies text whole is = is
 whole_text early replies text whole is = absurd (whole refl)
 
 pub have_one_text : BootLaws → {D : Type 0} (v : Device D) (base : Source) → HaveOneText v base
-have_one_text laws v base single files p commands a b old new other later text written sure not_a not_b works works_too one two =
+have_one_text laws v base single files p commands a b old new other later text written sure not_a not_b works works_too one two small small_too =
     let fine = fails_only_with_the_device v base files p commands a one.replies old new one.right one.leads works in
     let fine_too = fails_only_with_the_device v base files p commands b two.replies other later two.right two.leads works_too in
-    let (ending, same) = have_one_answer laws base single files p commands a b one.replies two.replies sure not_a not_b fine.0 fine_too.0 one.right two.right in
+    let (ending, same) = have_one_answer laws base single files p commands a b one.replies two.replies sure not_a not_b fine.0 fine_too.0 small small_too one.right two.right in
     (ending, whole_text a one.replies text not_a one.written ∙ same_text one.replies two.replies same ∙ sym (whole_text b two.replies written not_b two.written))

@@ -5,7 +5,7 @@ use Rattle.std.proofs.lemmas.List.{append-nil, append_assoc}
 use Rattle.rel_list.specs.Releases.{Releases}
 use Rattle.rel_list.specs.Event.{Event, list_after}
 use Rattle.rel_handler.specs.Events.{Events, Known, settled, with_doubt, accepted, IsPrefix, Stored, certain, uncertain, MayHave, HasStart, IsStoredAs}
-use Rattle.rel_handler.specs.Image.{IsImageAt, IsStarted}
+use Rattle.rel_handler.specs.Image.{Extent, IsImageAt, IsStarted}
 use Rattle.rel_session.specs.Run.{IsReached}
 
 abbrev doubt_of : Option Event → Events
@@ -41,9 +41,9 @@ prefix_so known doubt events list (inr is) after = record {
   holds = is ∙ with_doubt-append known doubt;
 }
 
-pub prefix_of : (s : Stored) (events : Events) (end : ℕ) (list : Releases) → MayHave s events end → list_after events ≡ Some list → IsPrefix s.known events
-prefix_of s events end list (inl (is, at)) after = prefix_so s.known.acknowledged s.known.in_doubt events list (inl is) after
-prefix_of s events end list (inr (is, at)) after = prefix_so s.known.acknowledged s.known.in_doubt events list (inr is) after
+pub prefix_of : (s : Stored) (events : Events) (extent : Extent) (list : Releases) → MayHave s events extent → list_after events ≡ Some list → IsPrefix s.known events
+prefix_of s events extent list (inl (is, at)) after = prefix_so s.known.acknowledged s.known.in_doubt events list (inl is) after
+prefix_of s events extent list (inr (is, at)) after = prefix_so s.known.acknowledged s.known.in_doubt events list (inr is) after
 
 -- an image of a store is reached by each command on it, before it has done anything
 pub reached : (s : Stored) (command : Events) (c : List ℕ) → IsStoredAs s c → IsReached s.known command c
@@ -67,10 +67,10 @@ settled_accepted l = go (is_some (list_after l))
     go false = sym (append-nil l)
 
 -- and with its event
-pub reached_with : (events : Events) (end : ℕ) (e : Event) (size : ℕ) (c : List ℕ) → IsStoredAs (uncertain events end e size) c → IsReached (settled events) (e ∷ []) c
-reached_with events end e size c of = by_events _ of.has
+pub reached_with : (events : Events) (extent : Extent) (e : Event) (size : ℕ) (c : List ℕ) → IsStoredAs (uncertain events extent e size) c → IsReached (settled events) (e ∷ []) c
+reached_with events extent e size c of = by_events _ of.has
   where
-    by_events : (n : ℕ) → MayHave (uncertain events end e size) of.events n → IsReached (settled events) (e ∷ []) c
+    by_events : (n : Extent) → MayHave (uncertain events extent e size) of.events n → IsReached (settled events) (e ∷ []) c
     by_events n (inl (is, at)) = record {
       events = events;
       prefix = prefix_so events None events of.list (inl refl) (subst (λ (l : Events). list_after l ≡ Some of.list) is of.after);
@@ -139,6 +139,6 @@ reached_behind events e command c of =
     }
 
 -- an image of a handler's list is a store of its events
-pub stored : (events : Events) (end : ℕ) (list : Releases) (c : List ℕ) → list_after events ≡ Some list → IsImageAt c list end → IsStarted list c → IsStoredAs (certain events end) c
-stored events end list c after image started =
-    record { events = events; has = inl (refl, image.ends); list = list; after = after; image_of = image.image_of; start = inl (list, after, started) }
+pub stored : (events : Events) (extent : Extent) (list : Releases) (c : List ℕ) → list_after events ≡ Some list → IsImageAt c list extent → IsStarted list c → IsStoredAs (certain events extent) c
+stored events extent list c after image started =
+    record { events = events; has = inl (refl, image.reaches); list = list; after = after; image_of = image.image_of; start = inl (list, after, started) }

@@ -3,6 +3,7 @@ use Rattle.std.proofs.Common.{◌≡◌, ℕ, ◌≤◌, true, false, List, Resu
 use Rattle.std.specs.Prelude.{IfOk, MatchResult, String, string_bytes}
 use Rattle.std.specs.declared.alloc.AllocError.{AllocError}
 use Rattle.std.specs.declared.alloc.Global.{Global}
+use Rattle.rel_handler.specs.Image.{Extent}
 use Rattle.rel_handler.specs.Events.{Events}
 use Rattle.rel_handler.specs.State.{disk_in, list_in, is_dead}
 use Rattle.rel_list.specs.Releases.{Releases}
@@ -25,22 +26,22 @@ never e = absurd cc
 
 -- The processes alone change, by a command that says this of the releases and of them, and leaves these.
 module _ {D : Type 0} (v : Device D) (laws : IsDevice v) (P : Place → Reply → Type 0) (says : Releases → Processes → List ℕ) (leaves : Processes → Processes)
-    (right : (events : Events) (end : ℕ) (ps : Processes) → P (running events end ps) (reply (says (releases_after events) ps) nothing (running events end (leaves ps))))
+    (right : (events : Events) (extent : Extent) (ps : Processes) → P (running events extent ps) (reply (says (releases_after events) ps) nothing (running events extent (leaves ps))))
     (n new : BootedNode D) (alive : is_dead n.handler ≡ false) (same : new.handler ≡ n.handler) where
   replies : processes_in new.processes ≡ leaves (processes_in n.processes) → (p : Place) → IsAt v (memory.Made n) p → Replied v p (λ a. P p a × (a.answer ≡ says (list_in n.handler) (processes_in n.processes))) (memory.Made n) (memory.Made new)
   replies left (raw bytes) at = absurd at
   replies left (closed s) at = absurd at
   replies left (dead s) at = never (sym alive ∙ at.1)
-  replies left (running events end ps) (here, living, after, stop, has) =
-      let then : IsAt v (memory.Made new) (running events end (leaves ps)) =
-      subst (λ h. IsAt v (memory.Made (record { handler = h; processes = new.processes })) (running events end (leaves ps))) (sym same) (here, living, after, stop, left ∙ ap leaves has) in
+  replies left (running events extent ps) (here, living, after, stop, has) =
+      let then : IsAt v (memory.Made new) (running events extent (leaves ps)) =
+      subst (λ h. IsAt v (memory.Made (record { handler = h; processes = new.processes })) (running events extent (leaves ps))) (sym same) (here, living, after, stop, left ∙ ap leaves has) in
       let disk : disk_in new.handler ≡ disk_in n.handler = ap disk_in same in
       record {
-        given = reply (says (releases_after events) ps) nothing (running events end (leaves ps));
-        right = (right events end ps, ap (λ o. says (list_or_none o) ps) after ∙ ap (says (list_in n.handler)) (sym has));
+        given = reply (says (releases_after events) ps) nothing (running events extent (leaves ps));
+        right = (right events extent ps, ap (λ o. says (list_or_none o) ps) after ∙ ap (says (list_in n.handler)) (sym has));
         at = then;
         happens = record {
-          moments = subst (λ d. Moments v (running events end ps) nothing (disk_in n.handler) d) (sym disk) (moments_of_nothing v laws (running events end ps) (disk_in n.handler) (disk_in n.handler) here (still v laws (disk_in n.handler)));
+          moments = subst (λ d. Moments v (running events extent ps) nothing (disk_in n.handler) d) (sym disk) (moments_of_nothing v laws (running events extent ps) (disk_in n.handler) (disk_in n.handler) here (still v laws (disk_in n.handler)));
           holds = then.0;
           cause = λ e. never e;
           counted = subst (λ d. v.failures (disk_in n.handler) ≤ v.failures d) (sym disk) (omega arith);
@@ -52,8 +53,8 @@ module _ {D : Type 0} (v : Device D) (laws : IsDevice v) (P : Place → Reply �
   writes_nothing (raw bytes) at = absurd at
   writes_nothing (closed s) at = absurd at
   writes_nothing (dead s) at = never (sym alive ∙ at.1)
-  writes_nothing (running events end ps) at =
-      subst (λ h. NothingDone v (running events end ps) (memory.Made n) (memory.Made (record { handler = h; processes = new.processes }))) (sym same)
+  writes_nothing (running events extent ps) at =
+      subst (λ h. NothingDone v (running events extent ps) (memory.Made n) (memory.Made (record { handler = h; processes = new.processes }))) (sym same)
       (record { nothing_new = still v laws (disk_in n.handler); holds = at.0; counted = omega arith })
 
   -- Where memory is refused, the processes may be any.

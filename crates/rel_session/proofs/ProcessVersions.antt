@@ -8,7 +8,7 @@ use Rattle.rel_list.specs.declared.status.Status.TheVariants.{Permanent}
 use Rattle.rel_list.specs.Event.Event.{reboot_old as rebooting, boot as booting}
 use Rattle.rel_records.proofs.CompletionLemmas.{of_applications}
 use Rattle.rel_handler.specs.Events.{Events, Stored, certain}
-use Rattle.rel_handler.specs.Image.{holds_a_store}
+use Rattle.rel_handler.specs.Image.{Extent, holds_a_store}
 use Rattle.rel_unpack.specs.Refusal.{Refusal}
 use Rattle.rel_unpack.specs.Source.{Source}
 use Rattle.rel_unpack.specs.Unpacking.{Brought}
@@ -48,42 +48,41 @@ libraries_of (e ∷ es) all = (all.0.1, libraries_of es all.1)
 booted_versions : (events : Events) (list : Releases) → list_after events ≡ Some list → AreWithLibraries list → HaveModuleVersions (fresh (releases_after events))
 booted_versions events list after have = subst (λ o. HaveModuleVersions (fresh (list_or_none o))) (sym after) (fresh_versions list have)
 
-boots_to : (events : Events) (end : ℕ) → OfList events → (a : Reply) → Transition.IsBooted events end a → KeepsVersions a
-boots_to events end all a (list, after, is) = versions_as a _ is (booted_versions (events ++ booting ∷ []) list after (libraries_of list (list_versions events booting tt all list after)))
+boots_to : (events : Events) (extent : Extent) → OfList events → (a : Reply) → Transition.IsBooted events extent a → KeepsVersions a
+boots_to events extent all a (list, after, is) = versions_as a _ is (booted_versions (events ++ booting ∷ []) list after (libraries_of list (list_versions events booting tt all list after)))
 
 boots_store : (s : Stored) → HasVersionsAt (closed s) → (a : Reply) → Transition.BootsStore s a → KeepsVersions a
-boots_store s all a (inl (events, end, has, is)) = boots_to events end (stored_versions s all events end has) a is
+boots_store s all a (inl (events, extent, has, is)) = boots_to events extent (stored_versions s all events extent has) a is
 boots_store s all a (inr is) = versions_as a _ is tt
 
 boots : (p : Place) → HasVersionsAt p → (a : Reply) → Transition.Boots p a → KeepsVersions a
-boots (raw x) all a (inl (events, list, end, after, image, is)) =
+boots (raw x) all a (inl (events, list, extent, after, image, is)) =
     let of = of_image x list image.image_of in
-    boots_to events end (λ l e. let same : list ≡ l = cc in subst AreOfFiles same of) a is
+    boots_to events extent (λ l e. let same : list ≡ l = cc in subst AreOfFiles same of) a is
 boots (raw x) all a (inr (inl (why, refusal, is))) = versions_as a _ is tt
 boots (raw x) all a (inr (inr (torn, is))) = versions_as a _ is tt
 boots (closed s) all a is = boots_store s all a is
-boots (running events end ps) all a is = boots_store (certain events end) (certain_versions events end all) a is
+boots (running events extent ps) all a is = boots_store (certain events extent) (certain_versions events extent all) a is
 boots (dead s) all a is = boots_store s all a is
 
 -- a commit
-commits : (events : Events) (end : ℕ) (ps : Processes) (e : Event) (size : ℕ) (o : Result Releases HandlerError) (P : Reply → Type 0) → ((a : Reply) → P a → KeepsVersions a) → HaveModuleVersions ps → (a : Reply)
-    → Transition.IsCommit events end ps e size o P a → KeepsVersions a
-commits events end ps e size (Err why) P done versions a is = versions_as a _ is versions
-commits events end ps e size (Ok next) P done versions a (inl (fits, inl is)) = done a is
-commits events end ps e size (Ok next) P done versions a (inl (fits, inr is)) = versions_as a _ is tt
-commits events end ps e size (Ok next) P done versions a (inr (over_it, is)) = versions_as a _ is versions
+commits : (events : Events) (extent : Extent) (ps : Processes) (e : Event) (size : ℕ) (o : Result Releases HandlerError) (P : Extent → Reply → Type 0) → ((x : Extent) (a : Reply) → P x a → KeepsVersions a) → HaveModuleVersions ps → (a : Reply)
+    → Transition.IsCommit events extent ps e size o P a → KeepsVersions a
+commits events extent ps e size (Err why) P done versions a is = versions_as a _ is versions
+commits events extent ps e size (Ok next) P done versions a (inl (fits, inl (x, reach, is))) = done x a is
+commits events extent ps e size (Ok next) P done versions a (inl (fits, inr is)) = versions_as a _ is tt
+commits events extent ps e size (Ok next) P done versions a (inr (over_it, is)) = versions_as a _ is versions
 
-changes : (events : Events) (end : ℕ) (ps : Processes) (c : Transition.Change) (list : Releases) (f : Option Refusal) (o : Result Releases HandlerError) → HaveModuleVersions ps → (a : Reply)
-    → Transition.Changes events end ps c list f o a → KeepsVersions a
-changes events end ps c list (Some why) o versions a is = versions_as a _ is versions
-changes events end ps c list None o versions a is = commits events end ps c.event (c.size list) o _ (λ a is. versions_as a _ is versions) versions a is
+changes : (events : Events) (extent : Extent) (ps : Processes) (c : Transition.Change) (list : Releases) (f : Option Refusal) (o : Result Releases HandlerError) → HaveModuleVersions ps → (a : Reply)
+    → Transition.Changes events extent ps c list f o a → KeepsVersions a
+changes events extent ps c list (Some why) o versions a is = versions_as a _ is versions
+changes events extent ps c list None o versions a is = commits events extent ps c.event (c.size list) o _ (λ x a is. versions_as a _ is versions) versions a is
 
-reboots : (events : Events) (end : ℕ) (ps : Processes) (vsn : List ℕ) (list : Releases) (o : Result Releases HandlerError) → OfList events → HaveModuleVersions ps → (a : Reply)
-    → Transition.Reboots events end ps vsn list o a → KeepsVersions a
-reboots events end ps vsn list o all versions =
+reboots : (events : Events) (extent : Extent) (ps : Processes) (vsn : List ℕ) (list : Releases) (o : Result Releases HandlerError) → OfList events → HaveModuleVersions ps → (a : Reply)
+    → Transition.Reboots events extent ps vsn list o a → KeepsVersions a
+reboots events extent ps vsn list o all versions =
     let e = rebooting vsn in
-    let s = Transition.rebooted events end vsn list in
-    commits events end ps e _ o _ (λ a (b, done, is). versions_as a _ is (boots_store s (certain_versions (events ++ e ∷ []) s.end (list_versions events e tt all)) b done)) versions
+    commits events extent ps e _ o _ (λ x a (b, done, is). versions_as a _ is (boots_store (Transition.rebooted events x vsn) (certain_versions (events ++ e ∷ []) x (list_versions events e tt all)) b done)) versions
 
 -- What is brought has libraries, where it isn't refused.
 abbrev BringsLibraries : Brought → Type 0
@@ -103,7 +102,7 @@ makes (raw x) b of versions a (inl is) = makes_on x b (holds_a_store x) of a is
 makes (raw x) b of versions a (inr (torn, is)) = versions_as a _ is tt
 makes (closed s) b of versions a (inl is) = versions_as a _ is tt
 makes (closed s) b of versions a (inr is) = versions_as a _ is tt
-makes (running events end ps) b of versions a is = versions_as a _ is versions
+makes (running events extent ps) b of versions a is = versions_as a _ is versions
 makes (dead s) b of versions a is = versions_as a _ is tt
 
 -- An action brings libraries where it makes a node.
@@ -128,7 +127,7 @@ of_as x y is of = subst MakesOfLibraries (sym is) of
 
 comes_of : (source : Source) (p : Place) (c : Command) (does : Transition.Action) → Transition.ComesTo source p c does → MakesOfLibraries does
 comes_of source p (create path) does (found, there, is) = of_as does _ is (of_creation source path found there)
-comes_of source (running events end ps) (set_unpacked path) does (found, there, is) = of_as does _ is (of_unpacking found)
+comes_of source (running events extent ps) (set_unpacked path) does (found, there, is) = of_as does _ is (of_unpacking found)
 comes_of source (raw x) (set_unpacked path) does is = of_as does _ is tt
 comes_of source (closed s) (set_unpacked path) does is = of_as does _ is tt
 comes_of source (dead s) (set_unpacked path) does is = of_as does _ is tt
@@ -153,36 +152,36 @@ comes_of source p quit does is = absurd is
 acts : (p : Place) (does : Transition.Action) → MakesOfLibraries does → HasVersionsAt p → HasModuleVersionsAt p → (a : Reply) → Transition.Acts p does a → KeepsVersions a
 acts p (answers text) of all versions a is = versions_as a _ is versions
 acts p (makes_node b) of all versions a is = makes p b of versions a is
-acts (running events end ps) (changes_node c) of all versions a is = changes events end ps c (releases_after events) (c.files (releases_after events)) (commanded c.event (releases_after events)) versions a is
+acts (running events extent ps) (changes_node c) of all versions a is = changes events extent ps c (releases_after events) (c.files (releases_after events)) (commanded c.event (releases_after events)) versions a is
 acts (raw x) (changes_node c) of all versions a is = versions_as a _ is tt
 acts (closed s) (changes_node c) of all versions a is = versions_as a _ is tt
 acts (dead s) (changes_node c) of all versions a is = versions_as a _ is tt
-acts (running events end ps) (installs vsn) of all versions a is =
+acts (running events extent ps) (installs vsn) of all versions a is =
     let list = releases_after events in
-    each_reply KeepsVersions events end ps vsn list (record {
+    each_reply KeepsVersions events extent ps vsn list (record {
       listed = λ why. versions;
       unmatched = versions;
       not_run = λ f. versions;
       over_full = versions;
       broken = λ f. tt;
-      done_so = λ f r found comes.
+      done_so = λ f r reach found comes.
           script_versions (site_for (upgrade_to vsn list f) ps.modules) ps f.script r (libraries_of list (listed_versions events all)) refl versions comes;
       doubted_so = λ f found. tt;
     }) a is
 acts (raw x) (installs vsn) of all versions a is = versions_as a _ is tt
 acts (closed s) (installs vsn) of all versions a is = versions_as a _ is tt
 acts (dead s) (installs vsn) of all versions a is = versions_as a _ is tt
-acts (running events end ps) (reboots_node vsn) of all versions a is = reboots events end ps vsn (releases_after events) (commanded (rebooting vsn) (releases_after events)) all versions a is
+acts (running events extent ps) (reboots_node vsn) of all versions a is = reboots events extent ps vsn (releases_after events) (commanded (rebooting vsn) (releases_after events)) all versions a is
 acts (raw x) (reboots_node vsn) of all versions a is = versions_as a _ is tt
 acts (closed s) (reboots_node vsn) of all versions a is = versions_as a _ is tt
 acts (dead s) (reboots_node vsn) of all versions a is = versions_as a _ is tt
 acts p boots_node of all versions a is = boots p all a is
-acts (running events end ps) tells_start of all versions a (inl is) = versions_as a _ is versions
-acts (running events end ps) tells_start of all versions a (inr is) = versions_as a _ is tt
+acts (running events extent ps) tells_start of all versions a (inl is) = versions_as a _ is versions
+acts (running events extent ps) tells_start of all versions a (inr is) = versions_as a _ is tt
 acts (raw x) tells_start of all versions a is = versions_as a _ is tt
 acts (closed s) tells_start of all versions a is = versions_as a _ is tt
 acts (dead s) tells_start of all versions a is = versions_as a _ is tt
-acts (running events end ps) (calls c) of all versions a is = versions_as a _ is (left_versions c ps versions)
+acts (running events extent ps) (calls c) of all versions a is = versions_as a _ is (left_versions c ps versions)
 acts (raw x) (calls c) of all versions a is = versions_as a _ is tt
 acts (closed s) (calls c) of all versions a is = versions_as a _ is tt
 acts (dead s) (calls c) of all versions a is = versions_as a _ is tt

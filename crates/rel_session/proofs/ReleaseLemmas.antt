@@ -1,5 +1,6 @@
 -- The refusal of a release for its files.
 use Rattle.std.proofs.Common.{◌≡◌, ◌≢◌, ℕ, List, Err, refl, ap, ◌∙◌}
+use Rattle.rel_handler.specs.Image.{Extent}
 use Rattle.rel_handler.specs.Events.{Events}
 use Rattle.node_command.specs.Files.{IsOfFiles, told_files}
 use Rattle.node_command.specs.declared.error.HandlerError.{HandlerError}
@@ -32,5 +33,5 @@ files_refuse source path e of known =
 pub creation_refused : (source : Source) (path : List ℕ) (why : Refusal) (p : Place) → IsFilesRefusal source path why → Transition source p (create path) (refused why p)
 creation_refused source path why p (r, found, is) = (creation (Err r), (Err r, found, refl), ap (λ w. refused w p) is)
 
-pub unpacking_refused : (source : Source) (path : List ℕ) (why : Refusal) (events : Events) (end : ℕ) (ps : Processes) → IsFilesRefusal source path why → Transition source (running events end ps) (set_unpacked path) (refused why (running events end ps))
-unpacking_refused source path why events end ps (r, found, is) = (unpacking (Err r), (Err r, found, refl), ap (λ w. refused w (running events end ps)) is)
+pub unpacking_refused : (source : Source) (path : List ℕ) (why : Refusal) (events : Events) (extent : Extent) (ps : Processes) → IsFilesRefusal source path why → Transition source (running events extent ps) (set_unpacked path) (refused why (running events extent ps))
+unpacking_refused source path why events extent ps (r, found, is) = (unpacking (Err r), (Err r, found, refl), ap (λ w. refused w (running events extent ps)) is)

@@ -13,9 +13,9 @@ use Rattle.rel_handler.specs.declared.error.BootError.{BootError}
 use Rattle.rel_handler.specs.declared.error.BootError.TheVariants as boot_error
 use Rattle.rel_handler.specs.declared.handler.Handler.{Handler}
 use Rattle.rel_handler.specs.Events.{Events, Stored, MayHave, certain, StartsBehind, IsStoredAs}
-use Rattle.rel_handler.specs.Image.{IsImageOf, IsImageAt, IsRepairOf}
+use Rattle.rel_handler.specs.Image.{Extent, IsImageAt, IsImageOf, IsRepairOf}
 use Rattle.rel_handler.specs.Refusals.{BootRefused, IsBootRefusal}
-use Rattle.rel_handler.specs.State.{disk_in, list_in, is_dead, end_in, HasStarted, IsSame}
+use Rattle.rel_handler.specs.State.{disk_in, list_in, is_dead, extent_in, HasStarted, IsSame}
 use Rattle.node_processes.specs.Answers.{processes_line, modules_line, peek_line}
 use Rattle.node_processes.specs.Calls.{Calls}
 use Rattle.node_processes.specs.Calls.Calls.{once, often}
@@ -74,11 +74,11 @@ module _ {D : Type 0} (v : Device D) (laws : IsDevice v) where
   pub held : (place : PlaceInMemory D) (p : Place) → IsAt v place p → Holds v p (disk_at place)
   held (memory.Idle disk) (raw bytes) at = at
   held (memory.Idle disk) (closed s) at = at
-  held (memory.Idle disk) (running events end ps) at = absurd at
+  held (memory.Idle disk) (running events extent ps) at = absurd at
   held (memory.Idle disk) (dead s) at = absurd at
   held (memory.Made n) (raw bytes) at = absurd at
   held (memory.Made n) (closed s) at = absurd at
-  held (memory.Made n) (running events end ps) at = at.0
+  held (memory.Made n) (running events extent ps) at = at.0
   held (memory.Made n) (dead s) at = at.0
 
   -- calls that leave nothing new keep what is known of a store
@@ -95,14 +95,14 @@ module _ {D : Type 0} (v : Device D) (laws : IsDevice v) where
   pub moments_of_nothing : (p : Place) (old new : D) → Holds v p old → LeavesOnly v old new (v.may_leave old) → Moments v p nothing old new
   moments_of_nothing (raw bytes) old new here leaves = leaves
   moments_of_nothing (closed s) old new here leaves = quiet s [] old new here leaves
-  moments_of_nothing (running events end ps) old new here leaves = quiet (certain events end) [] old new (λ c now. (here c now).0) leaves
+  moments_of_nothing (running events extent ps) old new here leaves = quiet (certain events extent) [] old new (λ c now. (here c now).0) leaves
   moments_of_nothing (dead s) old new here leaves = quiet s [] old new here leaves
 
   -- where a disk stands that is read alone
   pub holds_still : (p : Place) (old new : D) → Holds v p old → v.seen new ≡ v.seen old → LeavesOnly v old new (v.may_leave old) → Holds v p new
   holds_still (raw bytes) old new here same leaves = same ∙ here
   holds_still (closed s) old new here same leaves = kept (IsStoredAs s) old new here leaves
-  holds_still (running events end ps) old new here same leaves = kept (λ c. IsStoredAs (certain events end) c × StartsBehind events c) old new here leaves
+  holds_still (running events extent ps) old new here same leaves = kept (λ c. IsStoredAs (certain events extent) c × StartsBehind events c) old new here leaves
   holds_still (dead s) old new here same leaves = kept (IsStoredAs s) old new here leaves
 
   never : {A : Type 0} → false ≡ true → A
@@ -133,36 +133,36 @@ module _ {D : Type 0} (v : Device D) (laws : IsDevice v) where
   pub same_at : (n new : BootedNode D) (p : Place) → IsSame n.handler new.handler → processes_in new.processes ≡ processes_in n.processes → IsAt v (memory.Made n) p → IsAt v (memory.Made new) p
   same_at n new (raw bytes) same kept_on at = at
   same_at n new (closed s) same kept_on at = at
-  same_at n new (running events end ps) same kept_on (here, alive, after, ends, has) = (
-    subst (λ d. Holds v (running events end ps) d) (sym same.disk) here,
+  same_at n new (running events extent ps) same kept_on (here, alive, after, ends, has) = (
+    subst (λ d. Holds v (running events extent ps) d) (sym same.disk) here,
     same.dead ∙ alive,
     after ∙ ap (λ l. Some l) (sym same.list),
-    same.end ∙ ends,
+    same.extent ∙ ends,
     kept_on ∙ has,
   )
   same_at n new (dead s) same kept_on (here, is) = (subst (λ d. Holds v (dead s) d) (sym same.disk) here, same.dead ∙ is)
 
   -- A handler whose list is that of these events.
-  abbrev RunsWith : Handler D → Events → ℕ → Type 0
-  RunsWith h events end =
-      ((c : List ℕ) → v.may_leave (disk_in h) c → IsStoredAs (certain events end) c × StartsBehind events c) × (is_dead h ≡ false)
-      × (list_after events ≡ Some (list_in h)) × (end_in h ≡ end)
+  abbrev RunsWith : Handler D → Events → Extent → Type 0
+  RunsWith h events extent =
+      ((c : List ℕ) → v.may_leave (disk_in h) c → IsStoredAs (certain events extent) c × StartsBehind events c) × (is_dead h ≡ false)
+      × (list_after events ≡ Some (list_in h)) × (extent_in h ≡ extent)
 
-  runs_with : (h : Handler D) (events : Events) (end : ℕ) → is_dead h ≡ false → list_after events ≡ Some (list_in h) → end_in h ≡ end
-      → ((c : List ℕ) → v.may_leave (disk_in h) c → IsImageAt c (list_in h) (end_in h)) → HasStarted v.may_leave h → RunsWith h events end
-  runs_with h events end alive after ends images started = (
-    λ c now. (stored events end (list_in h) c after (subst (IsImageAt c (list_in h)) ends (images c now)) (started c now), (list_in h, after, started c now)),
+  runs_with : (h : Handler D) (events : Events) (extent : Extent) → is_dead h ≡ false → list_after events ≡ Some (list_in h) → extent_in h ≡ extent
+      → ((c : List ℕ) → v.may_leave (disk_in h) c → IsImageAt c (list_in h) (extent_in h)) → HasStarted v.may_leave h → RunsWith h events extent
+  runs_with h events extent alive after ends images started = (
+    λ c now. (stored events extent (list_in h) c after (subst (IsImageAt c (list_in h)) ends (images c now)) (started c now), (list_in h, after, started c now)),
     alive,
     after,
     ends,
   )
 
   -- a node with it, and with these processes
-  pub runs_at : (n : BootedNode D) (events : Events) (end : ℕ) (ps : Processes) → is_dead n.handler ≡ false → list_after events ≡ Some (list_in n.handler) → end_in n.handler ≡ end
-      → ((c : List ℕ) → v.may_leave (disk_in n.handler) c → IsImageAt c (list_in n.handler) (end_in n.handler)) → HasStarted v.may_leave n.handler → processes_in n.processes ≡ ps
-      → IsAt v (memory.Made n) (running events end ps)
-  runs_at n events end ps alive after ends images started has =
-      let (here, living, behind, stop) = runs_with n.handler events end alive after ends images started in
+  pub runs_at : (n : BootedNode D) (events : Events) (extent : Extent) (ps : Processes) → is_dead n.handler ≡ false → list_after events ≡ Some (list_in n.handler) → extent_in n.handler ≡ extent
+      → ((c : List ℕ) → v.may_leave (disk_in n.handler) c → IsImageAt c (list_in n.handler) (extent_in n.handler)) → HasStarted v.may_leave n.handler → processes_in n.processes ≡ ps
+      → IsAt v (memory.Made n) (running events extent ps)
+  runs_at n events extent ps alive after ends images started has =
+      let (here, living, behind, stop) = runs_with n.handler events extent alive after ends images started in
       (here, living, behind, stop, has)
 
   -- A node has booted with this handler: the reply, and where a node with it and with its processes stands.
@@ -172,14 +172,14 @@ module _ {D : Type 0} (v : Device D) (laws : IsDevice v) where
     pub at : (n : BootedNode D) → n.handler ≡ h → processes_in n.processes ≡ fresh (list_in h) → IsAt v (memory.Made n) given.after
     pub happens : Happens v p given (disk_at old) (disk_in h)
 
-  pub booted_at : (h : Handler D) (events : Events) (end : ℕ) → is_dead h ≡ false → list_after events ≡ Some (list_in h) → end_in h ≡ end
-      → ((c : List ℕ) → v.may_leave (disk_in h) c → IsImageAt c (list_in h) (end_in h)) → HasStarted v.may_leave h
-      → Holds v (just_booted events end) (disk_in h) × ((n : BootedNode D) → n.handler ≡ h → processes_in n.processes ≡ fresh (list_in h) → IsAt v (memory.Made n) (just_booted events end))
-  booted_at h events end alive after ends images started =
-      let runs = runs_with h events end alive after ends images started in (
+  pub booted_at : (h : Handler D) (events : Events) (extent : Extent) → is_dead h ≡ false → list_after events ≡ Some (list_in h) → extent_in h ≡ extent
+      → ((c : List ℕ) → v.may_leave (disk_in h) c → IsImageAt c (list_in h) (extent_in h)) → HasStarted v.may_leave h
+      → Holds v (just_booted events extent) (disk_in h) × ((n : BootedNode D) → n.handler ≡ h → processes_in n.processes ≡ fresh (list_in h) → IsAt v (memory.Made n) (just_booted events extent))
+  booted_at h events extent alive after ends images started =
+      let runs = runs_with h events extent alive after ends images started in (
         runs.0,
         λ n is has.
-            let (here, living, behind, stop) = subst (λ k. RunsWith k events end) (sym is) runs in
+            let (here, living, behind, stop) = subst (λ k. RunsWith k events extent) (sym is) runs in
             (here, living, behind, stop, has ∙ ap (λ o. fresh (list_or_none o)) (sym after)),
       )
 
@@ -187,7 +187,7 @@ module _ {D : Type 0} (v : Device D) (laws : IsDevice v) where
   rests : (p : Place) (disk : D) → Holds v p disk → Holds v (at_rest p) disk
   rests (raw bytes) disk holds = holds
   rests (closed s) disk holds = holds
-  rests (running events end ps) disk holds = λ c now. (holds c now).0
+  rests (running events extent ps) disk holds = λ c now. (holds c now).0
   rests (dead s) disk holds = holds
 
   -- Its processes were started, or memory was refused and its disk alone is left.
@@ -220,8 +220,8 @@ module _ {D : Type 0} (v : Device D) (laws : IsDevice v) where
 
   -- a boot that is done
   module _ (old : PlaceInMemory D) (disk : D) (taken : disk ≡ disk_at old) (h : Handler D) (alive : is_dead h ≡ false)
-      (image : IsImageAt (v.seen disk) (list_in h) (end_in h)) (again : booted (list_in h) ≡ list_in h)
-      (images : (c : List ℕ) → v.may_leave (disk_in h) c → IsImageAt c (list_in h) (end_in h)) (started : HasStarted v.may_leave h)
+      (image : IsImageAt (v.seen disk) (list_in h) (extent_in h)) (again : booted (list_in h) ≡ list_in h)
+      (images : (c : List ℕ) → v.may_leave (disk_in h) c → IsImageAt c (list_in h) (extent_in h)) (started : HasStarted v.may_leave h)
       (only : (es : Releases) → IsImageOf (v.seen disk) es → list_in h ≡ booted es)
       (leaves : LeavesOnly v disk (disk_in h) (λ c. v.may_leave disk c ⊎ IsRepairOf (v.seen disk) c))
       (stored_all : (s : Stored) → ((c : List ℕ) → v.may_leave disk c → IsStoredAs s c) → LeavesOnly v disk (disk_in h) (IsStoredAs s)) (counted : v.failures disk ≤ v.failures (disk_in h)) where
@@ -229,12 +229,12 @@ module _ {D : Type 0} (v : Device D) (laws : IsDevice v) where
     version_line = Transition.ok_line (Transition.version_of (running_release (list_in h)))
 
     -- with these events
-    boots_with : (p : Place) (events : Events) (end : ℕ) → end_in h ≡ end → list_after (events ++ booting ∷ []) ≡ Some (list_in h) → Moments v p (done (booting ∷ [])) disk (disk_in h)
-        → (P : Reply → Type 0) → ((a : Reply) → Transition.IsBooted events end a → P a) → HasBooted p (λ a. P a × (a.answer ≡ version_line)) old h
-    boots_with p events end at after moments P right =
-        let place = booted_at h (events ++ booting ∷ []) end alive after at images started in
+    boots_with : (p : Place) (events : Events) (extent : Extent) → extent_in h ≡ extent → list_after (events ++ booting ∷ []) ≡ Some (list_in h) → Moments v p (done (booting ∷ [])) disk (disk_in h)
+        → (P : Reply → Type 0) → ((a : Reply) → Transition.IsBooted events extent a → P a) → HasBooted p (λ a. P a × (a.answer ≡ version_line)) old h
+    boots_with p events extent at after moments P right =
+        let place = booted_at h (events ++ booting ∷ []) extent alive after at images started in
         record {
-          given = reply version_line (done (booting ∷ [])) (just_booted (events ++ booting ∷ []) end);
+          given = reply version_line (done (booting ∷ [])) (just_booted (events ++ booting ∷ []) extent);
           right = (right _ (list_in h, after, refl), refl);
           at = place.1;
           happens = record {
@@ -249,17 +249,17 @@ module _ {D : Type 0} (v : Device D) (laws : IsDevice v) where
         → HasBooted p (λ a. Transition.BootsStore s a × (a.answer ≡ version_line)) old h
     boots_store p s here moments =
         let of = here (v.seen disk) (laws.reads_an_image disk) in
-        boots_with p of.events (end_in h) refl
+        boots_with p of.events (extent_in h) refl
         (list_after-push of.events booting of.list (booted of.list) of.after refl ∙ ap (λ l. Some l) (sym (only of.list of.image_of)))
-        (moments (weakened v disk (disk_in h) (IsStoredAs s) _ (reached s (booting ∷ [])) (stored_all s here))) (Transition.BootsStore s) (λ a is. inl (of.events, end_in h, subst (MayHave s of.events) image.ends of.has, is))
+        (moments (weakened v disk (disk_in h) (IsStoredAs s) _ (reached s (booting ∷ [])) (stored_all s here))) (Transition.BootsStore s) (λ a is. inl (of.events, extent_in h, subst (MayHave s of.events) image.reaches of.has, is))
 
     boots_at : (p : Place) → Holds v p disk → HasBooted p (λ a. Transition.Boots p a × (a.answer ≡ version_line)) old h
     boots_at (raw bytes) here =
         let (events, before, after) = events_of_image (v.seen disk) (list_in h) image.image_of again in
-        boots_with (raw bytes) events (end_in h) refl after leaves (Transition.Boots (raw bytes))
-        (λ a is. inl (events, list_in h, end_in h, before, subst (λ b. IsImageAt b (list_in h) (end_in h)) here image, is))
+        boots_with (raw bytes) events (extent_in h) refl after leaves (Transition.Boots (raw bytes))
+        (λ a is. inl (events, list_in h, extent_in h, before, subst (λ b. IsImageAt b (list_in h) (extent_in h)) here image, is))
     boots_at (closed s) here = boots_store (closed s) s here (λ m. m)
-    boots_at (running events end ps) here = boots_store (running events end ps) (certain events end) (λ c now. (here c now).0) (λ m. m)
+    boots_at (running events extent ps) here = boots_store (running events extent ps) (certain events extent) (λ c now. (here c now).0) (λ m. m)
     boots_at (dead s) here = boots_store (dead s) s here (λ m. m)
 
     pub boots : (line : Result (String Global) AllocError) (place : PlaceInMemory D) → IsStarted h line place → TellsOrStops v Transition.Boots (λ p a. Transition.StopsWithin p boots_node a) line old place
@@ -320,7 +320,7 @@ module _ {D : Type 0} (v : Device D) (laws : IsDevice v) where
       boot_refused_at : (p : Place) → Holds v p disk → Replied v p (λ a. Transition.Boots p a × (a.answer ≡ boot_line why)) old (memory.Idle new)
       boot_refused_at (raw bytes) here = by_bytes bytes here
       boot_refused_at (closed s) here = by_store (closed s) s here (λ m. m)
-      boot_refused_at (running events end ps) here = by_store (running events end ps) (certain events end) (λ c now. (here c now).0) (λ m. m)
+      boot_refused_at (running events extent ps) here = by_store (running events extent ps) (certain events extent) (λ c now. (here c now).0) (λ m. m)
       boot_refused_at (dead s) here = by_store (dead s) s here (λ m. m)
 
       pub boot_refused : (line : Result (String Global) AllocError) → IfOk line (λ text. string_bytes text ≡ boot_line why) → TellsReply v Transition.Boots line old (memory.Idle new)
@@ -393,7 +393,7 @@ module _ {D : Type 0} (v : Device D) (laws : IsDevice v) where
   module _ (P : Place → Reply → Type 0) (n : BootedNode D) (alive : is_dead n.handler ≡ false) where
     -- it is refused, and nothing of the node has changed
     pub refuses_running : (new : BootedNode D) → IsSame n.handler new.handler → processes_in new.processes ≡ processes_in n.processes → (why : HandlerError)
-        → (why ≢ handler_error.NoMemory → (events : Events) (end : ℕ) (ps : Processes) → P (running events end ps) (refused (refusal_of why) (running events end ps)))
+        → (why ≢ handler_error.NoMemory → (events : Events) (extent : Extent) (ps : Processes) → P (running events extent ps) (refused (refusal_of why) (running events extent ps)))
         → Answers v P (Err why) (memory.Made n) (memory.Made new)
     refuses_running new same kept_on why right =
         tells_refusal P why (memory.Made n) (memory.Made new) (λ known p at. stands known p at) (λ p at. leaves_all p (memory.Made n) (memory.Made new) same.disk (same_at n new p same kept_on at))
@@ -401,22 +401,22 @@ module _ {D : Type 0} (v : Device D) (laws : IsDevice v) where
         stands : why ≢ handler_error.NoMemory → (p : Place) → IsAt v (memory.Made n) p → Replied v p (λ a. P p a × (a.answer ≡ refusal_line (refusal_of why))) (memory.Made n) (memory.Made new)
         stands known (raw bytes) at = absurd at
         stands known (closed s) at = absurd at
-        stands known (running events end ps) at =
-            stays (running events end ps) (refusal_line (refusal_of why)) _ (memory.Made n) (memory.Made new) at same.disk (same_at n new (running events end ps) same kept_on at) (right known events end ps, refl)
+        stands known (running events extent ps) at =
+            stays (running events extent ps) (refusal_line (refusal_of why)) _ (memory.Made n) (memory.Made new) at same.disk (same_at n new (running events extent ps) same kept_on at) (right known events extent ps, refl)
         stands known (dead s) at = never (sym alive ∙ at.1)
 
   -- Where no node runs, a command that would change one is refused.
-  module _ (P : Place → Reply → Type 0) (right : (p : Place) → ((events : Events) (end : ℕ) (ps : Processes) → p ≡ running events end ps → ⊥) → P p (refused dead_node p)) where
+  module _ (P : Place → Reply → Type 0) (right : (p : Place) → ((events : Events) (extent : Extent) (ps : Processes) → p ≡ running events extent ps → ⊥) → P p (refused dead_node p)) where
     pub changes_dead : (n : BootedNode D) → is_dead n.handler ≡ true → Answers v P (Err handler_error.Dead) (memory.Made n) (memory.Made n)
     changes_dead n gone (raw bytes) at = absurd at
     changes_dead n gone (closed s) at = absurd at
-    changes_dead n gone (running events end ps) at = never (sym at.1 ∙ gone)
+    changes_dead n gone (running events extent ps) at = never (sym at.1 ∙ gone)
     changes_dead n gone (dead s) at = inl (stays (dead s) (refusal_line dead_node) _ (memory.Made n) (memory.Made n) at refl at (right (dead s) (λ es n ps e. cc e), refl))
 
     pub changes_nowhere : (disk : D) → Answers v P (Err handler_error.Dead) (memory.Idle disk) (memory.Idle disk)
     changes_nowhere disk (raw bytes) at = inl (stays (raw bytes) (refusal_line dead_node) _ (memory.Idle disk) (memory.Idle disk) at refl at (right (raw bytes) (λ es n ps e. cc e), refl))
     changes_nowhere disk (closed s) at = inl (stays (closed s) (refusal_line dead_node) _ (memory.Idle disk) (memory.Idle disk) at refl at (right (closed s) (λ es n ps e. cc e), refl))
-    changes_nowhere disk (running events end ps) at = absurd at
+    changes_nowhere disk (running events extent ps) at = absurd at
     changes_nowhere disk (dead s) at = absurd at
 
   -- where memory is refused
@@ -430,54 +430,54 @@ module _ {D : Type 0} (v : Device D) (laws : IsDevice v) where
       tells_refusal P why place place (λ known p at. stays p (refusal_line (refusal_of why)) _ place place at refl at (right known p, refl)) (λ p at. leaves_all p place place refl at)
 
   -- `set_unpacked` where no node runs
-  idle_sets : (source : Source) (path : List ℕ) (p : Place) → ((events : Events) (end : ℕ) (ps : Processes) → p ≡ running events end ps → ⊥) → Transition.Transition source p (set_unpacked path) (refused dead_node p)
+  idle_sets : (source : Source) (path : List ℕ) (p : Place) → ((events : Events) (extent : Extent) (ps : Processes) → p ≡ running events extent ps → ⊥) → Transition.Transition source p (set_unpacked path) (refused dead_node p)
   idle_sets source path (raw bytes) idle = (Transition.refuses dead_node, refl, refl)
   idle_sets source path (closed s) idle = (Transition.refuses dead_node, refl, refl)
-  idle_sets source path (running events end ps) idle = absurd (idle events end ps refl)
+  idle_sets source path (running events extent ps) idle = absurd (idle events extent ps refl)
   idle_sets source path (dead s) idle = (Transition.refuses dead_node, refl, refl)
 
   -- and so are a change, a reboot and `start`
-  idle_changes : (c : Transition.Change) (p : Place) → ((events : Events) (end : ℕ) (ps : Processes) → p ≡ running events end ps → ⊥) → Transition.Acts p (changes_node c) (refused dead_node p)
+  idle_changes : (c : Transition.Change) (p : Place) → ((events : Events) (extent : Extent) (ps : Processes) → p ≡ running events extent ps → ⊥) → Transition.Acts p (changes_node c) (refused dead_node p)
   idle_changes c (raw bytes) idle = refl
   idle_changes c (closed s) idle = refl
-  idle_changes c (running events end ps) idle = absurd (idle events end ps refl)
+  idle_changes c (running events extent ps) idle = absurd (idle events extent ps refl)
   idle_changes c (dead s) idle = refl
 
-  pub idle_reboots : (vsn : List ℕ) (p : Place) → ((events : Events) (end : ℕ) (ps : Processes) → p ≡ running events end ps → ⊥) → Transition.Acts p (reboots_node vsn) (refused dead_node p)
+  pub idle_reboots : (vsn : List ℕ) (p : Place) → ((events : Events) (extent : Extent) (ps : Processes) → p ≡ running events extent ps → ⊥) → Transition.Acts p (reboots_node vsn) (refused dead_node p)
   idle_reboots vsn (raw bytes) idle = refl
   idle_reboots vsn (closed s) idle = refl
-  idle_reboots vsn (running events end ps) idle = absurd (idle events end ps refl)
+  idle_reboots vsn (running events extent ps) idle = absurd (idle events extent ps refl)
   idle_reboots vsn (dead s) idle = refl
 
-  idle_installs : (vsn : List ℕ) (p : Place) → ((events : Events) (end : ℕ) (ps : Processes) → p ≡ running events end ps → ⊥) → Transition.Acts p (installs vsn) (refused dead_node p)
+  idle_installs : (vsn : List ℕ) (p : Place) → ((events : Events) (extent : Extent) (ps : Processes) → p ≡ running events extent ps → ⊥) → Transition.Acts p (installs vsn) (refused dead_node p)
   idle_installs vsn (raw bytes) idle = refl
   idle_installs vsn (closed s) idle = refl
-  idle_installs vsn (running events end ps) idle = absurd (idle events end ps refl)
+  idle_installs vsn (running events extent ps) idle = absurd (idle events extent ps refl)
   idle_installs vsn (dead s) idle = refl
 
-  idle_tells : (p : Place) → ((events : Events) (end : ℕ) (ps : Processes) → p ≡ running events end ps → ⊥) → Transition.Acts p tells_start (refused dead_node p)
+  idle_tells : (p : Place) → ((events : Events) (extent : Extent) (ps : Processes) → p ≡ running events extent ps → ⊥) → Transition.Acts p tells_start (refused dead_node p)
   idle_tells (raw bytes) idle = refl
   idle_tells (closed s) idle = refl
-  idle_tells (running events end ps) idle = absurd (idle events end ps refl)
+  idle_tells (running events extent ps) idle = absurd (idle events extent ps refl)
   idle_tells (dead s) idle = refl
 
-  idle_calls : (c : Calls) (p : Place) → ((events : Events) (end : ℕ) (ps : Processes) → p ≡ running events end ps → ⊥) → Transition.Acts p (calls c) (refused dead_node p)
+  idle_calls : (c : Calls) (p : Place) → ((events : Events) (extent : Extent) (ps : Processes) → p ≡ running events extent ps → ⊥) → Transition.Acts p (calls c) (refused dead_node p)
   idle_calls c (raw bytes) idle = refl
   idle_calls c (closed s) idle = refl
-  idle_calls c (running events end ps) idle = absurd (idle events end ps refl)
+  idle_calls c (running events extent ps) idle = absurd (idle events extent ps refl)
   idle_calls c (dead s) idle = refl
 
-  idle_told : (says : Releases → Processes → List ℕ) (p : Place) → ((events : Events) (end : ℕ) (ps : Processes) → p ≡ running events end ps → ⊥) → Transition.Acts p (answers (Transition.told says p)) (refused dead_node p)
+  idle_told : (says : Releases → Processes → List ℕ) (p : Place) → ((events : Events) (extent : Extent) (ps : Processes) → p ≡ running events extent ps → ⊥) → Transition.Acts p (answers (Transition.told says p)) (refused dead_node p)
   idle_told says (raw bytes) idle = refl
   idle_told says (closed s) idle = refl
-  idle_told says (running events end ps) idle = absurd (idle events end ps refl)
+  idle_told says (running events extent ps) idle = absurd (idle events extent ps refl)
   idle_told says (dead s) idle = refl
 
-  idle_asked : (says : Processes → List ℕ) (p : Place) → ((events : Events) (end : ℕ) (ps : Processes) → p ≡ running events end ps → ⊥) → Transition.Acts p (answers (Transition.asked says p)) (refused dead_node p)
+  idle_asked : (says : Processes → List ℕ) (p : Place) → ((events : Events) (extent : Extent) (ps : Processes) → p ≡ running events extent ps → ⊥) → Transition.Acts p (answers (Transition.asked says p)) (refused dead_node p)
   idle_asked says p idle = idle_told (λ list ps. says ps) p idle
 
   -- So is each command that needs a node.
-  pub idle_needs : (source : Source) (c : Command) → NeedsNode c → (p : Place) → ((events : Events) (end : ℕ) (ps : Processes) → p ≡ running events end ps → ⊥) → Transition.Transition source p c (refused dead_node p)
+  pub idle_needs : (source : Source) (c : Command) → NeedsNode c → (p : Place) → ((events : Events) (extent : Extent) (ps : Processes) → p ≡ running events extent ps → ⊥) → Transition.Transition source p c (refused dead_node p)
   idle_needs source (set_unpacked path) needs p idle = idle_sets source path p idle
   idle_needs source (check vsn) needs p idle = (answers (Transition.told (λ list ps. Transition.check_line vsn list) p), refl, idle_told (λ list ps. Transition.check_line vsn list) p idle)
   idle_needs source (install vsn) needs p idle = (installs vsn, refl, idle_installs vsn p idle)

@@ -5,6 +5,7 @@ use Rattle.std.specs.declared.alloc.AllocError.{AllocError}
 use Rattle.std.specs.declared.alloc.Global.{Global}
 use Rattle.rel_files.specs.Release.{Release}
 use Rattle.rel_list.specs.Releases.{permanent}
+use Rattle.rel_handler.specs.Image.{Extent}
 use Rattle.rel_handler.specs.Commits.{HasRead}
 use Rattle.rel_handler.specs.Events.{Events, certain, IsStoredAs}
 use Rattle.rel_handler.specs.Refusals.{StartRefused}
@@ -39,24 +40,24 @@ module _ {D : Type 0} (v : Device D) (laws : IsDevice v) (n new : BootedNode D) 
   never e = absurd cc
 
   -- the node runs on
-  runs_on : is_dead new.handler ≡ false → (events : Events) (end : ℕ) (ps : Processes) → IsAt v (memory.Made n) (running events end ps) → IsAt v (memory.Made new) (running events end ps)
-  runs_on works events end ps at = (still_holds (running events end ps) at, works, at.2 ∙ ap (λ l. Some l) (sym read.list), read.end ∙ at.3, kept_on ∙ at.4)
+  runs_on : is_dead new.handler ≡ false → (events : Events) (extent : Extent) (ps : Processes) → IsAt v (memory.Made n) (running events extent ps) → IsAt v (memory.Made new) (running events extent ps)
+  runs_on works events extent ps at = (still_holds (running events extent ps) at, works, at.2 ∙ ap (λ l. Some l) (sym read.list), read.extent ∙ at.3, kept_on ∙ at.4)
 
   told_there : is_dead new.handler ≡ false → (r : Release) → permanent (list_in n.handler) ≡ Some r → (p : Place) → IsAt v (memory.Made n) p
       → Replied v p (λ a. Does p a × (a.answer ≡ ok_line (r.erts ++ (codes " " ++ r.vsn)))) (memory.Made n) (memory.Made new)
   told_there works r listed (raw bytes) at = absurd at
   told_there works r listed (closed s) at = absurd at
   told_there works r listed (dead s) at = never (sym alive ∙ at.1)
-  told_there works r listed (running events end ps) at =
+  told_there works r listed (running events extent ps) at =
       let there : permanent (releases_after events) ≡ Some r = ap (λ o. permanent (list_or_none o)) at.2 ∙ listed in
       let line = ok_line (start_versions (permanent (releases_after events))) in
       record {
-        given = reply line nothing (running events end ps);
+        given = reply line nothing (running events extent ps);
         right = (inl (refl), ap (λ o. ok_line (start_versions o)) there);
-        at = runs_on works events end ps at;
+        at = runs_on works events extent ps at;
         happens = record {
-          moments = moments_of_nothing v laws (running events end ps) (disk_in n.handler) (disk_in new.handler) at.0 read.only_read.any_moment;
-          holds = still_holds (running events end ps) at;
+          moments = moments_of_nothing v laws (running events extent ps) (disk_in n.handler) (disk_in new.handler) at.0 read.only_read.any_moment;
+          holds = still_holds (running events extent ps) at;
           cause = λ e. never e;
           counted = read.counted;
         };
@@ -78,8 +79,8 @@ module _ {D : Type 0} (v : Device D) (laws : IsDevice v) (n new : BootedNode D) 
   device_failed cause gone (raw bytes) at = absurd at
   device_failed cause gone (closed s) at = absurd at
   device_failed cause gone (dead s) at = never (sym alive ∙ at.1)
-  device_failed cause gone (running events end ps) at =
-      let s = certain events end in
+  device_failed cause gone (running events extent ps) at =
+      let s = certain events extent in
       let stored : (c : List ℕ) → v.may_leave (disk_in n.handler) c → IsStoredAs s c = λ c now. (at.0 c now).0 in
       let holds = kept v laws (IsStoredAs s) (disk_in n.handler) (disk_in new.handler) stored read.only_read.any_moment in
       record {

@@ -5,7 +5,7 @@ use Rattle.rel_list.specs.Event.{Event}
 use Rattle.rel_list.specs.Event.Event.{reboot_old as rebooting}
 use Rattle.node_command.specs.declared.error.HandlerError.{HandlerError}
 use Rattle.rel_handler.specs.Events.{Events, Stored, MayHave, certain}
-use Rattle.rel_handler.specs.Image.{holds_a_store}
+use Rattle.rel_handler.specs.Image.{Extent, holds_a_store}
 use Rattle.node_command.specs.Files.{bundle_brought, made_size}
 use Rattle.node_command.specs.Place.{own_refusal}
 use Rattle.node_command.specs.Taking.{commanded}
@@ -30,7 +30,7 @@ same_known p es none (inr some) = absurd (some none)
 found_there : (p : Place) → Finds p (acknowledged_at p)
 found_there (raw bytes) = inl refl
 found_there (closed s) = inl refl
-found_there (running events end ps) = refl
+found_there (running events extent ps) = refl
 found_there (dead s) = inl refl
 
 -- a reply without an event, which leaves the disk where it stood
@@ -54,16 +54,16 @@ keeps_known : (p : Place) (a : Reply) (found : Events) → Finds p found → ack
 keeps_known p a found finds are known = record { found = found; finds = finds; are = are; known = λ k. known }
 
 -- a commit, where the replies to what is committed keep them
-commits : (events : Events) (end : ℕ) (ps : Processes) (e : Event) (size : ℕ) (o : Result Releases HandlerError) (P : Reply → Type 0) → ((a : Reply) → P a → Keeps (running events end ps) a)
-    → (a : Reply) → Transition.IsCommit events end ps e size o P a → Keeps (running events end ps) a
-commits events end ps e size (Err why) P keeps a is = still_as (running events end ps) _ a is
-commits events end ps e size (Ok list) P keeps a (inl (fits, inl is)) = keeps a is
-commits events end ps e size (Ok list) P keeps a (inl (fits, inr is)) = keeps_as (running events end ps) a _ is (keeps_known (running events end ps) _ events refl (sym (append-nil events)) tt)
-commits events end ps e size (Ok list) P keeps a (inr (over, is)) = still_as (running events end ps) _ a is
+commits : (events : Events) (extent : Extent) (ps : Processes) (e : Event) (size : ℕ) (o : Result Releases HandlerError) (P : Extent → Reply → Type 0) → ((x : Extent) (a : Reply) → P x a → Keeps (running events extent ps) a)
+    → (a : Reply) → Transition.IsCommit events extent ps e size o P a → Keeps (running events extent ps) a
+commits events extent ps e size (Err why) P keeps a is = still_as (running events extent ps) _ a is
+commits events extent ps e size (Ok list) P keeps a (inl (fits, inl (x, reach, is))) = keeps x a is
+commits events extent ps e size (Ok list) P keeps a (inl (fits, inr is)) = keeps_as (running events extent ps) a _ is (keeps_known (running events extent ps) _ events refl (sym (append-nil events)) tt)
+commits events extent ps e size (Ok list) P keeps a (inr (over, is)) = still_as (running events extent ps) _ a is
 
-changes : (events : Events) (end : ℕ) (ps : Processes) (c : Transition.Change) (l : Releases) (f : Option Refusal) (o : Result Releases HandlerError) (a : Reply) → Transition.Changes events end ps c l f o a → Keeps (running events end ps) a
-changes events end ps c l (Some why) o a is = still_as (running events end ps) _ a is
-changes events end ps c l None o a is = commits events end ps c.event (c.size l) o _ (λ a is. keeps_as (running events end ps) a _ is (keeps_known (running events end ps) _ events refl refl tt)) a is
+changes : (events : Events) (extent : Extent) (ps : Processes) (c : Transition.Change) (l : Releases) (f : Option Refusal) (o : Result Releases HandlerError) (a : Reply) → Transition.Changes events extent ps c l f o a → Keeps (running events extent ps) a
+changes events extent ps c l (Some why) o a is = still_as (running events extent ps) _ a is
+changes events extent ps c l None o a is = commits events extent ps c.event (c.size l) o _ (λ x a is. keeps_as (running events extent ps) a _ is (keeps_known (running events extent ps) _ events refl refl tt)) a is
 
 makes_with : (bytes : List ℕ) (p : Bundle) (size : ℕ) (why : Option Refusal) (a : Reply) → Transition.MakesWith bytes p size why a → Keeps (raw bytes) a
 makes_with bytes p size (Some why) a is = still_as (raw bytes) _ a is
@@ -86,39 +86,40 @@ makes (raw bytes) found a (inl is) = makes_on bytes found (holds_a_store bytes) 
 makes (raw bytes) found a (inr (torn, is)) = torn_as bytes torn _ _ a is
 makes (closed s) found a (inl is) = still_as (closed s) _ a is
 makes (closed s) found a (inr is) = failed_as s _ _ (closed s) a (inl refl) is
-makes (running events end ps) found a is = still_as (running events end ps) _ a is
+makes (running events extent ps) found a is = still_as (running events extent ps) _ a is
 makes (dead s) found a is = still_as (dead s) _ a is
 
-booted : (p : Place) (events : Events) (end : ℕ) (a : Reply) → Finds p events → Transition.IsBooted events end a → Keeps p a
-booted p events end a finds (list, after, is) = keeps_as p a _ is (keeps_known p _ events finds refl tt)
+booted : (p : Place) (events : Events) (extent : Extent) (a : Reply) → Finds p events → Transition.IsBooted events extent a → Keeps p a
+booted p events extent a finds (list, after, is) = keeps_as p a _ is (keeps_known p _ events finds refl tt)
 
 -- the events that a store may have
-pub may_have : (s : Stored) (events : Events) (end : ℕ) → MayHave s events end → MayBe s events
-may_have s events end (inl (is, at)) = inl is
-may_have s events end (inr (is, at)) = inr is
+pub may_have : (s : Stored) (events : Events) (extent : Extent) → MayHave s events extent → MayBe s events
+may_have s events extent (inl (is, at)) = inl is
+may_have s events extent (inr (is, at)) = inr is
 
-boots_store : (p : Place) (s : Stored) (a : Reply) → ((events : Events) (end : ℕ) → MayHave s events end → Finds p events) → Finds p s.known.acknowledged → Transition.BootsStore s a → Keeps p a
-boots_store p s a finds here (inl (events, end, has, is)) = booted p events end a (finds events end has) is
+boots_store : (p : Place) (s : Stored) (a : Reply) → ((events : Events) (extent : Extent) → MayHave s events extent → Finds p events) → Finds p s.known.acknowledged → Transition.BootsStore s a → Keeps p a
+boots_store p s a finds here (inl (events, extent, has, is)) = booted p events extent a (finds events extent has) is
 boots_store p s a finds here (inr is) = failed_as s _ None p a here is
 
 -- behind an event that was committed
-keeps_behind : (events : Events) (end : ℕ) (ps : Processes) (then : ℕ) (e : Event) (b : Reply) → Keeps (closed (certain (events ++ e ∷ []) then)) b → Keeps (running events end ps) (behind e b)
-keeps_behind events end ps then e b keeps =
+keeps_behind : (events : Events) (extent : Extent) (ps : Processes) (then : Extent) (e : Event) (b : Reply) → Keeps (closed (certain (events ++ e ∷ []) then)) b → Keeps (running events extent ps) (behind e b)
+keeps_behind events extent ps then e b keeps =
     let found : keeps.found ≡ events ++ e ∷ [] = ⊎_elim (λ is. is) (λ is. is) keeps.finds in
-    keeps_known (running events end ps) (behind e b) events refl
+    keeps_known (running events extent ps) (behind e b) events refl
     (keeps.are ∙ ap (λ (l : Events). l ++ b.outcome.acknowledged) found ∙ append_assoc events (e ∷ []) b.outcome.acknowledged) (keeps.known (inl tt))
 
-reboots : (events : Events) (end : ℕ) (ps : Processes) (vsn : List ℕ) (l : Releases) (o : Result Releases HandlerError) (a : Reply) → Transition.Reboots events end ps vsn l o a → Keeps (running events end ps) a
-reboots events end ps vsn l o =
-    let s = Transition.rebooted events end vsn l in
-    commits events end ps (rebooting vsn) _ o _ (λ a (b, boot, is). keeps_as (running events end ps) a _ is (keeps_behind events end ps s.end (rebooting vsn) b (boots_store (closed s) s b (may_have s) (inl refl) boot)))
+reboots : (events : Events) (extent : Extent) (ps : Processes) (vsn : List ℕ) (l : Releases) (o : Result Releases HandlerError) (a : Reply) → Transition.Reboots events extent ps vsn l o a → Keeps (running events extent ps) a
+reboots events extent ps vsn l o =
+    commits events extent ps (rebooting vsn) _ o _ (λ x a (b, boot, is).
+    let s = Transition.rebooted events x vsn in
+    keeps_as (running events extent ps) a _ is (keeps_behind events extent ps x (rebooting vsn) b (boots_store (closed s) s b (may_have s) (inl refl) boot)))
 
 boots : (p : Place) (a : Reply) → Transition.Boots p a → Keeps p a
-boots (raw bytes) a (inl (events, list, end, after, image, is)) = booted (raw bytes) events end a (inr (list, after, image.image_of)) is
+boots (raw bytes) a (inl (events, list, extent, after, image, is)) = booted (raw bytes) events extent a (inr (list, after, image.image_of)) is
 boots (raw bytes) a (inr (inl (why, told, is))) = still_as (raw bytes) _ a is
 boots (raw bytes) a (inr (inr (torn, is))) = torn_as bytes torn _ None a is
 boots (closed s) a is = boots_store (closed s) s a (may_have s) (inl refl) is
-boots (running events end ps) a is = boots_store (running events end ps) (certain events end) a (λ es n has. ⊎_elim (λ e. e) (λ e. e) (may_have (certain events end) es n has)) refl is
+boots (running events extent ps) a is = boots_store (running events extent ps) (certain events extent) a (λ es n has. ⊎_elim (λ e. e) (λ e. e) (may_have (certain events extent) es n has)) refl is
 boots (dead s) a is = boots_store (dead s) s a (may_have s) (inl refl) is
 
 acts : (p : Place) (does : Transition.Action) (a : Reply) → Transition.Acts p does a → Keeps p a
@@ -126,33 +127,33 @@ acts p (answers text) a is = still_as p _ a is
 acts p (makes_node found) a is = makes p found a is
 acts (raw bytes) (changes_node c) a is = still_as (raw bytes) _ a is
 acts (closed s) (changes_node c) a is = still_as (closed s) _ a is
-acts (running events end ps) (changes_node c) a is = changes events end ps c (releases_after events) (c.files (releases_after events)) (commanded c.event (releases_after events)) a is
+acts (running events extent ps) (changes_node c) a is = changes events extent ps c (releases_after events) (c.files (releases_after events)) (commanded c.event (releases_after events)) a is
 acts (dead s) (changes_node c) a is = still_as (dead s) _ a is
-acts (running events end ps) (installs vsn) a is =
-    let here = running events end ps in
-    each_reply (Keeps here) events end ps vsn (releases_after events) (record {
+acts (running events extent ps) (installs vsn) a is =
+    let here = running events extent ps in
+    each_reply (Keeps here) events extent ps vsn (releases_after events) (record {
       listed = λ why. still_as here _ _ refl;
       unmatched = still_as here _ _ refl;
       not_run = λ f. still_as here _ _ refl;
       over_full = still_as here _ _ refl;
       broken = λ f. keeps_known here _ events refl (sym (append-nil events)) tt;
-      done_so = λ f r found comes. keeps_known here _ events refl refl tt;
+      done_so = λ f r reach found comes. keeps_known here _ events refl refl tt;
       doubted_so = λ f found. keeps_known here _ events refl (sym (append-nil events)) tt;
     }) a is
 acts (raw bytes) (installs vsn) a is = still_as (raw bytes) _ a is
 acts (closed s) (installs vsn) a is = still_as (closed s) _ a is
 acts (dead s) (installs vsn) a is = still_as (dead s) _ a is
-acts (running events end ps) (reboots_node vsn) a is = reboots events end ps vsn (releases_after events) (commanded (rebooting vsn) (releases_after events)) a is
+acts (running events extent ps) (reboots_node vsn) a is = reboots events extent ps vsn (releases_after events) (commanded (rebooting vsn) (releases_after events)) a is
 acts (raw bytes) (reboots_node vsn) a is = still_as (raw bytes) _ a is
 acts (closed s) (reboots_node vsn) a is = still_as (closed s) _ a is
 acts (dead s) (reboots_node vsn) a is = still_as (dead s) _ a is
 acts p boots_node a is = boots p a is
-acts (running events end ps) tells_start a (inl is) = still_as (running events end ps) _ a is
-acts (running events end ps) tells_start a (inr is) = keeps_as (running events end ps) a _ is (keeps_known (running events end ps) _ events refl (sym (append-nil events)) tt)
+acts (running events extent ps) tells_start a (inl is) = still_as (running events extent ps) _ a is
+acts (running events extent ps) tells_start a (inr is) = keeps_as (running events extent ps) a _ is (keeps_known (running events extent ps) _ events refl (sym (append-nil events)) tt)
 acts (raw bytes) tells_start a is = still_as (raw bytes) _ a is
 acts (closed s) tells_start a is = still_as (closed s) _ a is
 acts (dead s) tells_start a is = still_as (dead s) _ a is
-acts (running events end ps) (calls c) a is = keeps_as (running events end ps) a _ is (keeps_known (running events end ps) _ events refl (sym (append-nil events)) tt)
+acts (running events extent ps) (calls c) a is = keeps_as (running events extent ps) a _ is (keeps_known (running events extent ps) _ events refl (sym (append-nil events)) tt)
 acts (raw bytes) (calls c) a is = still_as (raw bytes) _ a is
 acts (closed s) (calls c) a is = still_as (closed s) _ a is
 acts (dead s) (calls c) a is = still_as (dead s) _ a is
@@ -164,13 +165,13 @@ each_keeps source p c a (does, comes, is) = acts p does a is
 pub rest_acknowledged : (p : Place) → acknowledged_at (at_rest p) ≡ acknowledged_at p
 rest_acknowledged (raw bytes) = refl
 rest_acknowledged (closed s) = refl
-rest_acknowledged (running events end ps) = refl
+rest_acknowledged (running events extent ps) = refl
 rest_acknowledged (dead s) = refl
 
 rest_known : (p : Place) → IsKnown p → IsKnown (at_rest p)
 rest_known (raw bytes) known = known
 rest_known (closed s) known = tt
-rest_known (running events end ps) known = tt
+rest_known (running events extent ps) known = tt
 rest_known (dead s) known = tt
 
 -- so a reply whose node is lost keeps them
@@ -184,7 +185,7 @@ keeps_without_node p b keeps = record {
 
 stops : (p : Place) (does : Transition.Action) (a : Reply) → Transition.StopsWithin p does a → Keeps p a
 stops p does a (Transition.StopsWithin.without_its_boot alone) =
-    let here = running alone.events alone.end alone.processes in
+    let here = running alone.events alone.extent alone.processes in
     subst (λ q. Keeps q a) (sym alone.here) (keeps_as here a _ alone.is (keeps_known here _ alone.events refl refl tt))
 stops p does a (Transition.StopsWithin.without_its_node b is lost) = keeps_as p a _ lost (keeps_without_node p b (acts p does b is))
 

@@ -8,6 +8,7 @@ use Rattle.node_command.specs.declared.error.HandlerError.TheVariants as handler
 use Rattle.node_processes.specs.InMemory.{processes_in}
 use Rattle.node_processes.specs.Processes.{Processes}
 use Rattle.rel_session.specs.declared.booted_node.BootedNode.{BootedNode}
+use Rattle.rel_handler.specs.Image.{Extent}
 use Rattle.rel_handler.specs.Events.{Events}
 use Rattle.rel_handler.specs.State.{is_dead}
 use Rattle.node_command.specs.Files.{Brings}
@@ -37,8 +38,8 @@ module _ {D : Type 0} (v : Device D) (laws : IsDevice v) (source : Source) (path
   abbrev Unpacks : Place → Reply → Type 0
   Unpacks = λ p a. Transition.Transition source p (set_unpacked path) a
 
-  changing : (b : Brought) → Brings source path (Ok b) → (events : Events) (end : ℕ) (ps : Processes) (a : Reply) → Transition.Acts (running events end ps) (changes_node (Transition.unpacked_change b)) a → Unpacks (running events end ps) a
-  changing b read events end ps a is = (changes_node (Transition.unpacked_change b), (Ok b, read, refl), is)
+  changing : (b : Brought) → Brings source path (Ok b) → (events : Events) (extent : Extent) (ps : Processes) (a : Reply) → Transition.Acts (running events extent ps) (changes_node (Transition.unpacked_change b)) a → Unpacks (running events extent ps) a
+  changing b read events extent ps a is = (changes_node (Transition.unpacked_change b), (Ok b, read, refl), is)
 
   pub unpacks : (vsn : List ℕ) (line : Result (String Global) AllocError) (result : Result (String Global) HandlerError) → IsUnpacked v source path n.handler new.handler vsn
       → MatchResult line (λ text. result ≡ Ok text) (λ _. result ≡ Err handler_error.NoMemory) → IfOk line (λ text. string_bytes text ≡ Transition.ok_line vsn) → Answers v Unpacks result (memory.Made n) (memory.Made new)
@@ -59,6 +60,6 @@ module _ {D : Type 0} (v : Device D) (laws : IsDevice v) (source : Source) (path
   pub unpacks_none : (why : HandlerError) → UnpackingRefused v source path n.handler new.handler why → Answers v Unpacks (Err why) (memory.Made n) (memory.Made new)
   unpacks_none why (inl (is, gone, same)) = never (sym alive ∙ gone)
   unpacks_none why (inr (inl (of, living, same))) =
-      refuses_running v laws Unpacks n alive new same kept_on why (λ known events end ps. unpacking_refused source path (refusal_of why) events end ps (files_refuse source path why of known))
+      refuses_running v laws Unpacks n alive new same kept_on why (λ known events extent ps. unpacking_refused source path (refusal_of why) events extent ps (files_refuse source path why of known))
   unpacks_none why (inr (inr (inl b))) = barred why b
   unpacks_none why (inr (inr (inr m))) = changes_none v laws Unpacks n alive (Transition.unpacked_change m.brought) (changing m.brought m.read) m.free new kept_on m.commits why m.refused

@@ -25,7 +25,7 @@ use Rattle.rel_handler.proofs.RepairLemmas.{permanent_versions}
 use Rattle.node_command.specs.declared.error.HandlerError.{HandlerError}
 use Rattle.node_command.specs.declared.error.HandlerError.TheVariants as handler_error
 use Rattle.rel_handler.specs.Events.{Events, Stored, MayHave, certain, uncertain}
-use Rattle.rel_handler.specs.Image.{IsImageOf, holds_a_store}
+use Rattle.rel_handler.specs.Image.{Extent, holds_a_store, IsImageOf}
 use Rattle.node_processes.specs.Processes.{Processes}
 use Rattle.node_command.specs.Taking.{commanded}
 use Rattle.session_input.specs.Commands.{Command}
@@ -103,8 +103,8 @@ list_versions events e of all list is = go (list_after events) refl (sym (list_a
     go (Some es) after is = step_versions e es list of (all es after) is
 
 -- and a store one of those of its list
-pub stored_versions : (s : Stored) → HasVersionsAt (closed s) → (events : Events) (end : ℕ) → MayHave s events end → OfList events
-stored_versions s all events end has list is = all events list (may_have s events end has) is
+pub stored_versions : (s : Stored) → HasVersionsAt (closed s) → (events : Events) (extent : Extent) → MayHave s events extent → OfList events
+stored_versions s all events extent has list is = all events list (may_have s events extent has) is
 
 -- the version of the release that runs
 found_version : (t : Entry → Bool) (es : Releases) → AreOfFiles es → is_one_line (Transition.version_of (option_map (λ (e : Entry). e.release) (find t es))) ≡ true
@@ -154,22 +154,22 @@ device_line : IsWhole (refusal_line device)
 device_line behind = refl
 
 -- with this event or without
-uncertain_versions : (events : Events) (end : ℕ) (e : Event) (size : ℕ) → OfEvent e → OfList events → HasVersionsAt (dead (uncertain events end e size))
-uncertain_versions events end e size of all es l (inl same) after = all l (ap list_after (sym same) ∙ after)
-uncertain_versions events end e size of all es l (inr same) after = list_versions events e of all l (ap list_after (sym same) ∙ after)
+uncertain_versions : (events : Events) (extent : Extent) (e : Event) (size : ℕ) → OfEvent e → OfList events → HasVersionsAt (dead (uncertain events extent e size))
+uncertain_versions events extent e size of all es l (inl same) after = all l (ap list_after (sym same) ∙ after)
+uncertain_versions events extent e size of all es l (inr same) after = list_versions events e of all l (ap list_after (sym same) ∙ after)
 
-commits : (events : Events) (end : ℕ) (ps : Processes) (e : Event) (size : ℕ) (o : Result Releases HandlerError) (P : Reply → Type 0) → IsListAnswer o → ((next : Releases) (a : Reply) → o ≡ Ok next → P a → IsGood a)
-    → ((next : Releases) → o ≡ Ok next → OfEvent e) → OfList events → (a : Reply) → Transition.IsCommit events end ps e size o P a → IsGood a
-commits events end ps e size (Err why) P plain done of all a is = good_as a _ is (handler_line why plain, all)
-commits events end ps e size (Ok next) P plain done of all a (inl (fits, inl is)) = done next a refl is
-commits events end ps e size (Ok next) P plain done of all a (inl (fits, inr is)) = good_as a _ is (device_line, uncertain_versions events end e size (of next refl) all)
-commits events end ps e size (Ok next) P plain done of all a (inr (over_it, is)) = good_as a _ is ((λ behind. refl), all)
+commits : (events : Events) (extent : Extent) (ps : Processes) (e : Event) (size : ℕ) (o : Result Releases HandlerError) (P : Extent → Reply → Type 0) → IsListAnswer o → ((next : Releases) (x : Extent) (a : Reply) → o ≡ Ok next → P x a → IsGood a)
+    → ((next : Releases) → o ≡ Ok next → OfEvent e) → OfList events → (a : Reply) → Transition.IsCommit events extent ps e size o P a → IsGood a
+commits events extent ps e size (Err why) P plain done of all a is = good_as a _ is (handler_line why plain, all)
+commits events extent ps e size (Ok next) P plain done of all a (inl (fits, inl (x, reach, is))) = done next x a refl is
+commits events extent ps e size (Ok next) P plain done of all a (inl (fits, inr is)) = good_as a _ is (device_line, uncertain_versions events extent e size (of next refl) all)
+commits events extent ps e size (Ok next) P plain done of all a (inr (over_it, is)) = good_as a _ is ((λ behind. refl), all)
 
-changes : (events : Events) (end : ℕ) (ps : Processes) (c : Transition.Change) (list : Releases) (f : Option Refusal) (o : Result Releases HandlerError) → IsListAnswer o → ((next : Releases) → f ≡ None → o ≡ Ok next → OfEvent c.event) → TellsFilesLine f
-    → is_one_line (c.details list) ≡ true → OfList events → (a : Reply) → Transition.Changes events end ps c list f o a → IsGood a
-changes events end ps c list (Some why) o plain of told line all a is = good_as a _ is (refusal_whole (refusal_for why) told, all)
-changes events end ps c list None o plain of told line all a is =
-    commits events end ps c.event (c.size list) o _ plain (λ next a taken is. good_as a _ is (done_whole (c.details list) line, list_versions events c.event (of next refl taken) all))
+changes : (events : Events) (extent : Extent) (ps : Processes) (c : Transition.Change) (list : Releases) (f : Option Refusal) (o : Result Releases HandlerError) → IsListAnswer o → ((next : Releases) → f ≡ None → o ≡ Ok next → OfEvent c.event) → TellsFilesLine f
+    → is_one_line (c.details list) ≡ true → OfList events → (a : Reply) → Transition.Changes events extent ps c list f o a → IsGood a
+changes events extent ps c list (Some why) o plain of told line all a is = good_as a _ is (refusal_whole (refusal_for why) told, all)
+changes events extent ps c list None o plain of told line all a is =
+    commits events extent ps c.event (c.size list) o _ plain (λ next x a taken is. good_as a _ is (done_whole (c.details list) line, list_versions events c.event (of next refl taken) all))
     (λ next taken. of next refl taken) all a is
 
 makes_with : (x : List ℕ) (p : Bundle) (size : ℕ) (why : Option Refusal) → (why ≡ None → IsOfFiles p) → TellsFilesLine why → (a : Reply) → Transition.MakesWith x p size why a → IsGood a
@@ -186,29 +186,28 @@ makes (raw x) found good all a (inl is) = makes_on x found (holds_a_store x) goo
 makes (raw x) found good all a (inr (torn, is)) = good_as a _ is ((λ behind. refl), tt)
 makes (closed s) found good all a (inl is) = good_as a _ is ((λ behind. refl), all)
 makes (closed s) found good all a (inr is) = good_as a _ is ((λ behind. refl), all)
-makes (running events end ps) found good all a is = good_as a _ is ((λ behind. refl), all)
+makes (running events extent ps) found good all a is = good_as a _ is ((λ behind. refl), all)
 makes (dead s) found good all a is = good_as a _ is ((λ behind. refl), all)
 
-boots_to : (events : Events) (end : ℕ) → OfList events → (a : Reply) → Transition.IsBooted events end a → IsGood a
-boots_to events end all a (list, after, is) =
+boots_to : (events : Events) (extent : Extent) → OfList events → (a : Reply) → Transition.IsBooted events extent a → IsGood a
+boots_to events extent all a (list, after, is) =
     let behind = list_versions events booting tt all in
     good_as a _ is (ok_whole (Transition.version_of (running_release list)) (running_version list (behind list after)), behind)
 
 boots_store : (s : Stored) → HasVersionsAt (closed s) → (a : Reply) → Transition.BootsStore s a → IsGood a
-boots_store s all a (inl (events, end, has, is)) = boots_to events end (stored_versions s all events end has) a is
+boots_store s all a (inl (events, extent, has, is)) = boots_to events extent (stored_versions s all events extent has) a is
 boots_store s all a (inr is) = good_as a _ is ((λ behind. refl), all)
 
 -- a store with nothing in doubt
-pub certain_versions : (events : Events) (end : ℕ) → OfList events → HasVersionsAt (closed (certain events end))
-certain_versions events end all es l (inl same) after = all l (ap list_after (sym same) ∙ after)
-certain_versions events end all es l (inr same) after = all l (ap list_after (sym same) ∙ after)
+pub certain_versions : (events : Events) (extent : Extent) → OfList events → HasVersionsAt (closed (certain events extent))
+certain_versions events extent all es l (inl same) after = all l (ap list_after (sym same) ∙ after)
+certain_versions events extent all es l (inr same) after = all l (ap list_after (sym same) ∙ after)
 
-reboots : (events : Events) (end : ℕ) (ps : Processes) (vsn : List ℕ) (list : Releases) (o : Result Releases HandlerError) → IsListAnswer o → OfList events → (a : Reply) → Transition.Reboots events end ps vsn list o a → IsGood a
-reboots events end ps vsn list o plain all =
+reboots : (events : Events) (extent : Extent) (ps : Processes) (vsn : List ℕ) (list : Releases) (o : Result Releases HandlerError) → IsListAnswer o → OfList events → (a : Reply) → Transition.Reboots events extent ps vsn list o a → IsGood a
+reboots events extent ps vsn list o plain all =
     let e = reboot_old vsn in
-    let s = Transition.rebooted events end vsn list in
-    let behind_it = certain_versions (events ++ e ∷ []) s.end (list_versions events e tt all) in
-    commits events end ps e _ o _ plain (λ next a taken (b, boot, is). good_as a _ is (boots_store s behind_it b boot)) (λ next taken. tt) all
+    commits events extent ps e _ o _ plain (λ next x a taken (b, boot, is).
+    good_as a _ is (boots_store (Transition.rebooted events x vsn) (certain_versions (events ++ e ∷ []) x (list_versions events e tt all)) b boot)) (λ next taken. tt) all
 
 -- the list of an image
 pub of_image : (image : List ℕ) (es : Releases) → IsImageOf image es → AreOfFiles es
@@ -219,13 +218,13 @@ of_image image es of = both es (have_versions of.bodies es of.list) (startable-o
     both (e ∷ es) versions start = ((versions.0, of_applications e.release.apps e.libraries start.0.complete.libraries), both es versions.1 start.1)
 
 boots : (p : Place) → HasVersionsAt p → (a : Reply) → Transition.Boots p a → IsGood a
-boots (raw x) all a (inl (events, list, end, after, image, is)) =
+boots (raw x) all a (inl (events, list, extent, after, image, is)) =
     let versions = of_image x list image.image_of in
-    boots_to events end (λ l e. let same : list ≡ l = cc in subst AreOfFiles same versions) a is
+    boots_to events extent (λ l e. let same : list ≡ l = cc in subst AreOfFiles same versions) a is
 boots (raw x) all a (inr (inl (why, refusal, is))) = good_as a _ is (boot_line_whole why, tt)
 boots (raw x) all a (inr (inr (torn, is))) = good_as a _ is ((λ behind. refl), tt)
 boots (closed s) all a is = boots_store s all a is
-boots (running events end ps) all a is = boots_store (certain events end) (certain_versions events end all) a is
+boots (running events extent ps) all a is = boots_store (certain events extent) (certain_versions events extent all) a is
 boots (dead s) all a is = boots_store s all a is
 
 versions_of : (es : Releases) → AreOfFiles es → HaveVersions es
@@ -253,35 +252,35 @@ listed_versions events all = go (list_after events) all
 acts : (p : Place) (does : Transition.Action) → IsGoodAction does → HasVersionsAt p → (a : Reply) → Transition.Acts p does a → IsGood a
 acts p (answers text) good all a is = good_as a _ is (good, all)
 acts p (makes_node found) good all a is = makes p found good all a is
-acts (running events end ps) (changes_node c) good all a is = changes events end ps c (releases_after events) (c.files (releases_after events)) (commanded c.event (releases_after events)) (of_command c.event (releases_after events)) (good.0 (releases_after events)) (good.1 (releases_after events)) (good.2 (releases_after events)) all a is
+acts (running events extent ps) (changes_node c) good all a is = changes events extent ps c (releases_after events) (c.files (releases_after events)) (commanded c.event (releases_after events)) (of_command c.event (releases_after events)) (good.0 (releases_after events)) (good.1 (releases_after events)) (good.2 (releases_after events)) all a is
 acts (raw x) (changes_node c) good all a is = good_as a _ is ((λ behind. refl), all)
 acts (closed s) (changes_node c) good all a is = good_as a _ is ((λ behind. refl), all)
 acts (dead s) (changes_node c) good all a is = good_as a _ is ((λ behind. refl), all)
-acts (running events end ps) (installs vsn) good all a is =
+acts (running events extent ps) (installs vsn) good all a is =
     let e = installed vsn in
-    each_reply IsGood events end ps vsn (releases_after events) (record {
+    each_reply IsGood events extent ps vsn (releases_after events) (record {
       listed = λ why. (listed_whole why, all);
       unmatched = ((λ behind. refl), all);
       not_run = λ f. (refusal_whole (script_refused f) tt, all);
       over_full = ((λ behind. refl), all);
-      broken = λ f. (refusal_whole (must_reboot f) tt, certain_versions events end all);
-      done_so = λ f r found comes. (installed_whole f.other f.descr (stale_modules (behind_run r).modules (libraries_at vsn (releases_after events))), list_versions events e tt all);
-      doubted_so = λ f found. (device_line, uncertain_versions events end e (install_size vsn (releases_after events)) tt all);
+      broken = λ f. (refusal_whole (must_reboot f) tt, certain_versions events extent all);
+      done_so = λ f r reach found comes. (installed_whole f.other f.descr (stale_modules (behind_run r).modules (libraries_at vsn (releases_after events))), list_versions events e tt all);
+      doubted_so = λ f found. (device_line, uncertain_versions events extent e (install_size vsn (releases_after events)) tt all);
     }) a is
 acts (raw x) (installs vsn) good all a is = good_as a _ is ((λ behind. refl), all)
 acts (closed s) (installs vsn) good all a is = good_as a _ is ((λ behind. refl), all)
 acts (dead s) (installs vsn) good all a is = good_as a _ is ((λ behind. refl), all)
-acts (running events end ps) (reboots_node vsn) good all a is = reboots events end ps vsn (releases_after events) (commanded (reboot_old vsn) (releases_after events)) (of_command (reboot_old vsn) (releases_after events)) all a is
+acts (running events extent ps) (reboots_node vsn) good all a is = reboots events extent ps vsn (releases_after events) (commanded (reboot_old vsn) (releases_after events)) (of_command (reboot_old vsn) (releases_after events)) all a is
 acts (raw x) (reboots_node vsn) good all a is = good_as a _ is ((λ behind. refl), all)
 acts (closed s) (reboots_node vsn) good all a is = good_as a _ is ((λ behind. refl), all)
 acts (dead s) (reboots_node vsn) good all a is = good_as a _ is ((λ behind. refl), all)
 acts p boots_node good all a is = boots p all a is
-acts (running events end ps) tells_start good all a (inl is) = good_as a _ is (ok_whole _ (start_plain (releases_after events) (listed_versions events all)), all)
-acts (running events end ps) tells_start good all a (inr is) = good_as a _ is (device_line, certain_versions events end all)
+acts (running events extent ps) tells_start good all a (inl is) = good_as a _ is (ok_whole _ (start_plain (releases_after events) (listed_versions events all)), all)
+acts (running events extent ps) tells_start good all a (inr is) = good_as a _ is (device_line, certain_versions events extent all)
 acts (raw x) tells_start good all a is = good_as a _ is ((λ behind. refl), all)
 acts (closed s) tells_start good all a is = good_as a _ is ((λ behind. refl), all)
 acts (dead s) tells_start good all a is = good_as a _ is ((λ behind. refl), all)
-acts (running events end ps) (calls c) good all a is = good_as a _ is (calls_whole c ps, all)
+acts (running events extent ps) (calls c) good all a is = good_as a _ is (calls_whole c ps, all)
 acts (raw x) (calls c) good all a is = good_as a _ is ((λ behind. refl), all)
 acts (closed s) (calls c) good all a is = good_as a _ is ((λ behind. refl), all)
 acts (dead s) (calls c) good all a is = good_as a _ is ((λ behind. refl), all)

@@ -6,7 +6,9 @@ use Rattle.rel_files.specs.File.{HasVersions}
 use Rattle.library.specs.Library.{IsLibrary}
 use Rattle.rel_list.specs.Releases.{Bundle, Entry, Releases, bundle_in}
 use Rattle.rel_list.specs.Event.{Event, list_after}
+use Rattle.rel_list.specs.Event.Event.{boot as booting}
 use Rattle.node_processes.specs.ModuleVersions.{HaveModuleVersions}
+use Rattle.rel_handler.specs.Compaction.{compacted}
 use Rattle.rel_handler.specs.Events.{Events, certain}
 use Rattle.session_input.specs.Commands.{Command}
 use Rattle.session_input.specs.Commands.Command.{create, set_unpacked, relup}
@@ -16,7 +18,7 @@ use Rattle.session_input.specs.Feed.{Feed}
 use Rattle.session_input.specs.Feed.Feed.{next}
 use Rattle.rel_unpack.specs.Source.{Source, GivesOne, GivesEach}
 use Rattle.rel_session.specs.Files.{Files}
-use Rattle.rel_session.specs.Node.{Place, Reply}
+use Rattle.rel_session.specs.Node.{Place, Reply, releases_after}
 use Rattle.rel_session.specs.Node.Place.{raw, closed, running, dead}
 use Rattle.rel_session.specs.Refusals.{refusal_line}
 use Rattle.rel_session.specs.Refusals.Refusal.{device}
@@ -47,9 +49,25 @@ TellsDoubt source =
 -- A device that does not fail leaves no choice there: bytes, or a store with nothing in doubt.
 abbrev pub IsCertain : Place → Type 0
 IsCertain (raw bytes) = Unit {0}
-IsCertain (closed s) = s ≡ certain s.known.acknowledged s.end
-IsCertain (running events end ps) = Unit {0}
-IsCertain (dead s) = s ≡ certain s.known.acknowledged s.end
+IsCertain (closed s) = s ≡ certain s.known.acknowledged s.extent
+IsCertain (running events extent ps) = Unit {0}
+IsCertain (dead s) = s ≡ certain s.known.acknowledged s.extent
+
+-- The store of a node is as short as a compaction leaves it.
+abbrev pub IsCompact : Place → Type 0
+IsCompact (running events extent ps) = extent ≡ compacted extent (releases_after events)
+IsCompact p = Unit {0}
+
+-- one of these events has a record
+abbrev pub HaveRecord : Events → Type 0
+HaveRecord [] = ⊥
+HaveRecord (booting ∷ events) = HaveRecord events
+HaveRecord (e ∷ events) = Unit {0}
+
+-- Each command that committed an event left such a store: memory was refused to no compaction.
+abbrev pub LeaveCompactStores : List Reply → Type 0
+LeaveCompactStores [] = Unit {0}
+LeaveCompactStores (a ∷ more) = (HaveRecord a.outcome.acknowledged → IsCompact a.after) × LeaveCompactStores more
 
 -- the same answers, and the same events, acknowledged and in doubt
 abbrev pub AreSame : List Reply → List Reply → Type 0
@@ -57,36 +75,38 @@ AreSame [] [] = Unit {0}
 AreSame (a ∷ first) (b ∷ second) = (a.answer ≡ b.answer) × (a.outcome ≡ b.outcome) × AreSame first second
 AreSame first second = ⊥
 
--- Where the device does not fail, and a read of a file has one answer, all the commands of an input have one answer each,
--- and the session one ending.
+-- Where neither the device fails nor memory is refused to a compaction, and a read of a file has one answer, all the commands of
+-- an input have one answer each, and the session one ending.
 abbrev pub HaveOneAnswer : Source → Type 0
 HaveOneAnswer base =
     GivesOne base → (files : Files) (p : Place) (commands : Feed Command) (a b : Ending) (first second : List Reply)
     → IsCertain p → a ≢ early → b ≢ early → NoneFails first → NoneFails second
+    → LeaveCompactStores first → LeaveCompactStores second
     → Replies base files p commands a first → Replies base files p commands b second → (a ≡ b) × AreSame first second
 
--- So sessions over the same commands from one place, in which the device did not fail, have written the same text, on
--- whatever disks.
+-- So sessions over the same commands from one place, in which neither was, have written the same text, on whatever disks.
 abbrev pub HaveOneText : {D : Type 0} → Device D → Source → Type 0
 HaveOneText {D} v base =
     GivesOne base → (files : Files) (p : Place) (commands : Feed Command) (a b : Ending) (old new other later : D) (text written : List ℕ)
     → IsCertain p → a ≢ early → b ≢ early → (HasFailed v old new → ⊥) → (HasFailed v other later → ⊥)
-    → IsRun v base files p commands a old new text → IsRun v base files p commands b other later written
+    → (run : IsRun v base files p commands a old new text) (again : IsRun v base files p commands b other later written)
+    → LeaveCompactStores run.replies → LeaveCompactStores again.replies
     → (a ≡ b) × (text ≡ written)
 
 -- the events of the place have a list
 abbrev pub HasList : Place → Type 0
 HasList (raw bytes) = Unit {0}
 HasList (closed s) = (list : Releases) × (list_after s.known.acknowledged ≡ Some list)
-HasList (running events end ps) = (list : Releases) × (list_after events ≡ Some list)
+HasList (running events extent ps) = (list : Releases) × (list_after events ≡ Some list)
 HasList (dead s) = (list : Releases) × (list_after s.known.acknowledged ≡ Some list)
 
--- The commands have answers in which the device does not fail.
+-- The commands have answers in which neither the device fails nor memory is refused to a compaction.
 pub record HasAnswer (base : Source) (files : Files) (p : Place) (commands : Feed Command) : Type 0 where
   pub ending : Ending
   pub whole : ending ≢ early
   pub replies : List Reply
   pub works : NoneFails replies
+  pub compact : LeaveCompactStores replies
   pub right : Replies base files p commands ending replies
 
 -- Each input has such answers, where each read of a file has an answer.
@@ -119,13 +139,13 @@ abbrev pub HasVersionsAt : Place → Type 0
 HasVersionsAt (raw bytes) = Unit {0}
 HasVersionsAt (closed s) =
     (events : Events) (list : Releases) → MayBe s events → list_after events ≡ Some list → AreOfFiles list
-HasVersionsAt (running events end ps) = (list : Releases) → list_after events ≡ Some list → AreOfFiles list
+HasVersionsAt (running events extent ps) = (list : Releases) → list_after events ≡ Some list → AreOfFiles list
 HasVersionsAt (dead s) =
     (events : Events) (list : Releases) → MayBe s events → list_after events ≡ Some list → AreOfFiles list
 
 -- the module of each process there has a version
 abbrev pub HasModuleVersionsAt : Place → Type 0
-HasModuleVersionsAt (running events end ps) = HaveModuleVersions ps
+HasModuleVersionsAt (running events extent ps) = HaveModuleVersions ps
 HasModuleVersionsAt p = Unit {0}
 
 -- A text tells one run, where a read of a file has one answer: two over the same commands, whether the device fails or

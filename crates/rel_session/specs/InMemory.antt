@@ -6,7 +6,7 @@ use Rattle.rel_unpack.specs.Source.{Source}
 use Rattle.rel_list.specs.Releases.{Releases, running as running_release}
 use Rattle.rel_list.specs.Event.{list_after}
 use Rattle.rel_handler.specs.declared.handler.Handler.{Handler}
-use Rattle.rel_handler.specs.State.{disk_in, list_in, is_dead, end_in, IsSound}
+use Rattle.rel_handler.specs.State.{disk_in, extent_in, list_in, is_dead, IsSound}
 use Rattle.session_input.specs.declared.error.SessionError.{SessionError}
 use Rattle.node_processes.specs.Fresh.{fresh}
 use Rattle.node_processes.specs.InMemory.{processes_in, AreSound}
@@ -58,9 +58,9 @@ abbrev pub IsAt : {D : Type 0} → Device D → PlaceInMemory D → Place → Ty
 IsAt v (memory.Idle disk) (raw bytes) = Holds v (raw bytes) disk
 IsAt v (memory.Idle disk) (closed s) = Holds v (closed s) disk
 IsAt v (memory.Idle disk) p = ⊥
-IsAt v (memory.Made node) (running events end ps) =
-    Holds v (running events end ps) (disk_in node.handler) × (is_dead node.handler ≡ false)
-    × (list_after events ≡ Some (list_in node.handler)) × (end_in node.handler ≡ end)
+IsAt v (memory.Made node) (running events extent ps) =
+    Holds v (running events extent ps) (disk_in node.handler) × (is_dead node.handler ≡ false)
+    × (list_after events ≡ Some (list_in node.handler)) × (extent_in node.handler ≡ extent)
     × (processes_in node.processes ≡ ps)
 IsAt v (memory.Made node) (dead s) = Holds v (dead s) (disk_in node.handler) × (is_dead node.handler ≡ true)
 IsAt v (memory.Made node) p = ⊥

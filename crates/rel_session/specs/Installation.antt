@@ -15,12 +15,13 @@ use Rattle.node_upgrade.specs.Failure.Why.{fails}
 use Rattle.node_upgrade.specs.Stale.{stale_modules}
 use Rattle.node_upgrade.specs.Upgrade.{libraries_at, script_failure, site_for, upgrade_to}
 use Rattle.rel_handler.specs.Events.{Events, certain, uncertain}
-use Rattle.rel_handler.specs.Image.{end_behind, HasSpace}
+use Rattle.rel_handler.specs.Compaction.{MayReach}
+use Rattle.rel_handler.specs.Image.{Extent, extent_behind, HasSpace}
 use Rattle.relup_exec.specs.Alone as script
 use Rattle.relup_exec.specs.Alone.{outcome}
 use Rattle.relup_exec.specs.Alone.Outcome.{ends, refuses, breaks}
 use Rattle.relup_script.specs.Search.{FoundForm}
-use Rattle.rel_session.specs.Node.{Reply, reply, refused, failed, done}
+use Rattle.rel_session.specs.Node.{Reply, releases_after, reply, refused, failed, done}
 use Rattle.rel_session.specs.Node.Place.{running, dead}
 use Rattle.rel_session.specs.Refusals.{refusal_of}
 use Rattle.rel_session.specs.Refusals.Refusal.{full, script_refused, must_reboot}
@@ -44,29 +45,30 @@ upgrade_outcome vsn list f ps =
     let s = site_for (upgrade_to vsn list f) ps.modules in
     outcome s (run_on s ps) f.script
 
--- The release is installed, and these are the processes behind its script.
-abbrev pub installed_reply : Events → ℕ → List ℕ → Releases → FoundForm → Processes → Reply
-installed_reply events end vsn list f ps =
+-- The release is installed: the store reaches so far then, and these are the processes behind its script.
+abbrev pub installed_reply : Events → Extent → List ℕ → Releases → FoundForm → Processes → Reply
+installed_reply events extent vsn list f ps =
     reply (installed_line f (stale_modules ps.modules (libraries_at vsn list))) (done (installed vsn ∷ []))
-    (running (events ++ installed vsn ∷ []) (end_behind end (install_size vsn list)) ps)
+    (running (events ++ installed vsn ∷ []) extent ps)
 
 -- A script that fails before its point of no return changes nothing. One that fails behind it leaves the node dead, without an
 -- event. Behind one that was carried out the event is committed, or the device fails.
-abbrev pub Leads : Events → ℕ → Processes → List ℕ → Releases → FoundForm → script.Outcome → Reply → Type 0
-Leads events end ps vsn list f (refuses n c) a = a ≡ refused (script_refused (failure n (fails c))) (running events end ps)
-Leads events end ps vsn list f (breaks n c) a = a ≡ refused (must_reboot (failure n (fails c))) (dead (certain events end))
-Leads events end ps vsn list f (ends r) a =
-    (a ≡ installed_reply events end vsn list f (behind_run r))
-    ⊎ (a ≡ failed (Some (installed vsn)) (dead (uncertain events end (installed vsn) (install_size vsn list))))
+abbrev pub Leads : Events → Extent → Processes → List ℕ → Releases → FoundForm → script.Outcome → Reply → Type 0
+Leads events extent ps vsn list f (refuses n c) a = a ≡ refused (script_refused (failure n (fails c))) (running events extent ps)
+Leads events extent ps vsn list f (breaks n c) a = a ≡ refused (must_reboot (failure n (fails c))) (dead (certain events extent))
+Leads events extent ps vsn list f (ends r) a =
+    ((x : Extent) × MayReach (extent_behind extent (install_size vsn list)) (releases_after (events ++ installed vsn ∷ [])) x
+    × (a ≡ installed_reply events x vsn list f (behind_run r)))
+    ⊎ (a ≡ failed (Some (installed vsn)) (dead (uncertain events extent (installed vsn) (install_size vsn list))))
 
 -- A script that isn't run is refused; one that may begin does, where the record of its event fits.
-abbrev pub Begins : Events → ℕ → Processes → List ℕ → Releases → FoundForm → Option Failure → Reply → Type 0
-Begins events end ps vsn list f (Some why) a = a ≡ refused (script_refused why) (running events end ps)
-Begins events end ps vsn list f None a =
-    (HasSpace end (install_size vsn list) × Leads events end ps vsn list f (upgrade_outcome vsn list f ps) a)
-    ⊎ ((HasSpace end (install_size vsn list) → ⊥) × (a ≡ refused full (running events end ps)))
+abbrev pub Begins : Events → Extent → Processes → List ℕ → Releases → FoundForm → Option Failure → Reply → Type 0
+Begins events extent ps vsn list f (Some why) a = a ≡ refused (script_refused why) (running events extent ps)
+Begins events extent ps vsn list f None a =
+    (HasSpace extent (install_size vsn list) × Leads events extent ps vsn list f (upgrade_outcome vsn list f ps) a)
+    ⊎ ((HasSpace extent (install_size vsn list) → ⊥) × (a ≡ refused full (running events extent ps)))
 
 -- The list or the relups refuse the installation, or there is a script for it.
-abbrev pub Installs : Events → ℕ → Processes → List ℕ → Releases → Result FoundForm HandlerError → Reply → Type 0
-Installs events end ps vsn list (Err why) a = a ≡ refused (refusal_of why) (running events end ps)
-Installs events end ps vsn list (Ok f) a = Begins events end ps vsn list f (script_failure vsn list f) a
+abbrev pub Installs : Events → Extent → Processes → List ℕ → Releases → Result FoundForm HandlerError → Reply → Type 0
+Installs events extent ps vsn list (Err why) a = a ≡ refused (refusal_of why) (running events extent ps)
+Installs events extent ps vsn list (Ok f) a = Begins events extent ps vsn list f (script_failure vsn list f) a

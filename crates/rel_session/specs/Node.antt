@@ -3,6 +3,7 @@ use Rattle.std.specs.Prelude.{ℕ, Bool, true, false, List, [], ◌∷◌, Optio
 use Rattle.rel_list.specs.Releases.{Releases}
 use Rattle.rel_list.specs.Event.{Event, list_after}
 use Rattle.rel_handler.specs.Events.{Events, Stored, certain}
+use Rattle.rel_handler.specs.Image.{Extent}
 use Rattle.node_processes.specs.Fresh.{fresh}
 use Rattle.node_processes.specs.Processes.{Processes}
 use Rattle.rel_session.specs.Refusals.{Refusal, refusal_line}
@@ -14,8 +15,8 @@ pub data Place : Type 0 where
   raw : List ℕ → Place
   -- a store whose node was not booted
   closed : Stored → Place
-  -- a node with these events, whose store ends here, and with these processes
-  running : Events → ℕ → Processes → Place
+  -- a node with these events, whose store reaches so far, and with these processes
+  running : Events → Extent → Processes → Place
   -- the device failed the node
   dead : Stored → Place
 
@@ -27,15 +28,15 @@ list_or_none (Some es) = es
 abbrev pub releases_after : Events → Releases
 releases_after events = list_or_none (list_after events)
 
--- a node with these events, whose store ends here, right after a boot
-abbrev pub just_booted : Events → ℕ → Place
-just_booted events end = running events end (fresh (releases_after events))
+-- a node with these events, whose store reaches so far, right after a boot
+abbrev pub just_booted : Events → Extent → Place
+just_booted events extent = running events extent (fresh (releases_after events))
 
 -- where the disk stands once no node runs on it
 abbrev pub at_rest : Place → Place
 at_rest (raw bytes) = raw bytes
 at_rest (closed s) = closed s
-at_rest (running events end ps) = closed (certain events end)
+at_rest (running events extent ps) = closed (certain events extent)
 at_rest (dead s) = closed s
 
 -- What a command did: the events that its answer acknowledges, the one that is in doubt behind them, and whether the

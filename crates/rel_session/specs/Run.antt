@@ -25,8 +25,8 @@ use Rattle.rel_session.specs.Transition.{Transition, IsStopped}
 abbrev pub Holds : {D : Type 0} → Device D → Place → D → Type 0
 Holds v (raw bytes) disk = v.seen disk ≡ bytes
 Holds v (closed s) disk = (c : List ℕ) → v.may_leave disk c → IsStoredAs s c
-Holds v (running events end ps) disk =
-    (c : List ℕ) → v.may_leave disk c → IsStoredAs (certain events end) c × StartsBehind events c
+Holds v (running events extent ps) disk =
+    (c : List ℕ) → v.may_leave disk c → IsStoredAs (certain events extent) c × StartsBehind events c
 Holds v (dead s) disk = (c : List ℕ) → v.may_leave disk c → IsStoredAs s c
 
 -- A session begins on a disk on which no node runs.
@@ -67,7 +67,7 @@ MomentsOf v acknowledged doubt failed old new = LeavesOnly v old new (λ c. v.ma
 abbrev pub Moments : {D : Type 0} → Device D → Place → Outcome → D → D → Type 0
 Moments v (raw bytes) o old new = MomentsOf v o.acknowledged o.in_doubt o.failed old new
 Moments v (closed s) o old new = LeavesOnly v old new (IsReached s.known (events_of o))
-Moments v (running events end ps) o old new = LeavesOnly v old new (IsReached (settled events) (events_of o))
+Moments v (running events extent ps) o old new = LeavesOnly v old new (IsReached (settled events) (events_of o))
 Moments v (dead s) o old new = LeavesOnly v old new (IsReached s.known (events_of o))
 
 -- A command with this reply led from the one disk to the other.

@@ -5,7 +5,7 @@ use Rattle.rel_list.specs.Releases.{Bundle, Releases}
 use Rattle.rel_list.specs.Event.{list_after}
 use Rattle.rel_list.specs.Event.Event.{made, boot as booting}
 use Rattle.rel_handler.specs.Events.{Events, Stored, with_doubt, certain, HasStart, IsStoredAs, IsOfPrefix}
-use Rattle.rel_handler.specs.Image.{IsImageOf, store_end}
+use Rattle.rel_handler.specs.Image.{extent_of, IsImageOf}
 use Rattle.session_input.specs.Commands.{Command}
 use Rattle.rel_session.specs.Device.{Device, LeavesOnly}
 use Rattle.session_input.specs.Feed.{Feed}
@@ -20,7 +20,7 @@ use Rattle.rel_session.specs.Transition.{Transition}
 abbrev pub acknowledged_at : Place → Events
 acknowledged_at (raw bytes) = []
 acknowledged_at (closed s) = s.known.acknowledged
-acknowledged_at (running events end ps) = events
+acknowledged_at (running events extent ps) = events
 acknowledged_at (dead s) = s.known.acknowledged
 
 -- the store is known there
@@ -38,7 +38,7 @@ abbrev pub Finds : Place → Events → Type 0
 Finds (raw bytes) events =
     (events ≡ []) ⊎ ((list : Releases) × (list_after events ≡ Some list) × IsImageOf bytes list)
 Finds (closed s) events = MayBe s events
-Finds (running events end ps) found = found ≡ events
+Finds (running events extent ps) found = found ≡ events
 Finds (dead s) events = MayBe s events
 
 -- Behind a reply the acknowledged events are those that it found, with its own at the end. A store that is known stays
@@ -109,7 +109,7 @@ BeginsWhereOneEnded {D} v =
 abbrev pub BeginsBehindACrash : {D : Type 0} → Device D → Type 0
 BeginsBehindACrash {D} v =
     (events : Events) (image : List ℕ) (disk : D) → StandsForAll events image → Only image (v.may_leave disk)
-    → (more : Events) × Starts v (closed (certain (events ++ more) (store_end image))) disk
+    → (more : Events) × Starts v (closed (certain (events ++ more) (extent_of image))) disk
 
 -- A next session begins on this disk: it is the one that was handed back, or holds what a crash left at some moment.
 abbrev pub IsNextDisk : {D : Type 0} → Device D → D → D → D → Type 0

@@ -10,7 +10,8 @@ use Rattle.rel_handler.specs.declared.error.BootError.TheVariants as boot_error
 use Rattle.node_command.specs.declared.error.HandlerError.{HandlerError}
 use Rattle.node_command.specs.Files.{bundle_brought, made_size, unpacked_size, Brings}
 use Rattle.rel_handler.specs.Events.{Events, Stored, MayHave, certain, uncertain}
-use Rattle.rel_handler.specs.Image.{IsImageAt, holds_a_store, first_end, end_behind, HasSpace}
+use Rattle.rel_handler.specs.Compaction.{MayReach}
+use Rattle.rel_handler.specs.Image.{Extent, extent_behind, first_extent, HasSpace, holds_a_store, IsImageAt}
 use Rattle.rel_handler.specs.Refusals.{IsBootRefusal}
 use Rattle.node_command.specs.Installing.{installation}
 use Rattle.node_command.specs.Taking.{commanded, change_size}
@@ -43,7 +44,7 @@ done_line details = codes "ok" ++ (details ++ codes "\n")
 
 -- what a node that runs answers by its releases and its processes
 abbrev pub told : (Releases → Processes → List ℕ) → Place → List ℕ
-told says (running events end ps) = says (releases_after events) ps
+told says (running events extent ps) = says (releases_after events) ps
 told says p = refusal_line dead_node
 
 -- the answer to `releases`
@@ -131,7 +132,7 @@ relup_telling (Ok text) = answers text
 
 -- a command that reads its files only where a node runs
 abbrev pub OnNode : Place → (Action → Type 0) → Action → Type 0
-OnNode (running events end ps) P does = P does
+OnNode (running events extent ps) P does = P does
 OnNode p P does = does ≡ refuses dead_node
 
 -- What each command comes to where the disk stands; `quit` comes to nothing.
@@ -160,35 +161,36 @@ ComesTo source p bad does = does ≡ answers (codes "error session 1 BadCommand\
 ComesTo source p quit does = ⊥
 
 -- An event, whose record has a body of so many bytes, is committed where the list takes it, its record fits, and the device
--- does not fail. P says what is replied then.
-abbrev pub IsCommit : Events → ℕ → Processes → Event → ℕ → Result Releases HandlerError → (Reply → Type 0) → Reply → Type 0
-IsCommit events end ps e size (Err why) P a = a ≡ refused (refusal_of why) (running events end ps)
-IsCommit events end ps e size (Ok next) P a =
-    (HasSpace end size × (P a ⊎ (a ≡ failed (Some e) (dead (uncertain events end e size)))))
-    ⊎ ((HasSpace end size → ⊥) × (a ≡ refused full (running events end ps)))
+-- does not fail. P says what is replied then, by how far the store reaches behind it.
+abbrev pub IsCommit : Events → Extent → Processes → Event → ℕ → Result Releases HandlerError → (Extent → Reply → Type 0) → Reply → Type 0
+IsCommit events extent ps e size (Err why) P a = a ≡ refused (refusal_of why) (running events extent ps)
+IsCommit events extent ps e size (Ok next) P a =
+    (HasSpace extent size
+    × (((x : Extent) × MayReach (extent_behind extent size) (releases_after (events ++ e ∷ [])) x × P x a)
+    ⊎ (a ≡ failed (Some e) (dead (uncertain events extent e size)))))
+    ⊎ ((HasSpace extent size → ⊥) × (a ≡ refused full (running events extent ps)))
 
--- what is replied to a change of this list that was committed; the processes stay
-abbrev pub changed : Events → ℕ → Processes → Change → Releases → Reply
-changed events end ps c list =
-    reply (done_line (c.details list)) (done (c.event ∷ []))
-    (running (events ++ c.event ∷ []) (end_behind end (c.size list)) ps)
+-- what is replied to a change of this list that was committed, where the store reaches so far then; the processes stay
+abbrev pub changed : Events → Extent → Processes → Change → Releases → Reply
+changed events extent ps c list =
+    reply (done_line (c.details list)) (done (c.event ∷ [])) (running (events ++ c.event ∷ []) extent ps)
 
 -- The files of a change are refused, or the list takes it or refuses it.
-abbrev pub Changes : Events → ℕ → Processes → Change → Releases → Option FilesRefusal → Result Releases HandlerError
+abbrev pub Changes : Events → Extent → Processes → Change → Releases → Option FilesRefusal → Result Releases HandlerError
     → Reply → Type 0
-Changes events end ps c list (Some why) taken a = a ≡ refused (refusal_for why) (running events end ps)
-Changes events end ps c list None taken a =
-    IsCommit events end ps c.event (c.size list) taken (λ a. a ≡ changed events end ps c list) a
+Changes events extent ps c list (Some why) taken a = a ≡ refused (refusal_for why) (running events extent ps)
+Changes events extent ps c list None taken a =
+    IsCommit events extent ps c.event (c.size list) taken (λ x a. a ≡ changed events x ps c list) a
 
 -- A node is made with a release on a disk with these bytes, and booted, unless its applications are refused or the record
 -- does not fit.
 abbrev pub MakesWith : List ℕ → Bundle → ℕ → Option FilesRefusal → Reply → Type 0
 MakesWith bytes p size (Some why) a = a ≡ refused (refusal_for why) (raw bytes)
 MakesWith bytes p size None a =
-    (HasSpace first_end size
+    (HasSpace first_extent size
     × (a ≡ reply (ok_line p.release.vsn) (done (made p ∷ booting ∷ []))
-    (just_booted (made p ∷ booting ∷ []) (end_behind first_end size))))
-    ⊎ ((HasSpace first_end size → ⊥) × (a ≡ refused full (raw bytes)))
+    (just_booted (made p ∷ booting ∷ []) (extent_behind first_extent size))))
+    ⊎ ((HasSpace first_extent size → ⊥) × (a ≡ refused full (raw bytes)))
 
 -- So it is where these bytes hold no store.
 abbrev pub MakesOn : List ℕ → Brought → Bool → Reply → Type 0
@@ -204,11 +206,11 @@ MakesNode (closed s) b a = (a ≡ refused exists (closed s)) ⊎ (a ≡ failed (
 MakesNode p b a = a ≡ refused exists p
 
 -- A boot of a store with these events is done. The answer names the version of the release that runs.
-abbrev pub IsBooted : Events → ℕ → Reply → Type 0
-IsBooted events end a =
+abbrev pub IsBooted : Events → Extent → Reply → Type 0
+IsBooted events extent a =
     (list : Releases) × (list_after (events ++ booting ∷ []) ≡ Some list)
     × (a ≡ reply (ok_line (version_of (running_release list))) (done (booting ∷ []))
-    (just_booted (events ++ booting ∷ []) end))
+    (just_booted (events ++ booting ∷ []) extent))
 
 -- a boot in which the device failed
 abbrev pub boot_failed : Place → Reply
@@ -217,32 +219,32 @@ boot_failed p = reply (boot_line boot_error.Device) (failed_with None) p
 -- A boot of a disk with these bytes: they stand for the list of some events, or are refused, or the device failed.
 abbrev pub BootsBytes : List ℕ → Reply → Type 0
 BootsBytes bytes a =
-    ((events : Events) × (list : Releases) × (end : ℕ) × (list_after events ≡ Some list) × IsImageAt bytes list end
-    × IsBooted events end a)
+    ((events : Events) × (list : Releases) × (extent : Extent) × (list_after events ≡ Some list) × IsImageAt bytes list extent
+    × IsBooted events extent a)
     ⊎ (((why : BootError) × IsBootRefusal bytes why × (a ≡ reply (boot_line why) nothing (raw bytes)))
     ⊎ ((torn : List ℕ) × (a ≡ boot_failed (raw torn))))
 
 -- A boot of a store: it has the acknowledged events, with the one in doubt or without.
 abbrev pub BootsStore : Stored → Reply → Type 0
 BootsStore s a =
-    ((events : Events) × (end : ℕ) × MayHave s events end × IsBooted events end a)
+    ((events : Events) × (extent : Extent) × MayHave s events extent × IsBooted events extent a)
     ⊎ (a ≡ boot_failed (closed s))
 
 abbrev pub Boots : Place → Reply → Type 0
 Boots (raw bytes) a = BootsBytes bytes a
 Boots (closed s) a = BootsStore s a
-Boots (running events end ps) a = BootsStore (certain events end) a
+Boots (running events extent ps) a = BootsStore (certain events extent) a
 Boots (dead s) a = BootsStore s a
 
--- the store of a node with these events and this list behind a reboot to the release of this version
-abbrev pub rebooted : Events → ℕ → List ℕ → Releases → Stored
-rebooted events end vsn list = certain (events ++ rebooting vsn ∷ []) (end_behind end (change_size (rebooting vsn) list))
+-- the store of a node with these events behind a reboot to the release of this version, which reaches so far
+abbrev pub rebooted : Events → Extent → List ℕ → Stored
+rebooted events extent vsn = certain (events ++ rebooting vsn ∷ []) extent
 
 -- This list takes a reboot to an old release, or refuses it. Behind the commit the node boots, and that is the answer.
-abbrev pub Reboots : Events → ℕ → Processes → List ℕ → Releases → Result Releases HandlerError → Reply → Type 0
-Reboots events end ps vsn list taken a =
-    IsCommit events end ps (rebooting vsn) (change_size (rebooting vsn) list) taken
-    (λ a. (b : Reply) × BootsStore (rebooted events end vsn list) b × (a ≡ behind (rebooting vsn) b)) a
+abbrev pub Reboots : Events → Extent → Processes → List ℕ → Releases → Result Releases HandlerError → Reply → Type 0
+Reboots events extent ps vsn list taken a =
+    IsCommit events extent ps (rebooting vsn) (change_size (rebooting vsn) list) taken
+    (λ x a. (b : Reply) × BootsStore (rebooted events x vsn) b × (a ≡ behind (rebooting vsn) b)) a
 
 -- what a node starts whose permanent release is this: the version of the runtime system, and its own
 abbrev pub start_versions : Option Release → List ℕ
@@ -250,29 +252,29 @@ start_versions None = []
 start_versions (Some r) = r.erts ++ (codes " " ++ r.vsn)
 
 -- The start record is read, which is that of the permanent release, or the device failed in it.
-abbrev pub TellsStart : Events → ℕ → Processes → Reply → Type 0
-TellsStart events end ps a =
-    (a ≡ reply (ok_line (start_versions (permanent_release (releases_after events)))) nothing (running events end ps))
-    ⊎ (a ≡ failed None (dead (certain events end)))
+abbrev pub TellsStart : Events → Extent → Processes → Reply → Type 0
+TellsStart events extent ps a =
+    (a ≡ reply (ok_line (start_versions (permanent_release (releases_after events)))) nothing (running events extent ps))
+    ⊎ (a ≡ failed None (dead (certain events extent)))
 
 -- What the node replies then.
 abbrev pub Acts : Place → Action → Reply → Type 0
 Acts p (answers text) a = a ≡ reply text nothing p
 Acts p (makes_node brought) a = MakesNode p brought a
-Acts (running events end ps) (changes_node c) a =
+Acts (running events extent ps) (changes_node c) a =
     let list = releases_after events in
-    Changes events end ps c list (c.files list) (commanded c.event list) a
+    Changes events extent ps c list (c.files list) (commanded c.event list) a
 Acts p (changes_node c) a = a ≡ refused dead_node p
-Acts (running events end ps) (installs vsn) a =
-    Installs events end ps vsn (releases_after events) (installation vsn (releases_after events)) a
+Acts (running events extent ps) (installs vsn) a =
+    Installs events extent ps vsn (releases_after events) (installation vsn (releases_after events)) a
 Acts p (installs vsn) a = a ≡ refused dead_node p
-Acts (running events end ps) (reboots_node vsn) a =
-    Reboots events end ps vsn (releases_after events) (commanded (rebooting vsn) (releases_after events)) a
+Acts (running events extent ps) (reboots_node vsn) a =
+    Reboots events extent ps vsn (releases_after events) (commanded (rebooting vsn) (releases_after events)) a
 Acts p (reboots_node vsn) a = a ≡ refused dead_node p
 Acts p boots_node a = Boots p a
-Acts (running events end ps) tells_start a = TellsStart events end ps a
+Acts (running events extent ps) tells_start a = TellsStart events extent ps a
 Acts p tells_start a = a ≡ refused dead_node p
-Acts (running events end ps) (calls c) a = a ≡ reply (calls_line c ps) nothing (running events end (left_by c ps))
+Acts (running events extent ps) (calls c) a = a ≡ reply (calls_line c ps) nothing (running events extent (left_by c ps))
 Acts p (calls c) a = a ≡ refused dead_node p
 
 -- The reply to a command.
@@ -282,15 +284,18 @@ Transition source p c a = (does : Action) × ComesTo source p c does × Acts p d
 -- A reboot was committed on a node that runs, and its boot had no memory: the reboot is on the disk, and acknowledged.
 pub record IsRebootAlone (p : Place) (does : Action) (a : Reply) : Type 0 where
   pub events : Events
-  pub end : ℕ
+  pub extent : Extent
   pub processes : Processes
   pub vsn : List ℕ
-  pub here : p ≡ running events end processes
+  pub here : p ≡ running events extent processes
   pub action : does ≡ reboots_node vsn
   pub list : Releases
   pub taken : commanded (rebooting vsn) (releases_after events) ≡ Ok list
-  pub fits : HasSpace end (change_size (rebooting vsn) (releases_after events))
-  pub is : a ≡ reply [] (done (rebooting vsn ∷ [])) (closed (rebooted events end vsn (releases_after events)))
+  pub fits : HasSpace extent (change_size (rebooting vsn) (releases_after events))
+  pub reaches : Extent
+  pub behind : MayReach (extent_behind extent (change_size (rebooting vsn) (releases_after events)))
+      (releases_after (events ++ rebooting vsn ∷ [])) reaches
+  pub is : a ≡ reply [] (done (rebooting vsn ∷ [])) (closed (rebooted events reaches vsn))
 
 -- what is left of a reply whose node is lost: all that it acknowledges is on the disk, but nothing is answered
 abbrev pub without_node : Reply → Reply

@@ -37,7 +37,7 @@ pub none_answered : {T : Type 0} (v : T) (f : StoreError) (P : Type 0) → (P �
 none_answered v f P never = (λ told. cc told, λ p. absurd (never p))
 
 pub same_store : {D : Type 0} (s : Store D) → IsSame s s
-same_store s = record { disk = refl; records = refl; end = refl; failed = refl }
+same_store s = record { disk = refl; records = refl; base = refl; end = refl; failed = refl }
 
 -- where only the memory for its records and for the next one is other, a store is as sound as it was
 pub sound_still : {D : Type 0} (seen : D → List ℕ) (may_leave : D → List ℕ → Type 0) (s : Store D) (records : Vec (Vec ℕ Global) Global) (spare : Vec ℕ Global) → records.items ≡ s.records.items → IsSoundStore seen may_leave s

@@ -67,6 +67,7 @@ pub record IsSoundStore {D : Type 0} (seen : D → List ℕ) (may_leave : D → 
 pub record IsSame {D : Type 0} (old new : Store D) : Type 0 where
   pub disk : disk_in new ≡ disk_in old
   pub records : records_in new ≡ records_in old
+  pub base : base_in new ≡ base_in old
   pub end : end_in new ≡ end_in old
   pub failed : has_failed new ≡ has_failed old
 

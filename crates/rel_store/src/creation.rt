@@ -4,7 +4,7 @@ ghost use Rattle.rel_disk.specs.Damage.{overwritten, Only, Within};
 ghost use Rattle.rel_disk.specs.Moments.{LeavesOnly, HasFailed};
 ghost use Rattle.rel_store.specs.Creation.{new_store, IsBehindGate, IsBegunAt, Creates, IsUnwritten, CreationRefused};
 ghost use Rattle.rel_store.specs.Layout.{has_magic, slot_with};
-ghost use Rattle.rel_store.specs.State.{disk_in, disk_of, end_in, records_in, text_in, Fits, IsSettled, IsSoundStore};
+ghost use Rattle.rel_store.specs.State.{disk_in, disk_of, base_in, end_in, records_in, text_in, Fits, IsSettled, IsSoundStore};
 
 use crate::bytes::spell_store;
 use crate::device::{write_and_commit, write_through};
@@ -34,6 +34,7 @@ impl<D: Disk> Store<D> {
             (λ store. D.seen (disk_in store) ≡ overwritten 0 (new_store first.now start.now)
             (D.seen disk)) }
         ensures fits { OnOk result (Fits 289 (length first.now)) }
+        ensures base { IfOk result (λ store. base_in store ≡ 288) }
         ensures end { IfOk result (λ store. end_in store ≡ 289 + (5 + length first.now)) }
 
         // At each moment from the first sync on a crash leaves no store, or one with the first record.

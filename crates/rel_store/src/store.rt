@@ -5,7 +5,7 @@ ghost use Rattle.rel_store.specs.Changed.{LeavesOthers, IsInRecord, IsInOtherSlo
 ghost use Rattle.rel_store.specs.Contents.{HasOnlyRead};
 ghost use Rattle.rel_store.specs.Layout.{slot_with};
 ghost use Rattle.rel_store.specs.Records.{Stands, StandsEither, StandsWithEither};
-ghost use Rattle.rel_store.specs.State.{disk_in, records_in, text_in, gate_in, end_in, has_failed, Fits, HasRoom, IsSettled, IsSoundStore, IsSame, Refused};
+ghost use Rattle.rel_store.specs.State.{disk_in, records_in, text_in, gate_in, base_in, end_in, has_failed, Fits, HasRoom, IsSettled, IsSoundStore, IsSame, Refused};
 
 use crate::StoreError;
 use crate::bytes::{body_of_record, make_room, spell_record, start_slot};
@@ -98,6 +98,7 @@ impl<D: Disk> Store<D> {
         ensures settled { OnOk result (IsSettled D.seen D.may_leave self.new) }
         ensures added { OnOk result (records_in self.new ≡ records_in self.old ++ body.now ∷ []) }
         ensures start { OnOk result (text_in D.seen self.new ≡ text_in D.seen self.old) }
+        ensures base { base_in self.new ≡ base_in self.old }
         ensures end { OnOk result (end_in self.new ≡ end_in self.old + (5 + length body.now)) }
         ensures bytes { OnOk result
             (D.seen (disk_in self.new) ≡ with_record (gate_in self.old) body.now
@@ -158,6 +159,7 @@ impl<D: Disk> Store<D> {
         ensures start { text_in D.seen self.new ≡ text_in D.seen self.old }
         ensures only_read { HasOnlyRead D.seen D.may_leave D.moment D.left_since
             (disk_in self.old) (disk_in self.new) }
+        ensures base { base_in self.new ≡ base_in self.old }
         ensures end { end_in self.new ≡ end_in self.old }
         ensures room { (n : ℕ) → HasRoom n self.old → HasRoom n self.new }
         ensures any_moment { has_failed self.old ≡ false
@@ -186,6 +188,7 @@ impl<D: Disk> Store<D> {
         ensures settled { OnOk result (IsSettled D.seen D.may_leave self.new) }
         ensures written { OnOk result (text_in D.seen self.new ≡ slot_with text.now) }
         ensures records { records_in self.new ≡ records_in self.old }
+        ensures base { base_in self.new ≡ base_in self.old }
         ensures end { end_in self.new ≡ end_in self.old }
         ensures room { (n : ℕ) → HasRoom n self.old → HasRoom n self.new }
         ensures bytes { OnOk result

@@ -1,11 +1,11 @@
 use Rattle.std.proofs.Common.{inl, inr, ⊎_elim, sym, subst, ap, ◌∙◌}
 use Rattle.rel_records.proofs.Progress.{bodies_in}
 use Rattle.rel_store.specs.Contents.{HasOnlyRead, IsSyncedAt}
-use Rattle.rel_store.specs.Records.{end_of}
 use Rattle.rel_store.specs.State.{records_in}
+use Rattle.rel_handler.specs.Image.{extent_of}
 use Rattle.rel_handler.specs.Refusals.{told_boot}
 use Rattle.rel_handler.proofs.Boots.{IsLack, made_again, image_so, read_so, only_memory, only_reads, settles_so}
-use Rattle.rel_handler.proofs.Images.{each_image, settled_end, booted_image}
+use Rattle.rel_handler.proofs.Images.{each_image, settled_extent, booted_image}
 use Rattle.rel_handler.proofs.booting.open.Goals as goal
 
 -- the store was synced when it was opened
@@ -22,7 +22,7 @@ returns-in-Ok-read_list-clause-opened g c =
       image = image;
       again = again;
       acknowledged = λ d now. each_image g.D.Disk.seen g.D.Disk.may_leave store list c.in-Ok.ensures.settled makes d now;
-      end = sym (ap end_of (sym synced.same) ∙ settled_end g.D.Disk.seen g.D.Disk.may_leave store c.in-Ok.ensures.settled);
+      extent = sym (ap (λ bytes. extent_of bytes) (sym synced.same) ∙ settled_extent g.D.Disk.seen g.D.Disk.may_leave store c.in-Ok.ensures.settled);
     }
 
 pub returns-in-Ok-read_list-clause-only : goal.returns-in-Ok-read_list-clause-only

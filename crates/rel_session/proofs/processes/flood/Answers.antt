@@ -13,5 +13,5 @@ returns-clause-flooded g c =
     let laws : IsDevice g.D.Disk = record { reads_an_image = g.met.D.Disk.reads_an_image; counts_now = g.met.D.Disk.counts_now; only_now = g.met.D.Disk.only_now } in
     let asked = often c.args.app.now c.args.id.now c.args.input c.args.times in
     let Does : Place → Reply → Type 0 = λ p a. Acts p (calls asked) a in
-    answers_if_told g.D.Disk laws Does (λ list ps. calls_line asked ps) (left_by asked) (λ events end ps. refl) c.args.node.now (record c.args.node.now { processes = c.flood.new.self }) c.requires.works refl
+    answers_if_told g.D.Disk laws Does (λ list ps. calls_line asked ps) (left_by asked) (λ events extent ps. refl) c.args.node.now (record c.args.node.now { processes = c.flood.new.self }) c.requires.works refl
     c.flood.result c.answer_of.result c.answer_of.ensures.same c.flood.ensures.told c.flood.ensures.flooded

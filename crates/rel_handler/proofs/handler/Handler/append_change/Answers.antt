@@ -4,7 +4,7 @@ use Rattle.rel_list.specs.Event.{event_of}
 use Rattle.rel_records.specs.Reading.{Spells}
 use Rattle.rel_records.specs.Writing.{record_of}
 use Rattle.rel_store.specs.State.{records_in}
-use Rattle.rel_handler.specs.Commits.{Commits, IsDone}
+use Rattle.rel_handler.specs.Commits.{Commits, IsAppended}
 use Rattle.rel_handler.specs.Refusals.{CommandRefused}
 use Rattle.rel_handler.specs.State.{list_in}
 use Rattle.node_command.specs.Taking.{change_size, no_terms}
@@ -70,10 +70,10 @@ returns-clause-refused g c =
     let long : length c.as_str.result.now ≡ change_size e (list_in h) = ap length (c.as_str.ensures.value ∙ c.in_ok-body.ensures.body no_terms) in
     subst (λ n. IfErr c.append.result (CommandRefused g.D.Disk.failures e n h c.append.new.self)) long c.append.ensures.refused
 
-pub returns-clause-done : goal.returns-clause-done
+pub returns-clause-appended : goal.returns-clause-appended
 unfolding change_size
-returns-clause-done g c =
+returns-clause-appended g c =
     let e = event_of c.args.event in
     let h = c.args.self.now in
     let long : length c.as_str.result.now ≡ change_size e (list_in h) = ap length (c.as_str.ensures.value ∙ c.in_ok-body.ensures.body no_terms) in
-    subst (λ n. OnOk c.append.result (IsDone g.D.Disk e n h c.append.new.self)) long c.append.ensures.done
+    subst (λ n. OnOk c.append.result (IsAppended g.D.Disk e n h c.append.new.self)) long c.append.ensures.appended

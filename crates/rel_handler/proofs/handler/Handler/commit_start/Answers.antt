@@ -40,12 +40,12 @@ returns-then-is_err-clause-failed g c =
 pub returns-then-is_err-clause-keeps : goal.returns-then-is_err-clause-keeps
 returns-then-is_err-clause-keeps g c =
     let works = c.requires.ready.store.works in
-    keeps g.D.Disk c.args.self.now c.requires.ready c.write_start.new.store _ (c.write_start.ensures.any_moment works) (c.write_start.ensures.others works) c.write_start.ensures.end c.write_start.ensures.counted
+    keeps g.D.Disk c.args.self.now c.requires.ready c.write_start.new.store _ (c.write_start.ensures.any_moment works) (c.write_start.ensures.others works) c.write_start.ensures.base c.write_start.ensures.records c.write_start.ensures.end c.write_start.ensures.counted
 
 pub returns-clause-keeps : goal.returns-clause-keeps
 returns-clause-keeps g c =
     let works = c.requires.ready.store.works in
-    keeps g.D.Disk c.args.self.now c.requires.ready c.write_start.new.store _ (c.write_start.ensures.any_moment works) (c.write_start.ensures.others works) c.write_start.ensures.end c.write_start.ensures.counted
+    keeps g.D.Disk c.args.self.now c.requires.ready c.write_start.new.store _ (c.write_start.ensures.any_moment works) (c.write_start.ensures.others works) c.write_start.ensures.base c.write_start.ensures.records c.write_start.ensures.end c.write_start.ensures.counted
 
 pub returns-clause-ready : goal.returns-clause-ready
 returns-clause-ready g c =

@@ -39,7 +39,7 @@ returns-in-Ok-unless_refused-clause-made g c =
     let source = g.F.Files.gives c.args.files.now in
     let b = c.in-Ok-unless_refused.brought in
     made_so g.D.Disk source c.args.path.now (brought_of b) (brings_same source c.args.path.now c.in-Ok.brought b c.in-Ok-unless_refused.ensures.brought c.in-Ok.ensures.brought)
-    (still_free true c.in-Ok.brought b c.in-Ok-unless_refused.ensures.brought c.in-Ok-unless_refused.ensures.free) c.args.disk c.make.result c.make.ensures.list c.make.ensures.acknowledged c.make.ensures.start c.make.ensures.fits c.make.ensures.end c.make.ensures.begun
+    (still_free true c.in-Ok.brought b c.in-Ok-unless_refused.ensures.brought c.in-Ok-unless_refused.ensures.free) c.args.disk c.make.result c.make.ensures.list c.make.ensures.acknowledged c.make.ensures.start c.make.ensures.fits c.make.ensures.extent c.make.ensures.begun
 
 pub returns-in-Ok-unless_refused-clause-refused : goal.returns-in-Ok-unless_refused-clause-refused
 returns-in-Ok-unless_refused-clause-refused g c =

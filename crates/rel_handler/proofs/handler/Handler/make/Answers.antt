@@ -5,8 +5,9 @@ use Rattle.node_command.specs.Files.{bundle_brought, made_size}
 use Rattle.rel_handler.specs.Moments.{WritesNothing}
 use Rattle.rel_handler.specs.Refusals.{MakingRefused, told_create}
 use Rattle.rel_handler.proofs.Boots.{unwritten, nothing_begun, sound_so, begins_at, begins, made_new, fits_in_a_slot, is_create_error, making_refused}
-use Rattle.rel_handler.specs.Image.{HasSpace, IsStarted, end_behind, first_end, start_slot}
-use Rattle.rel_handler.proofs.Images.{each_image, started_new}
+use Rattle.rel_handler.specs.Image.{extent_behind, first_extent, HasSpace, IsStarted, start_slot}
+use Rattle.rel_handler.specs.State.{store_extent}
+use Rattle.rel_handler.proofs.Images.{each_image, same_extent, started_new}
 use Rattle.rel_handler.proofs.handler.Handler.make.Goals as goal
 
 pub create-requires : goal.create-requires
@@ -49,12 +50,14 @@ returns-in-Ok-create-clause-start g c = c.in-Ok-create.ensures.start ∙ ap slot
 pub returns-in-Ok-create-clause-fits : goal.returns-in-Ok-create-clause-fits
 returns-in-Ok-create-clause-fits g c =
     let long : length c.as_bytes.result.now ≡ made_size (brought_of c.args.brought) = ap length c.as_bytes.ensures.value ∙ c.in-Ok.ensures.body in
-    subst (λ n. HasSpace first_end n) long c.in-Ok-create.ensures.fits
+    subst (λ n. HasSpace first_extent n) long c.in-Ok-create.ensures.fits
 
-pub returns-in-Ok-create-clause-end : goal.returns-in-Ok-create-clause-end
-returns-in-Ok-create-clause-end g c =
+pub returns-in-Ok-create-clause-extent : goal.returns-in-Ok-create-clause-extent
+returns-in-Ok-create-clause-extent g c =
     let long : length c.as_bytes.result.now ≡ made_size (brought_of c.args.brought) = ap length c.as_bytes.ensures.value ∙ c.in-Ok.ensures.body in
-    c.in-Ok-create.ensures.end ∙ ap (λ n. end_behind first_end n) long
+    let first = c.as_bytes.result.now in
+    let new = c.in-Ok-create.ensures in
+    same_extent (store_extent c.in-Ok-create.store) (extent_behind first_extent (length first)) new.base new.end (ap (λ bodies. length bodies) new.records) ∙ ap (λ n. extent_behind first_extent n) long
 
 pub returns-in-Ok-create-clause-taken : goal.returns-in-Ok-create-clause-taken
 returns-in-Ok-create-clause-taken g c = c.in-Ok-create.ensures.taken

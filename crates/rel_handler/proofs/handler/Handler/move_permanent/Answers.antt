@@ -44,7 +44,7 @@ pub returns-in_err-commit_start-clause-commits : goal.returns-in_err-commit_star
 returns-in_err-commit_start-clause-commits g c =
     let then = c.in_ok-append_change.ensures in
     moving g.D.Disk c.args.self.now c.requires.sound c.requires.works c.args.vsn.now (versions_of c.in_ok-start.start) c.in_ok-start.ensures.found
-    (event_of c.args.event) c.requires.moves c.append_change.new.self then.commits then.done then.ready then.start g.met.D.Disk.reads_an_image c.commit_start.new.self c.commit_start.ensures.keeps
+    (event_of c.args.event) c.requires.moves c.append_change.new.self then.commits then.appended then.ready then.start g.met.D.Disk.reads_an_image c.commit_start.new.self c.commit_start.ensures.keeps
 
 pub returns-in_err-commit_start-clause-refused : goal.returns-in_err-commit_start-clause-refused
 returns-in_err-commit_start-clause-refused g c =
@@ -53,23 +53,23 @@ returns-in_err-commit_start-clause-refused g c =
     let h = c.args.self.now in
     refuses_with (CommandRefused g.D.Disk.failures e (change_size e (list_in h)) h c.commit_start.new.self) c.from_residual-in_err-commit_start.result Device c.from_residual-in_err-commit_start.ensures
     (not_moved g.D.Disk h c.requires.sound c.requires.works c.args.vsn.now (versions_of c.in_ok-start.start) c.in_ok-start.ensures.found
-    e c.requires.moves c.append_change.new.self then.commits then.done then.ready then.start g.met.D.Disk.reads_an_image c.commit_start.new.self c.commit_start.ensures.keeps c.in_err-commit_start.ensures.failed)
+    e c.requires.moves c.append_change.new.self then.commits then.appended then.ready then.start g.met.D.Disk.reads_an_image c.commit_start.new.self c.commit_start.ensures.keeps c.in_err-commit_start.ensures.failed)
 
 -- both are written
 pub returns-clause-commits : goal.returns-clause-commits
 returns-clause-commits g c =
     let then = c.in_ok-append_change.ensures in
     moving g.D.Disk c.args.self.now c.requires.sound c.requires.works c.args.vsn.now (versions_of c.in_ok-start.start) c.in_ok-start.ensures.found
-    (event_of c.args.event) c.requires.moves c.append_change.new.self then.commits then.done then.ready then.start g.met.D.Disk.reads_an_image c.commit_start.new.self c.commit_start.ensures.keeps
+    (event_of c.args.event) c.requires.moves c.append_change.new.self then.commits then.appended then.ready then.start g.met.D.Disk.reads_an_image c.commit_start.new.self c.commit_start.ensures.keeps
 
-pub returns-clause-done : goal.returns-clause-done
-returns-clause-done g c =
+pub returns-clause-appended : goal.returns-clause-appended
+returns-clause-appended g c =
     let then = c.in_ok-append_change.ensures in
     is_moved g.D.Disk c.args.self.now c.requires.sound c.requires.works c.args.vsn.now (versions_of c.in_ok-start.start) c.in_ok-start.ensures.found
-    (event_of c.args.event) c.requires.moves c.append_change.new.self then.commits then.done then.ready then.start g.met.D.Disk.reads_an_image c.commit_start.new.self c.commit_start.ensures.keeps c.in_ok-commit_start.ensures.acknowledged
+    (event_of c.args.event) c.requires.moves c.append_change.new.self then.commits then.appended then.ready then.start g.met.D.Disk.reads_an_image c.commit_start.new.self c.commit_start.ensures.keeps c.in_ok-commit_start.ensures.acknowledged
 
 pub returns-clause-started : goal.returns-clause-started
 returns-clause-started g c =
     let then = c.in_ok-append_change.ensures in
     moved_start g.D.Disk c.args.self.now c.requires.sound c.requires.works c.args.vsn.now (versions_of c.in_ok-start.start) c.in_ok-start.ensures.found
-    (event_of c.args.event) c.requires.moves c.append_change.new.self then.commits then.done then.ready then.start g.met.D.Disk.reads_an_image c.commit_start.new.self c.commit_start.ensures.keeps c.in_ok-commit_start.ensures.acknowledged
+    (event_of c.args.event) c.requires.moves c.append_change.new.self then.commits then.appended then.ready then.start g.met.D.Disk.reads_an_image c.commit_start.new.self c.commit_start.ensures.keeps c.in_ok-commit_start.ensures.acknowledged

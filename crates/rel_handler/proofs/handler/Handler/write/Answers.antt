@@ -3,7 +3,7 @@ use Rattle.rel_list.specs.Event.{event_of}
 use Rattle.rel_store.specs.State as store
 use Rattle.rel_handler.specs.Commits.{Commits}
 use Rattle.node_command.proofs.CommandLemmas.{commanded_then, not_refused}
-use Rattle.rel_handler.proofs.Commits.{opened, left_so, unchanged, failed_so, reserved_works, commits, ready_next, is_done, store_same, taken_so}
+use Rattle.rel_handler.proofs.Commits.{opened, left_so, unchanged, failed_so, reserved_works, commits, ready_next, is_appended, store_same, taken_so}
 use Rattle.rel_handler.proofs.handler.Handler.write.Goals as goal
 
 -- the list has no memory for the event
@@ -18,7 +18,7 @@ returns-then-is_err-clause-commits g c =
 pub returns-then-is_err-clause-refused : goal.returns-then-is_err-clause-refused
 returns-then-is_err-clause-refused g c =
     let same : c.accept.new.self ≡ c.args.self.now.list = left_so c.accept.result _ c.if-is_err.ensures.value c.accept.ensures.unchanged in
-    (c.requires.allowed.0, record { disk = refl; list = same; dead = refl; end = refl })
+    (c.requires.allowed.0, record { disk = refl; list = same; dead = refl; extent = refl })
 
 pub returns-then-is_err-clause-device : goal.returns-then-is_err-clause-device
 returns-then-is_err-clause-device g c = λ brings.
@@ -66,13 +66,13 @@ returns-clause-ready g c =
 pub returns-clause-start : goal.returns-clause-start
 returns-clause-start g c = opened c.append.result _ c.if-is_err-2.ensures.value c.append.ensures.start
 
-pub returns-clause-done : goal.returns-clause-done
-returns-clause-done g c =
+pub returns-clause-appended : goal.returns-clause-appended
+returns-clause-appended g c =
     let h = c.args.self.now in
     let e = event_of c.args.event in
     let stepped = opened c.accept.result _ c.if-is_err.ensures.value c.accept.ensures.accepted in
     let added : store.records_in c.append.new.self ≡ store.records_in h.store ++ c.as_bytes.result.now ∷ [] = opened c.append.result _ c.if-is_err-2.ensures.value c.append.ensures.added in
     let end : store.end_in c.append.new.self ≡ store.end_in h.store + (5 + length c.as_bytes.result.now) = opened c.append.result _ c.if-is_err-2.ensures.value c.append.ensures.end in
-    is_done g.D.Disk h c.requires.sound c.requires.allowed.0 h.store (store_same h.store) e c.accept.new.self c.args.body.now c.requires.told stepped
+    is_appended g.D.Disk h c.requires.sound c.requires.allowed.0 h.store (store_same h.store) e c.accept.new.self c.args.body.now c.requires.told stepped
     c.append.new.self (opened c.append.result _ c.if-is_err-2.ensures.value c.append.ensures.settled) (rw c.as_bytes.ensures.value at added)
-    (commanded_then e h.list c.accept.new.self c.requires.allowed.1 stepped) c.requires.space (rw c.as_bytes.ensures.value at end)
+    (commanded_then e h.list c.accept.new.self c.requires.allowed.1 stepped) c.requires.space c.append.ensures.base (rw c.as_bytes.ensures.value at end)

@@ -119,6 +119,9 @@ returns-clause-reopened g c = none_answered _ MustReopen _ (λ failed. not_both 
 pub returns-in_err-read-clause-records : goal.returns-in_err-read-clause-records
 returns-in_err-read-clause-records g c = refl
 
+pub returns-in_err-read-clause-base : goal.returns-in_err-read-clause-base
+returns-in_err-read-clause-base g c = refl
+
 pub returns-in_err-read-clause-end : goal.returns-in_err-read-clause-end
 returns-in_err-read-clause-end g c = refl
 
@@ -127,6 +130,9 @@ returns-in_err-read-clause-room g c = λ n has. has
 
 pub returns-clause-records : goal.returns-clause-records
 returns-clause-records g c = refl
+
+pub returns-clause-base : goal.returns-clause-base
+returns-clause-base g c = refl
 
 pub returns-clause-end : goal.returns-clause-end
 returns-clause-end g c = refl

@@ -126,6 +126,9 @@ returns-in_err-write_and_commit-clause-sound g c = record { settled = λ works. 
 pub returns-in_err-write_and_commit-clause-records : goal.returns-in_err-write_and_commit-clause-records
 returns-in_err-write_and_commit-clause-records g c = refl
 
+pub returns-in_err-write_and_commit-clause-base : goal.returns-in_err-write_and_commit-clause-base
+returns-in_err-write_and_commit-clause-base g c = refl
+
 pub returns-in_err-write_and_commit-clause-end : goal.returns-in_err-write_and_commit-clause-end
 returns-in_err-write_and_commit-clause-end g c = refl
 
@@ -144,6 +147,9 @@ returns-in_err-write_and_commit-clause-refused g c = passed_on _ _ Device c.from
 -- and doesn't fail
 pub returns-clause-records : goal.returns-clause-records
 returns-clause-records g c = refl
+
+pub returns-clause-base : goal.returns-clause-base
+returns-clause-base g c = refl
 
 pub returns-clause-end : goal.returns-clause-end
 returns-clause-end g c = refl

@@ -1,0 +1,58 @@
+use Rattle.std.proofs.Common.{inl, inr, [], ◌∷◌, None, Some, refl, string_bytes, sym, ap, ◌∙◌, subst}
+use Rattle.std.specs.Option.{option_map}
+use Rattle.rel_list.specs.Event.{booted}
+use Rattle.rel_records.specs.Lists.{Makes}
+use Rattle.rel_store.specs.State.{records_in}
+use Rattle.rel_handler.specs.State.{extent_in, list_in}
+use Rattle.rel_handler.proofs.Commits.{store_same}
+use Rattle.rel_handler.proofs.CompactionLemmas.{long_reaches, not_compacted, short_stays, stays}
+use Rattle.rel_handler.proofs.handler.Handler.compact.Goals as goal
+
+-- the store is short
+pub returns-then-not-is_long-clause-compacts : goal.returns-then-not-is_long-clause-compacts
+returns-then-not-is_long-clause-compacts g c =
+    let h = c.args.self.now in
+    not_compacted g.D.Disk h c.requires.ready h.store (store_same h.store) c.requires.dead (g.met.D.Disk.only_now _)
+
+pub returns-then-not-is_long-clause-done : goal.returns-then-not-is_long-clause-done
+returns-then-not-is_long-clause-done g c =
+    let h = c.args.self.now in
+    stays g.D.Disk h c.requires.ready h.store (store_same h.store) (record { settled = λ works. c.requires.ready.store }) (inl (sym (short_stays (extent_in h) (list_in h) (sym c.if-not-is_long.ensures))))
+
+-- its records make its list
+pub image_body-requires : goal.image_body-requires
+image_body-requires g c = record { made = (records_in c.args.self.now.store, c.requires.ready.list) }
+
+pub compact_to-requires-clause-long : goal.compact_to-requires-clause-long
+compact_to-requires-clause-long g c = sym c.if-not-is_long.ensures
+
+pub compact_to-requires-clause-image : goal.compact_to-requires-clause-image
+compact_to-requires-clause-image g c =
+    sym c.in-Ok-Some.ensures.body ∙ (ap (λ o. option_map string_bytes o) c.in-Ok-Some.field-0-is ∙ ap (λ body. Some body) (sym c.as_bytes.ensures.value))
+
+pub compact_to-requires-clause-makes : goal.compact_to-requires-clause-makes
+compact_to-requires-clause-makes g c =
+    subst (λ body. Makes (body ∷ []) (booted (list_in c.args.self.now))) (sym c.as_bytes.ensures.value) (c.in-Ok-Some.ensures.makes _ c.in-Ok-Some.field-0-is)
+
+-- there is no image
+pub returns-in-Ok-None-clause-compacts : goal.returns-in-Ok-None-clause-compacts
+returns-in-Ok-None-clause-compacts g c =
+    let h = c.args.self.now in
+    not_compacted g.D.Disk h c.requires.ready h.store (store_same h.store) c.requires.dead (g.met.D.Disk.only_now _)
+
+pub returns-in-Ok-None-clause-done : goal.returns-in-Ok-None-clause-done
+returns-in-Ok-None-clause-done g c =
+    let h = c.args.self.now in
+    stays g.D.Disk h c.requires.ready h.store (store_same h.store) (record { settled = λ works. c.requires.ready.store })
+    (inl (sym (long_reaches (extent_in h) (list_in h) None (sym c.if-not-is_long.ensures) (sym c.in-Ok-None.ensures.body ∙ ap (λ o. option_map string_bytes o) c.in-Ok-None.field-0-is))))
+
+-- there is no memory
+pub returns-in-Err-clause-compacts : goal.returns-in-Err-clause-compacts
+returns-in-Err-clause-compacts g c =
+    let h = c.args.self.now in
+    not_compacted g.D.Disk h c.requires.ready h.store (store_same h.store) c.requires.dead (g.met.D.Disk.only_now _)
+
+pub returns-in-Err-clause-done : goal.returns-in-Err-clause-done
+returns-in-Err-clause-done g c =
+    let h = c.args.self.now in
+    stays g.D.Disk h c.requires.ready h.store (store_same h.store) (record { settled = λ works. c.requires.ready.store }) (inr (sym c.if-not-is_long.ensures, refl))

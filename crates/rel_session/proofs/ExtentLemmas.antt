@@ -1,0 +1,66 @@
+-- How far a store reaches behind a commit, where memory is refused to no compaction.
+use Rattle.std.proofs.Common.{◌≡◌, inl, inr, ℕ, Bool, true, false, List, [], ◌∷◌, ◌++◌, length, Option, None, Some, refl, sym, ap, ◌∙◌, subst}
+use Rattle.std.specs.Option.{option_and_then}
+use Rattle.std.specs.Prelude.{if◌then◌else◌}
+use Rattle.rel_list.specs.Releases.{Releases}
+use Rattle.rel_list.specs.Event.{booted, list_after, step}
+use Rattle.rel_list.specs.Event.Event.{boot as booting}
+use Rattle.rel_records.proofs.EventRecords.{booted-twice}
+use Rattle.rel_records.specs.Image.{image_of}
+use Rattle.rel_handler.specs.Compaction.{compacted, extent_with, fits_image, is_long, MayReach, with_image}
+use Rattle.rel_handler.specs.Events.{Events, MayHave, certain}
+use Rattle.rel_handler.specs.Image.{Extent, extent_behind}
+use Rattle.rel_session.specs.Node.{list_or_none, releases_after}
+use Rattle.rel_session.proofs.ListLemmas.{list_after-more}
+
+-- A store that may reach so far, and is as short as a compaction leaves it, reaches as far as behind one.
+pub one_reach : (x y : Extent) (es : Releases) → MayReach x es y → y ≡ compacted y es → y ≡ compacted x es
+one_reach x y es (inl is) compact = is
+one_reach x y es (inr (long, same)) compact = compact ∙ ap (λ z. compacted z es) same
+
+-- how far a store may reach behind a commit, said of the events
+pub reach_at : (old extent new : Extent) (size : ℕ) (list after : Releases) → old ≡ extent → after ≡ list → MayReach (extent_behind old size) list new → MayReach (extent_behind extent size) after new
+reach_at old extent new size list after stop same reach = subst (λ x. MayReach (extent_behind x size) after new) stop (subst (λ l. MayReach (extent_behind old size) l new) (sym same) reach)
+
+-- A second compaction finds nothing to do.
+pub compacted_twice : (x : Extent) (es : Releases) → compacted x es ≡ compacted (compacted x es) es
+compacted_twice x es = by_length (is_long x) refl
+  where
+    -- what a compaction leaves as it is, or as short as this
+    stays : compacted x es ≡ x → compacted x es ≡ compacted (compacted x es) es
+    stays same = ap (λ y. compacted y es) (sym same)
+
+    shrinks : (n : ℕ) → compacted x es ≡ extent_with x n → compacted x es ≡ compacted (compacted x es) es
+    shrinks n same = subst (λ y. y ≡ compacted y es) (sym same) refl
+
+    by_fit : (body : List ℕ) → compacted x es ≡ with_image x (Some body) → (b : Bool) → fits_image x (length body) ≡ b → compacted x es ≡ compacted (compacted x es) es
+    by_fit body is true fits = shrinks (length body) (is ∙ ap (λ b. if b then extent_with x (length body) else x) fits)
+    by_fit body is false fits = stays (is ∙ ap (λ b. if b then extent_with x (length body) else x) fits)
+
+    by_image : compacted x es ≡ with_image x (image_of (booted es)) → (o : Option (List ℕ)) → image_of (booted es) ≡ o → compacted x es ≡ compacted (compacted x es) es
+    by_image is None none = stays (is ∙ ap (with_image x) none)
+    by_image is (Some body) some = by_fit body (is ∙ ap (with_image x) some) (fits_image x (length body)) refl
+
+    by_length : (b : Bool) → is_long x ≡ b → compacted x es ≡ compacted (compacted x es) es
+    by_length true long = by_image (ap (λ b. if b then with_image x (image_of (booted es)) else x) long) (image_of (booted es)) refl
+    by_length false short = stays (ap (λ b. if b then with_image x (image_of (booted es)) else x) short)
+
+-- The image of a list is that of the list behind a boot.
+compacted-booted : (x : Extent) (es : Releases) → compacted x (booted es) ≡ compacted x es
+compacted-booted x es = ap (λ l. if is_long x then with_image x (image_of l) else x) (booted-twice es)
+
+releases-booted : (events : Events) → releases_after (events ++ booting ∷ []) ≡ booted (releases_after events)
+releases-booted events = ap list_or_none (list_after-more events booting) ∙ go (list_after events)
+  where
+    go : (o : Option Releases) → list_or_none (option_and_then (step booting) o) ≡ booted (list_or_none o)
+    go None = refl
+    go (Some l) = refl
+
+pub booted_reach : (x : Extent) (events : Events) → compacted x (releases_after (events ++ booting ∷ [])) ≡ compacted x (releases_after events)
+booted_reach x events = ap (compacted x) (releases-booted events) ∙ compacted-booted x (releases_after events)
+
+-- a store without an event in doubt has its events, and reaches as far as it does
+pub has_only : (events es : Events) (x y : Extent) → MayHave (certain events x) es y → (es ≡ events) × (y ≡ x)
+has_only events es x y (inl has) = has
+has_only events es x y (inr (same, inl reaches)) = (same, reaches)
+has_only events es x y (inr (same, inr reaches)) = (same, reaches)
