@@ -38,7 +38,12 @@ pub(crate) fn push_broken<H: Threads + Wait + Sync>(
 }
 
 /// The answer where it fails behind so many letters.
-pub(crate) fn push_letters<H: Threads + Wait + Sync>(rt: &H, alloc: Global, count: usize, answer: &mut Answer) {
+pub(crate) fn push_letters<H: Threads + Wait + Sync>(
+    rt: &H,
+    alloc: Global,
+    count: usize,
+    answer: &mut Answer,
+) {
     match vec![in alloc; b'a'; count] {
         Ok(letters) => push_broken(rt, alloc, letters.as_slice(), 8_192, answer),
         Err(_) => answer.note_no_memory(),

@@ -67,7 +67,12 @@ pub(crate) fn push_sessions<H: Threads + Wait + Sync>(
 }
 
 /// The same of sessions behind the files of their source.
-pub(crate) fn push_over_files<H: Threads + Wait + Sync>(rt: &H, alloc: Global, text: &str, answer: &mut Answer) {
+pub(crate) fn push_over_files<H: Threads + Wait + Sync>(
+    rt: &H,
+    alloc: Global,
+    text: &str,
+    answer: &mut Answer,
+) {
     let (files, text) = text.split_once(" || ").unwrap_or((text, ""));
     let files = lines_of(alloc, files, answer);
     push_sessions(rt, alloc, files.as_str(), PLAIN, text, answer);
@@ -87,7 +92,12 @@ pub(crate) fn push_input<H: Threads + Wait + Sync, R: Read + Drop>(
 }
 
 /// Appends that of one which gives a file of so many bytes, a line of blanks, and makes a node of it.
-pub(crate) fn push_blanks<H: Threads + Wait + Sync>(rt: &H, alloc: Global, bytes: usize, answer: &mut Answer) {
+pub(crate) fn push_blanks<H: Threads + Wait + Sync>(
+    rt: &H,
+    alloc: Global,
+    bytes: usize,
+    answer: &mut Answer,
+) {
     match blanks(alloc, bytes) {
         Ok(input) => push_input(rt, alloc, input.as_bytes(), answer),
         Err(_) => answer.note_no_memory(),

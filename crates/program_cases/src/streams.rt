@@ -47,7 +47,13 @@ pub(crate) fn push_of_text<H: Threads + Wait + Sync>(
 // - `writes`: behind the number are another one and sessions. So many writes of the first session and so many flushes are
 //   taken. Then a write takes nothing, and a flush fails.
 // - `list_bytes`: behind the numbers is a text. Its listing is taken so, a byte at a write.
-fn push_stream<H: Threads + Wait + Sync>(rt: &H, host: &HostRuntime, mode: &str, text: &str, answer: &mut Answer) {
+fn push_stream<H: Threads + Wait + Sync>(
+    rt: &H,
+    host: &HostRuntime,
+    mode: &str,
+    text: &str,
+    answer: &mut Answer,
+) {
     let alloc = host.alloc();
     let (word, rest) = first_word(text);
     let count = number(word);
