@@ -4,6 +4,7 @@ use denote.Param.SendFields.{declared_send}
 use Rattle.std.proofs.Crossing.{Vec-send, send}
 use Rattle.proc_table.proofs.ThreadLemmas.{pass_send}
 use Rattle.proc_table.proofs.pid.Pid.TheSendSync as pid
+use Rattle.proc_workers.specs.contracts.floods.FloodAnswers as FloodAnswers
 use Rattle.proc_workers.specs.contracts.floods.FloodWorker as FloodWorker
 use Rattle.proc_workers.specs.contracts.note.Answer as Answer
 use Rattle.proc_workers.specs.contracts.note.Job as Job
@@ -21,3 +22,6 @@ ended_send =
 
 pub flood_worker_send : IsSend FloodWorker.the_row
 flood_worker_send = declared_send FloodWorker.the_type (send, (pass_send, (pid.the_send, (inbox.the_send, tt))))
+
+pub flood_answers_send : IsSend FloodAnswers.the_row
+flood_answers_send = declared_send FloodAnswers.the_type (pass_send, (Vec-send Answer.the_row answer.the_send, tt))

@@ -64,13 +64,7 @@ pub fn flood<R: Threads + Wait + Sync>(
         pid,
         inbox,
     };
-    let Ended {
-        pass,
-        inbox: _inbox,
-        answers,
-        left: _left,
-        cause: _cause,
-    } = run_worker(rt, table, worker, first, second, input, times);
+    let FloodAnswers { pass, answers } = run_worker(rt, table, worker, first, second, input, times);
     table.take_back(seat, pass);
     match count_answers(answers.as_slice(), pid, input, times) {
         Some(counts) => Ok(counts),
@@ -87,8 +81,16 @@ pub(crate) struct FloodWorker {
     pub(crate) inbox: Inbox,
 }
 
+// What it hands back.
+#[derive(Drop)]
+pub(crate) struct FloodAnswers {
+    pub(crate) pass: Pass,
+    pub(crate) answers: Vec<Answer>,
+}
+
 impl FloodWorker {
-    fn work<R: Wait>(self, rt: &R, table: &ProcTable) -> Ended
+    // The inbox goes with the worker: a sender would wait for ever for room in one that nobody reads.
+    fn work<R: Wait>(self, rt: &R, table: &ProcTable) -> FloodAnswers
         requires { self.pass.table ≡ table.now }
         ensures table { result.pass.table ≡ table.now }
         ensures calls { HasAnswered self.pid self.pass.view result.answers.items result.pass.view }
@@ -99,7 +101,14 @@ impl FloodWorker {
             pid,
             inbox,
         } = self;
-        work(rt, alloc, table, pass, pid, inbox, &NoGate)
+        let Ended {
+            pass,
+            inbox: _inbox,
+            answers,
+            left: _left,
+            cause: _cause,
+        } = work(rt, alloc, table, pass, pid, inbox, &NoGate);
+        FloodAnswers { pass, answers }
     }
 }
 
@@ -112,7 +121,7 @@ fn run_worker<R: Threads + Wait + Sync>(
     second: Sender,
     input: u32,
     times: u32,
-) -> Ended
+) -> FloodAnswers
     requires { worker.pass.table ≡ table.now }
     ensures table { result.pass.table ≡ table.now }
     ensures calls { HasAnswered worker.pid worker.pass.view result.answers.items result.pass.view }

@@ -23,6 +23,7 @@ pub enum EndCause {
 #[derive(Drop)]
 pub struct Ended {
     pub pass: Pass,
+    /// As long as it is there, a sender waits for room in it.
     pub inbox: Inbox,
     /// In the order of the jobs.
     pub answers: Vec<Answer>,
