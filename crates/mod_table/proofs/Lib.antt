@@ -1,5 +1,6 @@
-pub mod Rows
+pub mod MemberLemmas
 pub mod Sameness
 pub mod FirstChange
+pub mod IndexLemmas
 pub mod Readings
 pub mod HeadedLemmas

@@ -2,6 +2,7 @@ pub mod Table
 pub mod Codes
 pub mod Same
 pub mod Decide
+pub mod Indexed
 pub mod Parts
 pub mod Rows
 pub mod Children

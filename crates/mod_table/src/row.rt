@@ -1,7 +1,7 @@
 //! A row of a worker's table.
 ghost use Rattle.std.specs.Prelude.{◌≡◌, IfOk, Some, None, if◌then◌else◌};
 ghost use Rattle.erl_term.specs.Value.{value_of};
-ghost use Rattle.mod_table.specs.Decide.{fits_call, call_of, fits_change, moved, moved_by};
+ghost use Rattle.mod_table.specs.Decide.{call_of, fits_change, moved, moved_by};
 ghost use Rattle.mod_table.specs.Headed.{row_has_version};
 ghost use Rattle.mod_table.specs.InMemory.{old_of, row_of};
 ghost use Rattle.mod_table.specs.Table.Row.{change};
@@ -34,23 +34,18 @@ impl Drop for Row {
 }
 
 impl Row {
-    // What the row makes of a call, if this fits it.
-    pub(crate) fn step(&self, state: u32, input: u32) -> Option<Step>
-        ensures { result ≡ (if fits_call state input (row_of self.now)
-            then Some (call_of state (row_of self.now)) else None) }
+    // What the row makes of a call that fits it.
+    pub(crate) fn made_of(&self, state: u32) -> Step
+        ensures { result ≡ call_of state (row_of self.now) }
     {
         match self {
-            Row::On(from, at, next, reply) if *from == state && *at == input => {
-                Some(Step::Next(*next, *reply))
-            }
-            Row::Add(at, summand) if *at == input => {
+            Row::On(_, _, next, reply) => Step::Next(*next, *reply),
+            Row::Add(_, summand) => {
                 let sum = state.wrapping_add(*summand);
-                Some(Step::Next(sum, sum))
+                Step::Next(sum, sum)
             }
-            Row::Stop(from, at, reply) if *from == state && *at == input => {
-                Some(Step::Ends(*reply))
-            }
-            _ => None,
+            Row::Stop(_, _, reply) => Step::Ends(*reply),
+            Row::Change(_, _, _) => Step::Crashes,
         }
     }
 

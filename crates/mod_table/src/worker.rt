@@ -1,16 +1,14 @@
 //! The table of a worker.
-ghost use Rattle.std.specs.Prelude.{◌≡◌, IfOk, length, map};
-ghost use Rattle.std.specs.List.{list_all};
-ghost use Rattle.std.specs.Option.{option_map};
+ghost use Rattle.std.specs.Prelude.{◌≡◌, ◌≤◌, ◌<◌, ◌+◌, ◌^◌, IfOk, length};
 ghost use Rattle.erl_term.specs.Value.{members_of, value_of};
 ghost use Rattle.mod_table.specs.Decide.{step_of, change_of};
-ghost use Rattle.mod_table.specs.Headed.{has_versions, row_has_version, worker_in};
-ghost use Rattle.mod_table.specs.InMemory.{old_of, row_of};
+ghost use Rattle.mod_table.specs.Headed.{has_versions, worker_in};
+ghost use Rattle.mod_table.specs.InMemory.{old_of};
 
 use crate::parts::number_in;
-use crate::row::Row;
 use crate::row_reader::rows_in;
-use crate::{Old, Step};
+use crate::rows::Rows;
+use crate::{Old, Step, Ticks};
 use erl_term::Term;
 use rel_files::parts::{four, list_in};
 use rel_files::text::{is_version, name_in, version_or_empty};
@@ -22,7 +20,7 @@ pub struct Worker {
     name: String,
     vsn: String,
     first: u32,
-    rows: Vec<Row>,
+    rows: Rows,
 }
 
 // Let go by one call: a derived drop would stand field by field at each exit of a caller.
@@ -38,10 +36,9 @@ impl Drop for Worker {
 }
 
 impl Model for Worker {
-    ghost use Rattle.std.specs.Prelude.{map, string_bytes};
+    ghost use Rattle.std.specs.Prelude.{string_bytes};
     ghost use Rattle.mod_table.specs.Table.{WorkerTable};
     ghost use Rattle.mod_table.specs.Codes.{worker_code};
-    ghost use Rattle.mod_table.specs.InMemory.{row_of};
 
     ghost Value = { WorkerTable };
 
@@ -51,7 +48,7 @@ impl Model for Worker {
       name = string_bytes w.name;
       vsn = string_bytes w.vsn;
       first = w.first;
-      rows = map row_of w.rows.items;
+      rows = w.rows;
     } };
 }
 
@@ -88,7 +85,17 @@ impl Worker {
     pub fn step(&self, state: u32, input: u32) -> Step
         ensures { result ≡ step_of self.now.rows state input }
     {
-        first_step(self.rows.as_slice(), state, input)
+        self.step_counted(state, input, &mut Ticks::new())
+    }
+
+    /// The same, with a tick for each comparison of keys: 26 at most where there are 4,096 rows or fewer.
+    pub fn step_counted(&self, state: u32, input: u32, ticks: &mut Ticks) -> Step
+        requires { ticks.old + 128 < 2 ^ 64 }
+        ensures step { result ≡ step_of self.now.rows state input }
+        ensures bound { (ticks.old ≤ ticks.new) × (ticks.new ≤ ticks.old + 128) }
+        ensures cost { length self.now.rows ≤ 4096 → ticks.new ≤ ticks.old + 26 }
+    {
+        self.rows.step(state, input, ticks)
     }
 
     /// The state after a change of code from this version, with this extra term. Nothing where the change fails. It takes no
@@ -96,7 +103,7 @@ impl Worker {
     pub fn change(&self, old: &Old, extra: &Term, state: u32) -> Option<u32>
         ensures { result ≡ change_of self.now.rows (old_of old.now) (value_of extra.now) state }
     {
-        first_change(self.rows.as_slice(), old, extra, state)
+        self.rows.change(old, extra, state)
     }
 
     /// An equal table.
@@ -107,7 +114,7 @@ impl Worker {
             name: String::from_str(alloc, self.name.as_str())?,
             vsn: String::from_str(alloc, self.vsn.as_str())?,
             first: self.first,
-            rows: copied_rows(alloc, self.rows.as_slice())?,
+            rows: self.rows.copy(alloc)?,
         })
     }
 
@@ -133,6 +140,7 @@ impl Worker {
         let Some(rows) = rows_in(alloc, rows)? else {
             return Ok(None);
         };
+        let rows = Rows::new(alloc, rows)?;
         Ok(Some(Worker {
             name: String::from_str(alloc, name)?,
             vsn,
@@ -145,49 +153,6 @@ impl Worker {
     pub(crate) fn has_versions(&self) -> bool
         ensures { result ≡ has_versions self.now }
     {
-        is_version(self.vsn.as_str()) && rows_have_versions(self.rows.as_slice())
+        is_version(self.vsn.as_str()) && self.rows.have_versions()
     }
-}
-
-fn first_step(rows: &[Row], state: u32, input: u32) -> Step
-    ensures { result ≡ step_of (map row_of rows.now) state input }
-{
-    for row in rows {
-        if let Some(step) = row.step(state, input) {
-            return step;
-        }
-    }
-    Step::Crashes
-}
-
-fn first_change(rows: &[Row], old: &Old, extra: &Term, state: u32) -> Option<u32>
-    ensures { result ≡ change_of (map row_of rows.now) (old_of old.now) (value_of extra.now) state }
-{
-    for row in rows {
-        if let Some(next) = row.change(old, extra, state) {
-            return Some(next);
-        }
-    }
-    None
-}
-
-fn copied_rows(alloc: Global, rows: &[Row]) -> Result<Vec<Row>, AllocError>
-    ensures { IfOk result (λ copied. map row_of copied.items ≡ map row_of rows.now) }
-{
-    let mut copied = Vec::with_capacity(alloc, rows.len())?;
-    for row in rows {
-        copied.push(row.copy(alloc)?)?;
-    }
-    Ok(copied)
-}
-
-fn rows_have_versions(rows: &[Row]) -> bool
-    ensures { result ≡ list_all row_has_version (map row_of rows.now) }
-{
-    for row in rows {
-        if !row.has_version() {
-            return false;
-        }
-    }
-    true
 }

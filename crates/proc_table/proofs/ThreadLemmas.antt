@@ -17,9 +17,12 @@ use Rattle.std.proofs.option.Option.TheSendSync as option
 use Rattle.erl_term.specs.contracts.term.Term as Term
 use Rattle.erl_term.specs.contracts.term.Term.TheKnot as Knot
 use Rattle.mod_table.specs.contracts.row.Row as Row
+use Rattle.mod_table.specs.contracts.rows.Rows as Rows
+use Rattle.mod_table.specs.contracts.rows.Rows.TheInside as TheRows
 use Rattle.mod_table.specs.contracts.worker.Worker as Worker
 use Rattle.mod_table.specs.contracts.worker.Worker.TheInside as TheWorker
 use Rattle.mod_table.proofs.old.Old.TheSendSync as old
+use Rattle.row_index.proofs.index.Index.TheSendSync as index
 use Rattle.mod_table.proofs.child.Restart.TheSendSync as restart
 use Rattle.atomic_table.proofs.shared.Seat.TheSendSync as seat
 use Rattle.atomic_table.proofs.owned.Table.TheSendSync as table
@@ -73,10 +76,13 @@ row_send =
     let moves = Vec-send _ (search sendable) in
     variants_send Row.enum ((n, (n, (n, (n, tt)))), ((n, (n, tt)), ((n, (n, (n, tt))), ((old.the_send, (term_send, (moves, tt))), tt))))
 
-pub worker_send : IsSend Worker.the_row
-worker_send =
+rows_send : IsSend Rows.the_row
+rows_send =
     let rows = Vec-send Row.the_row row_send in
-    view_send TheWorker.the_row _ _ _ _ (declared_send TheWorker.the_type (text_send, (text_send, (number_send, (rows, tt)))))
+    view_send TheRows.the_row _ _ _ _ (declared_send TheRows.the_type (rows, (index.the_send, (index.the_send, tt))))
+
+pub worker_send : IsSend Worker.the_row
+worker_send = view_send TheWorker.the_row _ _ _ _ (declared_send TheWorker.the_type (text_send, (text_send, (number_send, (rows_send, tt)))))
 
 -- ---- what stands in a slot
 now_send : IsSend Now.the_row

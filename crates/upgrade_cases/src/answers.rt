@@ -51,6 +51,7 @@ fn push_read(alloc: Global, mode: &str, text: &[u8], words: &str, answer: &mut A
 fn push_of_words(alloc: Global, mode: &str, words: &str, answer: &mut Answer) {
     match mode {
         "step" => tables::push_step(alloc, words, answer),
+        "ticks" => tables::push_ticks(alloc, words, answer),
         "change" => tables::push_change(alloc, words, answer),
         "find" => relups::push_search(alloc, words, answer),
         "up" => appups::push_searched(alloc, Direction::Up, words, answer),

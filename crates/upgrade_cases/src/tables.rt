@@ -1,6 +1,8 @@
 //! Tables of modules.
 use erl_term::{Term, TermFault, read_record};
-use mod_table::{Child, Old, Step, Super, Table, Worker, read_mod, read_mod_file, table_of_term};
+use mod_table::{
+    Child, Old, Step, Super, Table, Ticks, Worker, read_mod, read_mod_file, table_of_term,
+};
 use rel_files::FileFault;
 use std::alloc::Global;
 use text_cases::{Answer, enclosed, first_word};
@@ -76,6 +78,20 @@ pub(crate) fn push_step(alloc: Global, text: &str, answer: &mut Answer) {
             let step = worker.step(state, input);
             push_agreed(copied.step(state, input) == step, answer);
             push_step_text(step, answer);
+        }
+        Err(fault) => push_fault(&fault, answer),
+    }
+}
+
+/// Appends how many keys were compared at such a call.
+pub(crate) fn push_ticks(alloc: Global, text: &str, answer: &mut Answer) {
+    let (state, rest) = first_word(text);
+    let (input, file) = first_word(rest);
+    match workers(alloc, file) {
+        Ok((_, copied)) => {
+            let mut ticks = Ticks::new();
+            copied.step_counted(state_of(state), state_of(input), &mut ticks);
+            answer.push_number(ticks.count());
         }
         Err(fault) => push_fault(&fault, answer),
     }

@@ -1,6 +1,6 @@
 use Rattle.std.proofs.Common.{◌≡◌, length, arith}
 use Rattle.std.proofs.lemmas.Grind.{common_steps}
-use Rattle.mod_table.proofs.Rows.{not_six, six}
+use Rattle.mod_table.proofs.MemberLemmas.{not_six, six}
 use Rattle.mod_table.proofs.child.child_members.Goals as goal
 
 pub returns-in_default : goal.returns-in_default

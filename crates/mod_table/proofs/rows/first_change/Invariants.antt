@@ -2,7 +2,7 @@ use Rattle.std.proofs.Common.{◌≡◌, map, drop}
 use Rattle.erl_term.specs.Value.{value_of}
 use Rattle.mod_table.specs.Decide.{change_of}
 use Rattle.mod_table.specs.InMemory.{old_of, row_of}
-use Rattle.mod_table.proofs.worker.first_change.Given as goal
+use Rattle.mod_table.proofs.rows.first_change.Given as goal
 
 abbrev pub invariant-loop-row : goal.invariant-loop-row
 invariant-loop-row l =

@@ -1,6 +1,6 @@
 use Rattle.rel_files.proofs.Rows.{made_more, made_all}
 use Rattle.mod_table.specs.InMemory.{row_of}
-use Rattle.mod_table.proofs.worker.copied_rows.Goals as goal
+use Rattle.mod_table.proofs.rows.copied_rows.Goals as goal
 
 pub loop-row-preserved : goal.loop-row-preserved
 loop-row-preserved c =

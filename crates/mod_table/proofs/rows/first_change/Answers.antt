@@ -3,7 +3,7 @@ use Rattle.erl_term.specs.Value.{value_of}
 use Rattle.mod_table.specs.Decide.{fits_change, moved_by}
 use Rattle.mod_table.specs.InMemory.{old_of, row_of}
 use Rattle.mod_table.proofs.FirstChange.{fits, fits_not}
-use Rattle.mod_table.proofs.worker.first_change.Goals as goal
+use Rattle.mod_table.proofs.rows.first_change.Goals as goal
 
 pub returns-in-Some : goal.returns-in-Some
 returns-in-Some c =

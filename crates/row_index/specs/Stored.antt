@@ -1,0 +1,11 @@
+-- What an index keeps, without where it lies in memory.
+use Rattle.std.specs.Prelude.{ℕ, List, map}
+use Rattle.row_index.specs.declared.index.Entry.{Entry}
+use Rattle.row_index.specs.declared.key.Key.{Key}
+use Rattle.row_index.specs.Keys.{Pair}
+
+abbrev pub pair_of : Key → Pair
+pair_of k = (k.state, k.input)
+
+abbrev pub row_of : Entry → Pair × ℕ
+row_of e = (pair_of e.key, e.number)

@@ -1,0 +1,35 @@
+//! The keys of an index.
+ghost use Rattle.std.specs.Prelude.{◌≡◌, ◌+◌, ◌<◌, ◌^◌};
+ghost use Rattle.row_index.specs.Keys.{compare_pairs};
+ghost use Rattle.row_index.specs.Stored.{pair_of};
+
+use crate::Ticks;
+use std::cmp::Ordering;
+
+// The state and the input of a row. No other module reads them.
+#[derive(Clone, Copy)]
+pub(crate) struct Key {
+    state: u32,
+    input: u32,
+}
+
+impl Key {
+    pub(crate) fn new(pair: (u32, u32)) -> Key
+        ensures { pair_of result ≡ pair }
+    {
+        Key {
+            state: pair.0,
+            input: pair.1,
+        }
+    }
+
+    // How the wanted pair stands to this key. Nothing else compares keys, and it ticks once.
+    pub(crate) fn order_of(&self, wanted: (u32, u32), ticks: &mut Ticks) -> Ordering
+        requires { ticks.old + 1 < 2 ^ 64 }
+        ensures order { result ≡ compare_pairs wanted (pair_of self.now) }
+        ensures ticks { ticks.new ≡ ticks.old + 1 }
+    {
+        ticks.tick();
+        wanted.0.cmp(&self.state).then(wanted.1.cmp(&self.input))
+    }
+}
