@@ -48,7 +48,7 @@ record Passed (ps : List Part) : Type 0 where
   apart : first_module_again ps ≡ None
   none_missing : first_missing ps ≡ None
   within : are_within ps ≡ true
-  few : processes_in ps ≤ 64
+  few : processes_in ps ≤ 256
 
 passed : (ps : List Part) → first_fault ps ≡ None → Passed ps
 passed ps none =
@@ -57,11 +57,11 @@ passed ps none =
     let missing = neither_found (option_map no_table (first_missing ps)) _ ids.1 in
     let limits = both (list_all few_modules_in ps) _ (kept_so (keeps_limits ps) missing.1) in
     let rows = both (list_all has_few_rows (modules_in ps)) _ limits.1 in
-    let depth = both (are_within ps) (nat_le (processes_in ps) 64) rows.1 in record {
+    let depth = both (are_within ps) (nat_le (processes_in ps) 256) rows.1 in record {
       apart = nothing_mapped module_twice (first_module_again ps) modules.0;
       none_missing = nothing_mapped no_table (first_missing ps) missing.0;
       within = depth.0;
-      few = leb-true (processes_in ps) 64 depth.1;
+      few = leb-true (processes_in ps) 256 depth.1;
     }
 
 no_children : (tables : Tables) → (children_fault 8 tables [] ≡ None) × (children_starts 8 tables [] ≡ [])

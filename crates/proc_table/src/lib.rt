@@ -30,7 +30,7 @@ mod view;
 mod waits;
 
 /// How many slots a table has.
-pub const SLOTS: usize = 64;
+pub const SLOTS: usize = 256;
 
 pub use handler::HandlerSeat;
 pub use held::Held;

@@ -60,8 +60,8 @@ processes_are tables ps =
 within_is : (tables : Tables) (ps : List Part) → (release_summary (known_at 8 tables) ps).within ≡ list_all (part_is_within tables) ps
 within_is tables ps = joined_within (λ (p : Part). top_summary (known_at 8 tables) (top_of p)) (part_is_within tables) (λ p. top_within tables (top_of p)) nothing_started ps
 
--- 64 processes are counted
-few_counted : (n : ℕ) → nat_le (counted n) 64 ≡ nat_le n 64
+-- 256 processes are counted
+few_counted : (n : ℕ) → nat_le (counted n) 256 ≡ nat_le n 256
 few_counted n = grind (arith, nat_tests)
 
 -- the limits
@@ -69,9 +69,9 @@ limits_are : (ps : List Part) (ms : List Module) (s : Summary) → ms ≡ module
 limits_are ps ms s modules is =
     let all : s ≡ release_summary (known_at 8 (table_of (modules_in ps))) ps = is ∙ ap (λ (l : List Module). release_summary (known_at 8 (table_of l)) ps) modules in
     let within : s.within ≡ are_within ps = ap (λ (t : Summary). t.within) all ∙ within_is (table_of (modules_in ps)) ps in
-    let processes : nat_le s.processes 64 ≡ nat_le (processes_in ps) 64 =
-    ap (λ (t : Summary). nat_le t.processes 64) all
-    ∙ (ap (λ n. nat_le n 64) (processes_are (table_of (modules_in ps)) ps) ∙ few_counted (processes_in ps)) in
+    let processes : nat_le s.processes 256 ≡ nat_le (processes_in ps) 256 =
+    ap (λ (t : Summary). nat_le t.processes 256) all
+    ∙ (ap (λ n. nat_le n 256) (processes_are (table_of (modules_in ps)) ps) ∙ few_counted (processes_in ps)) in
     λ j. list_all few_modules_in ps && (list_all has_few_rows (modules j) && (within j && processes j))
 
 -- the first fault, from what each test finds

@@ -44,7 +44,7 @@ has_few_rows m = option_map_or rows_are_few m.table true
 
 -- no limit is passed
 abbrev pub keeps_limits : List Part → Bool
-keeps_limits ps = list_all few_modules_in ps && (list_all has_few_rows (modules_in ps) && (are_within ps && nat_le (processes_in ps) 64))
+keeps_limits ps = list_all few_modules_in ps && (list_all has_few_rows (modules_in ps) && (are_within ps && nat_le (processes_in ps) 256))
 
 -- the first fault, in this order
 abbrev pub first_fault : List Part → Option Fault

@@ -129,4 +129,4 @@ release_summary known ps = parts_joined known nothing_started ps
 
 -- no limit is passed, where this is what the release starts
 abbrev pub limits_kept : List Part → List Module → Summary → Bool
-limits_kept ps ms s = list_all few_modules_in ps && (list_all has_few_rows ms && (s.within && nat_le s.processes 64))
+limits_kept ps ms s = list_all few_modules_in ps && (list_all has_few_rows ms && (s.within && nat_le s.processes 256))

@@ -22,7 +22,7 @@ use std::rc::Rc;
 const MOST_ROWS: usize = 4_096;
 
 // How many processes a release starts at most.
-const MOST_PROCESSES: usize = 64;
+const MOST_PROCESSES: usize = 256;
 
 /// The first fault of a release of these applications, with their libraries in the same order. An application in whose place
 /// there is no library isn't tested.
