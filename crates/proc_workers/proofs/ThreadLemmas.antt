@@ -1,11 +1,8 @@
--- What a worker begins with, and what it hands back, may go to another thread: its pass, its inbox, and what it has done.
+-- What a worker hands back may go to another thread: its pass, its inbox, and what it has done.
 use denote.Param.Send.{IsSend}
 use denote.Param.SendFields.{declared_send}
-use Rattle.std.proofs.Crossing.{Vec-send, send}
+use Rattle.std.proofs.Crossing.{Vec-send}
 use Rattle.proc_table.proofs.ThreadLemmas.{pass_send}
-use Rattle.proc_table.proofs.pid.Pid.TheSendSync as pid
-use Rattle.proc_workers.specs.contracts.floods.FloodAnswers as FloodAnswers
-use Rattle.proc_workers.specs.contracts.floods.FloodWorker as FloodWorker
 use Rattle.proc_workers.specs.contracts.note.Answer as Answer
 use Rattle.proc_workers.specs.contracts.note.Job as Job
 use Rattle.proc_workers.specs.contracts.worker.Ended as Ended
@@ -19,9 +16,3 @@ ended_send =
     let answers = Vec-send Answer.the_row answer.the_send in
     let jobs = Vec-send Job.the_row job.the_send in
     declared_send Ended.the_type (pass_send, (inbox.the_send, (answers, (jobs, (cause.the_send, tt)))))
-
-pub flood_worker_send : IsSend FloodWorker.the_row
-flood_worker_send = declared_send FloodWorker.the_type (send, (pass_send, (pid.the_send, (inbox.the_send, tt))))
-
-pub flood_answers_send : IsSend FloodAnswers.the_row
-flood_answers_send = declared_send FloodAnswers.the_type (pass_send, (Vec-send Answer.the_row answer.the_send, tt))

@@ -6,9 +6,12 @@ use Rattle.proc_table.specs.declared.pass.Tried.{Tried}
 use Rattle.proc_table.specs.declared.pass.Tried.TheVariants.{Down}
 use Rattle.proc_table.specs.Waits.{AnswersAtLast}
 use Rattle.proc_workers.specs.declared.desk.Desk.{Desk}
+use Rattle.proc_workers.specs.declared.ends.Inbox.{Inbox}
 use Rattle.proc_workers.specs.declared.note.Answer.{Answer}
 use Rattle.proc_workers.specs.declared.note.Job.{Job}
 use Rattle.proc_workers.specs.declared.note.Note.{Note}
+use Rattle.proc_workers.specs.declared.worker.EndCause.{EndCause}
+use Rattle.proc_workers.specs.declared.worker.Ended.{Ended}
 use Rattle.proc_workers.specs.Notes.{stops, suspends}
 use Rattle.proc_workers.specs.Processes.{IsProcess}
 use Rattle.proc_workers.specs.Work.{job_of, HasAnswered, HasDone}
@@ -38,6 +41,18 @@ HasRoomFor n d = (length d.kept.items + n ≤ vec_capacity d.kept) × (length d.
 -- the job was answered, by a call of the process that it names or by Down
 abbrev pub HasAnswer : Pid → View → Job → Tried → View → Type 0
 HasAnswer pid v job t w = (IsProcess pid job.pid × AnswersAtLast pid.slot pid.round job.input v t w) ⊎ ((¬ IsProcess pid job.pid) × (t ≡ Down) × (w ≡ v))
+
+-- the job is answered, behind the others
+abbrev pub AnswersJob : Pid → Job → Desk → Desk → Type 0
+AnswersJob pid job d e = (a : Answer) × (e.answers.items ≡ d.answers.items ++ a ∷ []) × (job_of a ≡ job) × HasAnswer pid d.pass.view job a.tried e.pass.view
+
+-- the jobs that are kept are the same, and so is the room for answers
+abbrev pub KeepsJobs : Desk → Desk → Type 0
+KeepsJobs d e = (e.kept ≡ d.kept) × (e.suspended ≡ d.suspended) × (vec_capacity e.answers ≡ vec_capacity d.answers)
+
+-- what is handed back is what was in hand
+abbrev pub HandsBack : Desk → Inbox → EndCause → Ended → Type 0
+HandsBack d inbox cause e = (e.pass ≡ d.pass) × (e.inbox ≡ inbox) × (e.answers ≡ d.answers) × (e.left ≡ d.kept) × (e.cause ≡ cause)
 
 -- So many of the jobs that were kept are answered.
 pub record HasResumed (pid : Pid) (n : ℕ) (d e : Desk) : Type 0 where

@@ -1,8 +1,7 @@
 //! What a worker has in hand between two notes.
-ghost use Rattle.std.specs.Prelude.{◌≡◌, ◌≤◌, ◌<◌, ◌+◌, [], ◌∷◌, ◌++◌, length, OnOk, vec_capacity, true, false};
+ghost use Rattle.std.specs.Prelude.{◌≡◌, ◌≤◌, ◌<◌, ◌+◌, [], length, OnOk, vec_capacity, true, false};
 ghost use Rattle.proc_workers.specs.declared.note.Note.TheVariants as note;
-ghost use Rattle.proc_workers.specs.Desks.{HasAnswer, HasRoomFor, IsAt, SameDesk, TakesNote};
-ghost use Rattle.proc_workers.specs.Work.{job_of};
+ghost use Rattle.proc_workers.specs.Desks.{AnswersJob, HandsBack, HasAnswer, HasRoomFor, IsAt, KeepsJobs, SameDesk, TakesNote};
 
 use crate::{Answer, EndCause, Ended, Gate, Inbox, Job};
 use proc_table::{Pass, Pid, ProcTable, Tried};
@@ -86,9 +85,8 @@ impl Desk {
         requires table { self.old.pass.table ≡ table.now }
         requires room { length self.old.answers.items < vec_capacity self.old.answers }
         ensures table { self.new.pass.table ≡ self.old.pass.table }
-        ensures answered { (a : Answer) × (self.new.answers.items ≡ self.old.answers.items ++ a ∷ []) × (job_of a ≡ job)
-            × HasAnswer pid self.old.pass.view job a.tried self.new.pass.view }
-        ensures rest { (self.new.kept ≡ self.old.kept) × (self.new.suspended ≡ self.old.suspended) × (vec_capacity self.new.answers ≡ vec_capacity self.old.answers) }
+        ensures answered { AnswersJob pid job self.old self.new }
+        ensures rest { KeepsJobs self.old self.new }
     {
         gate.before(&job);
         let tried = try_job(rt, table, &mut self.pass, pid, &job);
@@ -103,7 +101,7 @@ impl Desk {
     }
 
     pub(crate) fn end(self, inbox: Inbox, cause: EndCause) -> Ended
-        ensures { (result.pass ≡ self.pass) × (result.inbox ≡ inbox) × (result.answers ≡ self.answers) × (result.left ≡ self.kept) × (result.cause ≡ cause) }
+        ensures { HandsBack self inbox cause result }
     {
         let Desk {
             pass,

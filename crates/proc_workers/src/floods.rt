@@ -9,7 +9,8 @@ use crate::{Answer, Ended, Inbox, Job, NoGate, Note, Sender, mailbox, work};
 use proc_table::{HandlerSeat, Pass, Pid, ProcTable, Tried};
 use std::alloc::{AllocError, Global};
 use std::sync::Wait;
-use std::thread::{Threads, join};
+use std::thread;
+use std::thread::Threads;
 
 /// How often each outcome came, and how often the process was down.
 #[derive(Clone, Copy)]
@@ -38,8 +39,8 @@ impl FloodCounts {
     }
 }
 
-/// Calls the process so often with one input: two threads send the jobs to a worker in a third, the first of them the larger half.
-/// It is refused where memory is, at the start or for a further job.
+/// Calls the process so often with one input: two threads send the jobs, the first of them the larger half, to a worker in the
+/// calling one. It is refused where memory is, at the start or for a further job, or where a sender with jobs gets no thread.
 pub fn flood<R: Threads + Wait + Sync>(
     rt: &R,
     alloc: Global,
@@ -57,14 +58,23 @@ pub fn flood<R: Threads + Wait + Sync>(
 {
     let (mut first, inbox) = mailbox(alloc)?;
     let second = first.second()?;
+    let lower = times / 2;
+    let larger = times - lower;
     let pass = table.new_pass(seat);
-    let worker = FloodWorker {
-        alloc,
-        pass,
-        pid,
-        inbox,
-    };
-    let FloodAnswers { pass, answers } = run_worker(rt, table, worker, first, second, input, times);
+    let (pass, answers) = thread::scope(
+        thread::scope_env(),
+        rt,
+        |scope| -> (Pass, Vec<Answer>)
+            requires { pass.table ≡ table.now }
+            ensures { (result.0.table ≡ table.entry.now)
+                × HasAnswered pid pass.view result.1.items result.0.view }
+        {
+            // A sender that gets no thread is dropped here, so that the worker doesn't wait for it.
+            drop(scope.spawn(move || send_jobs(rt, first, pid, input, larger)));
+            drop(scope.spawn(move || send_jobs(rt, second, pid, input, lower)));
+            run_worker(rt, alloc, table, pass, pid, inbox)
+        },
+    );
     table.take_back(seat, pass);
     match count_answers(answers.as_slice(), pid, input, times) {
         Some(counts) => Ok(counts),
@@ -72,88 +82,28 @@ pub fn flood<R: Threads + Wait + Sync>(
     }
 }
 
-// What the worker of a flood begins with.
-#[derive(Drop)]
-pub(crate) struct FloodWorker {
-    pub(crate) alloc: Global,
-    pub(crate) pass: Pass,
-    pub(crate) pid: Pid,
-    pub(crate) inbox: Inbox,
-}
-
-// What it hands back.
-#[derive(Drop)]
-pub(crate) struct FloodAnswers {
-    pub(crate) pass: Pass,
-    pub(crate) answers: Vec<Answer>,
-}
-
-impl FloodWorker {
-    // The inbox goes with the worker: a sender would wait for ever for room in one that nobody reads.
-    fn work<R: Wait>(self, rt: &R, table: &ProcTable) -> FloodAnswers
-        requires { self.pass.table ≡ table.now }
-        ensures table { result.pass.table ≡ table.now }
-        ensures calls { HasAnswered self.pid self.pass.view result.answers.items result.pass.view }
-    {
-        let FloodWorker {
-            alloc,
-            pass,
-            pid,
-            inbox,
-        } = self;
-        let Ended {
-            pass,
-            inbox: _inbox,
-            answers,
-            left: _left,
-            cause: _cause,
-        } = work(rt, alloc, table, pass, pid, inbox, &NoGate);
-        FloodAnswers { pass, answers }
-    }
-}
-
-// The worker ends once both senders are gone.
-fn run_worker<R: Threads + Wait + Sync>(
+// The worker ends once both senders are gone. The inbox goes with it: a sender would wait for ever for room in one that nobody
+// reads.
+fn run_worker<R: Wait>(
     rt: &R,
+    alloc: Global,
     table: &ProcTable,
-    worker: FloodWorker,
-    first: Sender,
-    second: Sender,
-    input: u32,
-    times: u32,
-) -> FloodAnswers
-    requires { worker.pass.table ≡ table.now }
-    ensures table { result.pass.table ≡ table.now }
-    ensures calls { HasAnswered worker.pid worker.pass.view result.answers.items result.pass.view }
-{
-    let pid = worker.pid;
-    let (ended, _) = join(
-        rt,
-        ||
-            requires { worker.pass.table ≡ table.now }
-            ensures { (result.pass.table ≡ table.entry.now)
-                × HasAnswered worker.pid worker.pass.view result.answers.items result.pass.view }
-        { worker.work(rt, table) },
-        || send_halves(rt, first, second, pid, input, times),
-    );
-    ended
-}
-
-fn send_halves<R: Threads + Wait + Sync>(
-    rt: &R,
-    first: Sender,
-    second: Sender,
+    pass: Pass,
     pid: Pid,
-    input: u32,
-    times: u32,
-) {
-    let lower = times / 2;
-    let larger = times - lower;
-    join(
-        rt,
-        || send_jobs(rt, first, pid, input, larger),
-        || send_jobs(rt, second, pid, input, lower),
-    );
+    inbox: Inbox,
+) -> (Pass, Vec<Answer>)
+    requires { pass.table ≡ table.now }
+    ensures table { result.0.table ≡ table.now }
+    ensures calls { HasAnswered pid pass.view result.1.items result.0.view }
+{
+    let Ended {
+        pass,
+        inbox: _inbox,
+        answers,
+        left: _left,
+        cause: _cause,
+    } = work(rt, alloc, table, pass, pid, inbox, &NoGate);
+    (pass, answers)
 }
 
 // Jobs with the numbers from 0 on, until the worker is gone.

@@ -9,7 +9,8 @@
 //! while it is suspended are kept until it goes on. The jobs that it took are those of its answers and then those that are left,
 //! in order, each once (`jobs`). Each answer but `Down` is a call of its pass in the history of the process (`calls`). It makes
 //! room for a job and its answer before it takes a note, so nothing that it took is lost where memory is refused.
-//! [`flood`] calls a process so often with one input, from threads, and counts the outcomes: an equation (specs/Floods).
+//! [`flood`] calls a process so often with one input, for jobs that two threads send, and counts the outcomes: an equation
+//! (specs/Floods).
 //!
 //! All wait, and say the same if they return. Only tested: that a note comes, that an inbox or a sender that is gone is
 //! noticed, and that workers run beside each other. Trusted: the toolchain alone, `crossbeam_channel` with it.

@@ -54,8 +54,10 @@ impl Sender {
 
     /// Another sender of the mailbox, for another thread. It has sent nothing.
     pub fn second(&mut self) -> Result<Sender, AllocError>
-        ensures same { (mailbox_of self.new ≡ mailbox_of self.old) × (sent self.new ≡ sent self.old) }
-        ensures second { IfOk result (λ s. (mailbox_of s ≡ mailbox_of self.old) × (sent s ≡ [])) }
+        ensures same { (mailbox_of self.new ≡ mailbox_of self.old)
+            × (sent self.new ≡ sent self.old) }
+        ensures second { IfOk result (λ s. (mailbox_of s ≡ mailbox_of self.old)
+            × (sent s ≡ [])) }
     {
         let end = self.end.try_clone()?;
         let hand = self.end.another::<SenderMade>(&mut self.hand);

@@ -95,7 +95,7 @@ fn push_ended(table: &ProcTable, pid: Pid, ended: Ended, answer: &mut Answer)
     push_peek(table, &mut pass, pid, answer);
 }
 
-/// Appends how often each outcome comes of calls with one input that two threads send to a worker in a third, and what is peeked
+/// Appends how often each outcome comes of calls with one input that two threads send to a worker, and what is peeked
 /// then. The text is how the process begins, how many calls they are, and the input.
 pub(crate) fn push_flood<R: Threads + Wait + Sync>(
     rt: &R,

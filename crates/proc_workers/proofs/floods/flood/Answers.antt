@@ -7,10 +7,10 @@ use Rattle.proc_workers.proofs.floods.flood.Goals as goal
 pub returns-in-Some-clause-flooded : goal.returns-in-Some-clause-flooded
 returns-in-Some-clause-flooded g c =
     let counted = subst (λ (l : List Answer). AreCounted c.args.pid c.args.input c.args.times l c.in-Some.counts) c.as_slice.ensures.value c.in-Some.ensures in
-    is_flooded c.args.pid c.args.input c.args.times _ _ _ _ _ c.run_worker-pass.result.answers.items c.in-Some.counts c.requires.alone c.new_pass-pass.ensures.made c.run_worker-pass.ensures.calls
+    is_flooded c.args.pid c.args.input c.args.times _ _ _ _ _ c.scoped-pass.result.1.items c.in-Some.counts c.requires.alone c.new_pass-pass.ensures.made c.scoped-pass.ensures.1.1
     c.take_back.ensures.joined counted
 
 pub returns-clause-refused : goal.returns-clause-refused
 returns-clause-refused g c =
-    let back = taken_back c.args.pid _ _ _ _ _ c.run_worker-pass.result.answers.items c.requires.alone c.new_pass-pass.ensures.made c.run_worker-pass.ensures.calls c.take_back.ensures.joined in
-    inr (c.run_worker-pass.result.answers.items, back.seen_is, back.rest)
+    let back = taken_back c.args.pid _ _ _ _ _ c.scoped-pass.result.1.items c.requires.alone c.new_pass-pass.ensures.made c.scoped-pass.ensures.1.1 c.take_back.ensures.joined in
+    inr (c.scoped-pass.result.1.items, back.seen_is, back.rest)
