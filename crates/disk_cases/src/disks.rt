@@ -25,12 +25,7 @@ pub(crate) fn disk_of(alloc: Global, words: &str) -> Result<MemDisk, AllocError>
 pub(crate) fn failing<D: Disk>(disk: D, how: &str, call: &str) -> FailDisk<D>
     ensures { result.disk ≡ disk }
 {
-    FailDisk {
-        disk,
-        left: number(call) as u64,
-        refused: 0,
-        in_part: matches!(how, "part"),
-    }
+    FailDisk::failing(disk, number(call) as u64, matches!(how, "part"))
 }
 
 /// All that a read gives. Where none is given, that is appended.

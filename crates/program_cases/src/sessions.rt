@@ -54,12 +54,7 @@ pub(crate) fn push_sessions<H: Threads + Wait + Sync>(
 ) {
     match MemDisk::new(alloc, DISK, 2 * DISK) {
         Ok(disk) => {
-            let disk = FailDisk {
-                disk,
-                left: first.call as u64,
-                refused: 0,
-                in_part: first.in_part,
-            };
+            let disk = FailDisk::failing(disk, first.call as u64, first.in_part);
             follow_all(rt, alloc, disk, files, first.room, text, answer);
         }
         Err(_) => answer.note_no_memory(),
@@ -130,7 +125,7 @@ fn follow_all<H: Threads + Wait + Sync>(
     for part in text.split(" || ") {
         let lines = lines_of(alloc, part, answer);
         disk = follow(rt, alloc, disk, files, room, lines.as_bytes(), answer);
-        disk.left = 0;
+        disk.fault.left = 0;
         room = WIDE;
     }
 }

@@ -2,7 +2,7 @@
 use Rattle.std.proofs.Common.{◌≡◌, ◌⊎◌, inl, inr, ℕ, ◌+◌, ◌-◌, ◌<◌, ◌≤◌, min, List, [], ◌++◌, length, take, drop, sym, ap, ◌∙◌, arith, append_assoc, take-append-drop, length-take, length-drop}
 use Rattle.std.proofs.lemmas.Bool.{cases_lt}
 use Rattle.std.proofs.lemmas.List.{append-nil, take_all, drop_all, drop-drop, take_at, take_rest}
-use Rattle.rel_disk.specs.Damage.{overwritten, Torn, Cut}
+use Rattle.rel_disk.specs.Damage.{overwritten, Torn, Cut, Follows}
 
 -- a write that did nothing
 pub torn_same : (at n : ℕ) (bytes : List ℕ) → Torn at n bytes bytes
@@ -19,6 +19,13 @@ torn_same at n bytes = record {
 -- a cut that did nothing
 pub cut_same : (n : ℕ) (bytes : List ℕ) → Cut n bytes bytes
 cut_same n bytes = record { tail = drop n bytes; is = sym (take-append-drop n bytes) }
+
+-- the images behind a call that did nothing are those before it
+pub follows_torn : (at n : ℕ) (images : List ℕ → Type 0) → Follows (Torn at n) images images
+follows_torn at n images c image = (c, image, torn_same at n c)
+
+pub follows_cut : (n : ℕ) (images : List ℕ → Type 0) → Follows (Cut n) images images
+follows_cut n images c image = (c, image, cut_same n c)
 
 -- a write over what is there, and then past the end
 pub overwritten-append : (at inside : ℕ) (bytes old : List ℕ) → at ≤ length old → inside ≡ min (length bytes) (length old - at)

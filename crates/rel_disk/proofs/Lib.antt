@@ -1,5 +1,4 @@
-mod DamageLemmas
-mod FailTurns
+pub mod DamageLemmas
 mod ImageLemmas
 mod ImagePlaces
 mod LogEntries

@@ -1,7 +1,7 @@
 -- The damage of single calls, told by places.
 use Rattle.std.proofs.Common.{◌≡◌, ◌⊎◌, ⊎_elim, inl, inr, ℕ, ◌+◌, ◌-◌, ◌<◌, ◌≤◌, min, List, ◌++◌, length, take, drop, get_or, sym, ap, ◌∙◌, arith, take-append-drop, length-append, length-take, length-drop}
 use Rattle.std.proofs.lemmas.List.{get_or_append_left, get_or-append_right, get_or-take, get_or-drop, drop-drop, ext_get_or}
-use Rattle.rel_disk.specs.Damage.{Torn, Cut}
+use Rattle.rel_disk.specs.Damage.{Torn, Cut, Follows}
 use Rattle.rel_disk.specs.Places.{KeepsOutside, KeepsFront}
 
 pub torn_keeps : (at n : ℕ) (old new : List ℕ) → Torn at n old new → KeepsOutside at n old new
@@ -81,6 +81,11 @@ pub torn_wider : (at m n : ℕ) (old new : List ℕ) → m ≤ n → Torn at m o
 torn_wider at m n old new le torn =
     let keeps = torn_keeps at m old new torn in
     keeps_torn at n old new record { long = keeps.long; kept = λ i within outside. keeps.kept i within (⊎_elim (λ before. inl before) (λ behind. inr (omega (arith, behind))) outside) }
+
+pub follows_wider : (at m n : ℕ) (old new : List ℕ → Type 0) → m ≤ n → Follows (Torn at m) old new → Follows (Torn at n) old new
+follows_wider at m n old new le follows c image =
+    let from = follows c image in
+    (from.0, from.1, torn_wider at m n from.0 c le from.2)
 
 pub cut_keeps : (n : ℕ) (old new : List ℕ) → Cut n old new → KeepsFront n old new
 cut_keeps n old new cut = record {

@@ -2,7 +2,7 @@
 ghost use Rattle.std.specs.Prelude.{◌≡◌, ◌≢◌, ◌⊎◌, ◌+◌, ◌-◌, ◌≤◌, ◌↔◌, ◌/◌, ◌^◌, min, true, false, length, take, slice_range, IsErr, IfOk, OnOk};
 ghost use Rattle.rel_disk.specs.Damage.{overwritten, Torn, Cut, Follows, Within, Only};
 ghost use Rattle.rel_disk.specs.Moments.{Elapses, HasFailed};
-ghost use Rattle.rel_disk.specs.FailDisk.{all_failures, TakesTurn};
+ghost use Rattle.rel_disk.specs.FailDisk.{after_turn, all_failures, turn_of, TakesTurn};
 
 use crate::{DeviceFault, Disk};
 
@@ -12,12 +12,19 @@ use crate::{DeviceFault, Disk};
 pub struct FailDisk<D: Disk> {
     /// The disk within.
     pub disk: D,
+    /// Which call fails.
+    pub fault: Fault,
+}
+
+/// Which call of a disk fails.
+#[derive(Clone, Copy)]
+pub struct Fault {
     /// How many calls are left up to the one that fails, which counts; 0 after it.
     pub left: u64,
-    /// How many calls have failed that the disk within did not see.
-    pub refused: u64,
     /// The call that fails has a part of its effect.
     pub in_part: bool,
+    /// How many calls have failed so.
+    pub refused: u64,
 }
 
 /// What becomes of a call.
@@ -31,38 +38,41 @@ enum Turn {
 impl<D: Disk> FailDisk<D> {
     /// Fails the call of this number, counted from 1. With 0 it fails none.
     pub fn new(disk: D, call: u64) -> Self
-        ensures { result ≡ record { disk = disk; left = call; refused = 0; in_part = false } }
+        ensures { (result.disk ≡ disk)
+            × (result.fault ≡ record { left = call; in_part = false; refused = 0 }) }
     {
-        FailDisk {
-            disk,
-            left: call,
-            refused: 0,
-            in_part: false,
-        }
+        FailDisk::failing(disk, call, false)
     }
 
     /// Such a disk, on which the call has a part of its effect.
     pub fn failing_in_part(disk: D, call: u64) -> Self
-        ensures { result ≡ record { disk = disk; left = call; refused = 0; in_part = true } }
+        ensures { (result.disk ≡ disk)
+            × (result.fault ≡ record { left = call; in_part = true; refused = 0 }) }
+    {
+        FailDisk::failing(disk, call, true)
+    }
+
+    /// The one or the other.
+    pub fn failing(disk: D, call: u64, in_part: bool) -> Self
+        ensures { (result.disk ≡ disk)
+            × (result.fault ≡ record { left = call; in_part = in_part; refused = 0 }) }
     {
         FailDisk {
             disk,
-            left: call,
-            refused: 0,
-            in_part: true,
+            fault: Fault {
+                left: call,
+                in_part,
+                refused: 0,
+            },
         }
     }
+}
 
+impl Fault {
     // Counts a call, and says what becomes of it.
     fn turn(&mut self) -> Turn
-        ensures passes { (result ≡ Turn.Passes) ↔ (self.old.left ≢ 1) }
-        ensures fails { (result ≡ Turn.Fails) ↔ ((self.old.left ≡ 1) × (self.old.in_part ≡ false)) }
-        ensures left { self.new.left ≡ self.old.left - 1 }
-        ensures same { self.new.disk ≡ self.old.disk }
-        ensures kind { self.new.in_part ≡ self.old.in_part }
-        ensures refused { self.old.left ≡ 1
-            → self.new.refused ≡ min (2 ^ 64 - 1) (self.old.refused + 1) }
-        ensures passed { self.old.left ≢ 1 → self.new.refused ≡ self.old.refused }
+        ensures turn { result ≡ turn_of self.old }
+        ensures after { self.new ≡ after_turn self.old }
     {
         if self.left == 0 {
             return Turn::Passes;
@@ -109,7 +119,7 @@ impl<D: Disk> Disk for FailDisk<D> {
         ensures cause { IsErr result
             → HasFailed (all_failures D.failures self.old) (all_failures D.failures self.new) }
     {
-        match self.turn() {
+        match self.fault.turn() {
             Turn::Passes => self.disk.len(),
             _ => Err(DeviceFault),
         }
@@ -130,7 +140,7 @@ impl<D: Disk> Disk for FailDisk<D> {
         ensures cause { IsErr result
             → HasFailed (all_failures D.failures self.old) (all_failures D.failures self.new) }
     {
-        match self.turn() {
+        match self.fault.turn() {
             Turn::Passes => self.disk.read(at, buf),
             _ => Err(DeviceFault),
         }
@@ -139,7 +149,7 @@ impl<D: Disk> Disk for FailDisk<D> {
     fn write_at(&mut self, at: u64, bytes: &[u8]) -> Result<(), DeviceFault>
         requires { at ≤ length (D.seen self.old.disk) }
         ensures turn { TakesTurn D.failures self.old self.new (IsErr result) }
-        ensures half { self.old.left ≡ 1 → self.old.in_part ≡ true
+        ensures half { self.old.fault.left ≡ 1 → self.old.fault.in_part ≡ true
             → HasFailed (D.failures self.old.disk) (D.failures self.new.disk)
             ⊎ (D.seen self.new.disk ≡ overwritten at (take ((length bytes.now + 1) / 2) bytes.now)
             (D.seen self.old.disk)) }
@@ -156,7 +166,7 @@ impl<D: Disk> Disk for FailDisk<D> {
         ensures cause { IsErr result
             → HasFailed (all_failures D.failures self.old) (all_failures D.failures self.new) }
     {
-        match self.turn() {
+        match self.fault.turn() {
             Turn::Passes => self.disk.write_at(at, bytes),
             Turn::Fails => Err(DeviceFault),
             Turn::FailsInPart => {
@@ -169,7 +179,7 @@ impl<D: Disk> Disk for FailDisk<D> {
     fn cut(&mut self, len: u64) -> Result<(), DeviceFault>
         requires { len ≤ length (D.seen self.old.disk) }
         ensures turn { TakesTurn D.failures self.old self.new (IsErr result) }
-        ensures whole { self.old.left ≡ 1 → self.old.in_part ≡ true
+        ensures whole { self.old.fault.left ≡ 1 → self.old.fault.in_part ≡ true
             → HasFailed (D.failures self.old.disk) (D.failures self.new.disk)
             ⊎ (D.seen self.new.disk ≡ take len (D.seen self.old.disk)) }
 
@@ -183,7 +193,7 @@ impl<D: Disk> Disk for FailDisk<D> {
         ensures cause { IsErr result
             → HasFailed (all_failures D.failures self.old) (all_failures D.failures self.new) }
     {
-        match self.turn() {
+        match self.fault.turn() {
             Turn::Passes => self.disk.cut(len),
             Turn::Fails => Err(DeviceFault),
             Turn::FailsInPart => {
@@ -195,7 +205,7 @@ impl<D: Disk> Disk for FailDisk<D> {
 
     fn sync(&mut self) -> Result<(), DeviceFault>
         ensures turn { TakesTurn D.failures self.old self.new (IsErr result) }
-        ensures whole { self.old.left ≡ 1 → self.old.in_part ≡ true
+        ensures whole { self.old.fault.left ≡ 1 → self.old.fault.in_part ≡ true
             → HasFailed (D.failures self.old.disk) (D.failures self.new.disk)
             ⊎ Only (D.seen self.old.disk) (D.may_leave self.new.disk) }
 
@@ -209,7 +219,7 @@ impl<D: Disk> Disk for FailDisk<D> {
         ensures cause { IsErr result
             → HasFailed (all_failures D.failures self.old) (all_failures D.failures self.new) }
     {
-        match self.turn() {
+        match self.fault.turn() {
             Turn::Passes => self.disk.sync(),
             Turn::Fails => Err(DeviceFault),
             Turn::FailsInPart => {
@@ -220,6 +230,6 @@ impl<D: Disk> Disk for FailDisk<D> {
     }
 
     fn failures(&self) -> u64 {
-        self.disk.failures().saturating_add(self.refused)
+        self.disk.failures().saturating_add(self.fault.refused)
     }
 }

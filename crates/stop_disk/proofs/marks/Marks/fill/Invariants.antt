@@ -1,0 +1,10 @@
+use Rattle.std.proofs.Common.{◌≡◌, ◌<◌, ◌≤◌, ℕ, length, slice_index, if◌then◌else◌}
+use Rattle.stop_disk.specs.Crashes.{is_within}
+use Rattle.stop_disk.proofs.marks.Marks.fill.Given as goal
+
+-- the places so far are filled, and those behind them are as they were
+abbrev pub invariant-loop-at : goal.invariant-loop-at
+invariant-loop-at l =
+    (length l.bytes ≡ length l.fn.bytes)
+    × ((i : ℕ) → i < l.at → slice_index l.bytes i ≡ (if is_within i l.self.written.items then l.byte else slice_index l.fn.bytes i))
+    × ((i : ℕ) → l.at ≤ i → slice_index l.bytes i ≡ slice_index l.fn.bytes i)

@@ -1,0 +1,20 @@
+use Rattle.std.proofs.Common.{◌≤◌, ◌/◌, ℕ, length, take, arith, length-take}
+use Rattle.rel_disk.proofs.PlaceLemmas.{follows_wider, torn_wider}
+use Rattle.rel_disk.proofs.DamageLemmas.{follows_torn, torn_same}
+use Rattle.stop_disk.proofs.stop_disk.StopDiskDisk.write_at.Goals as goal
+
+pub returns-in-Stops-clause-part : goal.returns-in-Stops-clause-part
+returns-in-Stops-clause-part g c =
+    let n = length c.args.bytes.now in
+    torn_wider c.args.at _ n _ _ (omega (arith, length-take (n / 2) c.args.bytes.now)) c.write_at-in-Stops.ensures.part
+
+pub returns-in-Stops-clause-crash : goal.returns-in-Stops-clause-crash
+returns-in-Stops-clause-crash g c =
+    let n = length c.args.bytes.now in
+    follows_wider c.args.at _ n _ _ (omega (arith, length-take (n / 2) c.args.bytes.now)) c.write_at-in-Stops.ensures.crash
+
+pub returns-in-IsBehind-clause-part : goal.returns-in-IsBehind-clause-part
+returns-in-IsBehind-clause-part g c = torn_same c.args.at (length c.args.bytes.now) (g.D.Disk.seen c.args.self.now.disk)
+
+pub returns-in-IsBehind-clause-crash : goal.returns-in-IsBehind-clause-crash
+returns-in-IsBehind-clause-crash g c = follows_torn c.args.at (length c.args.bytes.now) (g.D.Disk.may_leave c.args.self.now.disk)

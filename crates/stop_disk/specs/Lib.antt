@@ -1,0 +1,2 @@
+pub mod Crashes
+pub mod Stops
