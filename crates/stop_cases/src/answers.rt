@@ -1,0 +1,34 @@
+//! The answer to a case.
+use crate::expected::Expected;
+use crate::faults::push_faults;
+use crate::runs::Session;
+use crate::stops::push_stops;
+use std::alloc::{AllocError, Global};
+use std::sync::Wait;
+use std::thread::Threads;
+use text_cases::{Answer, first_word, number};
+
+/// The answer in one of these modes. A text is a number and the lines of a session, parted by ` | `: those that give its files, and
+/// behind ` || ` its commands. So many of the commands go by before the first call that is cut off.
+///
+/// - `stops`: the disk stops at each call in turn (src/stops.rt).
+/// - `faults`: one call of the disk fails, each in turn, and does nothing (src/faults.rt).
+/// - `parts`: so, and it has a part of its effect.
+pub(crate) fn answer<H: Threads + Wait + Sync>(
+    rt: &H,
+    alloc: Global,
+    mode: &str,
+    text: &[u8],
+) -> Result<String, AllocError> {
+    let (from, lines) = first_word(str::from_utf8(text).unwrap_or(""));
+    let session = Session::of(alloc, lines)?;
+    let expected = Expected::of(rt, alloc, &session)?;
+    let mut answer = Answer::new(alloc);
+    match mode {
+        "stops" => push_stops(rt, alloc, &session, &expected, number(from), &mut answer)?,
+        "faults" => push_faults(rt, alloc, &session, &expected, false, &mut answer)?,
+        "parts" => push_faults(rt, alloc, &session, &expected, true, &mut answer)?,
+        _ => answer.push("no such mode"),
+    }
+    answer.finish()
+}

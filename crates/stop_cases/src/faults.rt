@@ -1,0 +1,99 @@
+//! Sessions in which one call of the disk fails.
+use crate::expected::Expected;
+use crate::runs::{BOOT, CAPACITY, LOG, Session, run};
+use rel_disk::{FailDisk, MemDisk};
+use std::alloc::{AllocError, Global};
+use std::sync::Wait;
+use std::thread::Threads;
+use text_cases::Answer;
+
+/// Appends for how many of the disk's calls it is so, up to the first for which it isn't, that where this call fails its command
+/// is answered Device, all behind it Dead up to the next boot, and that a boot behind the session tells what it had acknowledged, or
+/// that with the command which failed.
+pub(crate) fn push_faults<H: Threads + Wait + Sync>(
+    rt: &H,
+    alloc: Global,
+    session: &Session,
+    expected: &Expected,
+    in_part: bool,
+    answer: &mut Answer,
+) -> Result<(), AllocError> {
+    let lines = session.lines(alloc, session.commands.len())?;
+    let all = calls_of(rt, alloc, lines.as_str())?;
+    let explained = explained_of(rt, alloc, session, expected, in_part, all)?;
+    answer.push_number(explained);
+    answer.push(" of ");
+    answer.push_number(all);
+    answer.push(" faults");
+    Ok(())
+}
+
+// For how many of so many calls it is so, up to the first for which it isn't.
+fn explained_of<H: Threads + Wait + Sync>(
+    rt: &H,
+    alloc: Global,
+    session: &Session,
+    expected: &Expected,
+    in_part: bool,
+    all: u64,
+) -> Result<u64, AllocError> {
+    for call in 0..all {
+        let disk = failing(alloc, call, in_part)?;
+        if !is_explained(rt, alloc, session, expected, disk)? {
+            return Ok(call);
+        }
+    }
+    Ok(all)
+}
+
+// A disk whose call of this number fails, counted from 0.
+fn failing(alloc: Global, call: u64, in_part: bool) -> Result<FailDisk<MemDisk>, AllocError> {
+    let disk = MemDisk::new(alloc, CAPACITY, LOG)?;
+    Ok(FailDisk::failing(disk, call.saturating_add(1), in_part))
+}
+
+// How many calls of the disk a session of these lines makes.
+fn calls_of<H: Threads + Wait + Sync>(
+    rt: &H,
+    alloc: Global,
+    lines: &str,
+) -> Result<u64, AllocError> {
+    let disk = FailDisk::new(MemDisk::new(alloc, CAPACITY, LOG)?, u64::MAX);
+    let (disk, _) = run(rt, alloc, disk, lines)?;
+    Ok(u64::MAX - disk.fault.left)
+}
+
+fn is_explained<H: Threads + Wait + Sync>(
+    rt: &H,
+    alloc: Global,
+    session: &Session,
+    expected: &Expected,
+    disk: FailDisk<MemDisk>,
+) -> Result<bool, AllocError> {
+    let lines = session.lines(alloc, session.commands.len())?;
+    let (disk, text) = run(rt, alloc, disk, lines.as_str())?;
+    let answered = expected.answered(text.as_str());
+    let rest = text.strip_prefix(expected.written(answered)).unwrap_or("");
+    let commands = session.commands.as_slice();
+    let behind = commands.get(answered..).unwrap_or(&[]);
+    let (_, boot) = run(rt, alloc, disk, BOOT)?;
+    Ok(is_device_then_dead(rest, behind) && expected.explains(answered, boot.as_str()))
+}
+
+// Whether the first of these commands is answered Device, and each behind it Dead up to a boot.
+fn is_device_then_dead(text: &str, commands: &[String]) -> bool {
+    let mut lines = text.lines();
+    let first = lines.next().unwrap_or("");
+    if first != "error handler 16 Device" && first != "error boot 3 Device" {
+        return false;
+    }
+    for command in commands.get(1..).unwrap_or(&[]) {
+        if command.as_str() == "boot" {
+            return true;
+        }
+        if lines.next().unwrap_or("") != "error handler 18 Dead" {
+            return false;
+        }
+    }
+    lines.next().is_none()
+}

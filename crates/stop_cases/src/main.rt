@@ -1,0 +1,20 @@
+//! The program `stop_cases`: sessions whose disk stops or fails at each of its calls in turn, a case a line. [`answer`] has the
+//! modes. What a boot finds then has to be what the session had acknowledged, or that and the command in which it was cut off.
+#![tactic(auto)]
+
+mod answers;
+mod expected;
+mod faults;
+mod runs;
+mod stops;
+
+use crate::answers::answer;
+use std::alloc::Global;
+use std::io;
+use text_cases::answer_cases;
+
+fn main(rt: HostRuntime) -> io::Result<()> {
+    answer_cases(&rt, |alloc: Global, mode: &str, text: &[u8]| {
+        answer(&rt, alloc, mode, text)
+    })
+}
