@@ -6,9 +6,10 @@ ghost use Rattle.erl_term.specs.Within.{IsWithin};
 
 use crate::records::push_line;
 use erl_term::Term;
+use record_writer::{made_body, unpacked_body};
 use rel_files::{RelFile, read_rel_file};
 use rel_list::ReleaseList;
-use rel_records::{made_body, read_list, unpacked_body};
+use rel_records::read_list;
 use relup_file::{RelupFile, print_relup, read_relup_file};
 use std::alloc::Global;
 use text_cases::Answer;

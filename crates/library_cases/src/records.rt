@@ -2,9 +2,10 @@
 ghost use Rattle.rel_records.specs.Lists.{HaveVersions};
 
 use crate::lists::{event, push_list};
+use record_writer::change_body;
 use rel_list::{Event, ReleaseList};
 use rel_records::laws::records_make_versions;
-use rel_records::{change_body, read_list};
+use rel_records::read_list;
 use std::alloc::{AllocError, Global};
 use text_cases::Answer;
 

@@ -13,9 +13,9 @@ ghost use Rattle.rel_store.specs.State.{HasRoom, IsSame as IsSameStore, IsSoundS
 
 use crate::Handler;
 use node_command::HandlerError;
+use record_writer::change_body;
 use rel_disk::Disk;
 use rel_list::Event;
-use rel_records::change_body;
 use rel_store::Store;
 use std::alloc::Global;
 

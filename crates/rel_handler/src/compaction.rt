@@ -11,8 +11,8 @@ ghost use Rattle.rel_handler.specs.State.{disk_in, extent_in, list_in, is_dead, 
 
 use crate::Handler;
 use node_command::HandlerError;
+use record_writer::image_body;
 use rel_disk::Disk;
-use rel_records::image_body;
 use rel_store::StoreError;
 use std::alloc::Global;
 

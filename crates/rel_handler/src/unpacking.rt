@@ -17,9 +17,9 @@ use file_source::Files;
 use node_command::{
     HandlerError, NewBundle, bring_release, has_room, new_bundle, new_version, unless_refused,
 };
+use record_writer::unpacked_body;
 use rel_disk::Disk;
 use rel_list::{Bundle, Event};
-use rel_records::unpacked_body;
 use rel_unpack::ReleaseFiles;
 use std::alloc::Global;
 

@@ -9,6 +9,7 @@ ghost use Rattle.rel_records.specs.Record.{Imaged as ImagedInSpecs};
 use crate::assignment::status_in;
 use crate::fault::RecordFault;
 use crate::new_release::relup_in;
+use crate::words::IMAGE;
 use erl_term::Term;
 use library::Library;
 use rel_files::parts::{is_word, list_in, three};
@@ -17,9 +18,6 @@ use rel_list::Status;
 use relup_file::Relup;
 use std::alloc::Global;
 use std::rc::Rc;
-
-// The word of an image.
-pub(crate) const IMAGE: &str = "image";
 
 // A release of an image, with its status and its relup, if it has one.
 #[derive(Drop)]

@@ -1,4 +1,4 @@
-//! The records in which a store keeps the list of a node's releases.
+//! What the records say in which a store keeps the list of a node's releases.
 //!
 //! A record says that the node's first release was made, that a further one came in, that releases got other statuses, or
 //! that one left (specs/Record). One that brings a release carries its new libraries alone, those that the list doesn't have,
@@ -6,9 +6,8 @@
 //! list in one record, which stands first.
 //!
 //! `read_list` gives the list that records make, each taken as what it says of the list (`Makes`), or the first record that
-//! no command could have written where it stands (`IsBadRecord`). `made_body`, `unpacked_body` and `change_body` print the
-//! record of an event (`record_of`). `image_body` prints the image of a list that records make (`image_of`): alone it makes
-//! that list again.
+//! no command could have written where it stands (`IsBadRecord`). Which record is that of an event (`record_of`, specs/Writing),
+//! and which is the image of a list (`image_of`, specs/Image), is said here; `record_writer` prints them.
 //!
 //! The laws: bodies make one list or one of them is bad, and never both. The record of an event makes of a list what the
 //! event makes of it, each as it is behind a boot (`records_tell_events`): so records say nothing of what is current. And a
@@ -19,22 +18,18 @@
 
 mod assignment;
 mod bundle;
-mod depth;
 mod fault;
-mod image;
 mod imaged;
 pub mod laws;
 mod limits;
 mod lists;
 mod new_release;
 mod reading;
-mod release_term;
 mod releases;
 mod restoration;
-mod writing;
+mod words;
 
 pub use fault::RecordsError;
-pub use image::image_body;
 pub use limits::{MOST_APPLICATIONS, MOST_RELEASES, is_small};
 pub use lists::read_list;
-pub use writing::{change_body, made_body, unpacked_body};
+pub use words::{IMAGE, MADE, UNPACKED};

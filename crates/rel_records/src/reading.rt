@@ -11,7 +11,7 @@ use crate::assignment::{Assignment, assignments_in, version_in};
 use crate::fault::RecordFault;
 use crate::imaged::{Image, all_imaged_in, lists_in};
 use crate::new_release::{NewRelease, ReleaseParts, new_release, parts_in};
-use crate::writing::{MADE, UNPACKED};
+use crate::words::{MADE, UNPACKED};
 use erl_term::{Term, read_record};
 use library::libraries_of_terms;
 use rel_files::parts::{is_word, list_in, pair_in};

@@ -1,0 +1,6 @@
+pub mod Characters
+pub mod DepthLemmas
+pub mod FileTermLemmas
+pub mod ImageLemmas
+pub mod Within
+pub mod WritingLemmas

@@ -1,0 +1,97 @@
+// The image of a list: the one record that makes it.
+ghost use Rattle.std.specs.Prelude.{◌≡◌, [], ◌∷◌, map, string_bytes, IfOk};
+ghost use Rattle.std.specs.Option.{option_map, ForSome};
+ghost use Rattle.erl_term.specs.Value.{members_of, value_of};
+ghost use Rattle.library.specs.Library.{library_term};
+ghost use Rattle.rel_list.specs.Event.{booted};
+ghost use Rattle.rel_list.specs.Keyed.{entry_of};
+ghost use Rattle.rel_list.specs.Releases.{libraries_of};
+ghost use Rattle.relup_file.specs.Form.{relup_term};
+ghost use Rattle.relup_file.specs.Relup.{relup_of};
+ghost use Rattle.rel_records.specs.Image.{booted_row, image_of, imaged};
+ghost use Rattle.rel_records.specs.Lists.{IsMade, Makes};
+ghost use Rattle.rel_records.specs.Record.{image_term, imaged_term, relup_or_none};
+
+use crate::depth::can_be_read_back;
+use crate::release_term::file_term;
+use crate::writing::{atom_term, body_of};
+use erl_term::{RECORD_DEPTH, Term};
+use rel_list::{ListedRelease, ReleaseList};
+use rel_records::IMAGE;
+use relup_file::{Relup, relup_term};
+use std::alloc::{AllocError, Global};
+
+/// The body of the image of this list: a record that makes it alone, as it is behind a boot. Nothing where that couldn't be
+/// read back: a relup may hold a term that is too deep.
+pub fn image_body(alloc: Global, list: &ReleaseList) -> Result<Option<String>, AllocError>
+    requires made { IsMade (booted list.now) }
+    ensures body { IfOk result (λ o. option_map string_bytes o ≡ image_of (booted list.now)) }
+
+    // It makes the list, whatever bodies made that before.
+    ensures makes { IfOk result (λ o. ForSome o
+        (λ body. Makes (string_bytes body ∷ []) (booted list.now))) }
+{
+    let rows = row_terms(alloc, list.releases())?;
+    let libs = library_terms(alloc, list)?;
+    let term = image_term(alloc, rows, libs)?;
+    if !can_be_read_back(&term, RECORD_DEPTH) {
+        return Ok(None);
+    }
+    let body = body_of(alloc, &term)?;
+    Ok(Some(body))
+}
+
+// The term of an image of these terms of releases and these of libraries.
+fn image_term(alloc: Global, rows: Vec<Term>, libs: Vec<Term>) -> Result<Term, AllocError>
+    ensures { IfOk result (λ term. value_of term
+        ≡ image_term (members_of rows.items) (members_of libs.items)) }
+{
+    let word = atom_term(alloc, IMAGE)?;
+    Ok(Term::Tuple(vec![in alloc; word, Term::List(rows), Term::List(libs)]?))
+}
+
+// The terms of releases with their statuses, as they are behind a boot.
+fn row_terms(alloc: Global, releases: &[ListedRelease]) -> Result<Vec<Term>, AllocError>
+    ensures { IfOk result (λ terms. map value_of terms.items
+        ≡ map imaged_term (map imaged (booted (map entry_of releases.now)))) }
+{
+    let mut terms = Vec::with_capacity(alloc, releases.len())?;
+    for listed in releases {
+        terms.push(row_term(alloc, listed)?)?;
+    }
+    Ok(terms)
+}
+
+fn row_term(alloc: Global, listed: &ListedRelease) -> Result<Term, AllocError>
+    ensures { IfOk result (λ term. value_of term ≡ booted_row (entry_of listed.now)) }
+{
+    let rel = file_term(alloc, &listed.release)?;
+    let status = atom_term(alloc, listed.status.booted().as_str())?;
+    let relup = relup_or_none(alloc, &listed.relup)?;
+    Ok(Term::Tuple(vec![in alloc; rel, status, relup]?))
+}
+
+// The term that stands for a relup, or for none.
+fn relup_or_none(alloc: Global, relup: &Option<Relup>) -> Result<Term, AllocError>
+    ensures { IfOk result (λ term. value_of term
+        ≡ relup_or_none (option_map relup_term (option_map relup_of relup.now))) }
+{
+    match relup {
+        Some(relup) => relup_term(alloc, relup),
+        None => atom_term(alloc, "none"),
+    }
+}
+
+// The terms of the libraries of a list.
+fn library_terms(alloc: Global, list: &ReleaseList) -> Result<Vec<Term>, AllocError>
+    ensures { IfOk result (λ terms. map value_of terms.items
+        ≡ map library_term (libraries_of list.now)) }
+{
+    let named = list.libs(alloc)?;
+    let libraries = named.as_slice();
+    let mut terms = Vec::with_capacity(alloc, libraries.len())?;
+    for library in libraries {
+        terms.push(library.term(alloc)?)?;
+    }
+    Ok(terms)
+}

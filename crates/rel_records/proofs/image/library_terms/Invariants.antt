@@ -1,9 +1,0 @@
-use Rattle.std.proofs.Common.{◌≡◌, map, take}
-use Rattle.erl_term.specs.Value.{value_of}
-use Rattle.library.specs.InMemory.{library_of}
-use Rattle.library.specs.Library.{library_term}
-use Rattle.rel_records.proofs.image.library_terms.Given as goal
-
--- the terms of the libraries so far
-abbrev pub invariant-loop-library : goal.invariant-loop-library
-invariant-loop-library l = map value_of l.terms.items ≡ map (λ k. library_term (library_of k.now)) (take l.library-index l.libraries)
