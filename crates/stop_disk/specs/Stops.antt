@@ -3,12 +3,12 @@ use Rattle.std.specs.Prelude.{◌≡◌, ◌<◌, true, ℕ, ◌+◌, ◌-◌, �
 use Rattle.rel_disk.specs.Moments.{HasFailed}
 use Rattle.stop_disk.specs.declared.stop_disk.Stop.{Stop}
 use Rattle.stop_disk.specs.declared.stop_disk.StopDisk.{StopDisk}
-use Rattle.stop_disk.specs.declared.stop_disk.Turn.{Turn}
-use Rattle.stop_disk.specs.declared.stop_disk.Turn.TheVariants.{Passes, Stops, IsBehind}
+use Rattle.stop_disk.specs.declared.stop_disk.Fate.{Fate}
+use Rattle.stop_disk.specs.declared.stop_disk.Fate.TheVariants.{Passes, Stops, IsBehind}
 
 -- what becomes of a call: it is passed on, the disk stops in it, or it is behind the stop
-abbrev pub turn_of : Stop → Turn
-turn_of s = if nat_lt 0 s.left then Passes else if s.stopped then IsBehind else Stops
+abbrev pub fate_of : Stop → Fate
+fate_of s = if nat_lt 0 s.left then Passes else if s.stopped then IsBehind else Stops
 
 -- the stop behind a call: a call nearer, or one refusal more
 abbrev pub after_call : Stop → Stop

@@ -1,10 +1,10 @@
 //! A disk in memory that can tell what a crash leaves of it.
-ghost use Rattle.std.specs.Prelude.{◌≡◌, ◌≤◌, [], length, IfOk, IsErr, OnOk, OnErr};
+ghost use Rattle.std.specs.Prelude.{◌≡◌, ◌+◌, ◌≤◌, ◌↔◌, [], length, slice_range, IfOk, IsOk, IsErr, OnOk, OnErr};
 ghost use Rattle.rel_disk.specs.Calls.{wrote, cut_to, synced, content};
 ghost use Rattle.rel_disk.specs.Damage.{Torn, Cut, Follows, Within};
 ghost use Rattle.rel_disk.specs.ImageLaws.{content_is_image, counts_now, only_now};
 ghost use Rattle.rel_disk.specs.Images.{Image, ImageSince};
-ghost use Rattle.rel_disk.specs.MemState.{after_call, after_fault};
+ghost use Rattle.rel_disk.specs.MemState.{HasRoomFor, after_call, after_fault};
 ghost use Rattle.rel_disk.specs.Moments.{HasFailed};
 ghost use Rattle.stop_disk.specs.Crashes.{IsLeft};
 
@@ -104,25 +104,67 @@ impl Disk for MarkedDisk {
         self.disk.len()
     }
 
-    fn read(&mut self, at: u64, buf: &mut [u8]) -> Result<(), DeviceFault> {
+    fn read(&mut self, at: u64, buf: &mut [u8]) -> Result<(), DeviceFault>
+        requires { at + length buf.old ≤ length (content self.old.first self.old.calls) }
+        ensures ok { IsOk result }
+        ensures bytes { buf.new
+            ≡ slice_range (content self.old.first self.old.calls) at (at + length buf.old) }
+        ensures same { self.new ≡ self.old }
+    {
         self.disk.read(at, buf)
     }
 
-    fn write_at(&mut self, at: u64, bytes: &[u8]) -> Result<(), DeviceFault> {
+    fn write_at(&mut self, at: u64, bytes: &[u8]) -> Result<(), DeviceFault>
+        requires { at ≤ length (content self.old.first self.old.calls) }
+        ensures room { IsOk result ↔ HasRoomFor self.old (wrote at bytes.now) }
+        ensures done { OnOk result (self.new ≡ after_call (wrote at bytes.now) self.old) }
+        ensures failed { OnErr result (self.new ≡ after_fault self.old) }
+
+        // As of every disk.
+        ensures part { Torn at (length bytes.now) (content self.old.first self.old.calls)
+            (content self.new.first self.new.calls) }
+        ensures crash { Follows (Torn at (length bytes.now)) (Image self.old.first self.old.calls)
+            (Image self.new.first self.new.calls) }
+        ensures counted { self.old.failures ≤ self.new.failures }
+        ensures cause { IsErr result → HasFailed self.old.failures self.new.failures }
+    {
         self.disk.write_at(at, bytes)?;
         let len = self.disk.len().unwrap_or(0);
         self.marks.note_write(at, bytes.len() as u64, len);
         Ok(())
     }
 
-    fn cut(&mut self, len: u64) -> Result<(), DeviceFault> {
+    fn cut(&mut self, len: u64) -> Result<(), DeviceFault>
+        requires { len ≤ length (content self.old.first self.old.calls) }
+        ensures room { IsOk result ↔ HasRoomFor self.old (cut_to len) }
+        ensures done { OnOk result (self.new ≡ after_call (cut_to len) self.old) }
+        ensures failed { OnErr result (self.new ≡ after_fault self.old) }
+
+        // As of every disk.
+        ensures part { Cut len (content self.old.first self.old.calls)
+            (content self.new.first self.new.calls) }
+        ensures crash { Follows (Cut len) (Image self.old.first self.old.calls)
+            (Image self.new.first self.new.calls) }
+        ensures counted { self.old.failures ≤ self.new.failures }
+        ensures cause { IsErr result → HasFailed self.old.failures self.new.failures }
+    {
         self.disk.cut(len)?;
         let len = self.disk.len().unwrap_or(0);
         self.marks.note_cut(len);
         Ok(())
     }
 
-    fn sync(&mut self) -> Result<(), DeviceFault> {
+    fn sync(&mut self) -> Result<(), DeviceFault>
+        ensures room { IsOk result ↔ HasRoomFor self.old synced }
+        ensures done { OnOk result (self.new ≡ after_call synced self.old) }
+        ensures failed { OnErr result (self.new ≡ after_fault self.old) }
+
+        // As of every disk.
+        ensures crash { Within (Image self.old.first self.old.calls)
+            (Image self.new.first self.new.calls) }
+        ensures counted { self.old.failures ≤ self.new.failures }
+        ensures cause { IsErr result → HasFailed self.old.failures self.new.failures }
+    {
         self.disk.sync()?;
         let len = self.disk.len().unwrap_or(0);
         self.marks.note_sync(len);

@@ -2,7 +2,7 @@
 ghost use Rattle.std.specs.Prelude.{◌≡◌, ◌⊎◌, ◌+◌, ◌≤◌, ◌/◌, false, length, take, slice_range, IsErr, IfOk, OnOk};
 ghost use Rattle.rel_disk.specs.Damage.{overwritten, Torn, Cut, Follows, Within, Only};
 ghost use Rattle.rel_disk.specs.Moments.{Elapses, HasFailed};
-ghost use Rattle.stop_disk.specs.Stops.{all_failures, after_call, turn_of, StopsOrPasses};
+ghost use Rattle.stop_disk.specs.Stops.{all_failures, after_call, fate_of, StopsOrPasses};
 
 use rel_disk::{DeviceFault, Disk};
 
@@ -29,7 +29,7 @@ pub struct Stop {
 
 /// What becomes of a call.
 #[derive(Clone, Copy)]
-enum Turn {
+enum Fate {
     Passes,
     Stops,
     IsBehind,
@@ -37,20 +37,20 @@ enum Turn {
 
 impl Stop {
     // Counts a call, and says what becomes of it.
-    fn turn(&mut self) -> Turn
-        ensures turn { result ≡ turn_of self.old }
+    fn turn(&mut self) -> Fate
+        ensures turn { result ≡ fate_of self.old }
         ensures after { self.new ≡ after_call self.old }
     {
         if self.left > 0 {
             self.left -= 1;
-            return Turn::Passes;
+            return Fate::Passes;
         }
         self.refused = self.refused.saturating_add(1);
         if self.stopped {
-            return Turn::IsBehind;
+            return Fate::IsBehind;
         }
         self.stopped = true;
-        Turn::Stops
+        Fate::Stops
     }
 }
 
@@ -103,7 +103,7 @@ impl<D: Disk> Disk for StopDisk<D> {
             → HasFailed (all_failures D.failures self.old) (all_failures D.failures self.new) }
     {
         match self.stop.turn() {
-            Turn::Passes => self.disk.len(),
+            Fate::Passes => self.disk.len(),
             _ => Err(DeviceFault),
         }
     }
@@ -125,7 +125,7 @@ impl<D: Disk> Disk for StopDisk<D> {
             → HasFailed (all_failures D.failures self.old) (all_failures D.failures self.new) }
     {
         match self.stop.turn() {
-            Turn::Passes => self.disk.read(at, buf),
+            Fate::Passes => self.disk.read(at, buf),
             _ => Err(DeviceFault),
         }
     }
@@ -151,12 +151,12 @@ impl<D: Disk> Disk for StopDisk<D> {
             → HasFailed (all_failures D.failures self.old) (all_failures D.failures self.new) }
     {
         match self.stop.turn() {
-            Turn::Passes => self.disk.write_at(at, bytes),
-            Turn::Stops => {
+            Fate::Passes => self.disk.write_at(at, bytes),
+            Fate::Stops => {
                 let _ = self.disk.write_at(at, &bytes[..bytes.len() / 2]);
                 Err(DeviceFault)
             }
-            Turn::IsBehind => Err(DeviceFault),
+            Fate::IsBehind => Err(DeviceFault),
         }
     }
 
@@ -176,7 +176,7 @@ impl<D: Disk> Disk for StopDisk<D> {
             → HasFailed (all_failures D.failures self.old) (all_failures D.failures self.new) }
     {
         match self.stop.turn() {
-            Turn::Passes => self.disk.cut(len),
+            Fate::Passes => self.disk.cut(len),
             _ => Err(DeviceFault),
         }
     }
@@ -196,7 +196,7 @@ impl<D: Disk> Disk for StopDisk<D> {
             → HasFailed (all_failures D.failures self.old) (all_failures D.failures self.new) }
     {
         match self.stop.turn() {
-            Turn::Passes => self.disk.sync(),
+            Fate::Passes => self.disk.sync(),
             _ => Err(DeviceFault),
         }
     }
