@@ -68,6 +68,7 @@ pub(crate) fn event(alloc: Global, list: &ReleaseList, words: &str) -> Option<Ev
 fn of_version(word: &str, vsn: String) -> Option<Event> {
     match word {
         "installed" => Some(Event::Installed(vsn)),
+        "restarted" => Some(Event::RestartInstalled(vsn)),
         "permanent" => Some(Event::MadePermanent(vsn)),
         "removed" => Some(Event::Removed(vsn)),
         "reboot_old" => Some(Event::RebootOld(vsn)),

@@ -4,12 +4,13 @@ use Rattle.std.specs.Prelude.{◌||◌, if◌then◌else◌, nat_le}
 use Rattle.std.proofs.lemmas.Bool.Decides.{nat_tests}
 use Rattle.rel_list.specs.declared.fault.ListError.{ListError}
 use Rattle.rel_list.specs.declared.fault.ListError.TheVariants as list
-use Rattle.rel_list.specs.declared.status.Status.TheVariants.{Unpacked}
-use Rattle.rel_list.specs.Releases.{Bundle, Releases, entry, first_different, status_of}
-use Rattle.rel_list.specs.Event.{Event, is_barred, step}
-use Rattle.rel_list.specs.Event.Event.{made, unpacked, installed, made_permanent, removed, reboot_old, boot}
-use Rattle.rel_list.specs.Refusal.{refusal}
+use Rattle.rel_list.specs.declared.status.Status.TheVariants.{OneShot, Unpacked}
+use Rattle.rel_list.specs.Releases.{Bundle, Releases, entry, first_different, has_one_shot, status_of}
+use Rattle.rel_list.specs.Event.{Event, is_barred, own_step, step}
+use Rattle.rel_list.specs.Event.Event.{made, unpacked, installed, restart_installed, made_permanent, removed, reboot_old, boot}
+use Rattle.rel_list.specs.Refusal.{own_refusal, refusal}
 use Rattle.rel_list.proofs.RefusalLaws.{refused_where_not_allowed}
+use Rattle.rel_list.proofs.Waiting.{own_of_step}
 use Rattle.rel_records.specs.Limits.{most_releases, is_small}
 use Rattle.rel_records.specs.Writing.{IsOfListed}
 use Rattle.node_command.specs.Taking.{list_refusal, refused_or, kept_short, commanded}
@@ -46,6 +47,7 @@ commanded_so : (e : Event) (es next : Releases) → commanded e es ≡ Ok next �
 commanded_so (made p) es next e = taken_so (refusal (made p) es) (step (made p) es) next (small_so (is_small p.release) _ next e)
 commanded_so (unpacked p) es next e = taken_so (refusal (unpacked p) es) (step (unpacked p) es) next (short_so _ next (small_so (is_small p.release) _ next e))
 commanded_so (installed v) es next e = taken_so (refusal (installed v) es) (step (installed v) es) next e
+commanded_so (restart_installed v) es next e = taken_so (refusal (restart_installed v) es) (step (restart_installed v) es) next e
 commanded_so (made_permanent v) es next e = taken_so (refusal (made_permanent v) es) (step (made_permanent v) es) next e
 commanded_so (removed v) es next e = taken_so (refusal (removed v) es) (step (removed v) es) next e
 commanded_so (reboot_old v) es next e = taken_so (refusal (reboot_old v) es) (step (reboot_old v) es) next e
@@ -70,7 +72,7 @@ small_and_few p es next is = let (small, short) = by_size (is_small p.release) i
     by_size true e = (refl, e)
     by_size false e = absurd cc
 
-    pushed : step (unpacked p) es ≡ Some next → length next ≡ length es + 1
+    pushed : own_step (unpacked p) es ≡ Some next → length next ≡ length es + 1
     pushed e = go (is_barred p es) e
       where
         go : (b : Bool) → (if b then None else Some (es ++ entry p Unpacked ∷ [])) ≡ Some next → length next ≡ length es + 1
@@ -86,7 +88,7 @@ small_and_few p es next is = let (small, short) = by_size (is_small p.release) i
     by_taken (Ok l) e = is_short l (nat_le (length l) most_releases) refl e
 
     few : Gives (kept_short taken) next → length es < most_releases
-    few short = let at_most = by_taken taken short in let more = pushed (commanded_step (unpacked p) es next is) in grind (arith, nat_tests)
+    few short = let at_most = by_taken taken short in let more = pushed (own_of_step (unpacked p) es next (commanded_step (unpacked p) es next is)).1 in grind (arith, nat_tests)
 
 -- so the list's own step gives what is commanded
 pub commanded_then : (e : Event) (es next : Releases) → (taken : Releases) × (commanded e es ≡ Ok taken) → step e es ≡ Some next → commanded e es ≡ Ok next
@@ -109,6 +111,7 @@ by_the_list : (e : Event) (es : Releases) → IsOfListed e → commanded e es �
 by_the_list (made p) es listed = absurd listed
 by_the_list (unpacked p) es listed = absurd listed
 by_the_list (installed v) es listed = refl
+by_the_list (restart_installed v) es listed = refl
 by_the_list (made_permanent v) es listed = refl
 by_the_list (removed v) es listed = refl
 by_the_list (reboot_old v) es listed = refl
@@ -122,7 +125,7 @@ list_refuses e es why listed is = by_the_list e es listed ∙ ap (λ o. refused_
 pub list_allows : (e : Event) (es : Releases) → IsOfListed e → refusal e es ≡ None → (next : Releases) × (commanded e es ≡ Ok next)
 list_allows e es listed none = let (next, is) = steps_so e es none in (next, by_the_list e es listed ∙ ap (λ o. refused_or o (step e es)) none ∙ ap (refused_or None) is)
 
-module _ (p : Bundle) (es : Releases) where
+module _ (p : Bundle) (es : Releases) (free : has_one_shot es ≡ false) where
   -- the list with the release last
   abbrev pub with_it : Releases
   with_it = es ++ entry p Unpacked ∷ []
@@ -132,6 +135,7 @@ module _ (p : Bundle) (es : Releases) where
       ≡ (if small then kept_short (refused_or (if listed then Some list.ExistingRelease else if different then Some list.LibDiffers else None) (if listed || different then None else Some with_it)) else Err TooMany)
   by_sizes small listed different is there differ =
       ap (λ b. if b then kept_short (refused_or (refusal (unpacked p) es) (step (unpacked p) es)) else Err TooMany) is
+      ∙ ap (λ b. if small then kept_short (refused_or (if b then Some (list.BadStatus OneShot) else own_refusal (unpacked p) es) (if b then None else own_step (unpacked p) es)) else Err TooMany) free
       ∙ ap (λ b. if small then kept_short (refused_or (if b then Some list.ExistingRelease else if is_some (first_different es p.libraries) then Some list.LibDiffers else None) (if b || is_some (first_different es p.libraries) then None else Some with_it)) else Err TooMany) there
       ∙ ap (λ b. if small then kept_short (refused_or (if listed then Some list.ExistingRelease else if b then Some list.LibDiffers else None) (if listed || b then None else Some with_it)) else Err TooMany) differ
 
@@ -209,6 +213,7 @@ pub of_command : (e : Event) (es : Releases) → IsListAnswer (commanded e es)
 of_command (made p) es = of_small (is_small p.release) _ (of_refused_or (refusal (made p) es) (step (made p) es))
 of_command (unpacked p) es = of_small (is_small p.release) _ (of_short _ (of_refused_or (refusal (unpacked p) es) (step (unpacked p) es)))
 of_command (installed v) es = of_refused_or (refusal (installed v) es) (step (installed v) es)
+of_command (restart_installed v) es = of_refused_or (refusal (restart_installed v) es) (step (restart_installed v) es)
 of_command (made_permanent v) es = of_refused_or (refusal (made_permanent v) es) (step (made_permanent v) es)
 of_command (removed v) es = of_refused_or (refusal (removed v) es) (step (removed v) es)
 of_command (reboot_old v) es = of_refused_or (refusal (reboot_old v) es) (step (reboot_old v) es)

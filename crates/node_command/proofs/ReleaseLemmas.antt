@@ -31,7 +31,7 @@ use Rattle.rel_unpack.specs.declared.error.UnpackError.{UnpackError}
 use Rattle.rel_unpack.specs.declared.error.UnpackError.TheVariants.{NoMemory}
 use Rattle.rel_unpack.specs.declared.error.UnpackError.TheVariants as of_memory
 use Rattle.rel_list.specs.declared.status.Status.{Status}
-use Rattle.rel_list.specs.Releases.{Bundle, Releases, first_different, shared, status_of}
+use Rattle.rel_list.specs.Releases.{Bundle, Releases, first_different, has_one_shot, shared, status_of}
 use Rattle.rel_list.specs.Event.Event.{unpacked}
 use Rattle.library.specs.Library.{Library, AreLibrariesOf, IsLibrary, library_term}
 use Rattle.node_command.proofs.CommandLemmas.{with_it, comes_in}
@@ -146,12 +146,12 @@ written_size b es files ls body same own is =
     ∙ ap (λ t. length (body_of t (adds p.release (new_libraries es b.libraries) p.relup))) same
 
 -- A list with room for it takes what is new and agrees with it.
-pub takes_it : (b : Brought) (es : Releases) → is_small b.found.release ≡ true → status_of b.found.release.vsn es ≡ None → first_different es b.libraries ≡ None → has_room es ≡ true
+pub takes_it : (b : Brought) (es : Releases) → has_one_shot es ≡ false → is_small b.found.release ≡ true → status_of b.found.release.vsn es ≡ None → first_different es b.libraries ≡ None → has_room es ≡ true
     → (next : Releases) × (commanded (unpacked (bundle_brought b)) es ≡ Ok next)
-takes_it b es small fresh agree room =
+takes_it b es free small fresh agree room =
     let p = bundle_brought b in
     let few : length es < 32 = grind (arith, nat_tests) in
-    (with_it p es, comes_in p es small (ap is_some fresh) (ap is_some agree) few)
+    (with_it p es free, comes_in p es free small (ap is_some fresh) (ap is_some agree) few)
 
 -- what was brought, handed on
 pub brings_same : (source : Source) (path : List ℕ) (r s : ReleaseFiles) → s ≡ r → Brings source path (Ok (brought_of r)) → Brings source path (Ok (brought_of s))

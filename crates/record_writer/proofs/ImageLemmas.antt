@@ -17,12 +17,13 @@ use Rattle.library.specs.Reading.{AreOfLibraries}
 use Rattle.rel_list.specs.declared.status.Status.{Status}
 use Rattle.rel_list.specs.declared.status.Status.TheVariants.{Permanent, Unpacked}
 use Rattle.rel_list.specs.Releases.{Bundle, Entry, HasDistinctVersions, Releases, each_once, entry, libraries_named, libraries_of, status_of}
-use Rattle.rel_list.specs.Event.{booted, booted_status, list_assigned, may_be_removed, step, without}
+use Rattle.rel_list.specs.Event.{recorded, recorded_status, list_assigned, may_be_removed, step, without}
 use Rattle.rel_list.specs.Event.Event.{made, removed, unpacked}
 use Rattle.rel_list.specs.Status.{is_current, status_word}
-use Rattle.rel_list.proofs.LibraryLaws.{libraries-booted}
+use Rattle.rel_list.proofs.LibraryLaws.{libraries-recorded}
 use Rattle.rel_list.proofs.Orderly.{distinct-with_statuses}
-use Rattle.rel_records.specs.Image.{booted_row, image_of, image_record, image_value, imaged}
+use Rattle.rel_list.proofs.Waiting.{never_made_again, own_of_step}
+use Rattle.rel_records.specs.Image.{recorded_row, image_of, image_record, image_value, imaged}
 use Rattle.rel_records.specs.Depth.{is_within}
 use Rattle.rel_records.specs.Limits.{has_one_permanent, is_small, most_releases}
 use Rattle.rel_records.specs.Lists.{IsMade, Makes, added_by, assign_all, assigned, brought_by, made_by, may_be_assigned, with_one_permanent}
@@ -35,8 +36,9 @@ use Rattle.rel_records.proofs.EachRelease.{each_made}
 use Rattle.rel_records.proofs.EventRecords.{below, never_current}
 use Rattle.record_writer.proofs.FileTermLemmas.{file_term_says, relup_term_stands}
 use Rattle.rel_records.proofs.MadeLemmas.{AreSaid, kept_made}
-use Rattle.rel_records.proofs.RecordLaws.{as_booted}
-use Rattle.rel_records.proofs.RecordPlaces.{IsOfRecord, both, chosen, event_of_record, first_booted, kept, pushed_last, rest_booted}
+use Rattle.rel_records.proofs.OrderlyLemmas.{orderly_made}
+use Rattle.rel_records.proofs.RecordLaws.{as_recorded}
+use Rattle.rel_records.proofs.RecordPlaces.{IsOfRecord, both, chosen, event_of_record, first_recorded, kept, pushed_last, rest_recorded}
 use Rattle.rel_records.proofs.RestorationLemmas.{AreSettled, AreSmall, IsRestorable, restored_so}
 use Rattle.rel_records.proofs.StartableLemmas.{startable_libraries}
 use Rattle.record_writer.proofs.WritingLemmas.{status_back}
@@ -68,7 +70,7 @@ first_short r ls o es next said all e short = let (p, of, is) = event_of_record 
   where
     one : (p : Bundle) (es : Releases) → step (made p) es ≡ Some next → length next ≤ 32
     one p [] is = let same : entry p Permanent ∷ [] ≡ next = cc is in subst IsShort same (omega arith)
-    one p (f ∷ fs) is = absurd cc
+    one p (f ∷ fs) is = absurd (never_made_again p f fs next is)
 
 further_short : (r : Release) (ls : List Library) (o : Option RelupForm) (es next : Releases) → AreSaid r o → AllByRecursion IsLibrary ls → added_by r ls o es ≡ Some next → IsShort es → IsShort next
 further_short r ls o es next said all e short =
@@ -97,7 +99,7 @@ statuses_short given es next is short = omega (arith, short, length-assign_all g
 
 left_short : (v : List ℕ) (es next : Releases) → step (removed v) es ≡ Some next → IsShort es → IsShort next
 left_short v es next is short =
-    let (may, gone) = chosen (may_be_removed (status_of v es)) (Some (without v es)) next is in
+    let (may, gone) = chosen (may_be_removed (status_of v es)) (Some (without v es)) next (own_of_step (removed v) es next is).1 in
     let same : without v es ≡ next = cc gone in
     subst IsShort same (omega (arith, short, length-without v es))
 
@@ -109,11 +111,11 @@ each_small : (es : Releases) → AllByRecursion CanBeSaid es → AreSmall es
 each_small [] all = tt
 each_small (e ∷ es) all = (all.0.small, each_small es all.1)
 
-settled_booted : (es : Releases) → booted es ≡ es → AreSettled es
-settled_booted [] same = tt
-settled_booted (e ∷ es) same = (
-  subst (λ (s : Status). not (is_current s) ≡ true) (first_booted e es same) (never_current e.status),
-  settled_booted es (rest_booted e es same),
+settled_recorded : (es : Releases) → recorded es ≡ es → AreSettled es
+settled_recorded [] same = tt
+settled_recorded (e ∷ es) same = (
+  subst (λ (s : Status). not (is_current s) ≡ true) (first_recorded e es same) (never_current e.status),
+  settled_recorded es (rest_recorded e es same),
 )
 
 restorable : (bodies : List (List ℕ)) (es : Releases) → Makes bodies es → HasDistinctVersions es → IsRestorable es
@@ -122,10 +124,11 @@ restorable bodies es makes_it distinct =
     record {
       startable = startable;
       small = each_small es (can_be_said bodies es makes_it);
-      settled = settled_booted es (as_booted bodies es makes_it);
+      settled = settled_recorded es (as_recorded bodies es makes_it);
       distinct = distinct;
       agree = agree;
       few = short_made bodies es makes_it;
+      one_temporary = (orderly_made bodies es makes_it).one_temporary;
     }
 
 -- The term of the image says it.
@@ -169,7 +172,7 @@ image_makes bodies es makes_it distinct body has = ((image_record es, es, record
       rows = values_of (map imaged_term (map imaged es));
       libs = library_terms (libraries_of es);
       is = refl;
-      releases = terms_say es (can_be_said bodies es makes_it) (settled_booted es (as_booted bodies es makes_it));
+      releases = terms_say es (can_be_said bodies es makes_it) (settled_recorded es (as_recorded bodies es makes_it));
       libraries = terms_of_libraries (libraries_of es) (each-once IsLibrary (libraries_named es) (startable_libraries es (make_agreeing bodies es makes_it).0));
     }
 
@@ -177,22 +180,22 @@ image_makes bodies es makes_it distinct body has = ((image_record es, es, record
     taken [] so one = absurd cc
     taken (e ∷ es) so one = ap with_one_permanent (restored_so e es so) ∙ kept (e ∷ es) one
 
--- the rows of a list, as it is behind a boot
-pub booted_rows : {A : Type 0} (entry_at : A → Entry) (xs : List A) → map (λ x. booted_row (entry_at x)) xs ≡ map imaged_term (map imaged (booted (map entry_at xs)))
-booted_rows entry_at [] = refl
-booted_rows entry_at (x ∷ xs) = ap (λ (vs : List Value). booted_row (entry_at x) ∷ vs) (booted_rows entry_at xs)
+-- the rows of a list, as records tell it
+pub recorded_rows : {A : Type 0} (entry_at : A → Entry) (xs : List A) → map (λ x. recorded_row (entry_at x)) xs ≡ map imaged_term (map imaged (recorded (map entry_at xs)))
+recorded_rows entry_at [] = refl
+recorded_rows entry_at (x ∷ xs) = ap (λ (vs : List Value). recorded_row (entry_at x) ∷ vs) (recorded_rows entry_at xs)
 
 -- The rows of a list and its libraries make the term of its image.
 pub image_value_so : (es : Releases) (v : Value) (rows libs : List Value) → v ≡ image_term (values_of rows) (values_of libs)
-    → rows ≡ map imaged_term (map imaged (booted es)) → libs ≡ map library_term (libraries_of es) → v ≡ image_value (booted es)
+    → rows ≡ map imaged_term (map imaged (recorded es)) → libs ≡ map library_term (libraries_of es) → v ≡ image_value (recorded es)
 image_value_so es v rows libs is releases libraries =
-    is ∙ (λ j. image_term (values_of (releases j)) (values_of ((libraries ∙ ap (λ (ls : List Library). map library_term (each_once ls)) (sym (libraries-booted es))) j)))
+    is ∙ (λ j. image_term (values_of (releases j)) (values_of ((libraries ∙ ap (λ (ls : List Library). map library_term (each_once ls)) (sym (libraries-recorded es))) j)))
 
 -- What is read back as that term makes the list.
-pub written_makes : (es : Releases) → IsMade (booted es) → HasDistinctVersions es → (v : Value) → v ≡ image_value (booted es) → is_within 72 v ≡ true
-    → (body : List ℕ) → (IsWithin 72 v → HasTerm 72 body v) → Makes (body ∷ []) (booted es)
+pub written_makes : (es : Releases) → IsMade (recorded es) → HasDistinctVersions es → (v : Value) → v ≡ image_value (recorded es) → is_within 72 v ≡ true
+    → (body : List ℕ) → (IsWithin 72 v → HasTerm 72 body v) → Makes (body ∷ []) (recorded es)
 written_makes es (bodies, makes_it) distinct v is within body back =
-    image_makes bodies (booted es) makes_it (distinct-with_statuses (λ vsn s. booted_status s) es distinct) body (subst (HasTerm 72 body) is (back (within_so v 72 within)))
+    image_makes bodies (recorded es) makes_it (distinct-with_statuses (λ vsn s. recorded_status s) es distinct) body (subst (HasTerm 72 body) is (back (within_so v 72 within)))
 
 -- Its body, where it can be read back.
 pub image_there : (es : Releases) (v : Value) (body : List ℕ) → v ≡ image_value es → is_within 72 v ≡ true → body ≡ printed v → Some body ≡ image_of es

@@ -20,14 +20,15 @@ use Rattle.relup_file.specs.Relup.{RelupForm}
 use Rattle.library.specs.Library.{Library}
 use Rattle.library.specs.Reading.{AreOfLibraries}
 use Rattle.rel_list.specs.declared.status.Status.{Status}
-use Rattle.rel_list.specs.declared.status.Status.TheVariants.{Unpacked, Current, Old, Permanent}
+use Rattle.rel_list.specs.declared.status.Status.TheVariants.{Unpacked, Current, Old, Permanent, OneShot}
 use Rattle.rel_list.specs.Refusal.{refusal, listed_refusal}
 use Rattle.rel_list.specs.Status.{is_current, is_permanent, runs, status_word}
 use Rattle.rel_list.specs.Releases.{Releases, Entry, library_in, status_of, has_current}
 use Rattle.rel_list.specs.Event.{Event, status_behind}
-use Rattle.rel_list.specs.Event.Event.{made, unpacked, installed, made_permanent, removed, reboot_old, boot}
+use Rattle.rel_list.specs.Event.Event.{made, unpacked, installed, restart_installed, made_permanent, removed, reboot_old, boot}
 use Rattle.rel_list.specs.declared.fault.ListError.TheVariants as told
 use Rattle.rel_list.proofs.Orderly.{status_or}
+use Rattle.rel_list.proofs.Waiting.{own_of_refusal}
 use Rattle.rel_records.specs.Lists.{HaveVersions}
 use Rattle.rel_records.specs.Reading.{version_in, status_in, assignment_in, assignments_of, change_in, AreOfRelease, Brings, Says, Spells}
 use Rattle.rel_records.specs.Record.{Assignment, FileTerms, Record, relup_or_none, makes, adds, assigns, removes, library_terms, release_term, assignment_term, status_term, removed_term, term_of}
@@ -49,6 +50,7 @@ status_back Unpacked e = refl
 status_back Current e = absurd cc
 status_back Old e = refl
 status_back Permanent e = refl
+status_back OneShot e = refl
 
 -- an assignment that may be written: of a version, and not to be current
 abbrev pub IsWritten : Assignment → Type 0
@@ -101,6 +103,7 @@ short_word Unpacked = omega (arith, length-chars (codes "unpacked"))
 short_word Current = omega (arith, length-chars (codes "current"))
 short_word Old = omega (arith, length-chars (codes "old"))
 short_word Permanent = omega (arith, length-chars (codes "permanent"))
+short_word OneShot = omega (arith, length-chars (codes "one_shot"))
 
 short_assignments : (given : List Assignment) → HaveShortNames (values_of (map assignment_term given))
 short_assignments [] = tt
@@ -135,7 +138,7 @@ listed_version v (x ∷ es) all listed = go (bytes_eq v x.release.vsn) refl (lis
     go false is rest listed = rest listed
 
 not_refused : (v : List ℕ) (es : Releases) → refusal (removed v) es ≡ None → is_some (status_of v es) ≡ true
-not_refused v es e = go (status_of v es) e
+not_refused v es e = go (status_of v es) (own_of_refusal (removed v) es e).1
   where
     go : (o : Option Status) → listed_refusal (λ s. if is_permanent s then Some told.Permanent else if runs (has_current es) s then Some told.Running else None) o ≡ None → is_some o ≡ true
     go None e = absurd cc
@@ -146,6 +149,8 @@ pub record_says : (e : Event) (es : Releases) (files : FileTerms) → IsOfListed
 record_says (made p) es files listed allowed all = absurd listed
 record_says (unpacked p) es files listed allowed all = absurd listed
 record_says (installed v) es files listed allowed all = (status_says (changes (installed v) es) (changes_written (installed v) es all), within-status (changes (installed v) es))
+record_says (restart_installed v) es files listed allowed all =
+    (status_says (changes (restart_installed v) es) (changes_written (restart_installed v) es all), within-status (changes (restart_installed v) es))
 record_says (made_permanent v) es files listed allowed all = (status_says (changes (made_permanent v) es) (changes_written (made_permanent v) es all), within-status (changes (made_permanent v) es))
 record_says (reboot_old v) es files listed allowed all = (status_says (changes (reboot_old v) es) (changes_written (reboot_old v) es all), within-status (changes (reboot_old v) es))
 record_says boot es files listed allowed all = (status_says (changes boot es) (changes_written boot es all), within-status (changes boot es))

@@ -3,12 +3,12 @@ ghost use Rattle.std.specs.Prelude.{◌≡◌, [], ◌∷◌, map, string_bytes,
 ghost use Rattle.std.specs.Option.{option_map, ForSome};
 ghost use Rattle.erl_term.specs.Value.{members_of, value_of};
 ghost use Rattle.library.specs.Library.{library_term};
-ghost use Rattle.rel_list.specs.Event.{booted};
+ghost use Rattle.rel_list.specs.Event.{recorded};
 ghost use Rattle.rel_list.specs.Keyed.{entry_of};
 ghost use Rattle.rel_list.specs.Releases.{libraries_of};
 ghost use Rattle.relup_file.specs.Form.{relup_term};
 ghost use Rattle.relup_file.specs.Relup.{relup_of};
-ghost use Rattle.rel_records.specs.Image.{booted_row, image_of, imaged};
+ghost use Rattle.rel_records.specs.Image.{recorded_row, image_of, imaged};
 ghost use Rattle.rel_records.specs.Lists.{IsMade, Makes};
 ghost use Rattle.rel_records.specs.Record.{image_term, imaged_term, relup_or_none};
 
@@ -21,15 +21,15 @@ use rel_records::IMAGE;
 use relup_file::{Relup, relup_term};
 use std::alloc::{AllocError, Global};
 
-/// The body of the image of this list: a record that makes it alone, as it is behind a boot. Nothing where that couldn't be
+/// The body of the image of this list: a record that makes it alone, as records tell it. Nothing where that couldn't be
 /// read back: a relup may hold a term that is too deep.
 pub fn image_body(alloc: Global, list: &ReleaseList) -> Result<Option<String>, AllocError>
-    requires made { IsMade (booted list.now) }
-    ensures body { IfOk result (λ o. option_map string_bytes o ≡ image_of (booted list.now)) }
+    requires made { IsMade (recorded list.now) }
+    ensures body { IfOk result (λ o. option_map string_bytes o ≡ image_of (recorded list.now)) }
 
     // It makes the list, whatever bodies made that before.
     ensures makes { IfOk result (λ o. ForSome o
-        (λ body. Makes (string_bytes body ∷ []) (booted list.now))) }
+        (λ body. Makes (string_bytes body ∷ []) (recorded list.now))) }
 {
     let rows = row_terms(alloc, list.releases())?;
     let libs = library_terms(alloc, list)?;
@@ -50,10 +50,10 @@ fn image_term(alloc: Global, rows: Vec<Term>, libs: Vec<Term>) -> Result<Term, A
     Ok(Term::Tuple(vec![in alloc; word, Term::List(rows), Term::List(libs)]?))
 }
 
-// The terms of releases with their statuses, as they are behind a boot.
+// The terms of releases with their statuses, as records tell them.
 fn row_terms(alloc: Global, releases: &[ListedRelease]) -> Result<Vec<Term>, AllocError>
     ensures { IfOk result (λ terms. map value_of terms.items
-        ≡ map imaged_term (map imaged (booted (map entry_of releases.now)))) }
+        ≡ map imaged_term (map imaged (recorded (map entry_of releases.now)))) }
 {
     let mut terms = Vec::with_capacity(alloc, releases.len())?;
     for listed in releases {
@@ -63,10 +63,10 @@ fn row_terms(alloc: Global, releases: &[ListedRelease]) -> Result<Vec<Term>, All
 }
 
 fn row_term(alloc: Global, listed: &ListedRelease) -> Result<Term, AllocError>
-    ensures { IfOk result (λ term. value_of term ≡ booted_row (entry_of listed.now)) }
+    ensures { IfOk result (λ term. value_of term ≡ recorded_row (entry_of listed.now)) }
 {
     let rel = file_term(alloc, &listed.release)?;
-    let status = atom_term(alloc, listed.status.booted().as_str())?;
+    let status = atom_term(alloc, listed.status.recorded().as_str())?;
     let relup = relup_or_none(alloc, &listed.relup)?;
     Ok(Term::Tuple(vec![in alloc; rel, status, relup]?))
 }

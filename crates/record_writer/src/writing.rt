@@ -187,7 +187,7 @@ fn assignment_terms(
     for listed in releases {
         let status = event.status_behind(listed.release.vsn.as_str(), listed.status);
         if status != listed.status {
-            terms.push(assignment_term(alloc, listed, status.booted())?)?;
+            terms.push(assignment_term(alloc, listed, status.recorded())?)?;
         }
     }
     Ok(terms)

@@ -1,8 +1,11 @@
 -- The bytes of a disk stand for one list, or a boot refuses them.
-use Rattle.std.proofs.Common.{◌≡◌, ◌⊎◌, inl, inr, ℕ, zero, suc, ◌+◌, Bool, true, false, ◌||◌, not, List, [], ◌∷◌, length, drop, Result, Ok, Err, refl, subst}
+use Rattle.std.proofs.Common.{◌≡◌, ◌⊎◌, inl, inr, ℕ, zero, suc, ◌+◌, Bool, true, false, ◌||◌, not, List, [], ◌∷◌, length, drop, Result, Ok, Err, refl, sym, ap, ◌∙◌, true≢false, subst}
 use Rattle.std.specs.Prelude.{if◌then◌else◌, nat_lt, nat_le, ◌==◌}
-use Rattle.rel_list.specs.Releases.{Releases}
-use Rattle.rel_list.specs.Event.{booted}
+use Rattle.rel_list.specs.Releases.{Releases, has_one_shot}
+use Rattle.rel_list.proofs.BootLaws.{boot_leaves_no_one_shot}
+use Rattle.rel_list.proofs.OneShotLaws.{boots_as_recorded}
+use Rattle.std.proofs.lemmas.Bool.{cases_Bool}
+use Rattle.rel_list.specs.Event.{booted, recorded}
 use Rattle.rel_records.specs.Lists.{Makes, IsBadRecord}
 use Rattle.rel_records.proofs.ListLemmas.{makes_not_bad}
 use Rattle.rel_records.proofs.RecordLaws.{make_or_bad}
@@ -51,9 +54,12 @@ BootsOrNot bytes = ((es : Releases) × IsImageOf bytes es × (booted es ≡ es))
 pub boots_or_not : (bytes : List ℕ) → BootsOrNot bytes
 boots_or_not bytes = by_records (records_of bytes) refl (of_bytes bytes)
   where
-    by_list : (bodies : List (List ℕ)) → records_of bytes ≡ Ok bodies → ((es : Releases) × Makes bodies es × (booted es ≡ es)) ⊎ ((i : ℕ) × IsBadRecord bodies i) → BootsOrNot bytes
-    by_list bodies read (inl (es, is, still)) = inl (es, (image_so bytes bodies bodies es refl is read).0, still)
-    by_list bodies read (inr (i, is_bad)) = inr (boot.BadRecord i, (bodies, read, is_bad))
+    by_list : (bodies : List (List ℕ)) → records_of bytes ≡ Ok bodies → ((es : Releases) × Makes bodies es × (recorded es ≡ es)) ⊎ ((i : ℕ) × IsBadRecord bodies i) → BootsOrNot bytes
+    by_list bodies read (inl (es, is, still)) = elim (cases_Bool (has_one_shot es)) [
+      | inl one ↦ inr (boot.BadRecord (length bodies), (bodies, read, inr (es, is, one, refl)))
+      | inr none ↦ let (image, again) = image_so bytes bodies bodies es refl is none read in inl (es, image, again)
+    ]
+    by_list bodies read (inr (i, is_bad)) = inr (boot.BadRecord i, (bodies, read, inl is_bad))
 
     by_records : (r : Result (List (List ℕ)) StoreError) → records_of bytes ≡ r → IsOfBytes r → BootsOrNot bytes
     by_records (Ok bodies) read is = by_list bodies read (make_or_bad bodies)
@@ -63,14 +69,18 @@ boots_or_not bytes = by_records (records_of bytes) refl (of_bytes bytes)
 
 -- They stand for one list, as it is behind a boot.
 pub stands_for_one : StandsForOneList
-stands_for_one bytes es fs image other = booted_image bytes image.bodies (booted es) fs image.store image.list other
+stands_for_one bytes es fs image other =
+    boots_as_recorded es image.list.free ∙ booted_image bytes image.bodies (recorded es) fs image.store image.list.makes other
 
 -- A boot refuses no bytes that stand for a list.
 pub no_image_refused : RefusesNoImage
 no_image_refused bytes es boot.NotAStore image refused = cc (refused, image.store)
 no_image_refused bytes es (boot.Damaged at) image refused = cc (refused, image.store)
-no_image_refused bytes es (boot.BadRecord i) image (bodies, read, is_bad) =
+no_image_refused bytes es (boot.BadRecord i) image (bodies, read, inl is_bad) =
     let same : image.bodies ≡ bodies = cc (read, image.store) in
-    makes_not_bad bodies (booted es) i (subst (λ bs. Makes bs (booted es)) same image.list) is_bad
+    makes_not_bad bodies (recorded es) i (subst (λ bs. Makes bs (recorded es)) same image.list.makes) is_bad
+no_image_refused bytes es (boot.BadRecord i) image (bodies, read, inr (fs, makes, one, is)) =
+    let same : fs ≡ booted es = booted_image bytes bodies fs es read makes image in
+    true≢false (sym one ∙ ap has_one_shot same ∙ boot_leaves_no_one_shot es)
 no_image_refused bytes es boot.Device image refused = refused
 no_image_refused bytes es boot.NoMemory image refused = refused

@@ -1,5 +1,6 @@
 -- A node that is booted, and one that is made.
-use Rattle.std.proofs.Common.{◌≡◌, inl, inr, ◌⊎◌, ℕ, ◌≤◌, false, List, [], ◌∷◌, length, Ok, refl, sym, ap, ◌∙◌, subst, arith, length-append}
+use Rattle.std.proofs.Common.{◌≡◌, inl, inr, ◌⊎◌, ℕ, ◌≤◌, false, Bor, List, [], ◌∷◌, length, Option, Some, None, Ok, refl, sym, ap, ◌∙◌, subst, arith, length-append}
+use Rattle.std.specs.Option.{is_some, option_map, option_copied}
 use Rattle.std.proofs.lemmas.Bool.Decides.{nat_tests}
 use Rattle.rel_disk.specs.Moments.{LeavesOnly}
 use Rattle.rel_disk.proofs.Moments.{started, weakened}
@@ -7,8 +8,9 @@ use Rattle.rel_files.specs.File.{HasVersions}
 use Rattle.rel_files.specs.Name.{IsVersion}
 use Rattle.rel_files.specs.Release.{Release}
 use Rattle.rel_list.specs.declared.status.Status.TheVariants.{Permanent}
-use Rattle.rel_list.specs.Releases.{Bundle, Releases}
-use Rattle.rel_list.specs.Event.{entry, booted}
+use Rattle.rel_list.specs.Releases.{Bundle, Releases, has_one_shot}
+use Rattle.rel_list.proofs.OneShotLaws.{boots_as_recorded}
+use Rattle.rel_list.specs.Event.{entry, booted, recorded}
 use Rattle.rel_list.specs.Event.Event.{made}
 use Rattle.rel_records.specs.Lists.{Makes, IsBadRecord}
 use Rattle.rel_records.specs.Reading.{Spells}
@@ -16,7 +18,7 @@ use Rattle.rel_records.specs.Writing.{record_of, IsWithinLimits}
 use Rattle.rel_records.specs.declared.fault.RecordsError.{RecordsError}
 use Rattle.rel_records.specs.declared.fault.RecordsError.TheVariants as fault
 use Rattle.rel_records.proofs.ListLemmas.{makes_not_bad}
-use Rattle.rel_records.proofs.RecordLaws.{as_booted}
+use Rattle.rel_records.proofs.RecordLaws.{as_recorded}
 use Rattle.rel_store.specs.Contents.{HasOnlyRead, IsSyncedAt}
 use Rattle.rel_store.specs.Creation.{IsNoneOrNew, IsBegunAt, IsUnwritten, Creates, CreationRefused}
 use Rattle.rel_store.specs.Moments.{IsTornFrom}
@@ -27,7 +29,7 @@ use Rattle.rel_store.specs.declared.error.StoreError.TheVariants as store_fault
 use Rattle.rel_store.specs.declared.store.Store.{Store}
 use Rattle.rel_handler.specs.Events.{Known, doubted, IsNoneOrOfPrefix}
 use Rattle.rel_handler.specs.Start.{start_text}
-use Rattle.rel_handler.specs.Image.{IsImageOf, IsStarted}
+use Rattle.rel_handler.specs.Image.{AreRecordsOf, IsImageOf, IsStarted}
 use Rattle.rel_handler.specs.Moments.{Begins, BeginsAt, SettlesAt}
 use Rattle.rel_handler.specs.Refusals.{told_records, told_create, IsCreateError, MakingRefused}
 use Rattle.rel_handler.specs.State.{IsSound}
@@ -36,17 +38,19 @@ use Rattle.rel_handler.specs.declared.error.BootError.TheVariants as boot
 use Rattle.rel_handler.proofs.Images.{first_record, while_creating}
 
 -- a list that was read from the records of a store
-pub made_again : (bodies records : List (List ℕ)) (es : Releases) → bodies ≡ records → Makes bodies es → Makes records (booted es)
-made_again bodies records es same makes_it = subst (λ rs. Makes rs (booted es)) same (subst (Makes bodies) (sym (as_booted bodies es makes_it)) makes_it)
+pub made_again : (bodies records : List (List ℕ)) (es : Releases) → bodies ≡ records → Makes bodies es → has_one_shot es ≡ false → AreRecordsOf records es
+made_again bodies records es same makes_it none =
+    subst (λ rs. AreRecordsOf rs es) same (record { makes = subst (Makes bodies) (sym (as_recorded bodies es makes_it)) makes_it; free = none })
 
 -- a handler of such a list
-pub sound_so : {D : Type 0} (seen : D → List ℕ) (may_leave : D → List ℕ → Type 0) (of : Store D) (es : Releases) → store.IsSettled seen may_leave of → Makes (store.records_in of) (booted es)
+pub sound_so : {D : Type 0} (seen : D → List ℕ) (may_leave : D → List ℕ → Type 0) (of : Store D) (es : Releases) → store.IsSettled seen may_leave of → AreRecordsOf (store.records_in of) es
     → ((c : List ℕ) → may_leave of.disk c → IsStarted es c) → IsSound seen may_leave (record { store = of; list = es; dead = false })
 sound_so seen may_leave of es settled makes_it started = record { ready = λ alive. record { store = settled; list = makes_it }; started = λ alive. started }
 
 -- bytes with the records of a list stand for it
-pub image_so : (c : List ℕ) (bodies records : List (List ℕ)) (es : Releases) → bodies ≡ records → Makes bodies es → records_of c ≡ Ok records → IsImageOf c es × (booted es ≡ es)
-image_so c bodies records es same makes_it read = (record { bodies = records; store = read; list = made_again bodies records es same makes_it }, as_booted bodies es makes_it)
+pub image_so : (c : List ℕ) (bodies records : List (List ℕ)) (es : Releases) → bodies ≡ records → Makes bodies es → has_one_shot es ≡ false → records_of c ≡ Ok records → IsImageOf c es × (booted es ≡ es)
+image_so c bodies records es same makes_it none read =
+    (record { bodies = records; store = read; list = made_again bodies records es same makes_it none }, boots_as_recorded es none ∙ as_recorded bodies es makes_it)
 
 -- the records that were read are those of the bytes
 pub read_so : (c : List ℕ) (bodies records : List (List ℕ)) → bodies ≡ records → records_of c ≡ Ok records → records_of c ≡ Ok bodies
@@ -72,7 +76,7 @@ pub only_memory : (c : List ℕ) (bodies records : List (List ℕ)) (es : Releas
 only_memory c bodies records es e same read image (inl memory) = inr (ap told_records memory)
 only_memory c bodies records es e same read image (inr (i, is, bad)) =
     let here : image.bodies ≡ bodies = cc (read, image.store, same) in
-    absurd (makes_not_bad bodies (booted es) i (subst (λ bs. Makes bs (booted es)) here image.list) bad)
+    absurd (makes_not_bad bodies (recorded es) i (subst (λ bs. Makes bs (recorded es)) here image.list.makes) bad)
 
 -- a version is short
 version_short : (s : List ℕ) → IsVersion s → length s ≤ 62
@@ -127,6 +131,11 @@ module _ {D : Type 0} (seen : D → List ℕ) (may_leave : D → List ℕ → Ty
   begins (inr (at, begun)) = inr (at, begins_at at begun)
 
 -- the first record of a new node
-pub made_new : (p : Bundle) (body : List ℕ) (records : List (List ℕ)) (es : Releases) → IsWithinLimits (made p) [] → Spells body (record_of (made p) []) → records ≡ body ∷ [] → es ≡ entry p Permanent ∷ [] → Makes records (booted es)
+pub made_new : (p : Bundle) (body : List ℕ) (records : List (List ℕ)) (es : Releases) → IsWithinLimits (made p) [] → Spells body (record_of (made p) []) → records ≡ body ∷ [] → es ≡ entry p Permanent ∷ [] → AreRecordsOf records es
 made_new p body records es fits spelled is listed =
-    subst (λ rs. Makes rs (booted es)) (sym is) (subst (λ l. Makes (body ∷ []) (booted l)) (sym listed) (first_record p body fits spelled))
+    subst (λ rs. AreRecordsOf rs es) (sym is) (subst (λ l. AreRecordsOf (body ∷ []) l) (sym listed) (first_record p body fits spelled))
+
+-- whether a list has a one-shot, by what it tells of it
+pub one_shot_told : {A B : Type 0} (f : A → B) (told : Option (Bor A)) (o : Option B) → option_map f (option_copied told) ≡ o → is_some told ≡ is_some o
+one_shot_told f None o is = ap is_some is
+one_shot_told f (Some x) o is = ap is_some is

@@ -8,14 +8,15 @@ use Rattle.rel_files.specs.Release.{Release}
 use Rattle.rel_list.specs.declared.fault.ListError.{ListError}
 use Rattle.rel_list.specs.declared.fault.ListError.TheVariants as list
 use Rattle.rel_list.specs.declared.status.Status.{Status}
-use Rattle.rel_list.specs.declared.status.Status.TheVariants.{Unpacked, Current, Old, Permanent}
-use Rattle.rel_list.specs.Releases.{Releases, Entry, status_of, release_at, permanent}
+use Rattle.rel_list.specs.declared.status.Status.TheVariants.{Unpacked, Current, Old, Permanent, OneShot}
+use Rattle.rel_list.specs.Releases.{Releases, Entry, has_one_shot, status_of, release_at, permanent}
 use Rattle.rel_list.specs.Event.{Event, may_be_made_permanent, may_be_rebooted, permanent_status, list_made_permanent, step}
 use Rattle.rel_list.specs.Status.{is_permanent}
 use Rattle.rel_list.specs.Event.Event.{made_permanent, reboot_old}
 use Rattle.rel_list.specs.Refusal.{refusal, listed_refusal}
 use Rattle.rel_records.specs.Lists.{HaveVersions}
 use Rattle.rel_records.specs.Writing.{IsOfListed}
+use Rattle.rel_list.proofs.Waiting.{own_of_step}
 use Rattle.rel_records.proofs.RecordPlaces.{chosen}
 use Rattle.rel_handler.specs.Commits.{MakesPermanent}
 use Rattle.rel_handler.specs.Refusals.{CommandRefused}
@@ -55,8 +56,8 @@ refused_by_list failures h e size why alive barred = by_why why (subst IsListAns
     by_why (told.VsnMismatch path) of barred = absurd of
 
 -- A release that isn't listed isn't made permanent.
-pub unlisted : (v : List ℕ) (e : Event) (es : Releases) → MakesPermanent v e → release_at v es ≡ None → commanded e es ≡ Err told.NoSuchRelease
-unlisted v e es moves none = go moves
+pub unlisted : (v : List ℕ) (e : Event) (es : Releases) → has_one_shot es ≡ false → MakesPermanent v e → release_at v es ≡ None → commanded e es ≡ Err told.NoSuchRelease
+unlisted v e es free moves none = go moves
   where
     no_status : (by_status : Status → Option ListError) (o : Option Entry) → option_map (λ (e : Entry). e.release) o ≡ None
         → listed_refusal by_status (option_map (λ (e : Entry). e.status) o) ≡ Some list.NoSuchRelease
@@ -67,8 +68,8 @@ unlisted v e es moves none = go moves
     refused e listed is = list_refuses e es list.NoSuchRelease listed is
 
     go : MakesPermanent v e → commanded e es ≡ Err told.NoSuchRelease
-    go (inl is) = subst (λ e. commanded e es ≡ Err told.NoSuchRelease) (sym is) (refused (made_permanent v) tt (no_status _ (find (λ (e : Entry). bytes_eq v e.release.vsn) es) none))
-    go (inr is) = subst (λ e. commanded e es ≡ Err told.NoSuchRelease) (sym is) (refused (reboot_old v) tt (no_status _ (find (λ (e : Entry). bytes_eq v e.release.vsn) es) none))
+    go (inl is) = subst (λ e. commanded e es ≡ Err told.NoSuchRelease) (sym is) (refused (made_permanent v) tt (rw free (no_status _ (find (λ (e : Entry). bytes_eq v e.release.vsn) es) none)))
+    go (inr is) = subst (λ e. commanded e es ≡ Err told.NoSuchRelease) (sym is) (refused (reboot_old v) tt (rw free (no_status _ (find (λ (e : Entry). bytes_eq v e.release.vsn) es) none)))
 
 -- The release that was made permanent is the permanent one.
 permanent_now : (v : List ℕ) (es : Releases) → permanent (list_made_permanent v es) ≡ release_at v es
@@ -86,6 +87,7 @@ permanent_now v (e ∷ es) = go (bytes_eq v e.release.vsn) e.status (permanent_n
     go false Current rest = rest
     go false Old rest = rest
     go false Permanent rest = rest
+    go false OneShot rest = rest
 
 moved : (v : List ℕ) (es next : Releases) (may : Bool) → (if may then Some (list_made_permanent v es) else None) ≡ Some next → permanent next ≡ release_at v es
 moved v es next may is =
@@ -95,8 +97,8 @@ moved v es next may is =
 
 -- so it is behind both events
 pub permanent_behind : (v : List ℕ) (e : Event) (es next : Releases) → MakesPermanent v e → step e es ≡ Some next → permanent next ≡ release_at v es
-permanent_behind v e es next (inl same) is = moved v es next (may_be_made_permanent (status_of v es)) (subst (λ e. step e es ≡ Some next) same is)
-permanent_behind v e es next (inr same) is = moved v es next (may_be_rebooted (status_of v es)) (subst (λ e. step e es ≡ Some next) same is)
+permanent_behind v e es next (inl same) is = moved v es next (may_be_made_permanent (status_of v es)) (own_of_step (made_permanent v) es next (subst (λ e. step e es ≡ Some next) same is)).1
+permanent_behind v e es next (inr same) is = moved v es next (may_be_rebooted (status_of v es)) (own_of_step (reboot_old v) es next (subst (λ e. step e es ≡ Some next) same is)).1
 
 -- a listed release has the versions of the list
 pub listed_versions : (v : List ℕ) (es : Releases) (r : Release) → HaveVersions es → release_at v es ≡ Some r → HasVersions r

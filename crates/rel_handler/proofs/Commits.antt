@@ -10,17 +10,17 @@ use Rattle.rel_files.specs.File.{HasVersions}
 use Rattle.rel_files.specs.Release.{Release}
 use Rattle.library.specs.Library.{IsLibrary}
 use Rattle.rel_list.specs.Releases.{Bundle, Entry, Releases, permanent}
-use Rattle.rel_list.specs.Event.{Event, booted, step, list_after}
+use Rattle.rel_list.specs.Event.{Event, recorded, step, list_after}
 use Rattle.rel_list.specs.Event.Event.{unpacked}
-use Rattle.rel_list.proofs.LibraryLaws.{libraries-booted}
-use Rattle.rel_records.specs.Lists.{Makes, HaveVersions, HaveLibraries}
+use Rattle.rel_list.proofs.LibraryLaws.{libraries-recorded}
+use Rattle.rel_records.specs.Lists.{HaveVersions, HaveLibraries}
 use Rattle.rel_records.specs.Reading.{Spells}
 use Rattle.rel_records.specs.Startable.{AreStartable}
 use Rattle.rel_records.specs.Writing.{record_of, IsComplete}
-use Rattle.rel_records.proofs.EachRelease.{each-of_booted}
+use Rattle.rel_records.proofs.EachRelease.{each-of_recorded}
 use Rattle.rel_records.proofs.EventRecords.{unpacked_tells}
 use Rattle.rel_records.proofs.RecordLaws.{make_libraries, make_versions}
-use Rattle.rel_records.proofs.StartableLemmas.{make_startable, startable-of_booted}
+use Rattle.rel_records.proofs.StartableLemmas.{make_startable, startable-of_recorded}
 use Rattle.rel_store.specs.Contents.{HasOnlyRead}
 use Rattle.rel_store.specs.Changed.{LeavesOthers, IsInRecord, IsInOtherSlot}
 use Rattle.rel_store.specs.Layout.{slot_with, base_of}
@@ -32,14 +32,14 @@ use Rattle.rel_store.specs.declared.error.StoreError.TheVariants as fault
 use Rattle.rel_store.specs.declared.store.Store.{Store}
 use Rattle.rel_handler.specs.Commits.{Commits, IsAppended, IsRecordFor, Keeps, HasOldStartOr}
 use Rattle.rel_handler.specs.Events.{Events, uncertain, IsStoredAs}
-use Rattle.rel_handler.specs.Image.{extent_behind, HasSpace, IsImageAt, IsStarted, start_slot}
+use Rattle.rel_handler.specs.Image.{AreRecordsOf, extent_behind, HasSpace, IsImageAt, IsStarted, start_slot}
 use Rattle.rel_handler.specs.Refusals.{CommandRefused, HasNoRoom, IsAllowed}
 use Rattle.rel_handler.specs.State.{disk_in, extent_in, list_in, is_dead, start_in, store_extent, HasStarted, IsReady, IsSound, IsSame}
 use Rattle.node_command.specs.Taking.{commanded}
 use Rattle.start_record.specs.Text.{Versions, AreVersions, start_text as text_of_start}
 use Rattle.rel_list.specs.declared.fault.ListError.{ListError}
 use Rattle.rel_list.specs.declared.fault.ListError.TheVariants as of_list
-use Rattle.rel_list.specs.Laws.{leaves_permanent}
+use Rattle.rel_list.specs.Laws.{leaves_permanent, makes_one_shot}
 use Rattle.rel_list.specs.Refusal.{IsRefusedWith, brings_release, refusal}
 use Rattle.rel_list.proofs.PermanentLaws.{permanent_stays}
 use Rattle.rel_handler.specs.Start.{started as start_versions}
@@ -88,16 +88,16 @@ pub read_nothing : {D : Type 0} (v : Ghosts D) (h : Handler D) → ((c : List �
 read_nothing v h only_now = record { same = refl; crash = λ c now. now; any_moment = started v.moment v.left_since (disk_in h) (v.may_leave (disk_in h)) only_now }
 
 -- the releases of a list have the versions of files
-pub have_versions : (bodies : List (List ℕ)) (es : Releases) → Makes bodies (booted es) → HaveVersions es
-have_versions bodies es makes_it = each-of_booted (λ (e : Entry). HasVersions e.release) (λ e s has. has) es (make_versions bodies (booted es) makes_it)
+pub have_versions : (bodies : List (List ℕ)) (es : Releases) → AreRecordsOf bodies es → HaveVersions es
+have_versions bodies es are = each-of_recorded (λ (e : Entry). HasVersions e.release) (λ e s has. has) es (make_versions bodies (recorded es) are.makes)
 
 -- its libraries are what the files of applications say
-pub have_libraries : (bodies : List (List ℕ)) (es : Releases) → Makes bodies (booted es) → HaveLibraries es
-have_libraries bodies es makes_it = subst (AllByRecursion IsLibrary) (libraries-booted es) (make_libraries bodies (booted es) makes_it)
+pub have_libraries : (bodies : List (List ℕ)) (es : Releases) → AreRecordsOf bodies es → HaveLibraries es
+have_libraries bodies es are = subst (AllByRecursion IsLibrary) (libraries-recorded es) (make_libraries bodies (recorded es) are.makes)
 
 -- a boot can start the releases of a handler that is ready
 pub releases_startable : {D : Type 0} {seen : D → List ℕ} {may_leave : D → List ℕ → Type 0} (h : Handler D) → IsReady seen may_leave h → AreStartable (list_in h)
-releases_startable h ready = startable-of_booted (list_in h) (make_startable (store.records_in h.store) (booted (list_in h)) ready.list)
+releases_startable h ready = startable-of_recorded (list_in h) (make_startable (store.records_in h.store) (recorded (list_in h)) ready.list.makes)
 
 -- the record of a release that may come in
 pub unpacked_told : (p : Bundle) (es next : Releases) (body : List ℕ) → Spells body (record_of (unpacked p) es) → HaveLibraries es → IsComplete p → commanded (unpacked p) es ≡ Ok next → IsRecordFor body (unpacked p) es
@@ -229,7 +229,7 @@ module _ {D : Type 0} (v : Ghosts D) (h : Handler D) (ready : IsReady v.seen v.m
   -- It is there, and the handler is ready.
   module _ (new : Store D) (settled : store.IsSettled v.seen v.may_leave new) (records : store.records_in new ≡ store.records_in h.store) where
     pub ready_still : IsReady v.seen v.may_leave (record { store = new; list = h.list; dead = true })
-    ready_still = record { store = settled; list = subst (λ bodies. Makes bodies (booted h.list)) (sym records) ready.list }
+    ready_still = record { store = settled; list = subst (λ bodies. AreRecordsOf bodies h.list) (sym records) ready.list }
 
     pub images_still : (words : List ℕ) → store.text_in v.seen new ≡ slot_with words → (c : List ℕ) → v.may_leave (store.disk_in new) c → IsImageAt c h.list (store_extent new) × (start_slot c ≡ slot_with words)
     images_still words written c now = (each_image v.seen v.may_leave new h.list settled ready_still.list c now, ap (λ l. start_slot l) (settled.durable c now) ∙ written)
@@ -255,7 +255,7 @@ module _ {D : Type 0} (v : Ghosts D) (h : Handler D) (s : IsSound v.seen v.may_l
         sound = record {
           ready = λ alive. record {
             store = sound.settled (same.failed ∙ (s.ready alive).store.works);
-            list = subst (λ bodies. Makes bodies (booted h.list)) (sym same.records) (s.ready alive).list;
+            list = subst (λ bodies. AreRecordsOf bodies h.list) (sym same.records) (s.ready alive).list;
           };
           started = λ alive. subst (λ d. (c : List ℕ) → v.may_leave d c → IsStarted (list_in h) c) (sym same.disk) (s.started alive);
         };
@@ -267,7 +267,7 @@ module _ {D : Type 0} (v : Ghosts D) (h : Handler D) (s : IsSound v.seen v.may_l
       same_but_memory = same_with h reserved same
 
   -- A record is appended behind a reservation.
-  module _ (alive : is_dead h ≡ false) (reserved : Store D) (same : store.IsSame h.store reserved) (e : Event) (next : Releases) (body : List ℕ) (told : IsRecordFor body e (list_in h)) (is : step e (list_in h) ≡ Some next) where
+  module _ (alive : is_dead h ≡ false) (reserved : Store D) (same : store.IsSame h.store reserved) (e : Event) (next : Releases) (body : List ℕ) (told : IsRecordFor body e (list_in h)) (is : step e (list_in h) ≡ Some next) (other : makes_one_shot e ≡ false) where
     pub reserved_works : store.has_failed reserved ≡ false
     reserved_works = same.failed ∙ (s.ready alive).store.works
 
@@ -283,7 +283,7 @@ module _ {D : Type 0} (v : Ghosts D) (h : Handler D) (s : IsSound v.seen v.may_l
       committing events after =
           subst (λ d. LeavesOnly v.moment v.left_since d (store.disk_in new) (IsStoredAs (uncertain events (extent_in h) e (length body)))) same.disk
           (weakened v.moment v.left_since (store.disk_in reserved) (store.disk_in new) _ (IsStoredAs (uncertain events (extent_in h) e (length body)))
-          (λ c either. while_committing e (list_in h) next (store.records_in h.store) body text events (s.ready alive).list told is after (base_of (v.seen (disk_in h))) (extent_in h) (settled_so v.seen v.may_leave h.store (s.ready alive).store)
+          (λ c either. while_committing e (list_in h) next (store.records_in h.store) body text events (s.ready alive).list told other is after (base_of (v.seen (disk_in h))) (extent_in h) (settled_so v.seen v.may_leave h.store (s.ready alive).store)
           (v.seen (disk_in h)) (sym slot) (s.started alive (v.seen (disk_in h)) (reads (disk_in h))) c
           (subst (λ bodies. StandsEither bodies body text c) same.records either.0, base_there c (subst (λ d. LeavesOthers (IsInRecord (store.gate_in reserved) (length body)) (v.seen d) c) same.disk either.1)))
           (both v.moment v.left_since (store.disk_in reserved) (store.disk_in new) _ _ leaves kept))
@@ -301,7 +301,7 @@ module _ {D : Type 0} (v : Ghosts D) (h : Handler D) (s : IsSound v.seen v.may_l
       ready_next = record {
         store = settled;
         list =
-            subst (λ bodies. Makes bodies (booted next)) (sym (added ∙ ap (λ bodies. bodies ++ body ∷ []) same.records)) (with_record e (list_in h) next (store.records_in h.store) body (s.ready alive).list told is);
+            subst (λ bodies. AreRecordsOf bodies next) (sym (added ∙ ap (λ bodies. bodies ++ body ∷ []) same.records)) (with_record e (list_in h) next (store.records_in h.store) body (s.ready alive).list told other is);
       }
 
       pub is_appended : commanded e (list_in h) ≡ Ok next → HasSpace (extent_in h) (length body) → store.base_in new ≡ store.base_in reserved → store.end_in new ≡ store.end_in reserved + (5 + length body)

@@ -5,7 +5,7 @@ use Rattle.std.specs.Prelude.{◌↔◌, if◌then◌else◌, IfErr, IsErrOf, On
 use Rattle.rel_disk.specs.declared.disk.Disk.{Ghosts}
 use Rattle.rel_disk.specs.Moments.{LeavesOnly, HasFailed}
 use Rattle.rel_disk.proofs.Moments.{started, joined, weakened}
-use Rattle.rel_list.specs.Event.{Event, booted, list_after}
+use Rattle.rel_list.specs.Event.{Event, recorded, list_after}
 use Rattle.rel_list.specs.Laws.{leaves_permanent}
 use Rattle.rel_list.specs.Releases.{Releases, permanent}
 use Rattle.rel_records.specs.Image.{image_of}
@@ -23,7 +23,7 @@ use Rattle.node_command.proofs.CommandLemmas.{commanded_step}
 use Rattle.rel_handler.specs.Commits.{Commits, Compacts, IsAppended, IsCompacted, IsDone, IsOldOrCompacted}
 use Rattle.rel_handler.specs.Compaction.{compacted, extent_with, fits_image, is_long, with_image, MayReach}
 use Rattle.rel_handler.specs.Events.{Events, uncertain, IsStoredAs}
-use Rattle.rel_handler.specs.Image.{Extent, extent_behind, extent_of, start_slot}
+use Rattle.rel_handler.specs.Image.{AreRecordsOf, Extent, extent_behind, extent_of, start_slot}
 use Rattle.rel_handler.specs.Refusals.{CommandRefused, told_compaction}
 use Rattle.rel_handler.specs.State.{disk_in, extent_in, list_in, is_dead, start_in, store_extent, HasStarted, IsReady, IsSound}
 use Rattle.rel_handler.specs.declared.handler.Handler.{Handler}
@@ -32,13 +32,13 @@ use Rattle.rel_handler.proofs.Images.{extent_by_end, extent_with_records, same_e
 
 -- a short store stays as it is
 pub short_stays : (x : Extent) (es : Releases) → is_long x ≡ false → compacted x es ≡ x
-short_stays x es short = ap (λ (b : Bool). if b then with_image x (image_of (booted es)) else x) short
+short_stays x es short = ap (λ (b : Bool). if b then with_image x (image_of (recorded es)) else x) short
 
 -- a long one reaches as far as with this image, where it has this one or none
-pub long_reaches : (x : Extent) (es : Releases) (image : Option (List ℕ)) → is_long x ≡ true → image_of (booted es) ≡ image → compacted x es ≡ with_image x image
-long_reaches x es image long is = ap (λ (b : Bool). if b then with_image x (image_of (booted es)) else x) long ∙ ap (λ o. with_image x o) is
+pub long_reaches : (x : Extent) (es : Releases) (image : Option (List ℕ)) → is_long x ≡ true → image_of (recorded es) ≡ image → compacted x es ≡ with_image x image
+long_reaches x es image long is = ap (λ (b : Bool). if b then with_image x (image_of (recorded es)) else x) long ∙ ap (λ o. with_image x o) is
 
-image_reaches : (x : Extent) (es : Releases) (image : List ℕ) → is_long x ≡ true → image_of (booted es) ≡ Some image → fits_image x (length image) ≡ true → compacted x es ≡ extent_with x (length image)
+image_reaches : (x : Extent) (es : Releases) (image : List ℕ) → is_long x ≡ true → image_of (recorded es) ≡ Some image → fits_image x (length image) ≡ true → compacted x es ≡ extent_with x (length image)
 image_reaches x es image long is fits = long_reaches x es (Some image) long is ∙ ap (λ (b : Bool). if b then extent_with x (length image) else x) fits
 
 -- an image that doesn't fit by the test doesn't fit
@@ -75,14 +75,17 @@ module _ {D : Type 0} (v : Ghosts D) (h : Handler D) (ready : IsReady v.seen v.m
     stays sound reaches = record {
       ready = record {
         store = sound.settled (same.failed ∙ ready.store.works);
-        list = subst (λ bodies. Makes bodies (booted h.list)) (sym same.records) ready.list;
+        list = subst (λ bodies. AreRecordsOf bodies h.list) (sym same.records) ready.list;
       };
       start = ap (λ d. start_slot (v.seen d)) same.disk;
       reaches = subst (λ x. MayReach (extent_in h) (list_in h) x) (sym (extent_kept h.store kept same)) reaches;
     }
 
   -- A long store is compacted to an image of its list.
-  module _ (image : List ℕ) (long : is_long (extent_in h) ≡ true) (is : image_of (booted (list_in h)) ≡ Some image) (makes : Makes (image ∷ []) (booted (list_in h))) (new : Store D) where
+  module _ (image : List ℕ) (long : is_long (extent_in h) ≡ true) (is : image_of (recorded (list_in h)) ≡ Some image) (makes : Makes (image ∷ []) (recorded (list_in h))) (new : Store D) where
+    by_the_image : AreRecordsOf (image ∷ []) (list_in h)
+    by_the_image = record { makes = makes; free = ready.list.free }
+
     with_records : (c : List ℕ) → Stands (store.records_in h.store) (start_in v.seen h) c × (end_of c ≡ store.end_in h.store) → IsOldOrCompacted v.seen h c
     with_records c (stands, ends) = (
       record { bodies = store.records_in h.store; store = stands.records; list = ready.list },
@@ -98,7 +101,7 @@ module _ {D : Type 0} (v : Ghosts D) (h : Handler D) (ready : IsReady v.seen v.m
     with_the_image fits c (stands, ends) =
         let place = image_place (store.base_in h.store) (store.end_in h.store) (length image) in
         let far : extent_with_records place (image ∷ []) ≡ extent_with (extent_in h) (length image) = same_extent (extent_with_records place (image ∷ [])) (extent_with (extent_in h) (length image)) refl (sym (one_record place image)) refl in (
-          record { bodies = image ∷ []; store = stands.records; list = makes },
+          record { bodies = image ∷ []; store = stands.records; list = by_the_image },
           inr (
               extent_by_end c (image ∷ []) place (image_end (store.base_in h.store) (store.end_in h.store) (length image)) stands.records ends (one_record place image)
               ∙ far ∙ sym (image_reaches (extent_in h) (list_in h) image long is fits)
@@ -154,7 +157,7 @@ module _ {D : Type 0} (v : Ghosts D) (h : Handler D) (ready : IsReady v.seen v.m
         → OnOk r (store.records_in new ≡ image ∷ []) → OnOk r (store.text_in v.seen new ≡ start_in v.seen h) → OnOk r (store.base_in new ≡ image_place (store.base_in h.store) (store.end_in h.store) (length image))
         → OnOk r (store.end_in new ≡ image_end (store.base_in h.store) (store.end_in h.store) (length image)) → OnOk (told_compaction r) (IsCompacted v h (record { store = new; list = h.list; dead = h.dead }))
     done_so (Ok u) full refused sound settled records start base end = record {
-      ready = record { store = settled; list = subst (λ bodies. Makes bodies (booted h.list)) (sym records) makes };
+      ready = record { store = settled; list = subst (λ bodies. AreRecordsOf bodies h.list) (sym records) by_the_image };
       start = start;
       reaches = inl (reaches_image full records base end);
     }

@@ -6,12 +6,14 @@ use Rattle.rel_files.specs.File.{HasVersions}
 use Rattle.rel_files.specs.Release.{Release}
 use Rattle.rel_list.specs.declared.status.Status.TheVariants.{Permanent}
 use Rattle.rel_list.specs.Releases.{Bundle, Releases, permanent}
-use Rattle.rel_list.specs.Event.{Event, entry, booted, step, list_after}
+use Rattle.rel_list.specs.Event.{Event, entry, booted, recorded, step, list_after}
 use Rattle.rel_list.specs.Event.Event.{made, boot}
+use Rattle.rel_list.specs.Laws.{makes_one_shot}
+use Rattle.rel_list.proofs.OneShotLaws.{boots_as_recorded, one_shots_come_from_restarts}
 use Rattle.rel_records.specs.Lists.{assigned, MakesFrom, Makes}
 use Rattle.rel_records.specs.Reading.{Spells}
 use Rattle.rel_records.specs.Writing.{record_of, IsWithinLimits}
-use Rattle.rel_records.proofs.EventRecords.{one-booted, tells}
+use Rattle.rel_records.proofs.EventRecords.{one-recorded, tells}
 use Rattle.rel_records.proofs.ListLemmas.{makes-push, makes_once}
 use Rattle.rel_records.proofs.RecordPlaces.{one_behind}
 use Rattle.rel_store.specs.Creation.{IsNoneOrNew}
@@ -25,7 +27,7 @@ use Rattle.rel_handler.specs.Commits.{IsRecordFor}
 use Rattle.rel_handler.specs.Events.{Known, doubted, IsPrefix, IsOfPrefix, IsNoneOrOfPrefix, compacted_or_same, uncertain, IsStoredAs}
 use Rattle.rel_handler.specs.Start.{started, start_text}
 use Rattle.rel_handler.specs.Compaction.{compacted}
-use Rattle.rel_handler.specs.Image.{Extent, extent_behind, extent_of, IsImageOf, IsImageAt, IsStarted, start_slot, holds_a_store}
+use Rattle.rel_handler.specs.Image.{AreRecordsOf, Extent, extent_behind, extent_of, IsImageOf, IsImageAt, IsStarted, start_slot, holds_a_store}
 use Rattle.rel_handler.specs.State.{store_extent}
 use Rattle.start_record.specs.Text.{Versions, AreVersions, SpellsStart, start_text as text_of_start}
 use Rattle.start_record.proofs.StartMoments.{reads_back}
@@ -69,7 +71,7 @@ pub settled_extent : {D : Type 0} (seen : D → List ℕ) (may_leave : D → Lis
 settled_extent seen may_leave store s = extent_so (seen store.disk) (records_in store) (base_of (seen store.disk)) s.records refl ∙ settled_so seen may_leave store s
 
 -- each image of a settled store's disk stands for the list that its records make
-pub each_image : {D : Type 0} (seen : D → List ℕ) (may_leave : D → List ℕ → Type 0) (store : Store D) (es : Releases) → IsSettled seen may_leave store → Makes (records_in store) (booted es)
+pub each_image : {D : Type 0} (seen : D → List ℕ) (may_leave : D → List ℕ → Type 0) (store : Store D) (es : Releases) → IsSettled seen may_leave store → AreRecordsOf (records_in store) es
     → (c : List ℕ) → may_leave store.disk c → IsImageAt c es (store_extent store)
 each_image seen may_leave store es s makes_it c now = record {
   image_of = record { bodies = records_in store; store = ap records_of (s.durable c now) ∙ s.records; list = makes_it };
@@ -124,31 +126,37 @@ as_after events e es end c after next image =
     let all = list_after-push events e es end after next in
     record { events = events ++ e ∷ []; prefix = prefix_with events e end all; list = end; after = all; image_of = image }
 
--- With the record of an event the store makes the list behind it.
-pub with_record : (e : Event) (es next : Releases) (bodies : List (List ℕ)) (body : List ℕ) → Makes bodies (booted es) → IsRecordFor body e es → step e es ≡ Some next → Makes (bodies ++ body ∷ []) (booted next)
-with_record e es next bodies body (so_far, one) told is =
-    let behind : assigned (record_of e es) (booted es) ≡ Some (booted next) = told.tells next is (sym (one-booted es) ∙ one) in
-    (makes-push [] bodies (booted es) body (record_of e es) (booted next) so_far told.spells behind, one_behind (record_of e es) (booted es) (booted next) behind)
+-- With the record of an event the store has the records of the list behind it.
+pub with_record : (e : Event) (es next : Releases) (bodies : List (List ℕ)) (body : List ℕ) → AreRecordsOf bodies es → IsRecordFor body e es → makes_one_shot e ≡ false → step e es ≡ Some next
+    → AreRecordsOf (bodies ++ body ∷ []) next
+with_record e es next bodies body are told other is =
+    let behind : assigned (record_of e es) (recorded es) ≡ Some (recorded next) = told.tells next is (sym (one-recorded es) ∙ are.makes.1) in
+    record {
+      makes = (makes-push [] bodies (recorded es) body (record_of e es) (recorded next) are.makes.0 told.spells behind, one_behind (record_of e es) (recorded es) (recorded next) behind);
+      free = one_shots_come_from_restarts e es next other is;
+    }
 
 -- The record of an event is being appended: the store makes the list from before it or the one behind it.
 pub while_committing : (e : Event) (es next : Releases) (bodies : List (List ℕ)) (body text : List ℕ) (events : List Event)
-    → Makes bodies (booted es) → IsRecordFor body e es → step e es ≡ Some next → list_after events ≡ Some es
+    → AreRecordsOf bodies es → IsRecordFor body e es → makes_one_shot e ≡ false → step e es ≡ Some next → list_after events ≡ Some es
     → (base : ℕ) (x : Extent) → extent_with_records base bodies ≡ x → (old : List ℕ) → start_slot old ≡ text → IsStarted es old
     → (c : List ℕ) → StandsEither bodies body text c × (base_of c ≡ base) → IsStoredAs (uncertain events x e (length body)) c
-while_committing e es next bodies body text events makes_it told is after base x at old slot started c (inl stands, kept) =
+while_committing e es next bodies body text events makes_it told other is after base x at old slot started c (inl stands, kept) =
     stored_before events x e (length body) es c after (record {
       image_of = record { bodies = bodies; store = stands.records; list = makes_it };
       reaches = extent_so c bodies base stands.records kept ∙ at;
     }) (started_by es es old c refl (stands.start ∙ sym slot) started)
-while_committing e es next bodies body text events makes_it told is after base x at old slot started c (inr stands, kept) =
-    stored_after events x e (length body) es next c after is (record { bodies = bodies ++ body ∷ []; store = stands.records; list = with_record e es next bodies body makes_it told is })
+while_committing e es next bodies body text events makes_it told other is after base x at old slot started c (inr stands, kept) =
+    stored_after events x e (length body) es next c after is (record { bodies = bodies ++ body ∷ []; store = stands.records; list = with_record e es next bodies body makes_it told other is })
     (inl (extent_so c (bodies ++ body ∷ []) base stands.records kept ∙ extent-push base bodies body ∙ ap (λ y. extent_behind y (length body)) at))
     (inl (started_by es es old c refl (stands.start ∙ sym slot) started))
 
--- the first record makes the list of its release
-pub first_record : (p : Bundle) (body : List ℕ) → IsWithinLimits (made p) [] → Spells body (record_of (made p) []) → Makes (body ∷ []) (booted (entry p Permanent ∷ []))
-first_record p body fits spelled =
-    ((record_of (made p) [], entry p Permanent ∷ [], spelled, tells (made p) [] (entry p Permanent ∷ []) tt tt refl fits refl, refl), refl)
+-- the first record is that of its release
+pub first_record : (p : Bundle) (body : List ℕ) → IsWithinLimits (made p) [] → Spells body (record_of (made p) []) → AreRecordsOf (body ∷ []) (entry p Permanent ∷ [])
+first_record p body fits spelled = record {
+  makes = ((record_of (made p) [], entry p Permanent ∷ [], spelled, tells (made p) [] (entry p Permanent ∷ []) tt tt refl fits refl, refl), refl);
+  free = refl;
+}
 
 -- A start slot with the text of a release's start is that release's start record.
 pub started_by_text : (es : Releases) (r : Release) (versions : Versions) (c : List ℕ) → AreVersions versions → versions ≡ started r → permanent es ≡ Some r → start_slot c ≡ slot_with (text_of_start versions) → IsStarted es c
@@ -178,7 +186,7 @@ has_a_store bytes es image = (sound bytes image.bodies image.store).begins
 pub booted_image : (c : List ℕ) (bodies : List (List ℕ)) (found es : Releases) → records_of c ≡ Ok bodies → Makes bodies found → IsImageOf c es → found ≡ booted es
 booted_image c bodies found es read makes_it image =
     let same : bodies ≡ image.bodies = cc (read, image.store) in
-    makes_once [] bodies found (booted es) makes_it.0 (subst (λ l. MakesFrom [] l (booted es)) (sym same) image.list.0)
+    makes_once [] bodies found (recorded es) makes_it.0 (subst (λ l. MakesFrom [] l (recorded es)) (sym same) image.list.makes.0) ∙ sym (boots_as_recorded es image.list.free)
 
 pub boots_to : (k : Known) (c : List ℕ) (found : Releases) (of : IsOfPrefix k c) → found ≡ booted of.list → BootsTo k found
 boots_to k c found of is = record {

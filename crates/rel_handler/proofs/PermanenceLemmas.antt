@@ -1,10 +1,11 @@
 -- An event that makes a listed release the permanent one: the list is committed, and then the start record.
-use Rattle.std.proofs.Common.{◌≡◌, inl, inr, List, Some, sym, ◌∙◌, subst, false, ℕ}
+use Rattle.std.proofs.Common.{◌≡◌, inl, inr, List, Some, sym, ap, ◌∙◌, subst, false, ℕ}
 use Rattle.rel_disk.specs.declared.disk.Disk.{Ghosts}
 use Rattle.rel_disk.specs.Moments.{HasFailed}
 use Rattle.rel_files.specs.Release.{Release}
 use Rattle.rel_list.specs.Event.{Event}
-use Rattle.rel_list.specs.Releases.{permanent, release_at}
+use Rattle.rel_list.specs.Laws.{makes_one_shot}
+use Rattle.rel_list.specs.Releases.{has_one_shot, permanent, release_at}
 use Rattle.rel_records.specs.Writing.{IsOfListed}
 use Rattle.rel_store.specs.Layout.{slot_with}
 use Rattle.rel_store.specs.State.{records_in}
@@ -27,10 +28,15 @@ pub brings_none : (vsn : List ℕ) (e : Event) → MakesPermanent vsn e → IsOf
 brings_none vsn e (inl is) = subst IsOfListed (sym is) tt
 brings_none vsn e (inr is) = subst IsOfListed (sym is) tt
 
+-- and makes no release a one-shot
+pub makes_none : (vsn : List ℕ) (e : Event) → MakesPermanent vsn e → makes_one_shot e ≡ false
+makes_none vsn e (inl is) = ap makes_one_shot is
+makes_none vsn e (inr is) = ap makes_one_shot is
+
 -- no start was found for it, and nothing has changed
-pub no_start : {D : Type 0} (failures : D → ℕ) (h : Handler D) → is_dead h ≡ false → (vsn : List ℕ) (e : Event) → MakesPermanent vsn e → (size : ℕ) (why : HandlerError) → IsStartRefusal vsn (list_in h) why → CommandRefused failures e size h h why
-no_start failures h alive vsn e moves size NoMemory refused = (alive, all_same h)
-no_start failures h alive vsn e moves size why (none, is) = subst (CommandRefused failures e size h h) (sym is) ((alive, unlisted vsn e (list_in h) moves none), all_same h)
+pub no_start : {D : Type 0} (failures : D → ℕ) (h : Handler D) → is_dead h ≡ false → has_one_shot (list_in h) ≡ false → (vsn : List ℕ) (e : Event) → MakesPermanent vsn e → (size : ℕ) (why : HandlerError) → IsStartRefusal vsn (list_in h) why → CommandRefused failures e size h h why
+no_start failures h alive free vsn e moves size NoMemory refused = (alive, all_same h)
+no_start failures h alive free vsn e moves size why (none, is) = subst (CommandRefused failures e size h h) (sym is) ((alive, unlisted vsn e (list_in h) free moves none), all_same h)
 
 -- the versions of the release that a list has at this version
 abbrev pub AreOf : {D : Type 0} → Handler D → List ℕ → Versions → Type 0

@@ -2,6 +2,7 @@
 use Rattle.std.proofs.Common.{◌≡◌, inl, inr, ℕ, true, false, List, Ok, sym, subst}
 use Rattle.rel_disk.specs.declared.disk.Disk.{Ghosts}
 use Rattle.rel_list.specs.Event.Event.{unpacked}
+use Rattle.rel_list.specs.Releases.{has_one_shot}
 use Rattle.rel_records.specs.Limits.{is_small}
 use Rattle.rel_unpack.specs.Source.{Source}
 use Rattle.rel_unpack.specs.Unpacking.{Brought}
@@ -19,17 +20,17 @@ use Rattle.node_command.proofs.ReleaseLemmas.{barred_so, listed_free, no_memory}
 use Rattle.rel_handler.proofs.ReleaseLemmas.{unchanged_handler}
 
 -- It isn't taken in, and nothing has changed.
-pub no_place : {D : Type 0} (v : Ghosts D) (source : Source) (path : List ℕ) (h : Handler D) (b : Brought) (e : HandlerError) → is_dead h ≡ false → is_small b.found.release ≡ true → Brings source path (Ok b)
+pub no_place : {D : Type 0} (v : Ghosts D) (source : Source) (path : List ℕ) (h : Handler D) (b : Brought) (e : HandlerError) → is_dead h ≡ false → has_one_shot (list_in h) ≡ false → is_small b.found.release ≡ true → Brings source path (Ok b)
     → Commits v (unpacked (bundle_brought b)) (unpacked_size b (list_in h)) h h → HasNoPlace b (list_in h) e → UnpackingRefused v source path h h e
-no_place v source path h b e alive small read still (inl none) =
+no_place v source path h b e alive free small read still (inl none) =
     subst (UnpackingRefused v source path h h) (sym none) (inr (inl (no_memory source path, alive, unchanged_handler h)))
-no_place v source path h b e alive small read still (inr (inl (is, listed))) =
+no_place v source path h b e alive free small read still (inr (inl (is, listed))) =
     subst (UnpackingRefused v source path h h) (sym is) (inr (inr (inr (record {
       brought = b;
       read = read;
       free = listed_free b (list_in h) listed;
       commits = still;
-      refused = refused_by_list v.failures h (unpacked (bundle_brought b)) (unpacked_size b (list_in h)) ExistingRelease alive (there_already (bundle_brought b) (list_in h) small listed);
+      refused = refused_by_list v.failures h (unpacked (bundle_brought b)) (unpacked_size b (list_in h)) ExistingRelease alive (there_already (bundle_brought b) (list_in h) free small listed);
     }))))
-no_place v source path h b e alive small read still (inr (inr (fresh, barred))) =
+no_place v source path h b e alive free small read still (inr (inr (fresh, barred))) =
     inr (inr (inl (record { brought = b; read = read; alive = alive; fresh = fresh; barred = barred_so b (list_in h) e fresh barred; same = unchanged_handler h })))

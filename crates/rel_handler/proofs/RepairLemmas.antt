@@ -8,7 +8,8 @@ use Rattle.rel_disk.proofs.Moments.{started, joined, weakened}
 use Rattle.rel_files.specs.File.{HasVersions}
 use Rattle.rel_files.specs.Release.{Release}
 use Rattle.rel_list.specs.Releases.{Releases, Entry, of_status, permanent}
-use Rattle.rel_list.specs.Event.{booted}
+use Rattle.rel_list.specs.Event.{booted, recorded}
+use Rattle.rel_list.proofs.OneShotLaws.{boots_as_recorded}
 use Rattle.rel_list.specs.Status.{is_permanent}
 use Rattle.rel_list.proofs.PermanentLaws.{permanent-of_booted}
 use Rattle.rel_records.specs.Limits.{has_one_permanent}
@@ -176,7 +177,7 @@ stored_still s bytes c of repair = record {
   has = subst (MayHave s of.events) (sym repair.image_at.reaches) of.has;
   list = of.list;
   after = of.after;
-  image_of = record { bodies = image.bodies; store = image.store; list = subst (Makes image.bodies) one image.list };
+  image_of = record { bodies = image.bodies; store = image.store; list = record { makes = subst (Makes image.bodies) recorded_alike image.list.makes; free = of.image_of.list.free } };
   start = ⊎_elim (λ old. same_start old of.start) (λ new. inl (of.list, of.after, started_by repair.list of.list c c one_permanent refl new)) repair.start;
 }
   where
@@ -185,6 +186,9 @@ stored_still s bytes c of repair = record {
 
     one : booted repair.list ≡ booted of.list
     one = stands_for_one bytes repair.list of.list repair.was of.image_of
+
+    recorded_alike : recorded repair.list ≡ recorded of.list
+    recorded_alike = sym (boots_as_recorded repair.list image.list.free) ∙ one ∙ boots_as_recorded of.list of.image_of.list.free
 
     one_permanent : permanent of.list ≡ permanent repair.list
     one_permanent = sym (permanent-of_booted of.list) ∙ ap permanent (sym one) ∙ permanent-of_booted repair.list

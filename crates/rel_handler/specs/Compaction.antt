@@ -1,7 +1,7 @@
 -- How far a store reaches behind a commit: one of many records is compacted to one, the image of its list.
 use Rattle.std.specs.Prelude.{◌≡◌, ◌⊎◌, ℕ, Bool, true, ◌&&◌, nat_le, if◌then◌else◌, List, length, Option, None, Some}
 use Rattle.rel_list.specs.Releases.{Releases}
-use Rattle.rel_list.specs.Event.{booted}
+use Rattle.rel_list.specs.Event.{recorded}
 use Rattle.rel_records.specs.Image.{image_of}
 use Rattle.rel_store.specs.Compaction.{image_end, image_place}
 use Rattle.rel_handler.specs.Image.{Extent}
@@ -25,7 +25,7 @@ with_image x (Some body) = if fits_image x (length body) then extent_with x (len
 
 -- how far a store reaches that reached so far behind a commit, and whose records make this list
 abbrev pub compacted : Extent → Releases → Extent
-compacted x es = if is_long x then with_image x (image_of (booted es)) else x
+compacted x es = if is_long x then with_image x (image_of (recorded es)) else x
 
 -- So far it reaches, or memory was refused to the compaction of a long store, which reaches as far as before.
 abbrev pub MayReach : Extent → Releases → Extent → Type 0

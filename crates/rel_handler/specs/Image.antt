@@ -1,19 +1,25 @@
 -- What a disk stands for, how far its store reaches, and what fits behind it.
-use Rattle.std.specs.Prelude.{◌≡◌, ◌⊎◌, ℕ, ◌+◌, ◌≤◌, Bool, List, length, Some, Ok}
+use Rattle.std.specs.Prelude.{◌≡◌, ◌⊎◌, ℕ, ◌+◌, ◌≤◌, Bool, false, List, length, Some, Ok}
 use Rattle.rel_files.specs.Release.{Release}
-use Rattle.rel_list.specs.Releases.{Releases, permanent}
-use Rattle.rel_list.specs.Event.{booted}
+use Rattle.rel_list.specs.Releases.{Releases, has_one_shot, permanent}
+use Rattle.rel_list.specs.Event.{recorded}
 use Rattle.rel_store.specs.Layout.{base_of, has_magic, text_of}
 use Rattle.rel_store.specs.Records.{end_of, records_of, records_or_none}
 use Rattle.rel_records.specs.Lists.{Makes}
 use Rattle.rel_handler.specs.Start.{started}
 use Rattle.start_record.specs.Text.{SpellsStart}
 
--- These bytes stand for the list: they are a whole store, whose records make the list as it is behind a boot.
+-- These bodies are the records of a list: they make it as records tell it. No boot starts a one-shot yet, so none of its releases
+-- is one.
+pub record AreRecordsOf (bodies : List (List ℕ)) (es : Releases) : Type 0 where
+  pub makes : Makes bodies (recorded es)
+  pub free : has_one_shot es ≡ false
+
+-- These bytes stand for the list: they are a whole store with its records.
 pub record IsImageOf (image : List ℕ) (es : Releases) : Type 0 where
   pub bodies : List (List ℕ)
   pub store : records_of image ≡ Ok bodies
-  pub list : Makes bodies (booted es)
+  pub list : AreRecordsOf bodies es
 
 -- How far a store reaches: where its first record stands, where it ends, one past its closed gate, and how many records it has.
 pub record Extent : Type 0 where

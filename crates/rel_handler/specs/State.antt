@@ -2,11 +2,9 @@
 use Rattle.std.specs.Prelude.{◌≡◌, ℕ, Bool, false, List, [], length, Option, None, Some, Result, Ok, Err}
 use Rattle.rel_files.specs.Release.{Release}
 use Rattle.rel_list.specs.Releases.{Releases}
-use Rattle.rel_list.specs.Event.{booted}
 use Rattle.rel_store.specs.State as of_store
 use Rattle.rel_store.specs.declared.store.Store.{Store}
-use Rattle.rel_records.specs.Lists.{Makes}
-use Rattle.rel_handler.specs.Image.{Extent, IsStarted}
+use Rattle.rel_handler.specs.Image.{AreRecordsOf, Extent, IsStarted}
 use Rattle.rel_handler.specs.declared.handler.Handler.{Handler}
 
 -- its disk
@@ -39,10 +37,10 @@ extent_in handler = store_extent handler.store
 abbrev pub start_in : {D : Type 0} → (D → List ℕ) → Handler D → List ℕ
 start_in seen handler = of_store.text_in seen handler.store
 
--- Its store is settled, and the records make its list as it is behind a boot.
+-- Its store is settled, and has the records of its list.
 pub record IsReady {D : Type 0} (seen : D → List ℕ) (may_leave : D → List ℕ → Type 0) (handler : Handler D) : Type 0 where
   pub store : of_store.IsSettled seen may_leave handler.store
-  pub list : Makes (of_store.records_in handler.store) (booted handler.list)
+  pub list : AreRecordsOf (of_store.records_in handler.store) handler.list
 
 -- From now on each crash leaves the start record of the list's permanent release.
 abbrev pub HasStarted : {D : Type 0} → (D → List ℕ → Type 0) → Handler D → Type 0

@@ -25,7 +25,7 @@ use std::alloc::Global;
 /// start record, which it writes where it isn't that of the permanent release; nothing else is written.
 ///
 /// Refusals: `Device`, `NoMemory`, `NotAStore`, `Damaged`, and `BadRecord` with the number of the first record that no
-/// command could have written where it stands. A disk that stands for a list is refused for memory or the device
+/// command could have written where it stands, or of the last one where they make a list with a one-shot, which no boot starts yet. A disk that stands for a list is refused for memory or the device
 /// alone.
 pub fn boot<D: Disk>(alloc: Global, disk: D) -> Result<Handler<D>, (BootError, D)>
     ensures sound { IfOk result (IsSound D.seen D.may_leave) }
@@ -99,11 +99,17 @@ fn open<D: Disk>(alloc: Global, disk: D) -> Result<Handler<D>, (BootError, D)>
 {
     match Store::open_disk(alloc, disk) {
         Ok(store) => match read_list(alloc, store.records()) {
-            Ok(list) => Ok(Handler {
-                store,
-                list,
-                dead: true,
-            }),
+            Ok(list) => {
+                if list.one_shot().is_some() {
+                    let last = store.records().len() as u64;
+                    return Err((BootError::BadRecord(last), store.into_disk()));
+                }
+                Ok(Handler {
+                    store,
+                    list,
+                    dead: true,
+                })
+            }
             Err(error) => Err((BootError::from(error), store.into_disk())),
         },
         Err((error, disk)) => Err((boot_error(error), disk)),

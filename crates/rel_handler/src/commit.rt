@@ -1,7 +1,7 @@
 // An event and its record are committed.
 ghost use Rattle.std.specs.Prelude.{◌≡◌, true, false, length, IfErr, OnOk};
 ghost use Rattle.rel_list.specs.Event.{event_of};
-ghost use Rattle.rel_list.specs.Laws.{leaves_permanent};
+ghost use Rattle.rel_list.specs.Laws.{leaves_permanent, makes_one_shot};
 ghost use Rattle.rel_list.specs.Refusal.{brings_release};
 ghost use Rattle.rel_records.specs.Writing.{IsOfListed};
 ghost use Rattle.rel_handler.specs.Commits.{Commits, IsAppended, IsDone, IsRecordFor};
@@ -53,6 +53,7 @@ impl<D: Disk> Handler<D> {
         requires sound { IsSound D.seen D.may_leave self.old }
         requires allowed { IsAllowed (event_of event) self.old }
         requires told { IsRecordFor body.now (event_of event) (list_in self.old) }
+        requires other { makes_one_shot (event_of event) ≡ false }
         requires space { HasSpace (extent_in self.old) (length body.now) }
         requires room { HasRoom (length body.now) self.old.store }
         ensures commits { Commits D.Disk (event_of event) (length body.now) self.old self.new }
@@ -86,6 +87,7 @@ impl<D: Disk> Handler<D> {
         requires sound { IsSound D.seen D.may_leave self.old }
         requires allowed { IsAllowed (event_of event) self.old }
         requires told { IsRecordFor body.now (event_of event) (list_in self.old) }
+        requires other { makes_one_shot (event_of event) ≡ false }
         ensures commits { Commits D.Disk (event_of event) (length body.now) self.old self.new }
         ensures appended { OnOk result
             (IsAppended D.Disk (event_of event) (length body.now) self.old self.new) }
@@ -104,6 +106,7 @@ impl<D: Disk> Handler<D> {
         requires sound { IsSound D.seen D.may_leave self.old }
         requires works { is_dead self.old ≡ false }
         requires listed { IsOfListed (event_of event) }
+        requires other { makes_one_shot (event_of event) ≡ false }
         ensures commits { Commits D.Disk (event_of event)
             (change_size (event_of event) (list_in self.old)) self.old self.new }
         ensures appended { OnOk result (IsAppended D.Disk (event_of event)
@@ -131,6 +134,7 @@ impl<D: Disk> Handler<D> {
         requires sound { IsSound D.seen D.may_leave self.old }
         requires allowed { IsAllowed (event_of event) self.old }
         requires told { IsRecordFor body.now (event_of event) (list_in self.old) }
+        requires other { makes_one_shot (event_of event) ≡ false }
         requires stays { leaves_permanent (event_of event) ≡ true }
         ensures commits { Commits D.Disk (event_of event) (length body.now) self.old self.new }
         ensures works { OnOk result (is_dead self.new ≡ false) }
@@ -151,6 +155,7 @@ impl<D: Disk> Handler<D> {
         requires sound { IsSound D.seen D.may_leave self.old }
         requires works { is_dead self.old ≡ false }
         requires listed { IsOfListed (event_of event) }
+        requires other { makes_one_shot (event_of event) ≡ false }
         requires stays { leaves_permanent (event_of event) ≡ true }
         ensures commits { Commits D.Disk (event_of event)
             (change_size (event_of event) (list_in self.old)) self.old self.new }

@@ -1,7 +1,7 @@
 // A store of many records is compacted behind a commit.
 ghost use Rattle.std.specs.Prelude.{◌≡◌, [], ◌∷◌, true, Some, IfErr, OnOk};
 ghost use Rattle.rel_disk.specs.Moments.{HasFailed};
-ghost use Rattle.rel_list.specs.Event.{booted};
+ghost use Rattle.rel_list.specs.Event.{recorded};
 ghost use Rattle.rel_records.specs.Image.{image_of};
 ghost use Rattle.rel_records.specs.Lists.{Makes};
 ghost use Rattle.rel_handler.specs.Commits.{Compacts, IsCompacted};
@@ -53,8 +53,8 @@ impl<D: Disk> Handler<D> {
         requires ready { IsReady D.seen D.may_leave self.old }
         requires dead { is_dead self.old ≡ true }
         requires long { is_long (extent_in self.old) ≡ true }
-        requires image { image_of (booted (list_in self.old)) ≡ Some image.now }
-        requires makes { Makes (image.now ∷ []) (booted (list_in self.old)) }
+        requires image { image_of (recorded (list_in self.old)) ≡ Some image.now }
+        requires makes { Makes (image.now ∷ []) (recorded (list_in self.old)) }
         ensures compacts { Compacts D.Disk self.old self.new }
         ensures done { OnOk result (IsCompacted D.Disk self.old self.new) }
         ensures device { IfErr result (λ e. e ≡ HandlerError.Device) }

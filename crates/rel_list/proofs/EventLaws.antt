@@ -1,49 +1,75 @@
 -- What events make of a list, over any events.
-use Rattle.std.proofs.Common.{◌≡◌, ℕ, ◌≤◌, Bool, true, false, cond, ◌||◌, List, [], ◌∷◌, ◌++◌, length, filter, Option, Some, None, is_some, refl, sym, ap, subst, ◌∙◌, true≢false, find, arith, if◌then◌else◌}
+use Rattle.std.proofs.Common.{◌≡◌, ℕ, ◌≤◌, Bool, true, false, cond, not, ◌&&◌, ◌||◌, List, [], ◌∷◌, ◌++◌, length, filter, Option, Some, None, is_some, refl, sym, ap, subst, ◌∙◌, true≢false, find, arith, if◌then◌else◌}
 use Rattle.std.specs.Option.{option_map, option_and_then}
 use Rattle.std.specs.Str.{bytes_eq}
 use Rattle.rel_list.specs.declared.status.Status.{Status}
-use Rattle.rel_list.specs.declared.status.Status.TheVariants.{Unpacked, Current, Old, Permanent}
-use Rattle.rel_list.specs.Status.{is_current, is_permanent}
+use Rattle.rel_list.specs.declared.status.Status.TheVariants.{Unpacked, Current, Old, Permanent, OneShot}
+use Rattle.rel_list.specs.Status.{is_permanent, is_temporary}
 use Rattle.rel_list.specs.Releases.{Bundle, Releases, Entry, entry, first_different, status_of, of_status, has_current, HasDistinctVersions}
-use Rattle.rel_list.specs.Event.{Event, may_be_installed, may_be_made_permanent, may_be_removed, may_be_rebooted, installed_status, permanent_status, booted_status, assigned_status, list_installed, list_made_permanent, list_assigned, without, booted, is_barred, step, list_from, list_after}
-use Rattle.rel_list.specs.Event.Event.{made, unpacked, installed, made_permanent, removed, reboot_old, boot}
+use Rattle.rel_list.specs.Event.{Event, may_be_installed, may_be_made_permanent, may_be_removed, may_be_rebooted, installed_status, restarted_status, permanent_status, booted_status, recorded_status, assigned_status, list_installed, list_restarted, list_made_permanent, list_assigned, without, booted, is_barred, own_step, step, list_from, list_after}
+use Rattle.rel_list.specs.Event.Event.{made, unpacked, installed, restart_installed, made_permanent, removed, reboot_old, boot}
+use Rattle.rel_list.specs.Change.{has_other_temporary, may_be_given}
 use Rattle.rel_list.specs.Keyed.{IsOrderly}
 use Rattle.rel_list.proofs.Orderly.{of_version, differs_back, first_differs, none_behind, none_at_all, at_most_once, exactly_once, distinct-with_statuses, one_more, as_many, no_more, just_as_many}
+use Rattle.rel_list.proofs.Waiting.{never_made_again, own_of_step}
 
-abbrev currents : Releases → ℕ
-currents es = length (of_status is_current es)
+abbrev temporaries : Releases → ℕ
+temporaries es = length (of_status is_temporary es)
 
 abbrev pub permanents : Releases → ℕ
 permanents es = length (of_status is_permanent es)
 
 -- Installation
 
-current-installed : (b : Bool) (s : Status) → is_current (installed_status b s) ≡ true → b ≡ true
-current-installed true s is = refl
-current-installed false Unpacked is = absurd (true≢false (sym is))
-current-installed false Current is = absurd (true≢false (sym is))
-current-installed false Old is = absurd (true≢false (sym is))
-current-installed false Permanent is = absurd (true≢false (sym is))
+temporary-installed : (b : Bool) (s : Status) → is_temporary (installed_status b s) ≡ true → b ≡ true
+temporary-installed true s is = refl
+temporary-installed false Unpacked is = absurd (true≢false (sym is))
+temporary-installed false Current is = absurd (true≢false (sym is))
+temporary-installed false Old is = absurd (true≢false (sym is))
+temporary-installed false Permanent is = absurd (true≢false (sym is))
+temporary-installed false OneShot is = absurd (true≢false (sym is))
+
+temporary-restarted : (b : Bool) (s : Status) → is_temporary (restarted_status b s) ≡ true → b ≡ true
+temporary-restarted true s is = refl
+temporary-restarted false Unpacked is = absurd (true≢false (sym is))
+temporary-restarted false Current is = absurd (true≢false (sym is))
+temporary-restarted false Old is = absurd (true≢false (sym is))
+temporary-restarted false Permanent is = absurd (true≢false (sym is))
+temporary-restarted false OneShot is = absurd (true≢false (sym is))
 
 pub permanent-installed : (b : Bool) (s : Status) → is_permanent (installed_status b s) ≡ is_permanent s
 permanent-installed true Unpacked = refl
 permanent-installed true Current = refl
 permanent-installed true Old = refl
 permanent-installed true Permanent = refl
+permanent-installed true OneShot = refl
 permanent-installed false Unpacked = refl
 permanent-installed false Current = refl
 permanent-installed false Old = refl
 permanent-installed false Permanent = refl
+permanent-installed false OneShot = refl
+
+pub permanent-restarted : (b : Bool) (s : Status) → is_permanent (restarted_status b s) ≡ is_permanent s
+permanent-restarted true Unpacked = refl
+permanent-restarted true Current = refl
+permanent-restarted true Old = refl
+permanent-restarted true Permanent = refl
+permanent-restarted true OneShot = refl
+permanent-restarted false Unpacked = refl
+permanent-restarted false Current = refl
+permanent-restarted false Old = refl
+permanent-restarted false Permanent = refl
+permanent-restarted false OneShot = refl
 
 -- The permanent release
 
-current-permanent : (b : Bool) (s : Status) → is_current (permanent_status b s) ≡ true → is_current s ≡ true
-current-permanent true s is = absurd (true≢false (sym is))
-current-permanent false Unpacked is = is
-current-permanent false Current is = is
-current-permanent false Old is = is
-current-permanent false Permanent is = absurd (true≢false (sym is))
+temporary-permanent : (b : Bool) (s : Status) → is_temporary (permanent_status b s) ≡ true → is_temporary s ≡ true
+temporary-permanent true s is = absurd (true≢false (sym is))
+temporary-permanent false Unpacked is = is
+temporary-permanent false Current is = is
+temporary-permanent false Old is = is
+temporary-permanent false Permanent is = absurd (true≢false (sym is))
+temporary-permanent false OneShot is = is
 
 permanent-permanent : (b : Bool) (s : Status) → is_permanent (permanent_status b s) ≡ b
 permanent-permanent true s = refl
@@ -51,53 +77,108 @@ permanent-permanent false Unpacked = refl
 permanent-permanent false Current = refl
 permanent-permanent false Old = refl
 permanent-permanent false Permanent = refl
+permanent-permanent false OneShot = refl
 
 -- Boot
 
-current-booted : (s : Status) → is_current (booted_status s) ≡ true → is_current s ≡ true
-current-booted Unpacked is = is
-current-booted Current is = refl
-current-booted Old is = is
-current-booted Permanent is = is
+temporary-booted : (s : Status) → is_temporary (booted_status s) ≡ true → is_temporary s ≡ true
+temporary-booted Unpacked is = is
+temporary-booted Current is = refl
+temporary-booted Old is = is
+temporary-booted Permanent is = is
+temporary-booted OneShot is = refl
 
 pub permanent-booted : (s : Status) → is_permanent (booted_status s) ≡ is_permanent s
 permanent-booted Unpacked = refl
 permanent-booted Current = refl
 permanent-booted Old = refl
 permanent-booted Permanent = refl
+permanent-booted OneShot = refl
+
+pub permanent-recorded : (s : Status) → is_permanent (recorded_status s) ≡ is_permanent s
+permanent-recorded Unpacked = refl
+permanent-recorded Current = refl
+permanent-recorded Old = refl
+permanent-recorded Permanent = refl
+permanent-recorded OneShot = refl
 
 pub orderly-installed : (v : List ℕ) (es : Releases) → IsOrderly es → IsOrderly (list_installed v es)
 orderly-installed v es o =
-    let few : currents (list_installed v es) ≤ length (of_version v es) =
-    no_more (λ vsn s. installed_status (bytes_eq v vsn) s) (λ (e : Entry). is_current e.status) (λ (e : Entry). bytes_eq v e.release.vsn)
-    (λ (e : Entry). current-installed (bytes_eq v e.release.vsn) e.status) es in
-    record { distinct = distinct-with_statuses _ es o.distinct; one_current = omega (arith, few, at_most_once v es o.distinct) }
+    let few : temporaries (list_installed v es) ≤ length (of_version v es) =
+    no_more (λ vsn s. installed_status (bytes_eq v vsn) s) (λ (e : Entry). is_temporary e.status) (λ (e : Entry). bytes_eq v e.release.vsn)
+    (λ (e : Entry). temporary-installed (bytes_eq v e.release.vsn) e.status) es in
+    record { distinct = distinct-with_statuses _ es o.distinct; one_temporary = omega (arith, few, at_most_once v es o.distinct) }
+
+pub orderly-restarted : (v : List ℕ) (es : Releases) → IsOrderly es → IsOrderly (list_restarted v es)
+orderly-restarted v es o =
+    let few : temporaries (list_restarted v es) ≤ length (of_version v es) =
+    no_more (λ vsn s. restarted_status (bytes_eq v vsn) s) (λ (e : Entry). is_temporary e.status) (λ (e : Entry). bytes_eq v e.release.vsn)
+    (λ (e : Entry). temporary-restarted (bytes_eq v e.release.vsn) e.status) es in
+    record { distinct = distinct-with_statuses _ es o.distinct; one_temporary = omega (arith, few, at_most_once v es o.distinct) }
 
 pub orderly-made_permanent : (v : List ℕ) (es : Releases) → IsOrderly es → IsOrderly (list_made_permanent v es)
 orderly-made_permanent v es o =
-    let few : currents (list_made_permanent v es) ≤ currents es =
-    no_more (λ vsn s. permanent_status (bytes_eq v vsn) s) (λ (e : Entry). is_current e.status) (λ (e : Entry). is_current e.status)
-    (λ (e : Entry). current-permanent (bytes_eq v e.release.vsn) e.status) es in
-    record { distinct = distinct-with_statuses _ es o.distinct; one_current = omega (arith, few, o.one_current) }
+    let few : temporaries (list_made_permanent v es) ≤ temporaries es =
+    no_more (λ vsn s. permanent_status (bytes_eq v vsn) s) (λ (e : Entry). is_temporary e.status) (λ (e : Entry). is_temporary e.status)
+    (λ (e : Entry). temporary-permanent (bytes_eq v e.release.vsn) e.status) es in
+    record { distinct = distinct-with_statuses _ es o.distinct; one_temporary = omega (arith, few, o.one_temporary) }
 
 pub orderly-booted : (es : Releases) → IsOrderly es → IsOrderly (booted es)
 orderly-booted es o =
-    let few : currents (booted es) ≤ currents es =
-    no_more (λ vsn s. booted_status s) (λ (e : Entry). is_current e.status) (λ (e : Entry). is_current e.status) (λ (e : Entry). current-booted e.status) es in
-    record { distinct = distinct-with_statuses (λ vsn s. booted_status s) es o.distinct; one_current = omega (arith, few, o.one_current) }
+    let few : temporaries (booted es) ≤ temporaries es =
+    no_more (λ vsn s. booted_status s) (λ (e : Entry). is_temporary e.status) (λ (e : Entry). is_temporary e.status) (λ (e : Entry). temporary-booted e.status) es in
+    record { distinct = distinct-with_statuses (λ vsn s. booted_status s) es o.distinct; one_temporary = omega (arith, few, o.one_temporary) }
 
 -- An assignment
 
-current-assigned : (t : Status) → is_current t ≡ false → (b : Bool) (s : Status) → is_current (assigned_status t b s) ≡ true → is_current s ≡ true
-current-assigned t none true s is = absurd (true≢false (sym is ∙ none))
-current-assigned t none false s is = is
+-- Where no other release is current or a one-shot, only the one of this version is, whatever it gets.
+few-alone : (v : List ℕ) (t : Status) (es : Releases) → has_other_temporary v es ≡ false → temporaries (list_assigned v t es) ≤ length (of_version v es)
+few-alone v t [] alone = omega arith
+few-alone v t (e ∷ es) alone = go (bytes_eq v e.release.vsn) alone (few-alone v t es)
+  where
+    assigned : Releases
+    assigned = list_assigned v t es
 
-pub orderly-assigned : (v : List ℕ) (t : Status) (es : Releases) → is_current t ≡ false → IsOrderly es → IsOrderly (list_assigned v t es)
-orderly-assigned v t es none o =
-    let few : currents (list_assigned v t es) ≤ currents es =
-    no_more (λ vsn s. assigned_status t (bytes_eq v vsn) s) (λ (e : Entry). is_current e.status) (λ (e : Entry). is_current e.status)
-    (λ (e : Entry). current-assigned t none (bytes_eq v e.release.vsn) e.status) es in
-    record { distinct = distinct-with_statuses _ es o.distinct; one_current = omega (arith, few, o.one_current) }
+    -- at most one more on the left, and one more on the right
+    of_it : (b : Bool) (x : Entry) → temporaries assigned ≤ length (of_version v es) → length (cond b (x ∷ of_status is_temporary assigned) (of_status is_temporary assigned)) ≤ length (e ∷ of_version v es)
+    of_it true x few = omega (arith, few)
+    of_it false x few = omega (arith, few)
+
+    of_another : (b : Bool) (x : Entry) → (b || has_other_temporary v es) ≡ false → (has_other_temporary v es ≡ false → temporaries assigned ≤ length (of_version v es))
+        → length (cond b (x ∷ of_status is_temporary assigned) (of_status is_temporary assigned)) ≤ length (of_version v es)
+    of_another true x alone rest = absurd (true≢false alone)
+    of_another false x alone rest = rest alone
+
+    go : (b : Bool) → ((not b && is_temporary e.status) || has_other_temporary v es) ≡ false → (has_other_temporary v es ≡ false → temporaries assigned ≤ length (of_version v es))
+        → length (cond (is_temporary (assigned_status t b e.status)) (record e { status = assigned_status t b e.status } ∷ of_status is_temporary assigned) (of_status is_temporary assigned))
+        ≤ length (cond b (e ∷ of_version v es) (of_version v es))
+    go true alone rest = of_it (is_temporary t) (record e { status = t }) (rest alone)
+    go false alone rest = of_another (is_temporary e.status) e alone rest
+
+temporary-assigned : (t : Status) → is_temporary t ≡ false → (b : Bool) (s : Status) → is_temporary (assigned_status t b s) ≡ true → is_temporary s ≡ true
+temporary-assigned t none true s is = absurd (true≢false (sym is ∙ none))
+temporary-assigned t none false s is = is
+
+orderly-at_rest : (v : List ℕ) (t : Status) (es : Releases) → is_temporary t ≡ false → IsOrderly es → IsOrderly (list_assigned v t es)
+orderly-at_rest v t es none o =
+    let few : temporaries (list_assigned v t es) ≤ temporaries es =
+    no_more (λ vsn s. assigned_status t (bytes_eq v vsn) s) (λ (e : Entry). is_temporary e.status) (λ (e : Entry). is_temporary e.status)
+    (λ (e : Entry). temporary-assigned t none (bytes_eq v e.release.vsn) e.status) es in
+    record { distinct = distinct-with_statuses _ es o.distinct; one_temporary = omega (arith, few, o.one_temporary) }
+
+no_other : (listed other : Bool) → (listed && not other) ≡ true → other ≡ false
+no_other listed false may = refl
+no_other true true may = absurd (true≢false (sym may))
+no_other false true may = absurd (true≢false (sym may))
+
+pub orderly-assigned : (v : List ℕ) (t : Status) (es : Releases) → may_be_given t v es ≡ true → IsOrderly es → IsOrderly (list_assigned v t es)
+orderly-assigned v Unpacked es may o = orderly-at_rest v Unpacked es refl o
+orderly-assigned v Current es may o = absurd (true≢false (sym may))
+orderly-assigned v Old es may o = orderly-at_rest v Old es refl o
+orderly-assigned v Permanent es may o = orderly-at_rest v Permanent es refl o
+orderly-assigned v OneShot es may o =
+    let few = few-alone v OneShot es (no_other (is_some (status_of v es)) (has_other_temporary v es) may) in
+    record { distinct = distinct-with_statuses _ es o.distinct; one_temporary = omega (arith, few, at_most_once v es o.distinct) }
 
 -- A release that leaves
 
@@ -133,13 +214,14 @@ fewer test v (e ∷ es) = go (bytes_eq v e.release.vsn) (fewer test v es)
 
 pub orderly-without : (v : List ℕ) (es : Releases) → IsOrderly es → IsOrderly (without v es)
 orderly-without v es o =
-    record { distinct = distinct-without v es o.distinct; one_current = omega (arith, fewer (λ (e : Entry). is_current e.status) v es, o.one_current) }
+    record { distinct = distinct-without v es o.distinct; one_temporary = omega (arith, fewer (λ (e : Entry). is_temporary e.status) v es, o.one_temporary) }
 
 pub kept_permanent : (s : Status) → may_be_removed (Some s) ≡ true → is_permanent s ≡ false
 kept_permanent Unpacked is = refl
 kept_permanent Current is = refl
 kept_permanent Old is = refl
 kept_permanent Permanent is = sym is
+kept_permanent OneShot is = refl
 
 permanents-without : (v : List ℕ) (es : Releases) → may_be_removed (status_of v es) ≡ true → permanents (without v es) ≡ permanents es
 permanents-without v [] may = refl
@@ -169,10 +251,10 @@ no_more-push : (test : Entry → Bool) (es : Releases) (n : Entry) → test n �
 no_more-push test [] n not_it = ap (λ b. cond b (n ∷ []) []) not_it
 no_more-push test (e ∷ es) n not_it = ap (λ l. cond (test e) (e ∷ l) l) (no_more-push test es n not_it)
 
-pub orderly-push : (es : Releases) (n : Entry) → is_current n.status ≡ false → status_of n.release.vsn es ≡ None → IsOrderly es → IsOrderly (es ++ n ∷ [])
-orderly-push es n not_current none o = record {
+pub orderly-push : (es : Releases) (n : Entry) → is_temporary n.status ≡ false → status_of n.release.vsn es ≡ None → IsOrderly es → IsOrderly (es ++ n ∷ [])
+orderly-push es n not_temporary none o = record {
   distinct = distinct-push es n none o.distinct;
-  one_current = subst (λ l. length l ≤ 1) (sym (no_more-push (λ (e : Entry). is_current e.status) es n not_current)) o.one_current;
+  one_temporary = subst (λ l. length l ≤ 1) (sym (no_more-push (λ (e : Entry). is_temporary e.status) es n not_temporary)) o.one_temporary;
 }
 
 -- Any event
@@ -197,25 +279,30 @@ fits p es is = unlisted (status_of p.release.vsn es) (neither (is_some (status_o
     neither true b is = absurd (true≢false is)
     neither false b is = refl
 
-pub orderly-step : (e : Event) (es next : Releases) → IsOrderly es → step e es ≡ Some next → IsOrderly next
-orderly-step (made p) [] next o is =
+orderly-own : (e : Event) (es next : Releases) → IsOrderly es → own_step e es ≡ Some next → IsOrderly next
+orderly-own (made p) [] next o is =
     let single : entry p Permanent ∷ [] ≡ next = cc is in
-    subst IsOrderly single (record { distinct = (refl, tt); one_current = omega arith })
-orderly-step (made p) (e ∷ es) next o is = cc
-orderly-step (unpacked p) es next o is =
+    subst IsOrderly single (record { distinct = (refl, tt); one_temporary = omega arith })
+orderly-own (made p) (e ∷ es) next o is = cc
+orderly-own (unpacked p) es next o is =
     let a = allowed_else (is_barred p es) (es ++ entry p Unpacked ∷ []) next is in
     subst IsOrderly a.1 (orderly-push es (entry p Unpacked) refl (fits p es a.0) o)
-orderly-step (installed v) es next o is =
+orderly-own (installed v) es next o is =
     subst IsOrderly (allowed (may_be_installed (has_current es) (status_of v es)) (list_installed v es) next is).1 (orderly-installed v es o)
-orderly-step (made_permanent v) es next o is =
+orderly-own (restart_installed v) es next o is =
+    subst IsOrderly (allowed (may_be_installed (has_current es) (status_of v es)) (list_restarted v es) next is).1 (orderly-restarted v es o)
+orderly-own (made_permanent v) es next o is =
     subst IsOrderly (allowed (may_be_made_permanent (status_of v es)) (list_made_permanent v es) next is).1 (orderly-made_permanent v es o)
-orderly-step (removed v) es next o is =
+orderly-own (removed v) es next o is =
     subst IsOrderly (allowed (may_be_removed (status_of v es)) (without v es) next is).1 (orderly-without v es o)
-orderly-step (reboot_old v) es next o is =
+orderly-own (reboot_old v) es next o is =
     subst IsOrderly (allowed (may_be_rebooted (status_of v es)) (list_made_permanent v es) next is).1 (orderly-made_permanent v es o)
-orderly-step boot es next o is =
+orderly-own boot es next o is =
     let is_booted : booted es ≡ next = cc is in
     subst IsOrderly is_booted (orderly-booted es o)
+
+pub orderly-step : (e : Event) (es next : Releases) → IsOrderly es → step e es ≡ Some next → IsOrderly next
+orderly-step e es next o is = orderly-own e es next o (own_of_step e es next is).1
 
 -- exactly one release stays permanent
 listed_current : (o : Option Status) → may_be_made_permanent o ≡ true → is_some o ≡ true
@@ -232,32 +319,40 @@ permanents-made_permanent v es distinct listed =
     (λ (e : Entry). permanent-permanent (bytes_eq v e.release.vsn) e.status) es
     ∙ exactly_once v es distinct listed
 
-pub one_permanent-step : (e : Event) (es next : Releases) → HasDistinctVersions es → permanents es ≡ 1 → step e es ≡ Some next → permanents next ≡ 1
-one_permanent-step (made p) [] next distinct one is = omega (arith, one)
-one_permanent-step (made p) (e ∷ es) next distinct one is = cc
-one_permanent-step (unpacked p) es next distinct one is =
+one_permanent-own : (e : Event) (es next : Releases) → HasDistinctVersions es → permanents es ≡ 1 → own_step e es ≡ Some next → permanents next ≡ 1
+one_permanent-own (made p) [] next distinct one is = omega (arith, one)
+one_permanent-own (made p) (e ∷ es) next distinct one is = cc
+one_permanent-own (unpacked p) es next distinct one is =
     let a = allowed_else (is_barred p es) (es ++ entry p Unpacked ∷ []) next is in
     subst (λ l. permanents l ≡ 1) a.1 (ap length (no_more-push (λ (e : Entry). is_permanent e.status) es (entry p Unpacked) refl) ∙ one)
-one_permanent-step (installed v) es next distinct one is =
+one_permanent-own (installed v) es next distinct one is =
     subst (λ l. permanents l ≡ 1) (allowed (may_be_installed (has_current es) (status_of v es)) (list_installed v es) next is).1
     (just_as_many (λ vsn s. installed_status (bytes_eq v vsn) s) (λ (e : Entry). is_permanent e.status) (λ (e : Entry). is_permanent e.status)
     (λ (e : Entry). permanent-installed (bytes_eq v e.release.vsn) e.status) es
     ∙ one)
-one_permanent-step (made_permanent v) es next distinct one is =
+one_permanent-own (restart_installed v) es next distinct one is =
+    subst (λ l. permanents l ≡ 1) (allowed (may_be_installed (has_current es) (status_of v es)) (list_restarted v es) next is).1
+    (just_as_many (λ vsn s. restarted_status (bytes_eq v vsn) s) (λ (e : Entry). is_permanent e.status) (λ (e : Entry). is_permanent e.status)
+    (λ (e : Entry). permanent-restarted (bytes_eq v e.release.vsn) e.status) es
+    ∙ one)
+one_permanent-own (made_permanent v) es next distinct one is =
     let a = allowed (may_be_made_permanent (status_of v es)) (list_made_permanent v es) next is in
     subst (λ l. permanents l ≡ 1) a.1 (permanents-made_permanent v es distinct (listed_current (status_of v es) a.0))
-one_permanent-step (removed v) es next distinct one is =
+one_permanent-own (removed v) es next distinct one is =
     let a = allowed (may_be_removed (status_of v es)) (without v es) next is in
     subst (λ l. permanents l ≡ 1) a.1 (permanents-without v es a.0 ∙ one)
-one_permanent-step (reboot_old v) es next distinct one is =
+one_permanent-own (reboot_old v) es next distinct one is =
     let a = allowed (may_be_rebooted (status_of v es)) (list_made_permanent v es) next is in
     subst (λ l. permanents l ≡ 1) a.1 (permanents-made_permanent v es distinct (listed_old (status_of v es) a.0))
-one_permanent-step boot es next distinct one is =
+one_permanent-own boot es next distinct one is =
     let is_booted : booted es ≡ next = cc is in
     subst (λ l. permanents l ≡ 1) is_booted
     (just_as_many (λ vsn s. booted_status s) (λ (e : Entry). is_permanent e.status) (λ (e : Entry). is_permanent e.status)
     (λ (e : Entry). permanent-booted e.status) es
     ∙ one)
+
+pub one_permanent-step : (e : Event) (es next : Releases) → HasDistinctVersions es → permanents es ≡ 1 → step e es ≡ Some next → permanents next ≡ 1
+one_permanent-step e es next distinct one is = one_permanent-own e es next distinct one (own_of_step e es next is).1
 
 -- Events in a row
 
@@ -270,6 +365,19 @@ first_step e events es end is = go (step e es) refl is
         → (next : Releases) × (step e es ≡ Some next) × (list_from next events ≡ Some end)
     go None made_of is = cc
     go (Some next) made_of is = (next, made_of, is)
+
+-- the list behind further events
+pub list_from-append : (es : Releases) (events more : List Event) (mid end : Releases) → list_from es events ≡ Some mid → list_from mid more ≡ Some end → list_from es (events ++ more) ≡ Some end
+list_from-append es [] more mid end first second =
+    let same : es ≡ mid = cc first in
+    subst (λ l. list_from l more ≡ Some end) (sym same) second
+list_from-append es (e ∷ events) more mid end first second =
+    go (step e es) (λ l. list_from-append l events more mid end) first
+  where
+    go : (o : Option Releases) → ((l : Releases) → list_from l events ≡ Some mid → list_from mid more ≡ Some end → list_from l (events ++ more) ≡ Some end)
+        → option_and_then (λ l. list_from l events) o ≡ Some mid → option_and_then (λ l. list_from l (events ++ more)) o ≡ Some end
+    go None rest first = cc
+    go (Some l) rest first = rest l first second
 
 orderly-from : (events : List Event) (es end : Releases) → IsOrderly es → list_from es events ≡ Some end → IsOrderly end
 orderly-from [] es end o is =
@@ -290,13 +398,14 @@ one_permanent-from (e ∷ events) es end o one is =
 one_permanent-behind : (before after : List Event) (p : Bundle) (es end : Releases) → IsOrderly es → list_from es (before ++ made p ∷ after) ≡ Some end → permanents end ≡ 1
 one_permanent-behind [] after p [] end o is =
     one_permanent-from after (entry p Permanent ∷ []) end (orderly-step (made p) [] (entry p Permanent ∷ []) o refl) refl is
-one_permanent-behind [] after p (e ∷ es) end o is = cc
+one_permanent-behind [] after p (e ∷ es) end o is =
+    let s = first_step (made p) after (e ∷ es) end is in absurd (never_made_again p e es s.0 s.1)
 one_permanent-behind (e ∷ before) after p es end o is =
     let s = first_step e (before ++ made p ∷ after) es end is in
     one_permanent-behind before after p s.0 end (orderly-step e es s.0 o s.1) s.2
 
 pub orderly-empty : IsOrderly []
-orderly-empty = record { distinct = tt; one_current = omega arith }
+orderly-empty = record { distinct = tt; one_temporary = omega arith }
 
 pub orderly-after : (events : List Event) (es : Releases) → list_after events ≡ Some es → IsOrderly es
 orderly-after events es is = orderly-from events [] es orderly-empty is

@@ -1,9 +1,11 @@
 mod Lookups
 pub mod LibraryLaws
 pub mod Orderly
+pub mod Waiting
 pub mod EventLaws
 pub mod PermanentLaws
-mod BootLaws
+pub mod BootLaws
+pub mod OneShotLaws
 pub mod RefusalLaws
 pub mod RestLaws
 mod Kept

@@ -12,15 +12,22 @@ use Rattle.rel_files.proofs.Options.{both, both_true}
 use Rattle.library.specs.Library.{Library, IsLibrary, is_at, library_at, agrees, is_same_library}
 use Rattle.library.proofs.Terms.{same_libraries}
 use Rattle.rel_list.specs.Releases.{Releases, Entry, libraries_named, library_in, each_once, shared, differs, first_different}
-use Rattle.rel_list.specs.Event.{booted}
+use Rattle.rel_list.specs.declared.status.Status.{Status}
+use Rattle.rel_list.specs.Event.{booted, booted_status, recorded, recorded_status, with_statuses}
 use Rattle.rel_list.proofs.Orderly.{same_version, is_itself}
 
 -- Boots, and releases that come in
 
 -- a boot leaves the libraries
+libraries-with_statuses : (f : List ℕ → Status → Status) (es : Releases) → libraries_named (with_statuses f es) ≡ libraries_named es
+libraries-with_statuses f [] = refl
+libraries-with_statuses f (e ∷ es) = ap (λ (ls : List Library). e.libraries ++ ls) (libraries-with_statuses f es)
+
 pub libraries-booted : (es : Releases) → libraries_named (booted es) ≡ libraries_named es
-libraries-booted [] = refl
-libraries-booted (e ∷ es) = ap (λ (ls : List Library). e.libraries ++ ls) (libraries-booted es)
+libraries-booted es = libraries-with_statuses (λ vsn s. booted_status s) es
+
+pub libraries-recorded : (es : Releases) → libraries_named (recorded es) ≡ libraries_named es
+libraries-recorded es = libraries-with_statuses (λ vsn s. recorded_status s) es
 
 -- a release that comes in brings its libraries behind the others
 pub libraries-push : (es : Releases) (e : Entry) → libraries_named (es ++ e ∷ []) ≡ libraries_named es ++ e.libraries

@@ -16,8 +16,7 @@ use Rattle.relup_file.specs.Relup.{relup_of}
 use Rattle.rel_list.specs.declared.listed.ListedRelease.{ListedRelease}
 use Rattle.rel_list.specs.declared.status.Status.{Status}
 use Rattle.rel_list.specs.declared.change.StatusChange.{StatusChange}
-use Rattle.rel_list.specs.Status.{is_current}
-use Rattle.rel_list.specs.Releases.{Entry, status_of, release_at, relup_at, current}
+use Rattle.rel_list.specs.Releases.{Entry, status_of, release_at, relup_at}
 use Rattle.rel_list.specs.Event.{with_statuses, without}
 use Rattle.rel_list.specs.Change.{status_after, changed}
 use Rattle.rel_list.specs.Keyed.{entry_of, entries_in, AreKeyed}
@@ -98,16 +97,21 @@ first_release test (l ∷ ls) = go (test l.status) (first_release test ls)
     go false rest = rest
 
 -- the version of the current release, as it is kept and among the entries
-pub current_version : (ls : List ListedRelease)
-    → option_map (λ (l : ListedRelease). string_bytes l.release.vsn) (find (λ (l : ListedRelease). is_current l.status) ls)
-    ≡ option_map (λ (r : Release). r.vsn) (current (map entry_of ls))
-current_version ls =
-    twice (find (λ (l : ListedRelease). is_current l.status) ls) ∙ ap (option_map (λ (r : Release). r.vsn)) (sym (first_release is_current ls))
+pub first_version : (test : Status → Bool) (ls : List ListedRelease)
+    → option_map (λ (l : ListedRelease). string_bytes l.release.vsn) (find (λ (l : ListedRelease). test l.status) ls)
+    ≡ option_map (λ (e : Entry). e.release.vsn) (find (λ (e : Entry). test e.status) (map entry_of ls))
+first_version test ls =
+    twice (find (λ (l : ListedRelease). test l.status) ls) ∙ ap (option_map (λ (r : Release). r.vsn)) (sym (first_release test ls))
+    ∙ once (find (λ (e : Entry). test e.status) (map entry_of ls))
   where
     twice : (o : Option ListedRelease)
         → option_map (λ (l : ListedRelease). string_bytes l.release.vsn) o ≡ option_map (λ (r : Release). r.vsn) (option_map (λ (l : ListedRelease). release_of l.release) o)
     twice None = refl
     twice (Some l) = refl
+
+    once : (o : Option Entry) → option_map (λ (r : Release). r.vsn) (option_map (λ (e : Entry). e.release) o) ≡ option_map (λ (e : Entry). e.release.vsn) o
+    once None = refl
+    once (Some e) = refl
 
 -- a further pair, at its version
 pub AreKeyed-push : (ps : List (String Global × ListedRelease)) (k : String Global) (l : ListedRelease)

@@ -7,10 +7,11 @@ use Rattle.rel_list.specs.declared.status.Status.{Status}
 use Rattle.rel_list.specs.declared.status.Status.TheVariants.{Unpacked}
 use Rattle.rel_list.specs.Status.{is_permanent}
 use Rattle.rel_list.specs.Releases.{Bundle, Releases, Entry, entry, status_of, has_current, permanent}
-use Rattle.rel_list.specs.Event.{may_be_installed, may_be_removed, installed_status, booted_status, with_statuses, list_installed, without, booted}
-use Rattle.rel_list.specs.Event.Event.{made, unpacked, installed, made_permanent, removed, reboot_old, boot}
-use Rattle.rel_list.specs.Laws.{PermanentStays}
-use Rattle.rel_list.proofs.EventLaws.{permanent-installed, permanent-booted, kept_permanent, allowed, allowed_else}
+use Rattle.rel_list.specs.Event.{Event, may_be_installed, may_be_removed, installed_status, restarted_status, booted_status, recorded_status, with_statuses, list_installed, list_restarted, without, booted, recorded, own_step}
+use Rattle.rel_list.specs.Event.Event.{made, unpacked, installed, restart_installed, made_permanent, removed, reboot_old, boot}
+use Rattle.rel_list.specs.Laws.{leaves_permanent, PermanentStays}
+use Rattle.rel_list.proofs.EventLaws.{permanent-installed, permanent-restarted, permanent-booted, permanent-recorded, kept_permanent, allowed, allowed_else}
+use Rattle.rel_list.proofs.Waiting.{own_of_step}
 
 -- the first release, or one behind it
 abbrev release_or : Bool → Entry → Option Entry → Option Release
@@ -35,6 +36,9 @@ permanent-with_statuses f same (e ∷ es) =
 pub permanent-of_booted : (es : Releases) → permanent (booted es) ≡ permanent es
 permanent-of_booted es = permanent-with_statuses (λ vsn s. booted_status s) (λ vsn s. permanent-booted s) es
 
+pub permanent-of_recorded : (es : Releases) → permanent (recorded es) ≡ permanent es
+permanent-of_recorded es = permanent-with_statuses (λ vsn s. recorded_status s) (λ vsn s. permanent-recorded s) es
+
 permanent-push : (es : Releases) (p : Bundle) → permanent (es ++ entry p Unpacked ∷ []) ≡ permanent es
 permanent-push [] p = refl
 permanent-push (e ∷ es) p = go (is_permanent e.status) (permanent-push es p)
@@ -57,19 +61,25 @@ permanent-without v (e ∷ es) may = go (bytes_eq v e.release.vsn) (permanent-wi
         ahead true rest = refl
         ahead false rest = rest
 
-pub permanent_stays : PermanentStays
-permanent_stays (made p) es next leaves is = absurd (true≢false (sym leaves))
-permanent_stays (unpacked p) es next leaves is =
+permanent-own : (e : Event) (es next : Releases) → leaves_permanent e ≡ true → own_step e es ≡ Some next → permanent next ≡ permanent es
+permanent-own (made p) es next leaves is = absurd (true≢false (sym leaves))
+permanent-own (unpacked p) es next leaves is =
     let a = allowed_else _ (es ++ entry p Unpacked ∷ []) next is in
     ap permanent (sym a.1) ∙ permanent-push es p
-permanent_stays (installed v) es next leaves is =
+permanent-own (installed v) es next leaves is =
     let a = allowed (may_be_installed (has_current es) (status_of v es)) (list_installed v es) next is in
     ap permanent (sym a.1) ∙ permanent-with_statuses (λ vsn s. installed_status (bytes_eq v vsn) s) (λ vsn s. permanent-installed (bytes_eq v vsn) s) es
-permanent_stays (made_permanent v) es next leaves is = absurd (true≢false (sym leaves))
-permanent_stays (removed v) es next leaves is =
+permanent-own (restart_installed v) es next leaves is =
+    let a = allowed (may_be_installed (has_current es) (status_of v es)) (list_restarted v es) next is in
+    ap permanent (sym a.1) ∙ permanent-with_statuses (λ vsn s. restarted_status (bytes_eq v vsn) s) (λ vsn s. permanent-restarted (bytes_eq v vsn) s) es
+permanent-own (made_permanent v) es next leaves is = absurd (true≢false (sym leaves))
+permanent-own (removed v) es next leaves is =
     let a = allowed (may_be_removed (status_of v es)) (without v es) next is in
     ap permanent (sym a.1) ∙ permanent-without v es a.0
-permanent_stays (reboot_old v) es next leaves is = absurd (true≢false (sym leaves))
-permanent_stays boot es next leaves is =
+permanent-own (reboot_old v) es next leaves is = absurd (true≢false (sym leaves))
+permanent-own boot es next leaves is =
     let is_booted : booted es ≡ next = cc is in
     ap permanent (sym is_booted) ∙ permanent-of_booted es
+
+pub permanent_stays : PermanentStays
+permanent_stays e es next leaves is = permanent-own e es next leaves (own_of_step e es next is).1

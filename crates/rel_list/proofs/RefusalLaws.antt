@@ -1,14 +1,14 @@
 -- An event has a refusal exactly where the list doesn't allow it.
 use Rattle.std.proofs.Common.{◌≡◌, ◌≢◌, ◌↔◌, Bool, true, false, ◌||◌, [], ◌∷◌, Option, Some, None, is_some, refl, if◌then◌else◌}
 use Rattle.rel_list.specs.declared.status.Status.{Status}
-use Rattle.rel_list.specs.declared.status.Status.TheVariants.{Unpacked, Current, Old, Permanent}
+use Rattle.rel_list.specs.declared.status.Status.TheVariants.{Unpacked, Current, Old, Permanent, OneShot}
 use Rattle.rel_list.specs.declared.fault.ListError.{ListError}
 use Rattle.rel_list.specs.declared.fault.ListError.TheVariants as told
 use Rattle.rel_list.specs.Status.{is_current, is_old, is_permanent, runs}
 use Rattle.rel_list.specs.Releases.{Releases, first_different, status_of, has_current}
-use Rattle.rel_list.specs.Event.{Event, may_be_installed, may_be_made_permanent, may_be_removed, may_be_rebooted, list_installed, list_made_permanent, without, step}
-use Rattle.rel_list.specs.Event.Event.{made, unpacked, installed, made_permanent, removed, reboot_old, boot}
-use Rattle.rel_list.specs.Refusal.{refusal, listed_refusal}
+use Rattle.rel_list.specs.Event.{Event, may_be_installed, may_be_made_permanent, may_be_removed, may_be_rebooted, list_installed, list_restarted, list_made_permanent, without, own_step, step, waits_for_boot}
+use Rattle.rel_list.specs.Event.Event.{made, unpacked, installed, restart_installed, made_permanent, removed, reboot_old, boot}
+use Rattle.rel_list.specs.Refusal.{own_refusal, refusal, listed_refusal}
 
 abbrev no_refusal : Option ListError
 no_refusal = None
@@ -32,6 +32,7 @@ by_installation other (Some Current) es = refuses _
 by_installation other (Some Old) es = allows es
 by_installation true (Some Permanent) es = allows es
 by_installation false (Some Permanent) es = refuses _
+by_installation other (Some OneShot) es = refuses _
 
 by_permanence : (o : Option Status) (es : Releases)
     → (listed_refusal (λ s. if is_current s then None else Some (told.BadStatus s)) o ≡ None) ↔ ((if may_be_made_permanent o then Some es else None) ≢ None)
@@ -40,6 +41,7 @@ by_permanence (Some Unpacked) es = refuses _
 by_permanence (Some Current) es = allows es
 by_permanence (Some Old) es = refuses _
 by_permanence (Some Permanent) es = refuses _
+by_permanence (Some OneShot) es = refuses _
 
 by_removal : (other : Bool) (o : Option Status) (es : Releases)
     → (listed_refusal (λ s. if is_permanent s then Some told.Permanent else if runs other s then Some told.Running else None) o ≡ None)
@@ -49,6 +51,7 @@ by_removal other (Some Unpacked) es = allows es
 by_removal other (Some Current) es = refuses _
 by_removal other (Some Old) es = allows es
 by_removal other (Some Permanent) es = refuses _
+by_removal other (Some OneShot) es = refuses _
 
 by_reboot : (o : Option Status) (es : Releases)
     → (listed_refusal (λ s. if is_old s then None else Some (told.BadStatus s)) o ≡ None) ↔ ((if may_be_rebooted o then Some es else None) ≢ None)
@@ -57,6 +60,7 @@ by_reboot (Some Unpacked) es = refuses _
 by_reboot (Some Current) es = refuses _
 by_reboot (Some Old) es = allows es
 by_reboot (Some Permanent) es = refuses _
+by_reboot (Some OneShot) es = refuses _
 
 by_fit : (listed different : Bool) (es : Releases)
     → ((if listed then Some told.ExistingRelease else if different then Some told.LibDiffers else None) ≡ None) ↔ ((if listed || different then None else Some es) ≢ None)
@@ -64,12 +68,20 @@ by_fit true different es = refuses _
 by_fit false true es = refuses _
 by_fit false false es = allows es
 
+by_own_rule : (e : Event) (es : Releases) → (own_refusal e es ≡ None) ↔ (own_step e es ≢ None)
+by_own_rule (made p) [] = allows _
+by_own_rule (made p) (e ∷ es) = refuses _
+by_own_rule (unpacked p) es = by_fit (is_some (status_of p.release.vsn es)) (is_some (first_different es p.libraries)) _
+by_own_rule (installed v) es = by_installation (has_current es) (status_of v es) (list_installed v es)
+by_own_rule (restart_installed v) es = by_installation (has_current es) (status_of v es) (list_restarted v es)
+by_own_rule (made_permanent v) es = by_permanence (status_of v es) (list_made_permanent v es)
+by_own_rule (removed v) es = by_removal (has_current es) (status_of v es) (without v es)
+by_own_rule (reboot_old v) es = by_reboot (status_of v es) (list_made_permanent v es)
+by_own_rule boot es = allows _
+
 pub refused_where_not_allowed : (e : Event) (es : Releases) → (refusal e es ≡ None) ↔ (step e es ≢ None)
-refused_where_not_allowed (made p) [] = allows _
-refused_where_not_allowed (made p) (e ∷ es) = refuses _
-refused_where_not_allowed (unpacked p) es = by_fit (is_some (status_of p.release.vsn es)) (is_some (first_different es p.libraries)) _
-refused_where_not_allowed (installed v) es = by_installation (has_current es) (status_of v es) (list_installed v es)
-refused_where_not_allowed (made_permanent v) es = by_permanence (status_of v es) (list_made_permanent v es)
-refused_where_not_allowed (removed v) es = by_removal (has_current es) (status_of v es) (without v es)
-refused_where_not_allowed (reboot_old v) es = by_reboot (status_of v es) (list_made_permanent v es)
-refused_where_not_allowed boot es = allows _
+refused_where_not_allowed e es = go (waits_for_boot e es)
+  where
+    go : (b : Bool) → ((if b then Some (told.BadStatus OneShot) else own_refusal e es) ≡ None) ↔ ((if b then None else own_step e es) ≢ None)
+    go true = refuses _
+    go false = by_own_rule e es

@@ -10,7 +10,7 @@ use Rattle.relup_file.specs.Relup.{relup_of}
 use Rattle.rel_list.specs.declared.bundle.Bundle as declared_bundle
 use Rattle.rel_list.specs.declared.listed.ListedRelease.{ListedRelease}
 use Rattle.rel_list.specs.Releases.{Bundle, Releases, Entry, HasDistinctVersions, of_status}
-use Rattle.rel_list.specs.Status.{is_current}
+use Rattle.rel_list.specs.Status.{is_temporary}
 
 abbrev pub bundle_of : declared_bundle.Bundle → Bundle
 bundle_of p = record { release = release_of p.release; libraries = map shared_of p.libraries.items; relup = option_map relup_of p.relup }
@@ -27,10 +27,10 @@ entries_in ps = map entry_of (values_of ps)
 abbrev pub AreKeyed : List (String Global × ListedRelease) → Type 0
 AreKeyed ps = AllByRecursion (λ (p : String Global × ListedRelease). string_bytes p.0 ≡ string_bytes p.1.release.vsn) ps
 
--- No version stands twice, and at most one release is current.
+-- No version stands twice, and at most one release is current or a one-shot.
 pub record IsOrderly (es : Releases) : Type 0 where
   pub distinct : HasDistinctVersions es
-  pub one_current : length (of_status is_current es) ≤ 1
+  pub one_temporary : length (of_status is_temporary es) ≤ 1
 
 -- what the map of a list keeps
 pub record IsKept (ps : List (String Global × ListedRelease)) : Type 0 where

@@ -7,7 +7,7 @@ use Rattle.library.specs.Library.{Library, agrees, is_at, library_at}
 use Rattle.rel_files.specs.Release.{Release}
 use Rattle.relup_file.specs.Relup.{RelupForm}
 use Rattle.rel_list.specs.declared.status.Status.{Status}
-use Rattle.rel_list.specs.Status.{is_current, is_permanent}
+use Rattle.rel_list.specs.Status.{is_current, is_one_shot, is_permanent}
 
 -- a release with the libraries of its applications, in their order, and its relup, if it has one (OTP: a release package)
 pub record Bundle : Type 0 where
@@ -64,6 +64,14 @@ current es = option_map (λ (e : Entry). e.release) (find (λ e. is_current e.st
 -- one of the releases is current
 abbrev pub has_current : Releases → Bool
 has_current es = is_some (current es)
+
+-- the release that the next boot starts, once
+abbrev pub one_shot : Releases → Option Release
+one_shot es = option_map (λ (e : Entry). e.release) (find (λ e. is_one_shot e.status) es)
+
+-- one of the releases is a one-shot
+abbrev pub has_one_shot : Releases → Bool
+has_one_shot es = is_some (one_shot es)
 
 -- the release that runs: the current one, or the permanent one if none is current
 abbrev pub running : Releases → Option Release

@@ -1,7 +1,7 @@
 -- The words for the statuses of releases (OTP: release_handler(3), which_releases).
 use Rattle.std.specs.Prelude.{ℕ, List, Bool, true, false, not, codes}
 use Rattle.rel_list.specs.declared.status.Status.{Status}
-use Rattle.rel_list.specs.declared.status.Status.TheVariants.{Unpacked, Current, Old, Permanent}
+use Rattle.rel_list.specs.declared.status.Status.TheVariants.{Unpacked, Current, Old, Permanent, OneShot}
 
 -- the atom for a status
 abbrev pub status_word : Status → List ℕ
@@ -9,6 +9,7 @@ status_word Unpacked = codes "unpacked"
 status_word Current = codes "current"
 status_word Old = codes "old"
 status_word Permanent = codes "permanent"
+status_word OneShot = codes "one_shot"
 
 abbrev pub is_current : Status → Bool
 is_current Current = true
@@ -22,8 +23,20 @@ abbrev pub is_permanent : Status → Bool
 is_permanent Permanent = true
 is_permanent s = false
 
--- a release with this status runs: it is current, or permanent in a list that has no current one
+abbrev pub is_one_shot : Status → Bool
+is_one_shot OneShot = true
+is_one_shot s = false
+
+-- it is installed until a boot takes the installation away: it is current, or a one-shot
+abbrev pub is_temporary : Status → Bool
+is_temporary Current = true
+is_temporary OneShot = true
+is_temporary s = false
+
+-- a release with this status runs: it is current, or permanent in a list that has no current one; a one-shot does from the next
+-- boot on
 abbrev pub runs : Bool → Status → Bool
 runs has_current Current = true
+runs has_current OneShot = true
 runs has_current Permanent = not has_current
 runs has_current s = false

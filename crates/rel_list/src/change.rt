@@ -9,6 +9,7 @@ use indexmap::IndexMap;
 #[derive(Clone, Copy)]
 pub(crate) enum StatusChange<'a> {
     Install(&'a str),
+    Restart(&'a str),
     MakePermanent(&'a str),
     Boot,
     Assign(&'a str, Status),
@@ -23,6 +24,9 @@ impl StatusChange<'_> {
         match self {
             StatusChange::Install(vsn) => {
                 listed.status.installed(listed.release.vsn.as_str() == vsn)
+            }
+            StatusChange::Restart(vsn) => {
+                listed.status.restarted(listed.release.vsn.as_str() == vsn)
             }
             StatusChange::MakePermanent(vsn) => {
                 listed

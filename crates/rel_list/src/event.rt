@@ -13,6 +13,8 @@ pub enum Event {
     Unpacked(Bundle),
     /// This release is installed: it runs until the next boot.
     Installed(String),
+    /// This release is installed by a script that ends with a restart: the next boot starts it, once. A boot has to follow.
+    RestartInstalled(String),
     /// This release, the current one, becomes the permanent one.
     MadePermanent(String),
     /// This release leaves the list.
@@ -31,6 +33,7 @@ impl Event {
     {
         match self {
             Event::Installed(installed) => status.installed(installed.as_str() == vsn),
+            Event::RestartInstalled(installed) => status.restarted(installed.as_str() == vsn),
             Event::MadePermanent(permanent) | Event::RebootOld(permanent) => {
                 status.made_permanent(permanent.as_str() == vsn)
             }

@@ -1,14 +1,14 @@
 //! Laws of the list and its events, whatever keeps them. Each function does nothing: its contract is the law.
-ghost use Rattle.rel_list.specs.Laws.{VersionsAreDistinct, AtMostOneIsCurrent, OneIsPermanent, PermanentStays, SecondBootChangesNothing, BootChangesCurrentOnes, InstallsAlikeBehindABoot, RefusedWhereNotAllowed, ListsAtRestAreReached};
+ghost use Rattle.rel_list.specs.Laws.{VersionsAreDistinct, AtMostOneIsTemporary, OneIsPermanent, PermanentStays, BootLeavesNoOneShot, OneShotsComeFromRestarts, SecondBootChangesNothing, BootChangesTemporaryOnes, InstallsAlikeBehindABoot, RefusedWhereNotAllowed, RecordedListsAreReached};
 
 /// No version stands twice in a list, whatever events made it.
 pub fn versions_are_distinct()
     ensures { VersionsAreDistinct }
 {}
 
-/// At most one release is current, whatever events made the list.
-pub fn at_most_one_release_is_current()
-    ensures { AtMostOneIsCurrent }
+/// At most one release is current or a one-shot, whatever events made the list.
+pub fn at_most_one_release_is_temporary()
+    ensures { AtMostOneIsTemporary }
 {}
 
 /// Once a first release was made, exactly one release is permanent, whatever events follow.
@@ -21,14 +21,24 @@ pub fn other_events_leave_the_permanent_release()
     ensures { PermanentStays }
 {}
 
-/// A boot behind a boot changes nothing.
+/// Only an installation whose script ends with a restart leads to a list with a one-shot.
+pub fn only_a_restart_makes_a_one_shot()
+    ensures { OneShotsComeFromRestarts }
+{}
+
+/// A boot leaves no one-shot: what it starts as one, the next boot doesn't.
+pub fn a_boot_leaves_no_one_shot()
+    ensures { BootLeavesNoOneShot }
+{}
+
+/// Where no release is a one-shot, a boot behind a boot changes nothing.
 pub fn a_second_boot_changes_nothing()
     ensures { SecondBootChangesNothing }
 {}
 
-/// A boot changes the statuses of current releases alone.
-pub fn a_boot_changes_current_releases()
-    ensures { BootChangesCurrentOnes }
+/// A boot changes the statuses of current releases and of one-shots alone.
+pub fn a_boot_changes_temporary_releases()
+    ensures { BootChangesTemporaryOnes }
 {}
 
 /// Where a release isn't permanent, its installation, a boot and its installation again give what one installation gives.
@@ -41,7 +51,7 @@ pub fn an_event_is_refused_where_it_is_not_allowed()
     ensures { RefusedWhereNotAllowed }
 {}
 
-/// Events lead from a list at rest to each other one of the same releases in the same order.
-pub fn a_list_at_rest_is_reached()
-    ensures { ListsAtRestAreReached }
+/// Events lead from a list as records tell it to each other one of the same releases in the same order.
+pub fn a_recorded_list_is_reached()
+    ensures { RecordedListsAreReached }
 {}

@@ -1,7 +1,9 @@
 //! The list of releases.
-ghost use Rattle.std.specs.Prelude.{◌≡◌, ◌↔◌, false, is_some, Some, None, [], ◌∷◌, ◌++◌, find, length, map, string_bytes, IsTrue, IfErr, OnOk, OnErr};
+ghost use Rattle.std.specs.Prelude.{◌≡◌, ◌↔◌, false, is_some, Some, None, [], ◌∷◌, ◌++◌, find, length, map, string_bytes, IsTrue, IsFalse, IfErr, OnOk, OnErr};
 ghost use Rattle.std.specs.Option.{option_map, option_copied, option_to_list};
-ghost use Rattle.rel_list.specs.Status.{is_current, is_permanent};
+ghost use Rattle.rel_list.specs.Status.{is_current, is_one_shot, is_permanent, is_temporary};
+ghost use Rattle.rel_list.specs.Change.{has_other_temporary, is_other_temporary};
+ghost use Rattle.rel_list.specs.Keyed.{entry_of};
 
 use crate::change::StatusChange;
 use crate::{Bundle, Event, ListError, ListedRelease, Status};
@@ -35,12 +37,13 @@ impl Model for ReleaseList {
 }
 
 impl ReleaseList {
-    ghost use Rattle.rel_list.specs.Event.{event_of, step, boot_changes, with_statuses, list_assigned, without};
-    ghost use Rattle.rel_list.specs.Releases.{entry, permanent, current, running, status_of, release_at, relup_at, has_current, HasDistinctVersions};
-    ghost use Rattle.rel_list.specs.Refusal.{refusal, IsRefusedWith};
-    ghost use Rattle.rel_list.specs.Change.{status_after, AssignsNoCurrent};
+    ghost use Rattle.rel_list.specs.Event.{event_of, own_step, step, boot_changes, with_statuses, list_assigned, without};
+    ghost use Rattle.rel_list.specs.Releases.{entry, permanent, current, one_shot, running, status_of, release_at, relup_at, has_current, HasDistinctVersions};
+    ghost use Rattle.rel_list.specs.Refusal.{brings_release, own_refusal, IsRefusedWith};
+    ghost use Rattle.rel_list.specs.declared.fault.ListError.TheVariants.{NoMemory};
+    ghost use Rattle.rel_list.specs.Change.{status_after, may_be_given, MayBeMade};
     ghost use Rattle.rel_list.specs.Status.{runs};
-    ghost use Rattle.rel_list.specs.Keyed.{entry_of, bundle_of};
+    ghost use Rattle.rel_list.specs.Keyed.{bundle_of};
     ghost use Rattle.rel_files.specs.Release.{release_of};
     ghost use Rattle.relup_file.specs.Relup.{relup_of};
 
@@ -65,11 +68,11 @@ impl ReleaseList {
         self.take(alloc, event)
     }
 
-    // Changes the list as an event says that it allows.
+    // Changes the list as an event says that its own rule allows.
     fn take(&mut self, alloc: Global, event: Event) -> Result<(), ListError>
-        requires { refusal (event_of event) self.old ≡ None }
-        ensures accepted { OnOk result (step (event_of event) self.old ≡ Some self.new) }
-        ensures refused { IfErr result (IsRefusedWith (event_of event) self.old) }
+        requires { own_refusal (event_of event) self.old ≡ None }
+        ensures accepted { OnOk result (own_step (event_of event) self.old ≡ Some self.new) }
+        ensures refused { IfErr result (λ e. (e ≡ NoMemory) × IsTrue (brings_release (event_of event))) }
         ensures unchanged { OnErr result (self.new ≡ self.old) }
     {
         match event {
@@ -77,6 +80,10 @@ impl ReleaseList {
             Event::Unpacked(bundle) => self.put(alloc, bundle, Status::Unpacked),
             Event::Installed(vsn) => {
                 self.change(StatusChange::Install(vsn.as_str()));
+                Ok(())
+            }
+            Event::RestartInstalled(vsn) => {
+                self.change(StatusChange::Restart(vsn.as_str()));
                 Ok(())
             }
             Event::MadePermanent(vsn) | Event::RebootOld(vsn) => {
@@ -104,7 +111,7 @@ impl ReleaseList {
     // Puts a release of a new version last.
     fn put(&mut self, alloc: Global, bundle: Bundle, status: Status) -> Result<(), ListError>
         requires new { status_of (string_bytes bundle.release.vsn) self.old ≡ None }
-        requires not_current { is_current status ≡ false }
+        requires not_temporary { is_temporary status ≡ false }
         ensures added { OnOk result
             (self.new ≡ self.old ++ entry (bundle_of bundle) status ∷ []) }
         ensures memory { IfErr result (λ e. e ≡ ListError.NoMemory) }
@@ -126,21 +133,35 @@ impl ReleaseList {
         Ok(())
     }
 
-    /// Gives the release of this version a status, and answers whether there is one. So a list is read back that was written
-    /// as assignments of statuses, none of them `current`.
+    /// Gives the release of this version a status, and answers whether it may have it. So a list is read back that was written
+    /// as assignments of statuses: none of them is `current`, and a one-shot stands beside no other. Else nothing changes.
     pub fn assign(&mut self, vsn: &str, status: Status) -> bool
-        requires { is_current status ≡ false }
-        ensures listed { result ≡ is_some (status_of vsn.now self.old) }
-        ensures assigned { self.new ≡ list_assigned vsn.now status self.old }
+        ensures may { result ≡ may_be_given status vsn.now self.old }
+        ensures assigned { IsTrue result → self.new ≡ list_assigned vsn.now status self.old }
+        ensures unchanged { IsFalse result → self.new ≡ self.old }
     {
-        let is_listed = self.status(vsn).is_some();
+        if !self.may_assign(vsn, status) {
+            return false;
+        }
         self.change(StatusChange::Assign(vsn, status));
-        is_listed
+        true
+    }
+
+    // Whether the release of this version may have this status by an assignment.
+    fn may_assign(&self, vsn: &str, status: Status) -> bool
+        ensures { result ≡ may_be_given status vsn.now self.now }
+    {
+        match status {
+            Status::Current => false,
+            Status::OneShot => self.status(vsn).is_some()
+                && !has_other_temporary(self.releases(), vsn),
+            Status::Unpacked | Status::Old | Status::Permanent => self.status(vsn).is_some(),
+        }
     }
 
     // Changes the statuses of all releases.
     fn change(&mut self, change: StatusChange<'_>)
-        requires { AssignsNoCurrent change }
+        requires { MayBeMade change self.old }
         ensures { self.new ≡ with_statuses (status_after change.entry) self.old }
     {
         change.change(&mut self.releases);
@@ -151,7 +172,7 @@ impl ReleaseList {
         ensures { result ≡ runs (has_current self.now) status }
     {
         match status {
-            Status::Current => true,
+            Status::Current | Status::OneShot => true,
             Status::Permanent => self.current().is_none(),
             Status::Unpacked | Status::Old => false,
         }
@@ -171,6 +192,13 @@ impl ReleaseList {
         first_current(self.releases()).map(|listed| &listed.release)
     }
 
+    /// The release that the next boot starts, once.
+    pub fn one_shot(&self) -> Option<&Rel>
+        ensures { option_map release_of (option_copied result) ≡ one_shot self.now }
+    {
+        first_one_shot(self.releases()).map(|listed| &listed.release)
+    }
+
     /// The release that runs.
     pub fn running(&self) -> Option<&Rel>
         ensures { option_map release_of (option_copied result) ≡ running self.now }
@@ -182,7 +210,7 @@ impl ReleaseList {
     pub fn boot_events(&self) -> Option<&str>
         ensures { option_to_list (option_map (λ vsn. vsn.now) result) ≡ boot_changes self.now }
     {
-        first_current(self.releases.values().as_slice()).map(|listed| listed.release.vsn.as_str())
+        first_temporary(self.releases.values().as_slice()).map(|listed| listed.release.vsn.as_str())
     }
 
     /// The release of this version.
@@ -232,10 +260,40 @@ impl ReleaseList {
     }
 }
 
+// Whether a release of another version is current or a one-shot.
+fn has_other_temporary(releases: &[ListedRelease], vsn: &str) -> bool
+    ensures { result ≡ has_other_temporary vsn.now (map entry_of releases.now) }
+{
+    for listed in releases {
+        if is_other_temporary(listed, vsn) {
+            return true;
+        }
+    }
+    false
+}
+
+fn is_other_temporary(listed: &ListedRelease, vsn: &str) -> bool
+    ensures { result ≡ is_other_temporary vsn.now (entry_of listed.now) }
+{
+    listed.release.vsn.as_str() != vsn && listed.status.is_temporary()
+}
+
 fn first_permanent(releases: &[ListedRelease]) -> Option<&ListedRelease>
     ensures { option_copied result ≡ find (λ l. is_permanent l.status) releases.now }
 {
     releases.iter().find(|listed| listed.status.is_permanent())
+}
+
+fn first_one_shot(releases: &[ListedRelease]) -> Option<&ListedRelease>
+    ensures { option_copied result ≡ find (λ l. is_one_shot l.status) releases.now }
+{
+    releases.iter().find(|listed| listed.status.is_one_shot())
+}
+
+fn first_temporary(releases: &[ListedRelease]) -> Option<&ListedRelease>
+    ensures { option_copied result ≡ find (λ l. is_temporary l.status) releases.now }
+{
+    releases.iter().find(|listed| listed.status.is_temporary())
 }
 
 fn first_current(releases: &[ListedRelease]) -> Option<&ListedRelease>

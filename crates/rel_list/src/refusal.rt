@@ -1,9 +1,9 @@
 //! Why a list doesn't take an event.
 ghost use Rattle.std.specs.Prelude.{◌≡◌};
-ghost use Rattle.rel_list.specs.Event.{event_of};
+ghost use Rattle.rel_list.specs.Event.{event_of, waits_for_boot};
 ghost use Rattle.rel_list.specs.Event.Event.{unpacked, installed, made_permanent, removed, reboot_old};
 ghost use Rattle.rel_list.specs.Keyed.{bundle_of};
-ghost use Rattle.rel_list.specs.Refusal.{refusal};
+ghost use Rattle.rel_list.specs.Refusal.{installation_refusal, own_refusal, refusal};
 
 use crate::{Bundle, Event, ListError, ReleaseList, Status};
 
@@ -12,11 +12,33 @@ impl ReleaseList {
     pub fn refusal(&self, event: &Event) -> Option<ListError>
         ensures { result ≡ refusal (event_of event.now) self.now }
     {
+        if self.waits_for_boot(event) {
+            return Some(ListError::BadStatus(Status::OneShot));
+        }
+        self.own_refusal(event)
+    }
+
+    // Whether a release is a one-shot, and the event is no boot.
+    fn waits_for_boot(&self, event: &Event) -> bool
+        ensures { result ≡ waits_for_boot (event_of event.now) self.now }
+    {
+        match event {
+            Event::Boot => false,
+            _ => self.one_shot().is_some(),
+        }
+    }
+
+    // Why the event's own rule doesn't allow it.
+    fn own_refusal(&self, event: &Event) -> Option<ListError>
+        ensures { result ≡ own_refusal (event_of event.now) self.now }
+    {
         match event {
             Event::Made(_) if self.is_empty() => None,
             Event::Made(_) => Some(ListError::ExistingRelease),
             Event::Unpacked(bundle) => self.unpacking_refusal(bundle),
-            Event::Installed(vsn) => self.install_refusal(vsn.as_str()),
+            Event::Installed(vsn) | Event::RestartInstalled(vsn) => {
+                self.installation_refusal(vsn.as_str())
+            }
             Event::MadePermanent(vsn) => self.permanence_refusal(vsn.as_str()),
             Event::Removed(vsn) => self.removal_refusal(vsn.as_str()),
             Event::RebootOld(vsn) => self.reboot_refusal(vsn.as_str()),
@@ -25,8 +47,8 @@ impl ReleaseList {
     }
 
     // Why it doesn't take a further release.
-    pub(crate) fn unpacking_refusal(&self, bundle: &Bundle) -> Option<ListError>
-        ensures { result ≡ refusal (unpacked (bundle_of bundle.now)) self.now }
+    fn unpacking_refusal(&self, bundle: &Bundle) -> Option<ListError>
+        ensures { result ≡ own_refusal (unpacked (bundle_of bundle.now)) self.now }
     {
         if self.status(bundle.release.vsn.as_str()).is_some() {
             Some(ListError::ExistingRelease)
@@ -41,6 +63,15 @@ impl ReleaseList {
     pub fn install_refusal(&self, vsn: &str) -> Option<ListError>
         ensures { result ≡ refusal (installed vsn.now) self.now }
     {
+        if self.one_shot().is_some() {
+            return Some(ListError::BadStatus(Status::OneShot));
+        }
+        self.installation_refusal(vsn)
+    }
+
+    fn installation_refusal(&self, vsn: &str) -> Option<ListError>
+        ensures { result ≡ installation_refusal vsn.now self.now }
+    {
         match self.status(vsn) {
             None => Some(ListError::NoSuchRelease),
             Some(status) if self.runs(status) => Some(ListError::AlreadyInstalled),
@@ -49,7 +80,7 @@ impl ReleaseList {
     }
 
     fn permanence_refusal(&self, vsn: &str) -> Option<ListError>
-        ensures { result ≡ refusal (made_permanent vsn.now) self.now }
+        ensures { result ≡ own_refusal (made_permanent vsn.now) self.now }
     {
         match self.status(vsn) {
             None => Some(ListError::NoSuchRelease),
@@ -59,18 +90,18 @@ impl ReleaseList {
     }
 
     fn removal_refusal(&self, vsn: &str) -> Option<ListError>
-        ensures { result ≡ refusal (removed vsn.now) self.now }
+        ensures { result ≡ own_refusal (removed vsn.now) self.now }
     {
         match self.status(vsn) {
             None => Some(ListError::NoSuchRelease),
             Some(Status::Permanent) => Some(ListError::Permanent),
-            Some(Status::Current) => Some(ListError::Running),
+            Some(Status::Current | Status::OneShot) => Some(ListError::Running),
             Some(Status::Unpacked | Status::Old) => None,
         }
     }
 
     fn reboot_refusal(&self, vsn: &str) -> Option<ListError>
-        ensures { result ≡ refusal (reboot_old vsn.now) self.now }
+        ensures { result ≡ own_refusal (reboot_old vsn.now) self.now }
     {
         match self.status(vsn) {
             None => Some(ListError::NoSuchRelease),

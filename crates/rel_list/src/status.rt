@@ -12,11 +12,13 @@ pub enum Status {
     Old,
     /// It is the one that is booted.
     Permanent,
+    /// It was installed by a script that ends with a restart: the next boot starts it, once.
+    OneShot,
 }
 
 impl Status {
-    ghost use Rattle.rel_list.specs.Status.{status_word, is_current, is_old, is_permanent};
-    ghost use Rattle.rel_list.specs.Event.{installed_status, permanent_status, booted_status};
+    ghost use Rattle.rel_list.specs.Status.{status_word, is_current, is_old, is_one_shot, is_permanent, is_temporary};
+    ghost use Rattle.rel_list.specs.Event.{booted_status, installed_status, permanent_status, recorded_status, replaced_status, restarted_status};
 
     /// The atom for it.
     pub fn as_str(self) -> &'static str
@@ -27,6 +29,7 @@ impl Status {
             Status::Current => "current",
             Status::Old => "old",
             Status::Permanent => "permanent",
+            Status::OneShot => "one_shot",
         }
     }
 
@@ -51,6 +54,30 @@ impl Status {
         matches!(self, Status::Permanent)
     }
 
+    /// Whether it is the status of the release that the next boot starts, once.
+    pub fn is_one_shot(self) -> bool
+        ensures { result ≡ is_one_shot self }
+    {
+        matches!(self, Status::OneShot)
+    }
+
+    /// Whether it is the status of a release that is installed until a boot takes that away.
+    pub fn is_temporary(self) -> bool
+        ensures { result ≡ is_temporary self }
+    {
+        matches!(self, Status::Current | Status::OneShot)
+    }
+
+    // The status behind an installation of another release.
+    fn replaced(self) -> Status
+        ensures { result ≡ replaced_status self }
+    {
+        match self {
+            Status::Current | Status::OneShot => Status::Old,
+            status => status,
+        }
+    }
+
     /// The status behind an installation, of the release itself or of another one.
     pub fn installed(self, itself: bool) -> Status
         ensures { result ≡ installed_status itself self }
@@ -58,8 +85,18 @@ impl Status {
         match (itself, self) {
             (true, Status::Permanent) => Status::Permanent,
             (true, _) => Status::Current,
-            (false, Status::Current) => Status::Old,
-            (false, status) => status,
+            (false, status) => status.replaced(),
+        }
+    }
+
+    /// The status behind an installation whose script ends with a restart, of the release itself or of another one.
+    pub fn restarted(self, itself: bool) -> Status
+        ensures { result ≡ restarted_status itself self }
+    {
+        match (itself, self) {
+            (true, Status::Permanent) => Status::Permanent,
+            (true, _) => Status::OneShot,
+            (false, status) => status.replaced(),
         }
     }
 
@@ -80,7 +117,19 @@ impl Status {
     {
         match self {
             Status::Current => Status::Unpacked,
+            Status::OneShot => Status::Current,
             status => status,
+        }
+    }
+
+    /// The status that is written for it: an installation is written only where a restart has to follow it.
+    pub fn recorded(self) -> Status
+        ensures { result ≡ recorded_status self }
+    {
+        if self.is_current() {
+            Status::Unpacked
+        } else {
+            self
         }
     }
 }

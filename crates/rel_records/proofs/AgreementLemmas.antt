@@ -17,6 +17,7 @@ use Rattle.rel_list.specs.Releases.{Bundle, Releases, Entry, differs, entry, fir
 use Rattle.rel_list.specs.Event.{list_assigned, may_be_removed, step, with_statuses, without}
 use Rattle.rel_list.specs.Event.Event.{made, removed, unpacked}
 use Rattle.rel_list.proofs.LibraryLaws.{is_like, libraries-push, none_differs, own_library}
+use Rattle.rel_list.proofs.Waiting.{never_made_again, own_of_step}
 use Rattle.rel_records.specs.Limits.{is_small, most_releases}
 use Rattle.rel_records.specs.Lists.{HaveLibraries, Makes, added_by, assign_all, brought_by, made_by, may_be_assigned}
 use Rattle.rel_records.specs.Record.{Assignment}
@@ -187,7 +188,7 @@ first_agrees r ls o es next said all e holds =
         let one : entry p Permanent ∷ [] ≡ next = cc is in
         let there : IsStartable (entry p Permanent) × Unit {0} = subst AreStartable (sym one) startable in
         subst (λ (es : Releases). Agree (libraries_named es)) one (subst Agree (sym (append-nil p.libraries)) (agree_of (entry p Permanent) there.0))
-    alone p (f ∷ fs) next is startable = absurd cc
+    alone p (f ∷ fs) next is startable = absurd (never_made_again p f fs next is)
 
 further_agrees : (r : Release) (ls : List Library) (o : Option RelupForm) (es next : Releases) → AreSaid r o → AllByRecursion IsLibrary ls → added_by r ls o es ≡ Some next → Agreeing es → Agreeing next
 further_agrees r ls o es next said all e holds =
@@ -208,7 +209,7 @@ statuses_agree given es next is holds =
 
 left_agrees : (v : List ℕ) (es next : Releases) → step (removed v) es ≡ Some next → Agreeing es → Agreeing next
 left_agrees v es next is holds =
-    let (may, gone) = chosen (may_be_removed (status_of v es)) (Some (without v es)) next is in
+    let (may, gone) = chosen (may_be_removed (status_of v es)) (Some (without v es)) next (own_of_step (removed v) es next is).1 in
     let same : without v es ≡ next = cc gone in
     (each_left IsStartable v es next is holds.0, subst (λ (l : Releases). Agree (libraries_named l)) same (λ l k a b. holds.1 l k (one-without v es l a) (one-without v es k b)))
 

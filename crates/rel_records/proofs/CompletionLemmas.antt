@@ -12,18 +12,18 @@ use Rattle.rel_files.proofs.Options.{both, chained, mapped}
 use Rattle.library.specs.Library.{Library, AreLibrariesOf, IsLibrary, agrees, is_at, library_at}
 use Rattle.relup_file.specs.Relup.{RelupForm}
 use Rattle.rel_list.specs.Releases.{Bundle, Releases, first_different, libraries_named, library_in}
-use Rattle.rel_list.specs.Event.{booted}
-use Rattle.rel_list.proofs.LibraryLaws.{all_found, libraries-booted, none_differs, own_library}
+use Rattle.rel_list.specs.Event.{recorded}
+use Rattle.rel_list.proofs.LibraryLaws.{all_found, libraries-recorded, none_differs, own_library}
 use Rattle.rel_records.specs.Lists.{own_or_next, next_library, completed, HaveLibraries}
 use Rattle.rel_records.specs.Writing.{new_libraries, IsComplete}
 use Rattle.rel_records.proofs.RecordPlaces.{IsOfRecord, chosen}
 
--- A list has the same libraries behind a boot.
-library_in-booted : (es : Releases) (name vsn : List ℕ) → library_in (booted es) name vsn ≡ library_in es name vsn
-library_in-booted es name vsn = ap (library_at name vsn) (libraries-booted es)
+-- A list has the same libraries as records tell it.
+library_in-recorded : (es : Releases) (name vsn : List ℕ) → library_in (recorded es) name vsn ≡ library_in es name vsn
+library_in-recorded es name vsn = ap (library_at name vsn) (libraries-recorded es)
 
-pub first_different-booted : (es : Releases) (ls : List Library) → first_different (booted es) ls ≡ first_different es ls
-first_different-booted es ls = ap (λ named. find (λ (l : Library). not (agrees (library_at l.app.name l.app.vsn named) l)) ls) (libraries-booted es)
+pub first_different-recorded : (es : Releases) (ls : List Library) → first_different (recorded es) ls ≡ first_different es ls
+first_different-recorded es ls = ap (λ named. find (λ (l : Library). not (agrees (library_at l.app.name l.app.vsn named) l)) ls) (libraries-recorded es)
 
 -- the library of an application has its name and its version
 pub at_names : (a : Application) (l : Library) → is_at a.name a.vsn l ≡ true → (l.app.name ≡ a.name) × (l.app.vsn ≡ a.vsn)
@@ -101,7 +101,7 @@ completed_first (a ∷ apps) (l ∷ ls) (is, at, are) =
     ∙ ap (option_map (λ (ks : List Library). l ∷ ks)) (completed_first apps ls are)
 
 -- The new libraries of a release complete those of the list, where none of its libraries differs from the list's.
-pub completed_new : (es : Releases) → HaveLibraries es → (apps : List Application) (ls : List Library) → AreLibrariesOf apps ls → first_different es ls ≡ None → completed (booted es) apps (new_libraries es ls) ≡ Some ls
+pub completed_new : (es : Releases) → HaveLibraries es → (apps : List Application) (ls : List Library) → AreLibrariesOf apps ls → first_different es ls ≡ None → completed (recorded es) apps (new_libraries es ls) ≡ Some ls
 completed_new es have [] [] are none = refl
 completed_new es have [] (l ∷ ls) are none = absurd are
 completed_new es have (a ∷ apps) [] are none = absurd are
@@ -109,20 +109,20 @@ completed_new es have (a ∷ apps) (l ∷ ls) (is, at, are) none =
     let (same, rest) = none_differs es l ls none in
     by (completed_new es have apps ls are rest) (library_in es l.app.name l.app.vsn) refl (own_library es l have is same)
   where
-    found : library_in (booted es) a.name a.vsn ≡ library_in es l.app.name l.app.vsn
-    found = library_in-booted es a.name a.vsn ∙ looked_up es a l at
+    found : library_in (recorded es) a.name a.vsn ≡ library_in es l.app.name l.app.vsn
+    found = library_in-recorded es a.name a.vsn ∙ looked_up es a l at
 
     later : List Library
     later = new_libraries es ls
 
-    by : completed (booted es) apps later ≡ Some ls → (o : Option Library) → library_in es l.app.name l.app.vsn ≡ o → unwrap_or o l ≡ l
-        → completed (booted es) (a ∷ apps) (cond (not (is_some o)) (l ∷ later) later) ≡ Some (l ∷ ls)
+    by : completed (recorded es) apps later ≡ Some ls → (o : Option Library) → library_in es l.app.name l.app.vsn ≡ o → unwrap_or o l ≡ l
+        → completed (recorded es) (a ∷ apps) (cond (not (is_some o)) (l ∷ later) later) ≡ Some (l ∷ ls)
     by rest None is own =
-        ap (λ o. option_and_then (behind_library (booted es) apps) (own_or_next o a (l ∷ later))) (found ∙ is)
-        ∙ ap (λ b. option_and_then (behind_library (booted es) apps) (if b then Some (l, later) else None)) at
+        ap (λ o. option_and_then (behind_library (recorded es) apps) (own_or_next o a (l ∷ later))) (found ∙ is)
+        ∙ ap (λ b. option_and_then (behind_library (recorded es) apps) (if b then Some (l, later) else None)) at
         ∙ ap (option_map (λ (ks : List Library). l ∷ ks)) rest
     by rest (Some k) is own =
-        ap (λ o. option_and_then (behind_library (booted es) apps) (own_or_next o a later)) (found ∙ is)
+        ap (λ o. option_and_then (behind_library (recorded es) apps) (own_or_next o a later)) (found ∙ is)
         ∙ ap (option_map (λ (ks : List Library). k ∷ ks)) rest
         ∙ ap (λ m. Some (m ∷ ls)) own
 

@@ -10,8 +10,9 @@ use Rattle.library.specs.Library.{Library, IsLibrary}
 use Rattle.rel_list.specs.declared.status.Status.{Status}
 use Rattle.rel_list.specs.declared.status.Status.TheVariants.{Unpacked, Permanent}
 use Rattle.rel_list.specs.Releases.{Bundle, Releases, Entry, entry, status_of}
-use Rattle.rel_list.specs.Event.{booted, booted_status, step, without, assigned_status, list_assigned, may_be_removed}
+use Rattle.rel_list.specs.Event.{recorded, recorded_status, step, without, assigned_status, list_assigned, may_be_removed}
 use Rattle.rel_list.specs.Event.Event.{made, removed, unpacked}
+use Rattle.rel_list.proofs.Waiting.{never_made_again, own_of_step}
 use Rattle.rel_records.specs.Limits.{is_small, most_releases}
 use Rattle.rel_records.specs.Lists.{may_be_assigned, added_by, assign_all, brought_by, made_by, Makes}
 use Rattle.rel_records.specs.Record.{Assignment}
@@ -38,7 +39,7 @@ module _ (P : Entry → Type 0) where
 
   pub each_left : (v : List ℕ) (es next : Releases) → step (removed v) es ≡ Some next → AllByRecursion P es → AllByRecursion P next
   each_left v es next e all =
-      let (may, is) = chosen (may_be_removed (status_of v es)) (Some (without v es)) next e in
+      let (may, is) = chosen (may_be_removed (status_of v es)) (Some (without v es)) next (own_of_step (removed v) es next e).1 in
       let gone : without v es ≡ next = cc is in subst (AllByRecursion P) gone (each-without v es all)
 
   each-push : (es : Releases) (e : Entry) → AllByRecursion P es → P e → AllByRecursion P (es ++ e ∷ [])
@@ -47,18 +48,18 @@ module _ (P : Entry → Type 0) where
 
   each_one : (p : Bundle) (es next : Releases) → step (made p) es ≡ Some next → P (entry p Permanent) → AllByRecursion P next
   each_one p [] next is has = let one : entry p Permanent ∷ [] ≡ next = cc is in subst (AllByRecursion P) one (has, tt)
-  each_one p (f ∷ fs) next is has = absurd cc
+  each_one p (f ∷ fs) next is has = absurd (never_made_again p f fs next is)
 
   -- It holds whatever the status is.
   module _ (still : (e : Entry) (s : Status) → P e → P (record e { status = s })) where
-    pub each-booted : (es : Releases) → AllByRecursion P es → AllByRecursion P (booted es)
-    each-booted [] all = tt
-    each-booted (e ∷ es) all = (still e (booted_status e.status) all.0, each-booted es all.1)
+    pub each-recorded : (es : Releases) → AllByRecursion P es → AllByRecursion P (recorded es)
+    each-recorded [] all = tt
+    each-recorded (e ∷ es) all = (still e (recorded_status e.status) all.0, each-recorded es all.1)
 
-    -- it held before a boot
-    pub each-of_booted : (es : Releases) → AllByRecursion P (booted es) → AllByRecursion P es
-    each-of_booted [] all = tt
-    each-of_booted (e ∷ es) all = (still (record e { status = booted_status e.status }) e.status all.0, each-of_booted es all.1)
+    -- it held of the list that records tell so
+    pub each-of_recorded : (es : Releases) → AllByRecursion P (recorded es) → AllByRecursion P es
+    each-of_recorded [] all = tt
+    each-of_recorded (e ∷ es) all = (still (record e { status = recorded_status e.status }) e.status all.0, each-of_recorded es all.1)
 
     each-assigned : (v : List ℕ) (t : Status) (es : Releases) → AllByRecursion P es → AllByRecursion P (list_assigned v t es)
     each-assigned v t [] all = tt

@@ -1,21 +1,26 @@
--- The record of an event makes of a list what the event makes of it, each as it is behind a boot.
-use Rattle.std.proofs.Common.{◌≡◌, ℕ, ◌<◌, Bool, true, false, cond, List, [], ◌∷◌, ◌++◌, length, map, filter, Option, Some, None, is_some, suc, refl, sym, ap, subst, ◌∙◌, find, arith, if◌then◌else◌}
+-- The record of an event makes of a list what the event makes of it, each as records tell it.
+use Rattle.std.proofs.Common.{◌≡◌, ℕ, ◌<◌, Bool, true, false, cond, List, [], ◌∷◌, ◌++◌, length, map, filter, Option, Some, None, is_some, suc, inl, inr, refl, sym, ap, subst, ◌∙◌, find, true≢false, arith, if◌then◌else◌}
 use Rattle.std.specs.Prelude.{◌&&◌, ◌||◌, not, nat_lt, ◌==◌}
 use Rattle.std.specs.List.{AllByRecursion}
 use Rattle.std.specs.Option.{option_map, option_and_then}
 use Rattle.std.specs.Str.{bytes_eq}
+use Rattle.std.proofs.lemmas.Bool.{cases_Bool}
 use Rattle.std.proofs.lemmas.Bool.Decides.{nat_tests}
 use Rattle.erl_term.specs.Value.{Value}
 use Rattle.rel_files.proofs.Options.{both}
 use Rattle.library.specs.Library.{Library}
 use Rattle.rel_list.specs.declared.status.Status.{Status}
-use Rattle.rel_list.specs.declared.status.Status.TheVariants.{Unpacked, Current, Old, Permanent}
-use Rattle.rel_list.specs.Status.{is_current, is_permanent}
-use Rattle.rel_list.specs.Releases.{Bundle, Releases, Entry, entry, first_different, status_of, of_status, HasDistinctVersions, has_current}
-use Rattle.rel_list.specs.Event.{Event, is_barred, may_be_installed, may_be_made_permanent, may_be_removed, may_be_rebooted, booted_status, status_behind, assigned_status, with_statuses, list_installed, list_made_permanent, list_assigned, without, booted, step}
-use Rattle.rel_list.specs.Event.Event.{made, unpacked, installed, made_permanent, removed, reboot_old, boot}
-use Rattle.rel_list.proofs.EventLaws.{one_permanent-step}
-use Rattle.rel_list.proofs.Orderly.{status_or, is_itself, differs_back, first_differs, none_behind, listed-with_statuses, unlisted-with_statuses, just_as_many}
+use Rattle.rel_list.specs.declared.status.Status.TheVariants.{Unpacked, Current, Old, Permanent, OneShot}
+use Rattle.rel_list.specs.Status.{is_current, is_one_shot, is_permanent, is_temporary}
+use Rattle.rel_list.specs.Change.{has_other_temporary, may_be_given}
+use Rattle.rel_list.specs.Releases.{Bundle, Releases, Entry, entry, first_different, status_of, of_status, HasDistinctVersions, has_current, has_one_shot}
+use Rattle.rel_list.specs.Event.{Event, is_barred, may_be_installed, may_be_made_permanent, may_be_removed, may_be_rebooted, restarted_status, permanent_status, recorded_status, status_behind, assigned_status, with_statuses, list_installed, list_restarted, list_made_permanent, list_assigned, without, booted, recorded, step}
+use Rattle.rel_list.specs.Event.Event.{made, unpacked, installed, restart_installed, made_permanent, removed, reboot_old, boot}
+use Rattle.rel_list.proofs.EventLaws.{one_permanent-step, permanent-recorded}
+use Rattle.rel_list.proofs.BootLaws.{first_is_none, no_one_shot-booted}
+use Rattle.rel_list.proofs.OneShotLaws.{none-installed, none_recorded, one_shot-recorded}
+use Rattle.rel_list.proofs.Waiting.{never_made_again, own_of_step, step_of_own}
+use Rattle.rel_list.proofs.Orderly.{status_or, same_version, is_itself, differs_back, first_differs, none_behind, listed-with_statuses, unlisted-with_statuses, just_as_many}
 use Rattle.rel_records.specs.Limits.{has_one_permanent, is_small, most_releases}
 use Rattle.rel_records.specs.Record.{Assignment, Record, makes, adds, assigns, removes, images}
 use Rattle.rel_records.specs.Lists.{may_be_assigned, assign_all, completed, if_faultless, brought_by, taken_by, with_one_permanent, assigned, HaveLibraries}
@@ -23,44 +28,38 @@ use Rattle.rel_records.specs.Writing.{is_same, is_changed, assignment_of, change
 use Rattle.rel_records.specs.Laws.{IsOfEvent, IsOfOneRelease, RecordsAreOfEvents, RecordsTellEvents}
 use Rattle.rel_records.specs.Reading.{Says}
 use Rattle.library.proofs.TermCases.{are_libraries}
-use Rattle.rel_records.proofs.CompletionLemmas.{all_new, are_completed, brought_complete, completed_first, completed_new, first_different-booted}
-use Rattle.rel_records.proofs.RecordPlaces.{assigned_so, event_of_record, chosen, kept, booted-push, booted-without, pushed_last}
+use Rattle.rel_records.proofs.CompletionLemmas.{all_new, are_completed, brought_complete, completed_first, completed_new, first_different-recorded}
+use Rattle.rel_records.proofs.RecordPlaces.{assigned_so, event_of_record, chosen, kept, recorded-push, recorded-without, pushed_last}
 
--- a boot leaves permanent releases permanent, and others not
-permanent-booted : (s : Status) → is_permanent (booted_status s) ≡ is_permanent s
-permanent-booted Unpacked = refl
-permanent-booted Current = refl
-permanent-booted Old = refl
-permanent-booted Permanent = refl
-
-pub one-booted : (es : Releases) → has_one_permanent (booted es) ≡ has_one_permanent es
-one-booted es =
+pub one-recorded : (es : Releases) → has_one_permanent (recorded es) ≡ has_one_permanent es
+one-recorded es =
     ap (λ n. n == 1)
-    (just_as_many (λ vsn s. booted_status s) (λ (e : Entry). is_permanent e.status) (λ (e : Entry). is_permanent e.status) (λ (e : Entry). permanent-booted e.status) es)
+    (just_as_many (λ vsn s. recorded_status s) (λ (e : Entry). is_permanent e.status) (λ (e : Entry). is_permanent e.status) (λ (e : Entry). permanent-recorded e.status) es)
 
--- a status is the same behind a second boot
-booted_status-twice : (s : Status) → booted_status (booted_status s) ≡ booted_status s
-booted_status-twice Unpacked = refl
-booted_status-twice Current = refl
-booted_status-twice Old = refl
-booted_status-twice Permanent = refl
+-- a status is told once as it is told twice
+recorded_status-twice : (s : Status) → recorded_status (recorded_status s) ≡ recorded_status s
+recorded_status-twice Unpacked = refl
+recorded_status-twice Current = refl
+recorded_status-twice Old = refl
+recorded_status-twice Permanent = refl
+recorded_status-twice OneShot = refl
 
-pub booted-twice : (es : Releases) → booted (booted es) ≡ booted es
-booted-twice [] = refl
-booted-twice (e ∷ es) = λ k. record e { status = booted_status-twice e.status k } ∷ booted-twice es k
+pub recorded-twice : (es : Releases) → recorded (recorded es) ≡ recorded es
+recorded-twice [] = refl
+recorded-twice (e ∷ es) = λ k. record e { status = recorded_status-twice e.status k } ∷ recorded-twice es k
 
-pub length-booted : (es : Releases) → length (booted es) ≡ length es
-length-booted [] = refl
-length-booted (e ∷ es) = ap suc (length-booted es)
+pub length-recorded : (es : Releases) → length (recorded es) ≡ length es
+length-recorded [] = refl
+length-recorded (e ∷ es) = ap suc (length-recorded es)
 
--- the status of a release behind a boot
-pub status_of-booted : (v : List ℕ) (es : Releases) → status_of v (booted es) ≡ option_map booted_status (status_of v es)
-status_of-booted v [] = refl
-status_of-booted v (e ∷ es) = go (bytes_eq v e.release.vsn) (status_of-booted v es)
+-- the status of a release as records tell it
+pub status_of-recorded : (v : List ℕ) (es : Releases) → status_of v (recorded es) ≡ option_map recorded_status (status_of v es)
+status_of-recorded v [] = refl
+status_of-recorded v (e ∷ es) = go (bytes_eq v e.release.vsn) (status_of-recorded v es)
   where
-    go : (b : Bool) → status_of v (booted es) ≡ option_map booted_status (status_of v es)
-        → status_or b (record e { status = booted_status e.status }) (find (λ (f : Entry). bytes_eq v f.release.vsn) (booted es))
-        ≡ option_map booted_status (status_or b e (find (λ (f : Entry). bytes_eq v f.release.vsn) es))
+    go : (b : Bool) → status_of v (recorded es) ≡ option_map recorded_status (status_of v es)
+        → status_or b (record e { status = recorded_status e.status }) (find (λ (f : Entry). bytes_eq v f.release.vsn) (recorded es))
+        ≡ option_map recorded_status (status_or b e (find (λ (f : Entry). bytes_eq v f.release.vsn) es))
     go true rest = refl
     go false rest = rest
 
@@ -70,6 +69,7 @@ same_so Unpacked Unpacked e = refl
 same_so Current Current e = refl
 same_so Old Old e = refl
 same_so Permanent Permanent e = refl
+same_so OneShot OneShot e = refl
 same_so Unpacked Current e = absurd cc
 same_so Unpacked Old e = absurd cc
 same_so Unpacked Permanent e = absurd cc
@@ -82,20 +82,42 @@ same_so Old Permanent e = absurd cc
 same_so Permanent Unpacked e = absurd cc
 same_so Permanent Current e = absurd cc
 same_so Permanent Old e = absurd cc
+same_so Unpacked OneShot e = absurd cc
+same_so Current OneShot e = absurd cc
+same_so Old OneShot e = absurd cc
+same_so Permanent OneShot e = absurd cc
+same_so OneShot Unpacked e = absurd cc
+same_so OneShot Current e = absurd cc
+same_so OneShot Old e = absurd cc
+same_so OneShot Permanent e = absurd cc
 
 -- an assignment to another release leaves the first one
 abbrev pub AreOfOthers : List ℕ → List Assignment → Type 0
 AreOfOthers v given = AllByRecursion (λ (a : Assignment). bytes_eq a.vsn v ≡ false) given
 
-pub behind_first : (x : Entry) (given : List Assignment) (es end : Releases) → AreOfOthers x.release.vsn given → assign_all given es ≡ Some end → assign_all given (x ∷ es) ≡ Some (x ∷ end)
-behind_first x [] es end others is = let same : es ≡ end = cc is in ap (λ l. Some (x ∷ l)) same
-behind_first x (a ∷ given) es end others is =
+-- none of these assignments makes a release a one-shot beside this one, which is current or a one-shot
+abbrev pub AreApartFrom : Status → List Assignment → Type 0
+AreApartFrom s given = AllByRecursion (λ (a : Assignment). (is_one_shot a.status && is_temporary s) ≡ false) given
+
+-- what may be assigned behind a release may be beside it
+beside_first : (t s : Status) → (is_one_shot t && is_temporary s) ≡ false
+    → (v : List ℕ) (x : Entry) (es : Releases) → x.status ≡ s → bytes_eq v x.release.vsn ≡ false → may_be_given t v es ≡ true → may_be_given t v (x ∷ es) ≡ true
+beside_first Unpacked s apart v x es own differ may = rw differ may
+beside_first Current s apart v x es own differ may = absurd cc
+beside_first Old s apart v x es own differ may = rw differ may
+beside_first Permanent s apart v x es own differ may = rw differ may
+beside_first OneShot s apart v x es own differ may = rw (differ, own, apart) may
+
+pub behind_first : (x : Entry) (given : List Assignment) (es end : Releases) → AreOfOthers x.release.vsn given → AreApartFrom x.status given
+    → assign_all given es ≡ Some end → assign_all given (x ∷ es) ≡ Some (x ∷ end)
+behind_first x [] es end others apart is = let same : es ≡ end = cc is in ap (λ l. Some (x ∷ l)) same
+behind_first x (a ∷ given) es end others apart is =
     let (may, rest) = chosen (may_be_assigned a es) (assign_all given (list_assigned a.vsn a.status es)) end is in
-    let listed : may_be_assigned a (x ∷ es) ≡ true = ap (λ b. not (is_current a.status) && is_some (status_or b x (find (λ (f : Entry). bytes_eq a.vsn f.release.vsn) es))) others.0 ∙ may in
+    let listed : may_be_assigned a (x ∷ es) ≡ true = beside_first a.status x.status apart.0 a.vsn x es refl others.0 may in
     let still : list_assigned a.vsn a.status (x ∷ es) ≡ x ∷ list_assigned a.vsn a.status es = ap (λ b. record x { status = assigned_status a.status b x.status } ∷ list_assigned a.vsn a.status es) others.0 in
     ap (λ b. if b then assign_all given (list_assigned a.vsn a.status (x ∷ es)) else None) listed
     ∙ ap (assign_all given) still
-    ∙ behind_first x given (list_assigned a.vsn a.status es) end others.1 rest
+    ∙ behind_first x given (list_assigned a.vsn a.status es) end others.1 apart.1 rest
 
 -- where no release has the version, an assignment to it changes nothing
 pub unassigned : (v : List ℕ) (t : Status) (es : Releases) → status_of v es ≡ None → list_assigned v t es ≡ es
@@ -103,16 +125,57 @@ unassigned v t [] none = refl
 unassigned v t (x ∷ es) none =
     ap (λ b. record x { status = assigned_status t b x.status } ∷ list_assigned v t es) (first_differs v x es none) ∙ ap (λ l. x ∷ l) (unassigned v t es (none_behind v x es none))
 
--- nothing is current behind a boot
-pub never_current : (s : Status) → not (is_current (booted_status s)) ≡ true
+-- records never tell that a release is current
+pub never_current : (s : Status) → not (is_current (recorded_status s)) ≡ true
 never_current Unpacked = refl
 never_current Current = refl
 never_current Old = refl
 never_current Permanent = refl
+never_current OneShot = refl
+
+-- a status that records tell may be assigned, where it is no one-shot
+given-recorded : (s : Status) (v : List ℕ) (es : Releases) → is_one_shot s ≡ false → may_be_given (recorded_status s) v es ≡ is_some (status_of v es)
+given-recorded Unpacked v es none = refl
+given-recorded Current v es none = refl
+given-recorded Old v es none = refl
+given-recorded Permanent v es none = refl
+given-recorded OneShot v es none = absurd cc
+
+is_the_one_shot : (s : Status) → is_one_shot s ≡ true → s ≡ OneShot
+is_the_one_shot Unpacked is = absurd cc
+is_the_one_shot Current is = absurd cc
+is_the_one_shot Old is = absurd cc
+is_the_one_shot Permanent is = absurd cc
+is_the_one_shot OneShot is = refl
+
+pub and_false : (b : Bool) → (b && false) ≡ false
+and_false true = refl
+and_false false = refl
+
+-- none is assigned so beside what is neither current nor a one-shot
+pub beside_none : (s : Status) (given : List Assignment) → is_temporary s ≡ false → AreApartFrom s given
+beside_none s [] none = tt
+beside_none s (a ∷ given) none = (rw (none, and_false (is_one_shot a.status)) refl, beside_none s given none)
+
+-- nor where none is a one-shot
+pub none_given : (s : Status) (given : List Assignment) → AllByRecursion (λ (a : Assignment). is_one_shot a.status ≡ false) given → AreApartFrom s given
+none_given s [] all = tt
+none_given s (a ∷ given) all = (rw all.0 refl, none_given s given all.1)
+
+pub not_one_shot : (s : Status) → is_temporary s ≡ false → is_one_shot s ≡ false
+not_one_shot Unpacked none = refl
+not_one_shot Current none = refl
+not_one_shot Old none = refl
+not_one_shot Permanent none = refl
+not_one_shot OneShot none = absurd cc
 
 module _ (e : Event) where
   abbrev behind : Releases → Releases
   behind es = with_statuses (status_behind e) es
+
+  -- the status of a release then
+  abbrev after : Entry → Status
+  after x = status_behind e x.release.vsn x.status
 
   -- what changes behind a release is of other versions
   changes_others : (v : List ℕ) (es : Releases) → status_of v es ≡ None → AreOfOthers v (changes e es)
@@ -123,42 +186,120 @@ module _ (e : Event) where
       go true rest = (differs_back v x.release.vsn (first_differs v x es none), rest)
       go false rest = rest
 
-  -- the changed statuses, assigned to the list as it is behind a boot
-  changes_so : (es : Releases) → HasDistinctVersions es → assign_all (changes e es) (booted es) ≡ Some (booted (behind es))
-  changes_so [] distinct = refl
-  changes_so (x ∷ es) distinct = go (changes_so es distinct.1) (is_changed e x) refl
-    where
-      after : Status
-      after = status_behind e x.release.vsn x.status
+  -- A release that changes becomes a one-shot only where no other is current or a one-shot, and none behind it does beside it.
+  abbrev AreApart : Releases → Type 0
+  AreApart [] = Unit {0}
+  AreApart (x ∷ es) =
+      (is_changed e x ≡ true → is_one_shot (after x) ≡ true → has_other_temporary x.release.vsn (recorded es) ≡ false)
+      × AreApartFrom (recorded_status (after x)) (changes e es) × AreApart es
 
+  -- the changed statuses, assigned to the list as records tell it
+  changes_so : (es : Releases) → HasDistinctVersions es → AreApart es → assign_all (changes e es) (recorded es) ≡ Some (recorded (behind es))
+  changes_so [] distinct apart = refl
+  changes_so (x ∷ es) distinct apart = go (changes_so es distinct.1 apart.2) (is_changed e x) refl
+    where
       others : AreOfOthers x.release.vsn (changes e es)
       others = changes_others x.release.vsn es distinct.0
 
-      there : may_be_assigned (assignment_of e x) (booted (x ∷ es)) ≡ true
-      there = ap (λ b. b && is_some (status_of x.release.vsn (booted (x ∷ es)))) (never_current after) ∙ ap (λ b. is_some (status_or b (record x { status = booted_status x.status }) (find (λ (f : Entry). bytes_eq x.release.vsn f.release.vsn) (booted es)))) (is_itself x.release.vsn)
+      there : is_changed e x ≡ true → may_be_assigned (assignment_of e x) (recorded (x ∷ es)) ≡ true
+      there changed = elim (cases_Bool (is_one_shot (after x))) [
+        | inl is ↦ rw (is_the_one_shot (after x) is, is_itself x.release.vsn, apart.0 changed is) refl
+        | inr is ↦ given-recorded (after x) x.release.vsn (recorded (x ∷ es)) is ∙ rw (is_itself x.release.vsn) refl
+      ]
 
-      set : list_assigned x.release.vsn (booted_status after) (booted (x ∷ es)) ≡ record x { status = booted_status after } ∷ booted es
+      set : list_assigned x.release.vsn (recorded_status (after x)) (recorded (x ∷ es)) ≡ record x { status = recorded_status (after x) } ∷ recorded es
       set =
-          ap (λ b. record x { status = assigned_status (booted_status after) b (booted_status x.status) } ∷ list_assigned x.release.vsn (booted_status after) (booted es)) (is_itself x.release.vsn)
-          ∙ ap (λ l. record x { status = booted_status after } ∷ l) (unassigned x.release.vsn (booted_status after) (booted es) (unlisted-with_statuses (λ vsn s. booted_status s) x.release.vsn es distinct.0))
+          ap (λ b. record x { status = assigned_status (recorded_status (after x)) b (recorded_status x.status) } ∷ list_assigned x.release.vsn (recorded_status (after x)) (recorded es)) (is_itself x.release.vsn)
+          ∙ ap (λ l. record x { status = recorded_status (after x) } ∷ l) (unassigned x.release.vsn (recorded_status (after x)) (recorded es) (unlisted-with_statuses (λ vsn s. recorded_status s) x.release.vsn es distinct.0))
 
-      go : assign_all (changes e es) (booted es) ≡ Some (booted (behind es)) → (b : Bool) → is_changed e x ≡ b
-          → assign_all (map (assignment_of e) (cond b (x ∷ filter (is_changed e) es) (filter (is_changed e) es))) (booted (x ∷ es)) ≡ Some (booted (behind (x ∷ es)))
+      go : assign_all (changes e es) (recorded es) ≡ Some (recorded (behind es)) → (b : Bool) → is_changed e x ≡ b
+          → assign_all (map (assignment_of e) (cond b (x ∷ filter (is_changed e) es) (filter (is_changed e) es))) (recorded (x ∷ es)) ≡ Some (recorded (behind (x ∷ es)))
       go rest true is =
-          ap (λ b. if b then assign_all (changes e es) (list_assigned x.release.vsn (booted_status after) (booted (x ∷ es))) else None) there
+          ap (λ b. if b then assign_all (changes e es) (list_assigned x.release.vsn (recorded_status (after x)) (recorded (x ∷ es))) else None) (there is)
           ∙ ap (assign_all (changes e es)) set
-          ∙ behind_first (record x { status = booted_status after }) (changes e es) (booted es) (booted (behind es)) others rest
+          ∙ behind_first (record x { status = recorded_status (after x) }) (changes e es) (recorded es) (recorded (behind es)) others apart.1 rest
       go rest false is =
-          let same : after ≡ x.status = same_so after x.status (unchanged (is_same after x.status) is) in
-          behind_first (record x { status = booted_status x.status }) (changes e es) (booted es) (booted (behind es)) others rest
-          ∙ ap (λ s. Some (record x { status = booted_status s } ∷ booted (behind es))) (sym same)
+          let same : after x ≡ x.status = same_so (after x) x.status (unchanged (is_same (after x) x.status) is) in
+          behind_first (record x { status = recorded_status x.status }) (changes e es) (recorded es) (recorded (behind es)) others
+          (subst (λ s. AreApartFrom (recorded_status s) (changes e es)) same apart.1) rest
+          ∙ ap (λ s. Some (record x { status = recorded_status s } ∷ recorded (behind es))) (sym same)
         where
           unchanged : (b : Bool) → not b ≡ false → b ≡ true
           unchanged true e = refl
           unchanged false e = absurd cc
 
-  assigned_behind : (es : Releases) → HasDistinctVersions es → has_one_permanent (behind es) ≡ true → assigned (assigns (changes e es)) (booted es) ≡ Some (booted (behind es))
-  assigned_behind es distinct one = ap with_one_permanent (changes_so es distinct) ∙ kept (booted (behind es)) (one-booted (behind es) ∙ one)
+  assigned_behind : (es : Releases) → HasDistinctVersions es → AreApart es → has_one_permanent (behind es) ≡ true → assigned (assigns (changes e es)) (recorded es) ≡ Some (recorded (behind es))
+  assigned_behind es distinct apart one = ap with_one_permanent (changes_so es distinct apart) ∙ kept (recorded (behind es)) (one-recorded (behind es) ∙ one)
+
+  -- Where no release that changes becomes a one-shot, they are apart.
+  module _ (never : (x : Entry) → is_changed e x ≡ true → is_one_shot (after x) ≡ false) where
+    none_assigned : (s : Status) (es : Releases) → AreApartFrom s (changes e es)
+    none_assigned s [] = tt
+    none_assigned s (x ∷ es) = go (is_changed e x) refl (none_assigned s es)
+      where
+        go : (b : Bool) → is_changed e x ≡ b → AreApartFrom s (changes e es) → AreApartFrom s (map (assignment_of e) (cond b (x ∷ filter (is_changed e) es) (filter (is_changed e) es)))
+        go true is rest = (rw (one_shot-recorded (after x), never x is) refl, rest)
+        go false is rest = rest
+
+    none_becomes_one : (es : Releases) → AreApart es
+    none_becomes_one [] = tt
+    none_becomes_one (x ∷ es) = (λ changed is. absurd (true≢false (sym is ∙ never x changed)), none_assigned (recorded_status (after x)) es, none_becomes_one es)
+
+-- a release that changes is no one-shot behind one that was made permanent
+never-permanent : (b : Bool) (s : Status) → not (is_same (permanent_status b s) s) ≡ true → is_one_shot (permanent_status b s) ≡ false
+never-permanent true s changed = refl
+never-permanent false Unpacked changed = refl
+never-permanent false Current changed = refl
+never-permanent false Old changed = refl
+never-permanent false Permanent changed = refl
+never-permanent false OneShot changed = absurd cc
+
+-- Behind a restart of a list without a one-shot
+module _ (v : List ℕ) where
+  -- nothing is current or a one-shot as records tell it
+  none_temporary : (w : List ℕ) (es : Releases) → has_one_shot es ≡ false → has_other_temporary w (recorded es) ≡ false
+  none_temporary w [] none = refl
+  none_temporary w (x ∷ es) none =
+      let apart = first_is_none x es none in
+      rw (calm x.status apart.0, and_false (not (bytes_eq w x.release.vsn))) (none_temporary w es apart.1)
+    where
+      calm : (s : Status) → is_one_shot s ≡ false → is_temporary (recorded_status s) ≡ false
+      calm Unpacked none = refl
+      calm Current none = refl
+      calm Old none = refl
+      calm Permanent none = refl
+      calm OneShot none = absurd cc
+
+  -- another release becomes none
+  replaced_so : (s : Status) → is_temporary (recorded_status (restarted_status false s)) ≡ false
+  replaced_so Unpacked = refl
+  replaced_so Current = refl
+  replaced_so Old = refl
+  replaced_so Permanent = refl
+  replaced_so OneShot = refl
+
+  -- behind the release of this version none becomes one
+  behind_its_own : (s : Status) (es : Releases) → status_of v es ≡ None → AreApartFrom s (changes (restart_installed v) es)
+  behind_its_own s [] none = tt
+  behind_its_own s (x ∷ es) none = go (is_changed (restart_installed v) x) (behind_its_own s es (none_behind v x es none))
+    where
+      never : is_one_shot (recorded_status (after (restart_installed v) x)) ≡ false
+      never = rw (first_differs v x es none) (not_one_shot _ (replaced_so x.status))
+
+      go : (b : Bool) → AreApartFrom s (changes (restart_installed v) es)
+          → AreApartFrom s (map (assignment_of (restart_installed v)) (cond b (x ∷ filter (is_changed (restart_installed v)) es) (filter (is_changed (restart_installed v)) es)))
+      go true rest = (rw never refl, rest)
+      go false rest = rest
+
+  restarts_apart : (es : Releases) → HasDistinctVersions es → has_one_shot es ≡ false → AreApart (restart_installed v) es
+  restarts_apart [] distinct none = tt
+  restarts_apart (x ∷ es) distinct none =
+      let apart = first_is_none x es none in
+      (λ changed is. none_temporary x.release.vsn es apart.1, rest (bytes_eq v x.release.vsn) refl, restarts_apart es distinct.1 apart.1)
+    where
+      rest : (b : Bool) → bytes_eq v x.release.vsn ≡ b → AreApartFrom (recorded_status (after (restart_installed v) x)) (changes (restart_installed v) es)
+      rest true is = behind_its_own (recorded_status (after (restart_installed v) x)) es (ap (λ w. status_of w es) (same_version v x.release.vsn is) ∙ distinct.0)
+      rest false is = beside_none _ (changes (restart_installed v) es) (rw is (replaced_so x.status))
 
 -- Releases that come in
 
@@ -170,7 +311,7 @@ brought_whole es p ls found complete =
 
 -- nothing bars a release that came in
 pub unbarred : (p : Bundle) (es next : Releases) → step (unpacked p) es ≡ Some next → (is_some (status_of p.release.vsn es) ≡ false) × (first_different es p.libraries ≡ None)
-unbarred p es next is = by (is_some (status_of p.release.vsn es)) (first_different es p.libraries) refl refl is
+unbarred p es next is = by (is_some (status_of p.release.vsn es)) (first_different es p.libraries) refl refl (own_of_step (unpacked p) es next is).1
   where
     by : (listed : Bool) (o : Option Library) → is_some (status_of p.release.vsn es) ≡ listed → first_different es p.libraries ≡ o
         → (if listed || is_some o then None else Some (es ++ entry p Unpacked ∷ [])) ≡ Some next → (is_some (status_of p.release.vsn es) ≡ false) × (first_different es p.libraries ≡ None)
@@ -179,80 +320,95 @@ unbarred p es next is = by (is_some (status_of p.release.vsn es)) (first_differe
     by true o fresh agree e = absurd cc
 
 pub comes_in : (p : Bundle) (es next : Releases) → HaveLibraries es → IsWithinLimits (unpacked p) es → step (unpacked p) es ≡ Some next
-    → taken_by (adds p.release (new_libraries es p.libraries) p.relup) (booted es) ≡ Some (booted next)
+    → taken_by (adds p.release (new_libraries es p.libraries) p.relup) (recorded es) ≡ Some (recorded next)
 comes_in p es next have fits is =
     let (fresh, agree) = unbarred p es next is in
     let complete = fits.2 in
-    let brought : brought_by (booted es) p.release (new_libraries es p.libraries) p.relup ≡ Some p =
-    brought_whole (booted es) p (new_libraries es p.libraries) (completed_new es have p.release.apps p.libraries complete.libraries agree) complete in
-    let enters : is_barred p (booted es) ≡ false =
-    (λ k. (listed-with_statuses (λ vsn s. booted_status s) p.release.vsn es ∙ fresh) k || is_some ((first_different-booted es p.libraries ∙ agree) k)) in
-    ap (λ b. if b && nat_lt (length (booted es)) most_releases then arrives (brought_by (booted es) p.release (new_libraries es p.libraries) p.relup) else None) fits.0
-    ∙ ap (λ b. if b then arrives (brought_by (booted es) p.release (new_libraries es p.libraries) p.relup) else None) short
+    let brought : brought_by (recorded es) p.release (new_libraries es p.libraries) p.relup ≡ Some p =
+    brought_whole (recorded es) p (new_libraries es p.libraries) (completed_new es have p.release.apps p.libraries complete.libraries agree) complete in
+    let enters : is_barred p (recorded es) ≡ false =
+    (λ k. (listed-with_statuses (λ vsn s. recorded_status s) p.release.vsn es ∙ fresh) k || is_some ((first_different-recorded es p.libraries ∙ agree) k)) in
+    ap (λ b. if b && nat_lt (length (recorded es)) most_releases then arrives (brought_by (recorded es) p.release (new_libraries es p.libraries) p.relup) else None) fits.0
+    ∙ ap (λ b. if b then arrives (brought_by (recorded es) p.release (new_libraries es p.libraries) p.relup) else None) short
     ∙ ap arrives brought
-    ∙ ap (λ b. if b then None else Some (booted es ++ entry p Unpacked ∷ [])) enters
-    ∙ ap (λ l. Some l) (sym (booted-push es (entry p Unpacked)) ∙ ap booted (pushed_last p es next is))
+    ∙ ap (λ b. if b then None else (if is_barred p (recorded es) then None else Some (recorded es ++ entry p Unpacked ∷ []))) (none_recorded es (own_of_step (unpacked p) es next is).0)
+    ∙ ap (λ b. if b then None else Some (recorded es ++ entry p Unpacked ∷ [])) enters
+    ∙ ap (λ l. Some l) (sym (recorded-push es (entry p Unpacked)) ∙ ap recorded (pushed_last p es next is))
   where
     arrives : Option Bundle → Option Releases
-    arrives o = option_and_then (λ (q : Bundle). step (unpacked q) (booted es)) o
+    arrives o = option_and_then (λ (q : Bundle). step (unpacked q) (recorded es)) o
 
-    short : nat_lt (length (booted es)) most_releases ≡ true
-    short = let few = fits.1 in grind (arith, nat_tests, length-booted es)
+    short : nat_lt (length (recorded es)) most_releases ≡ true
+    short = let few = fits.1 in grind (arith, nat_tests, length-recorded es)
 
 -- a node's first release
-comes_first : (p : Bundle) (next : Releases) → IsWithinLimits (made p) [] → step (made p) [] ≡ Some next → assigned (makes p.release p.libraries p.relup) [] ≡ Some (booted next)
+comes_first : (p : Bundle) (next : Releases) → IsWithinLimits (made p) [] → step (made p) [] ≡ Some next → assigned (makes p.release p.libraries p.relup) [] ≡ Some (recorded next)
 comes_first p next fits is =
     let same : entry p Permanent ∷ [] ≡ next = cc is in
     let complete = fits.1 in
     let brought : brought_by [] p.release p.libraries p.relup ≡ Some p = brought_whole [] p p.libraries (completed_first p.release.apps p.libraries complete.libraries) complete in
     ap (λ b. with_one_permanent (if b then arrives (brought_by [] p.release p.libraries p.relup) else None)) fits.0
     ∙ ap (λ o. with_one_permanent (arrives o)) brought
-    ∙ ap (λ l. Some (booted l)) same
+    ∙ ap (λ l. Some (recorded l)) same
   where
     arrives : Option Bundle → Option Releases
     arrives o = option_and_then (λ (q : Bundle). step (made q) []) o
 
 -- a release that leaves
-leaves : (v : List ℕ) (es next : Releases) → step (removed v) es ≡ Some next → step (removed v) (booted es) ≡ Some (booted next)
+leaves : (v : List ℕ) (es next : Releases) → step (removed v) es ≡ Some next → step (removed v) (recorded es) ≡ Some (recorded next)
 leaves v es next is =
-    let (may, left) = chosen (may_be_removed (status_of v es)) (Some (without v es)) next is in
+    let own = own_of_step (removed v) es next is in
+    let (may, left) = chosen (may_be_removed (status_of v es)) (Some (without v es)) next own.1 in
     let same : without v es ≡ next = cc left in
-    ap (λ b. if b then Some (without v (booted es)) else None) (ap may_be_removed (status_of-booted v es) ∙ still (status_of v es) may)
-    ∙ ap (λ l. Some l) (sym (booted-without v es) ∙ ap booted same)
+    step_of_own (removed v) (recorded es) (recorded next) (none_recorded es own.0)
+    (ap (λ b. if b then Some (without v (recorded es)) else None) (ap may_be_removed (status_of-recorded v es) ∙ still (status_of v es) may)
+    ∙ ap (λ l. Some l) (sym (recorded-without v es) ∙ ap recorded same))
   where
-    still : (o : Option Status) → may_be_removed o ≡ true → may_be_removed (option_map booted_status o) ≡ true
+    still : (o : Option Status) → may_be_removed o ≡ true → may_be_removed (option_map recorded_status o) ≡ true
     still None e = e
     still (Some Unpacked) e = e
     still (Some Current) e = refl
     still (Some Old) e = e
     still (Some Permanent) e = e
+    still (Some OneShot) e = e
 
 -- what changes the statuses of listed releases, or takes one out
-change_tells : (e : Event) (es next : Releases) → IsOfListed e → HasDistinctVersions es → step e es ≡ Some next → has_one_permanent next ≡ true → assigned (record_of e es) (booted es) ≡ Some (booted next)
+change_tells : (e : Event) (es next : Releases) → IsOfListed e → HasDistinctVersions es → step e es ≡ Some next → has_one_permanent next ≡ true → assigned (record_of e es) (recorded es) ≡ Some (recorded next)
 change_tells (made p) es next listed distinct is one = absurd listed
 change_tells (unpacked p) es next listed distinct is one = absurd listed
-change_tells (removed v) es next listed distinct is one = ap with_one_permanent (leaves v es next is) ∙ kept (booted next) (one-booted next ∙ one)
+change_tells (removed v) es next listed distinct is one = ap with_one_permanent (leaves v es next is) ∙ kept (recorded next) (one-recorded next ∙ one)
 change_tells boot es next listed distinct is one =
     let same : booted es ≡ next = cc is in
-    subst (λ l. assigned (assigns (changes boot es)) (booted es) ≡ Some (booted l)) same (assigned_behind boot es distinct (ap has_one_permanent same ∙ one))
+    subst (λ l. assigned (assigns (changes boot es)) (recorded es) ≡ Some (recorded l)) same
+    (assigned_behind boot es distinct (none_becomes_one boot (λ x changed. no_one_shot-booted x.status) es) (ap has_one_permanent same ∙ one))
 change_tells (installed v) es next listed distinct is one =
-    let (may, there) = chosen (may_be_installed (has_current es) (status_of v es)) (Some (list_installed v es)) next is in
+    let (may, there) = chosen (may_be_installed (has_current es) (status_of v es)) (Some (list_installed v es)) next (own_of_step (installed v) es next is).1 in
     let same : list_installed v es ≡ next = cc there in
-    subst (λ l. assigned (assigns (changes (installed v) es)) (booted es) ≡ Some (booted l)) same (assigned_behind (installed v) es distinct (ap has_one_permanent same ∙ one))
+    subst (λ l. assigned (assigns (changes (installed v) es)) (recorded es) ≡ Some (recorded l)) same
+    (assigned_behind (installed v) es distinct (none_becomes_one (installed v) (λ x changed. none-installed (bytes_eq v x.release.vsn) x.status) es) (ap has_one_permanent same ∙ one))
+change_tells (restart_installed v) es next listed distinct is one =
+    let own = own_of_step (restart_installed v) es next is in
+    let (may, there) = chosen (may_be_installed (has_current es) (status_of v es)) (Some (list_restarted v es)) next own.1 in
+    let same : list_restarted v es ≡ next = cc there in
+    subst (λ l. assigned (assigns (changes (restart_installed v) es)) (recorded es) ≡ Some (recorded l)) same
+    (assigned_behind (restart_installed v) es distinct (restarts_apart v es distinct own.0) (ap has_one_permanent same ∙ one))
 change_tells (made_permanent v) es next listed distinct is one =
-    let (may, there) = chosen (may_be_made_permanent (status_of v es)) (Some (list_made_permanent v es)) next is in
+    let (may, there) = chosen (may_be_made_permanent (status_of v es)) (Some (list_made_permanent v es)) next (own_of_step (made_permanent v) es next is).1 in
     let same : list_made_permanent v es ≡ next = cc there in
-    subst (λ l. assigned (assigns (changes (made_permanent v) es)) (booted es) ≡ Some (booted l)) same (assigned_behind (made_permanent v) es distinct (ap has_one_permanent same ∙ one))
+    subst (λ l. assigned (assigns (changes (made_permanent v) es)) (recorded es) ≡ Some (recorded l)) same
+    (assigned_behind (made_permanent v) es distinct (none_becomes_one (made_permanent v) (λ x changed. never-permanent (bytes_eq v x.release.vsn) x.status changed) es) (ap has_one_permanent same ∙ one))
 change_tells (reboot_old v) es next listed distinct is one =
-    let (may, there) = chosen (may_be_rebooted (status_of v es)) (Some (list_made_permanent v es)) next is in
+    let (may, there) = chosen (may_be_rebooted (status_of v es)) (Some (list_made_permanent v es)) next (own_of_step (reboot_old v) es next is).1 in
     let same : list_made_permanent v es ≡ next = cc there in
-    subst (λ l. assigned (assigns (changes (reboot_old v) es)) (booted es) ≡ Some (booted l)) same (assigned_behind (reboot_old v) es distinct (ap has_one_permanent same ∙ one))
+    subst (λ l. assigned (assigns (changes (reboot_old v) es)) (recorded es) ≡ Some (recorded l)) same
+    (assigned_behind (reboot_old v) es distinct (none_becomes_one (reboot_old v) (λ x changed. never-permanent (bytes_eq v x.release.vsn) x.status changed) es) (ap has_one_permanent same ∙ one))
 
 pub tells : RecordsTellEvents
 tells (made p) [] next distinct have is fits one = comes_first p next fits is
-tells (made p) (x ∷ es) next distinct have is fits one = cc is
-tells (unpacked p) es next distinct have is fits one = ap with_one_permanent (comes_in p es next have fits is) ∙ kept (booted next) (one-booted next ∙ one)
+tells (made p) (x ∷ es) next distinct have is fits one = absurd (never_made_again p x es next is)
+tells (unpacked p) es next distinct have is fits one = ap with_one_permanent (comes_in p es next have fits is) ∙ kept (recorded next) (one-recorded next ∙ one)
 tells (installed v) es next distinct have is fits one = change_tells (installed v) es next tt distinct is one
+tells (restart_installed v) es next distinct have is fits one = change_tells (restart_installed v) es next tt distinct is one
 tells (made_permanent v) es next distinct have is fits one = change_tells (made_permanent v) es next tt distinct is one
 tells (removed v) es next distinct have is fits one = change_tells (removed v) es next tt distinct is one
 tells (reboot_old v) es next distinct have is fits one = change_tells (reboot_old v) es next tt distinct is one
@@ -274,7 +430,7 @@ one-push [] x not_it = ap (λ b. cond b (x ∷ []) []) not_it
 one-push (e ∷ es) x not_it = ap (λ l. cond (is_permanent e.status) (e ∷ l) l) (one-push es x not_it)
 
 pub unpacked_tells : (p : Bundle) (es : Releases) → HaveLibraries es → IsWithinLimits (unpacked p) es → Tells (unpacked p) es
-unpacked_tells p es have fits next is one = ap with_one_permanent (comes_in p es next have fits is) ∙ kept (booted next) (one-booted next ∙ behind)
+unpacked_tells p es have fits next is one = ap with_one_permanent (comes_in p es next have fits is) ∙ kept (recorded next) (one-recorded next ∙ behind)
   where
     behind : has_one_permanent next ≡ true
     behind = ap has_one_permanent (sym (pushed_last p es next is)) ∙ ap (λ l. length l == 1) (one-push es (entry p Unpacked) refl) ∙ one
@@ -285,7 +441,7 @@ below n e = grind (arith, nat_tests)
 -- a node's first release brings all its libraries
 all_brought : (p : Bundle) (es next : Releases) → step (made p) es ≡ Some next → new_libraries es p.libraries ≡ p.libraries
 all_brought p [] next is = all_new p.libraries
-all_brought p (f ∷ fs) next is = absurd cc
+all_brought p (f ∷ fs) next is = absurd (never_made_again p f fs next is)
 
 -- A record of a release that comes in or leaves is that of an event.
 of_event : (v : Value) (r : Record) (es next : Releases) → HaveLibraries es → Says v r → IsOfOneRelease r → taken_by r es ≡ Some next → IsOfEvent es next r

@@ -1,19 +1,20 @@
 -- What an image makes of an empty list, events make of it, and then statuses.
-use Rattle.std.proofs.Common.{◌≡◌, ◌⊎◌, inl, inr, true, List, [], ◌∷◌, length, map, take, drop, Some, is_some, refl, sym, ap, ◌∙◌, subst}
-use Rattle.std.specs.Prelude.{◌&&◌, ◌==◌, not, nat_lt}
+use Rattle.std.proofs.Common.{◌≡◌, ◌⊎◌, ℕ, inl, inr, true, List, [], ◌∷◌, length, map, take, drop, Some, refl, sym, ap, ◌∙◌, subst}
+use Rattle.std.specs.Prelude.{◌&&◌, ◌==◌, nat_lt}
 use Rattle.std.specs.Option.{option_and_then}
 use Rattle.rel_files.proofs.Options.{chained}
 use Rattle.library.specs.Library.{Library}
-use Rattle.rel_list.specs.declared.status.Status.TheVariants.{Permanent, Unpacked}
-use Rattle.rel_list.specs.Releases.{Releases, entry, status_of}
-use Rattle.rel_list.specs.Event.{Event, booted, list_after, list_assigned, list_from, step}
+use Rattle.rel_list.specs.declared.status.Status.TheVariants.{Current, Old, OneShot, Permanent, Unpacked}
+use Rattle.rel_list.specs.Releases.{Releases, entry}
+use Rattle.rel_list.specs.Event.{Event, recorded, list_after, list_assigned, list_from, step}
 use Rattle.rel_list.specs.Event.Event.{made, unpacked}
-use Rattle.rel_list.specs.Status.{is_current}
+use Rattle.rel_list.specs.Change.{may_be_given}
+use Rattle.rel_list.specs.declared.status.Status.{Status}
 use Rattle.rel_records.specs.Limits.{has_one_permanent, is_small, most_releases}
 use Rattle.rel_records.specs.Lists.{all_come_in, assign_all, assigned, comes_in, count_new, may_be_assigned, own_status}
 use Rattle.rel_records.specs.Record.{Assignment, Imaged, adds, images, makes}
 use Rattle.rel_records.proofs.EventRecords.{one-push}
-use Rattle.rel_records.proofs.RecordPlaces.{assigned_so, both, chosen, event_of_record, pushed_last, settled_behind}
+use Rattle.rel_records.proofs.RecordPlaces.{assigned_so, chosen, event_of_record, pushed_last, settled_behind}
 
 -- A release of an image comes in by an event, and leaves one release permanent.
 record ComesBy (es next : Releases) : Type 0 where
@@ -39,7 +40,7 @@ comes_by x ls (f ∷ es) next (inr one) e =
       one = ap has_one_permanent (sym (pushed_last p (f ∷ es) next is)) ∙ ap (λ l. length l == 1) (one-push (f ∷ es) (entry p Unpacked) refl) ∙ one;
     }
 
-comes_settled : (x : Imaged) (ls : List Library) (es next : Releases) → comes_in x ls es ≡ Some next → booted es ≡ es → booted next ≡ next
+comes_settled : (x : Imaged) (ls : List Library) (es next : Releases) → comes_in x ls es ≡ Some next → recorded es ≡ es → recorded next ≡ next
 comes_settled x ls [] next e same = settled_behind (makes x.release ls x.relup) [] next e same
 comes_settled x ls (f ∷ es) next e same = settled_behind (adds x.release ls x.relup) (f ∷ es) next e same
 
@@ -47,12 +48,12 @@ comes_settled x ls (f ∷ es) next e same = settled_behind (adds x.release ls x.
 record ComeBy (es next : Releases) : Type 0 where
   events : List Event
   leads : list_from es events ≡ Some next
-  settled : booted next ≡ next
+  settled : recorded next ≡ next
   orderly : IsOrderly next
 
-come_by : (xs : List Imaged) (ls : List Library) (es next : Releases) → booted es ≡ es → IsOrderly es → all_come_in xs ls es ≡ Some next → ComeBy es next
+come_by : (xs : List Imaged) (ls : List Library) (es next : Releases) → recorded es ≡ es → IsOrderly es → all_come_in xs ls es ≡ Some next → ComeBy es next
 come_by [] [] es next same orderly e =
-    let here : es ≡ next = cc e in record { events = []; leads = e; settled = subst (λ l. booted l ≡ l) here same; orderly = subst IsOrderly here orderly }
+    let here : es ≡ next = cc e in record { events = []; leads = e; settled = subst (λ l. recorded l ≡ l) here same; orderly = subst IsOrderly here orderly }
 come_by [] (l ∷ ls) es next same orderly e = absurd cc
 come_by (x ∷ xs) ls es next same orderly e =
     let n = count_new es x.release.apps in
@@ -71,14 +72,21 @@ none_set : (given : List Assignment) (next : Releases) → assign_all given [] �
 none_set [] next e = cc e
 none_set (a ∷ given) next e =
     let (may, rest) = chosen (may_be_assigned a []) (assign_all given (list_assigned a.vsn a.status [])) next e in
-    absurd (let listed : is_some (status_of a.vsn []) ≡ true = (both (not (is_current a.status)) (is_some (status_of a.vsn [])) may).1 in cc listed)
+    absurd (nobody a.status a.vsn may)
+  where
+    nobody : (s : Status) (v : List ℕ) → may_be_given s v [] ≡ true → ⊥
+    nobody Unpacked v may = cc
+    nobody Current v may = cc
+    nobody Old v may = cc
+    nobody Permanent v may = cc
+    nobody OneShot v may = cc
 
 -- Events lead to a list with one permanent release and none that is current, of which the statuses make the list of the image.
 pub record IsRestoredBy (xs : List Imaged) (next : Releases) : Type 0 where
   pub before : Releases
   pub events : List Event
   pub leads : list_after events ≡ Some before
-  pub settled : booted before ≡ before
+  pub settled : recorded before ≡ before
   pub one : has_one_permanent before ≡ true
   pub set : assign_all (map own_status xs) before ≡ Some next
 

@@ -17,3 +17,4 @@ pub mod AgreementLemmas
 pub mod MentionLemmas
 pub mod RestorationLemmas
 pub mod ImageEvents
+pub mod OrderlyLemmas

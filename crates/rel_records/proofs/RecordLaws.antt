@@ -7,7 +7,7 @@ use Rattle.relup_file.specs.Relup.{RelupForm}
 use Rattle.library.specs.Library.{Library, IsLibrary}
 use Rattle.rel_list.specs.declared.status.Status.{Status}
 use Rattle.rel_list.specs.Releases.{Bundle, Releases, Entry}
-use Rattle.rel_list.specs.Event.{booted}
+use Rattle.rel_list.specs.Event.{recorded}
 use Rattle.rel_records.specs.Laws.{MakeOrHaveABadOne, MakeOneList, NeverBothRecords, MakeVersions, MakeLibraries}
 use Rattle.rel_records.specs.Limits.{has_one_permanent, is_small}
 use Rattle.rel_records.specs.Lists.{assigned, MakesFrom, Makes, IsBadRecord, none_at_all, bad_after, HaveVersions}
@@ -37,11 +37,11 @@ makes_or_not before (body ∷ rest) es so_far one = by_body (λ next r spelled t
     by_body more (inl (r, spelled)) = by_list r spelled (λ next taken. more next r spelled taken) (assigned r es) refl
     by_body more (inr never) = inr (length before + 1, bad_after before body rest es so_far (λ r spelled. absurd (never r spelled)))
 
-pub as_booted : (bodies : List (List ℕ)) (es : Releases) → Makes bodies es → booted es ≡ es
-as_booted bodies es makes_it = settled_made [] bodies es makes_it.0 refl
+pub as_recorded : (bodies : List (List ℕ)) (es : Releases) → Makes bodies es → recorded es ≡ es
+as_recorded bodies es makes_it = settled_made [] bodies es makes_it.0 refl
 
 pub make_or_bad : MakeOrHaveABadOne
-make_or_bad bodies = elim (makes_or_not [] bodies [] refl (inl refl)) [ inl made_it ↦ inl (made_it.0, made_it.1, as_booted bodies made_it.0 made_it.1) | inr is_bad ↦ inr is_bad ]
+make_or_bad bodies = elim (makes_or_not [] bodies [] refl (inl refl)) [ inl made_it ↦ inl (made_it.0, made_it.1, as_recorded bodies made_it.0 made_it.1) | inr is_bad ↦ inr is_bad ]
 
 pub make_one : MakeOneList
 make_one bodies es fs p q = makes_once [] bodies es fs p.0 q.0

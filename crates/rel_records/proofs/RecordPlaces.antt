@@ -1,6 +1,6 @@
 -- What stands behind a record.
 use Rattle.std.proofs.Common.{◌≡◌, ℕ, Bool, true, false, List, [], ◌∷◌, ◌++◌, length, Some, None, Option, refl, sym, ap, ◌∙◌, subst}
-use Rattle.std.specs.Prelude.{◌&&◌, ◌||◌, not, is_some, nat_lt, if◌then◌else◌}
+use Rattle.std.specs.Prelude.{◌&&◌, ◌||◌, is_some, nat_lt, if◌then◌else◌}
 use Rattle.std.specs.List.{AllByRecursion}
 use Rattle.std.specs.Option.{option_and_then}
 use Rattle.std.specs.Str.{bytes_eq}
@@ -11,14 +11,15 @@ use Rattle.relup_file.specs.Relup.{RelupForm}
 use Rattle.rel_check.specs.declared.relup.RelupMismatch.{RelupMismatch}
 use Rattle.rel_check.specs.Fault.{Fault, release_fault}
 use Rattle.rel_list.specs.declared.status.Status.{Status}
-use Rattle.rel_list.specs.declared.status.Status.TheVariants.{Unpacked, Current, Old, Permanent}
-use Rattle.rel_list.specs.Status.{is_current}
+use Rattle.rel_list.specs.declared.status.Status.TheVariants.{Unpacked, Current, Old, Permanent, OneShot}
+use Rattle.rel_list.specs.Change.{may_be_given}
 use Rattle.rel_list.specs.Releases.{Bundle, Releases, Entry, status_of}
-use Rattle.rel_list.specs.Event.{Event, entry, is_barred, booted, booted_status, step, without, list_assigned, assigned_status, may_be_removed}
+use Rattle.rel_list.specs.Event.{Event, entry, is_barred, recorded, recorded_status, step, without, list_assigned, assigned_status, may_be_removed}
 use Rattle.rel_list.specs.Event.Event.{made, removed, unpacked}
 use Rattle.rel_records.specs.Limits.{has_one_permanent, is_small, most_releases}
 use Rattle.rel_records.specs.Record.{Assignment, Record, makes, adds, assigns, removes, images}
 use Rattle.rel_records.specs.Lists.{may_be_assigned, added_by, assign_all, brought_by, completed, if_faultless, made_by, mismatch_in, taken_by, with_one_permanent, assigned, MakesFrom}
+use Rattle.rel_list.proofs.Waiting.{never_made_again, own_of_step}
 use Rattle.rel_records.proofs.InvariantLemmas.{IsOf, kept_behind}
 
 -- a choice that gives a value
@@ -45,12 +46,13 @@ one_behind r es next e = (assigned_so r es next e).1
 pub kept : (es : Releases) → has_one_permanent es ≡ true → with_one_permanent (Some es) ≡ Some es
 kept es one = ap (λ b. if b then Some es else None) one
 
--- what is not current is the same behind a boot
-not_current : (s : Status) → not (is_current s) ≡ true → booted_status s ≡ s
-not_current Unpacked e = refl
-not_current Current e = absurd cc
-not_current Old e = refl
-not_current Permanent e = refl
+-- a status that may be assigned is told as it is
+as_given : (s : Status) (v : List ℕ) (es : Releases) → may_be_given s v es ≡ true → recorded_status s ≡ s
+as_given Unpacked v es may = refl
+as_given Current v es may = absurd cc
+as_given Old v es may = refl
+as_given Permanent v es may = refl
+as_given OneShot v es may = refl
 
 pub both : (a b : Bool) → (a && b) ≡ true → (a ≡ true) × (b ≡ true)
 both true true e = (refl, refl)
@@ -58,48 +60,47 @@ both true false e = absurd cc
 both false b e = absurd cc
 
 -- no assignment of such a status makes a release current
-booted-assigned : (t : Status) → booted_status t ≡ t → (b : Bool) (s : Status) → booted_status s ≡ s → booted_status (assigned_status t b s) ≡ assigned_status t b s
-booted-assigned t new true s old = new
-booted-assigned t new false s old = old
+recorded-assigned : (t : Status) → recorded_status t ≡ t → (b : Bool) (s : Status) → recorded_status s ≡ s → recorded_status (assigned_status t b s) ≡ assigned_status t b s
+recorded-assigned t new true s old = new
+recorded-assigned t new false s old = old
 
-pub first_booted : (e : Entry) (es : Releases) → booted (e ∷ es) ≡ e ∷ es → booted_status e.status ≡ e.status
-first_booted e es is = ap status_at is
+pub first_recorded : (e : Entry) (es : Releases) → recorded (e ∷ es) ≡ e ∷ es → recorded_status e.status ≡ e.status
+first_recorded e es is = ap status_at is
   where
     status_at : Releases → Status
     status_at [] = e.status
     status_at (f ∷ fs) = f.status
 
-pub rest_booted : (e : Entry) (es : Releases) → booted (e ∷ es) ≡ e ∷ es → booted es ≡ es
-rest_booted e es is = ap rest is
+pub rest_recorded : (e : Entry) (es : Releases) → recorded (e ∷ es) ≡ e ∷ es → recorded es ≡ es
+rest_recorded e es is = ap rest is
   where
     rest : Releases → Releases
     rest [] = []
     rest (f ∷ fs) = fs
 
-booted-list_assigned : (v : List ℕ) (t : Status) (es : Releases) → booted_status t ≡ t → booted es ≡ es → booted (list_assigned v t es) ≡ list_assigned v t es
-booted-list_assigned v t [] new is = refl
-booted-list_assigned v t (e ∷ es) new is =
-    λ k. record e { status = booted-assigned t new (bytes_eq v e.release.vsn) e.status (first_booted e es is) k } ∷ booted-list_assigned v t es new (rest_booted e es is) k
+recorded-list_assigned : (v : List ℕ) (t : Status) (es : Releases) → recorded_status t ≡ t → recorded es ≡ es → recorded (list_assigned v t es) ≡ list_assigned v t es
+recorded-list_assigned v t [] new is = refl
+recorded-list_assigned v t (e ∷ es) new is =
+    λ k. record e { status = recorded-assigned t new (bytes_eq v e.release.vsn) e.status (first_recorded e es is) k } ∷ recorded-list_assigned v t es new (rest_recorded e es is) k
 
-booted-assign_all : (given : List Assignment) (es next : Releases) → assign_all given es ≡ Some next → booted es ≡ es → booted next ≡ next
-booted-assign_all [] es next e is = let same : es ≡ next = cc e in subst (λ l. booted l ≡ l) same is
-booted-assign_all (a ∷ given) es next e is =
+recorded-assign_all : (given : List Assignment) (es next : Releases) → assign_all given es ≡ Some next → recorded es ≡ es → recorded next ≡ next
+recorded-assign_all [] es next e is = let same : es ≡ next = cc e in subst (λ l. recorded l ≡ l) same is
+recorded-assign_all (a ∷ given) es next e is =
     let (may, rest) = chosen (may_be_assigned a es) (assign_all given (list_assigned a.vsn a.status es)) next e in
-    let (settled, there) = both (not (is_current a.status)) (is_some (status_of a.vsn es)) may in
-    booted-assign_all given (list_assigned a.vsn a.status es) next rest (booted-list_assigned a.vsn a.status es (not_current a.status settled) is)
+    recorded-assign_all given (list_assigned a.vsn a.status es) next rest (recorded-list_assigned a.vsn a.status es (as_given a.status a.vsn es may) is)
 
-pub booted-push : (es : Releases) (e : Entry) → booted (es ++ e ∷ []) ≡ booted es ++ record e { status = booted_status e.status } ∷ []
-booted-push [] e = refl
-booted-push (f ∷ es) e = ap (λ l. record f { status = booted_status f.status } ∷ l) (booted-push es e)
+pub recorded-push : (es : Releases) (e : Entry) → recorded (es ++ e ∷ []) ≡ recorded es ++ record e { status = recorded_status e.status } ∷ []
+recorded-push [] e = refl
+recorded-push (f ∷ es) e = ap (λ l. record f { status = recorded_status f.status } ∷ l) (recorded-push es e)
 
--- a boot leaves a removal as it is
-pub booted-without : (v : List ℕ) (es : Releases) → booted (without v es) ≡ without v (booted es)
-booted-without v [] = refl
-booted-without v (e ∷ es) = go (bytes_eq v e.release.vsn) (booted-without v es)
+-- a removal leaves the others as records tell them
+pub recorded-without : (v : List ℕ) (es : Releases) → recorded (without v es) ≡ without v (recorded es)
+recorded-without v [] = refl
+recorded-without v (e ∷ es) = go (bytes_eq v e.release.vsn) (recorded-without v es)
   where
-    go : (b : Bool) → booted (without v es) ≡ without v (booted es) → booted (if b then es else e ∷ without v es) ≡ (if b then booted es else record e { status = booted_status e.status } ∷ without v (booted es))
+    go : (b : Bool) → recorded (without v es) ≡ without v (recorded es) → recorded (if b then es else e ∷ without v es) ≡ (if b then recorded es else record e { status = recorded_status e.status } ∷ without v (recorded es))
     go true rest = refl
-    go false rest = ap (λ l. record e { status = booted_status e.status } ∷ l) rest
+    go false rest = ap (λ l. record e { status = recorded_status e.status } ∷ l) rest
 
 -- What a record brings is its release, with the libraries that the new ones complete, and its relup.
 pub record IsOfRecord (es : Releases) (r : Release) (ls : List Library) (o : Option RelupForm) (p : Bundle) : Type 0 where
@@ -135,15 +136,15 @@ event_of_record event b r ls o es next e =
 
 -- a release that comes in is last
 pub pushed_last : (p : Bundle) (es next : Releases) → step (unpacked p) es ≡ Some next → es ++ entry p Unpacked ∷ [] ≡ next
-pushed_last p es next e = unless (is_barred p es) e
+pushed_last p es next e = unless (is_barred p es) (own_of_step (unpacked p) es next e).1
   where
     unless : (b : Bool) → (if b then None else Some (es ++ entry p Unpacked ∷ [])) ≡ Some next → es ++ entry p Unpacked ∷ [] ≡ next
     unless true e = absurd cc
     unless false e = cc e
 
-settled_first : (p : Bundle) (es next : Releases) → step (made p) es ≡ Some next → booted next ≡ next
-settled_first p [] next is = let one : entry p Permanent ∷ [] ≡ next = cc is in subst (λ l. booted l ≡ l) one refl
-settled_first p (f ∷ fs) next is = absurd cc
+settled_first : (p : Bundle) (es next : Releases) → step (made p) es ≡ Some next → recorded next ≡ next
+settled_first p [] next is = let one : entry p Permanent ∷ [] ≡ next = cc is in subst (λ l. recorded l ≡ l) one refl
+settled_first p (f ∷ fs) next is = absurd (never_made_again p f fs next is)
 
 -- what always holds holds of each
 always : {A : Type 0} (xs : List A) → AllByRecursion (λ (x : A). Unit {0}) xs
@@ -158,25 +159,25 @@ any_record (removes w) = tt
 any_record (images xs ls) = (always xs, always ls)
 
 -- no record makes a release current
-pub settled_behind : (r : Record) (es next : Releases) → taken_by r es ≡ Some next → booted es ≡ es → booted next ≡ next
+pub settled_behind : (r : Record) (es next : Releases) → taken_by r es ≡ Some next → recorded es ≡ es → recorded next ≡ next
 settled_behind r es next e same =
-    kept_behind (λ (r : Release) (o : Option RelupForm). Unit {0}) (λ (l : Library). Unit {0}) (λ (l : Releases). booted l ≡ l) first further booted-assign_all left r es next (any_record r) e same
+    kept_behind (λ (r : Release) (o : Option RelupForm). Unit {0}) (λ (l : Library). Unit {0}) (λ (l : Releases). recorded l ≡ l) first further recorded-assign_all left r es next (any_record r) e same
   where
-    first : (r : Release) (ls : List Library) (o : Option RelupForm) (es next : Releases) → Unit {0} → AllByRecursion (λ (l : Library). Unit {0}) ls → made_by r ls o es ≡ Some next → booted es ≡ es → booted next ≡ next
+    first : (r : Release) (ls : List Library) (o : Option RelupForm) (es next : Releases) → Unit {0} → AllByRecursion (λ (l : Library). Unit {0}) ls → made_by r ls o es ≡ Some next → recorded es ≡ es → recorded next ≡ next
     first r ls o es next of all e same = let (p, of, is) = event_of_record made (is_small r) r ls o es next e in settled_first p es next is
 
-    further : (r : Release) (ls : List Library) (o : Option RelupForm) (es next : Releases) → Unit {0} → AllByRecursion (λ (l : Library). Unit {0}) ls → added_by r ls o es ≡ Some next → booted es ≡ es → booted next ≡ next
+    further : (r : Release) (ls : List Library) (o : Option RelupForm) (es next : Releases) → Unit {0} → AllByRecursion (λ (l : Library). Unit {0}) ls → added_by r ls o es ≡ Some next → recorded es ≡ es → recorded next ≡ next
     further r ls o es next of all e same =
         let (p, of, is) = event_of_record unpacked (is_small r && nat_lt (length es) most_releases) r ls o es next e in
-        subst (λ l. booted l ≡ l) (pushed_last p es next is) (booted-push es (entry p Unpacked) ∙ ap (λ l. l ++ entry p Unpacked ∷ []) same)
+        subst (λ l. recorded l ≡ l) (pushed_last p es next is) (recorded-push es (entry p Unpacked) ∙ ap (λ l. l ++ entry p Unpacked ∷ []) same)
 
-    left : (w : List ℕ) (es next : Releases) → step (removed w) es ≡ Some next → booted es ≡ es → booted next ≡ next
+    left : (w : List ℕ) (es next : Releases) → step (removed w) es ≡ Some next → recorded es ≡ es → recorded next ≡ next
     left w es next e same =
-        let (may, is) = chosen (may_be_removed (status_of w es)) (Some (without w es)) next e in
+        let (may, is) = chosen (may_be_removed (status_of w es)) (Some (without w es)) next (own_of_step (removed w) es next e).1 in
         let gone : without w es ≡ next = cc is in
-        subst (λ l. booted l ≡ l) gone (booted-without w es ∙ ap (without w) same)
+        subst (λ l. recorded l ≡ l) gone (recorded-without w es ∙ ap (without w) same)
 
-pub settled_made : (es : Releases) (bodies : List (List ℕ)) (end : Releases) → MakesFrom es bodies end → booted es ≡ es → booted end ≡ end
-settled_made es [] end is same = ap booted is ∙ same ∙ sym is
+pub settled_made : (es : Releases) (bodies : List (List ℕ)) (end : Releases) → MakesFrom es bodies end → recorded es ≡ es → recorded end ≡ end
+settled_made es [] end is same = ap recorded is ∙ same ∙ sym is
 settled_made es (body ∷ bodies) end (r, next, spelled, taken, rest) same =
     settled_made next bodies end rest (settled_behind r es next (assigned_so r es next taken).0 same)

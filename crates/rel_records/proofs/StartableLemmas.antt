@@ -9,14 +9,14 @@ use Rattle.library.specs.Library.{Library, IsLibrary}
 use Rattle.rel_list.specs.declared.status.Status.{Status}
 use Rattle.rel_list.specs.Status.{is_permanent}
 use Rattle.rel_list.specs.Releases.{Bundle, Releases, Entry, entry, libraries_named}
-use Rattle.rel_list.specs.Event.{booted}
+use Rattle.rel_list.specs.Event.{recorded}
 use Rattle.rel_list.proofs.LibraryLaws.{all-append}
 use Rattle.rel_records.specs.Laws.{MakeStartableReleases}
 use Rattle.rel_records.specs.Limits.{is_small}
 use Rattle.rel_records.specs.Lists.{HaveLibraries}
 use Rattle.rel_records.specs.Startable.{IsStartable, AreStartable}
 use Rattle.rel_records.proofs.CompletionLemmas.{are_completed, brought_complete, of_applications}
-use Rattle.rel_records.proofs.EachRelease.{each-found, each-booted, each-of_booted, each_made}
+use Rattle.rel_records.proofs.EachRelease.{each-found, each-recorded, each-of_recorded, each_made}
 use Rattle.rel_records.proofs.MadeLemmas.{AreSaid}
 use Rattle.rel_records.proofs.RecordPlaces.{IsOfRecord}
 
@@ -28,11 +28,11 @@ permanent_is_startable = each-found IsStartable (λ (f : Entry). is_permanent f.
 pub still_startable : (e : Entry) (s : Status) → IsStartable e → IsStartable (record e { status = s })
 still_startable e s is = record { complete = is.complete; distinct = is.distinct }
 
-pub startable-booted : (es : Releases) → AreStartable es → AreStartable (booted es)
-startable-booted = each-booted IsStartable still_startable
+pub startable-recorded : (es : Releases) → AreStartable es → AreStartable (recorded es)
+startable-recorded = each-recorded IsStartable still_startable
 
-pub startable-of_booted : (es : Releases) → AreStartable (booted es) → AreStartable es
-startable-of_booted = each-of_booted IsStartable still_startable
+pub startable-of_recorded : (es : Releases) → AreStartable (recorded es) → AreStartable es
+startable-of_recorded = each-of_recorded IsStartable still_startable
 
 -- the libraries of startable releases are libraries
 pub startable_libraries : (es : Releases) → AreStartable es → HaveLibraries es

@@ -1,7 +1,7 @@
 -- The image of a list: the one record that makes it.
 use Rattle.std.specs.Prelude.{ℕ, List, map, if◌then◌else◌, Option, None, Some}
 use Rattle.erl_term.specs.Value.{Value, values_of}
-use Rattle.rel_list.specs.Event.{booted_status}
+use Rattle.rel_list.specs.Event.{recorded_status}
 use Rattle.rel_list.specs.Releases.{Entry, Releases, libraries_of}
 use Rattle.rel_records.specs.Depth.{is_within}
 use Rattle.rel_records.specs.Record.{Imaged, Record, images, imaged_term, image_term, library_terms, printed}
@@ -10,9 +10,9 @@ use Rattle.rel_records.specs.Record.{Imaged, Record, images, imaged_term, image_
 abbrev pub imaged : Entry → Imaged
 imaged e = record { release = e.release; status = e.status; relup = e.relup }
 
--- the term of a release of the list, as it is behind a boot
-abbrev pub booted_row : Entry → Value
-booted_row e = imaged_term (imaged (record e { status = booted_status e.status }))
+-- the term of a release of the list, as records tell it
+abbrev pub recorded_row : Entry → Value
+recorded_row e = imaged_term (imaged (record e { status = recorded_status e.status }))
 
 -- The record: the releases in the order of the list, and its libraries, each where a release mentions it first.
 abbrev pub image_record : Releases → Record

@@ -1,7 +1,7 @@
 -- Laws of records and lists, whatever reads and writes them.
 use Rattle.std.specs.Prelude.{◌≡◌, ◌⊎◌, ℕ, true, List, Some}
 use Rattle.rel_list.specs.Releases.{Releases, HasDistinctVersions}
-use Rattle.rel_list.specs.Event.{Event, step, booted}
+use Rattle.rel_list.specs.Event.{Event, step, recorded}
 use Rattle.rel_records.specs.Limits.{has_one_permanent}
 use Rattle.rel_records.specs.Lists.{assigned, Makes, IsBadRecord, HaveVersions, HaveLibraries}
 use Rattle.rel_records.specs.Reading.{Spells}
@@ -11,7 +11,7 @@ use Rattle.rel_records.specs.Writing.{record_of, IsWithinLimits}
 
 -- Bodies make a list, which is the same behind a boot, or one of them is the first bad record.
 abbrev pub MakeOrHaveABadOne : Type 0
-MakeOrHaveABadOne = (bodies : List (List ℕ)) → ((es : Releases) × Makes bodies es × (booted es ≡ es)) ⊎ ((i : ℕ) × IsBadRecord bodies i)
+MakeOrHaveABadOne = (bodies : List (List ℕ)) → ((es : Releases) × Makes bodies es × (recorded es ≡ es)) ⊎ ((i : ℕ) × IsBadRecord bodies i)
 
 -- They make one list.
 abbrev pub MakeOneList : Type 0
@@ -21,11 +21,11 @@ MakeOneList = (bodies : List (List ℕ)) (es fs : Releases) → Makes bodies es 
 abbrev pub NeverBothRecords : Type 0
 NeverBothRecords = (bodies : List (List ℕ)) (es : Releases) (i : ℕ) → Makes bodies es → IsBadRecord bodies i → ⊥
 
--- The record of an event makes of the list, as it is behind a boot, what the event makes of it, as that is behind a boot.
+-- The record of an event makes of the list, as records tell it, what the event makes of it, as records tell that.
 abbrev pub RecordsTellEvents : Type 0
 RecordsTellEvents =
     (e : Event) (es next : Releases) → HasDistinctVersions es → HaveLibraries es → step e es ≡ Some next → IsWithinLimits e es
-    → has_one_permanent next ≡ true → assigned (record_of e es) (booted es) ≡ Some (booted next)
+    → has_one_permanent next ≡ true → assigned (record_of e es) (recorded es) ≡ Some (recorded next)
 
 -- The record is of a release that comes in or leaves: an image is of a whole list, which no single event makes.
 abbrev pub IsOfOneRelease : Record → Type 0

@@ -9,17 +9,17 @@ use Rattle.rel_check.specs.declared.relup.RelupMismatch.{RelupMismatch}
 use Rattle.rel_check.specs.Fault.{release_fault}
 use Rattle.rel_check.specs.Relup.{relup_mismatch}
 use Rattle.relup_file.specs.Relup.{RelupForm}
-use Rattle.rel_list.specs.Releases.{Bundle, Releases, Entry, libraries_named, library_in, status_of}
-use Rattle.rel_list.specs.Status.{is_current}
+use Rattle.rel_list.specs.Releases.{Bundle, Releases, Entry, libraries_named, library_in}
+use Rattle.rel_list.specs.Change.{may_be_given}
 use Rattle.rel_list.specs.Event.{step, list_assigned}
 use Rattle.rel_list.specs.Event.Event.{made, unpacked, removed}
 use Rattle.rel_records.specs.Limits.{most_releases, is_small, has_one_permanent}
 use Rattle.rel_records.specs.Record.{Assignment, Imaged, Record, makes, adds, assigns, removes, images}
 use Rattle.rel_records.specs.Reading.{Spells}
 
--- An assignment may be made to a release that is there. None makes a release current.
+-- An assignment may be made to a release that is there. None makes a release current, or a second one a one-shot.
 abbrev pub may_be_assigned : Assignment → Releases → Bool
-may_be_assigned a es = not (is_current a.status) && is_some (status_of a.vsn es)
+may_be_assigned a es = may_be_given a.status a.vsn es
 
 -- the list behind assignments, one after another
 abbrev pub assign_all : List Assignment → Releases → Option Releases

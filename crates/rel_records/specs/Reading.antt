@@ -14,7 +14,7 @@ use Rattle.relup_file.specs.Relup.{RelupForm}
 use Rattle.library.specs.Library.{Library}
 use Rattle.library.specs.Reading.{AreOfLibraries, EachSays}
 use Rattle.rel_list.specs.declared.status.Status.{Status}
-use Rattle.rel_list.specs.declared.status.Status.TheVariants.{Unpacked, Old, Permanent}
+use Rattle.rel_list.specs.declared.status.Status.TheVariants.{Unpacked, Old, Permanent, OneShot}
 use Rattle.rel_records.specs.Record.{Assignment, FileTerms, Imaged, Record, makes, adds, assigns, removes, images, release_term, relup_or_none, row_term, image_term}
 
 -- the text of a version
@@ -27,6 +27,7 @@ status_in v =
     if is_word (codes "unpacked") v then Some Unpacked
     else if is_word (codes "old") v then Some Old
     else if is_word (codes "permanent") v then Some Permanent
+    else if is_word (codes "one_shot") v then Some OneShot
     else None
 
 abbrev pub assignment_in : Value → Option Assignment

@@ -5,9 +5,9 @@ use Rattle.erl_term.specs.Within.{IsWithin}
 use Rattle.library.specs.Library.{Library, AreLibrariesOf, IsLibrary, library_term}
 use Rattle.rel_check.specs.Fault.{release_fault}
 use Rattle.rel_list.specs.declared.status.Status.{Status}
-use Rattle.rel_list.specs.declared.status.Status.TheVariants.{Unpacked, Current, Old, Permanent}
+use Rattle.rel_list.specs.declared.status.Status.TheVariants.{Unpacked, Current, Old, Permanent, OneShot}
 use Rattle.rel_list.specs.Releases.{Bundle, Releases, Entry, library_in}
-use Rattle.rel_list.specs.Event.{Event, status_behind, booted_status, booted, step}
+use Rattle.rel_list.specs.Event.{Event, status_behind, recorded_status, recorded, step}
 use Rattle.rel_list.specs.Event.Event.{made, unpacked, removed}
 use Rattle.rel_records.specs.Limits.{most_releases, is_small, has_one_permanent}
 use Rattle.rel_records.specs.Lists.{assigned, mismatch_in}
@@ -18,15 +18,16 @@ is_same Unpacked Unpacked = true
 is_same Current Current = true
 is_same Old Old = true
 is_same Permanent Permanent = true
+is_same OneShot OneShot = true
 is_same s t = false
 
 -- the event changes the status of this release
 abbrev pub is_changed : Event → Entry → Bool
 is_changed e x = not (is_same (status_behind e x.release.vsn x.status) x.status)
 
--- the status that it has then, as it is behind a boot: what is current is written as unpacked
+-- the status that it has then, as records tell it: what is current is written as unpacked
 abbrev pub assignment_of : Event → Entry → Assignment
-assignment_of e x = record { vsn = x.release.vsn; status = booted_status (status_behind e x.release.vsn x.status) }
+assignment_of e x = record { vsn = x.release.vsn; status = recorded_status (status_behind e x.release.vsn x.status) }
 
 -- the statuses that an event changes, in the order of the list
 abbrev pub changes : Event → Releases → List Assignment
@@ -62,10 +63,10 @@ IsWithinLimits (made p) es = (is_small p.release ≡ true) × IsComplete p
 IsWithinLimits (unpacked p) es = (is_small p.release ≡ true) × (length es < most_releases) × IsComplete p
 IsWithinLimits e es = Unit {0}
 
--- The record of the event makes of this list, as it is behind a boot, what the event makes of it, as that is behind a boot,
+-- The record of the event makes of this list, as records tell it, what the event makes of it, as records tell that,
 -- where one release is permanent.
 abbrev pub Tells : Event → Releases → Type 0
-Tells e es = (next : Releases) → step e es ≡ Some next → has_one_permanent es ≡ true → assigned (record_of e es) (booted es) ≡ Some (booted next)
+Tells e es = (next : Releases) → step e es ≡ Some next → has_one_permanent es ≡ true → assigned (record_of e es) (recorded es) ≡ Some (recorded next)
 
 -- They are libraries whose terms are no deeper than a record can carry.
 abbrev pub CanBeCarried : List Library → Type 0

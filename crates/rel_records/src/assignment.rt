@@ -40,6 +40,8 @@ pub(crate) fn status_in(term: &Term) -> Option<Status>
         Some(Status::Old)
     } else if is_word(term, "permanent") {
         Some(Status::Permanent)
+    } else if is_word(term, "one_shot") {
+        Some(Status::OneShot)
     } else {
         None
     }
@@ -90,9 +92,7 @@ pub(crate) fn assign_all(
         assign_all (map assignment_read assignments.now) list.old ≡ None) }
 {
     for assignment in assignments {
-        if assignment.status.is_current()
-            || !list.assign(assignment.vsn.as_str(), assignment.status)
-        {
+        if !list.assign(assignment.vsn.as_str(), assignment.status) {
             return Err(RecordFault::Bad);
         }
     }

@@ -8,7 +8,7 @@ pub fn records_make_a_list_or_one_is_bad()
     ensures never_both { NeverBothRecords }
 {}
 
-/// The record of an event makes of a list what the event makes of it, each as it is behind a boot.
+/// The record of an event makes of a list what the event makes of it, each as records tell it.
 pub fn records_tell_events()
     ensures { RecordsTellEvents }
 {}

@@ -10,6 +10,7 @@ use Rattle.node_command.specs.Files.{Brings, bundle_brought}
 use Rattle.node_command.specs.Place.{difference, files_refusal, has_room, own_refusal, refusal_with}
 use Rattle.node_command.specs.Taking.{commanded}
 use Rattle.node_command.proofs.CommandLemmas.{commanded_step}
+use Rattle.rel_list.proofs.Waiting.{own_of_step}
 use Rattle.rel_records.proofs.CompletionLemmas.{of_applications}
 use Rattle.node_listing.specs.Listing.{listing}
 use Rattle.node_processes.specs.Answers.{processes_line, modules_line, peek_line}
@@ -229,7 +230,7 @@ unrefused false (Some why) o is none = absurd cc
 taken_in : (b : Brought) (list next : Releases) → files_refusal b list ≡ None → commanded (unpacked (bundle_brought b)) list ≡ Ok next → b.refusal ≡ None
 taken_in b list next free allowed =
     let listed = is_some (status_of b.found.release.vsn list) in
-    let new = not_barred listed (is_some (first_different list b.libraries)) _ next (commanded_step (unpacked (bundle_brought b)) list next allowed) in
+    let new = not_barred listed (is_some (first_different list b.libraries)) _ next (own_of_step (unpacked (bundle_brought b)) list next (commanded_step (unpacked (bundle_brought b)) list next allowed)).1 in
     free_so (has_room list) b (unrefused listed (difference b.libraries list) (refusal_with (has_room list) b) new free)
 
 -- what is told of its files is within a line, whether there is room for it or not

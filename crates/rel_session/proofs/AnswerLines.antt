@@ -26,7 +26,7 @@ use Rattle.relup_command.specs.Answer.{fault_line, relup_lines, translation_line
 use Rattle.rel_list.specs.Releases.{Releases, Entry}
 use Rattle.rel_list.specs.Status.{status_word}
 use Rattle.rel_list.specs.declared.status.Status.{Status}
-use Rattle.rel_list.specs.declared.status.Status.TheVariants.{Unpacked, Current, Old, Permanent}
+use Rattle.rel_list.specs.declared.status.Status.TheVariants.{Unpacked, Current, Old, Permanent, OneShot}
 use Rattle.rel_handler.specs.declared.error.BootError.{BootError}
 use Rattle.rel_handler.specs.declared.error.BootError.TheVariants as boot_error
 use Rattle.rel_unpack.specs.Refusal.{Trouble, trouble_text}
@@ -147,6 +147,7 @@ word_plain Unpacked = refl
 word_plain Current = refl
 word_plain Old = refl
 word_plain Permanent = refl
+word_plain OneShot = refl
 
 -- why a script isn't carried out to its end
 cause_plain : (c : Cause) → is_one_line (cause_text c) ≡ true

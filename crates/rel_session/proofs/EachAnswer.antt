@@ -48,7 +48,7 @@ use Rattle.rel_session.proofs.SourceLemmas.{gives_each}
 use Rattle.rel_session.proofs.ActionLemmas.{some_action}
 use Rattle.rel_session.proofs.Histories.{events_of_image}
 use Rattle.rel_session.proofs.ListLemmas.{list_after-push}
-use Rattle.rel_session.proofs.ExtentLemmas.{booted_reach, compacted_twice}
+use Rattle.rel_session.proofs.ExtentLemmas.{booted_reach, compacted_twice, none_rebooted}
 use Rattle.rel_session.proofs.LoopLemmas.{replies_next}
 
 -- A record fits or it does not.
@@ -169,7 +169,7 @@ reboots events extent ps list vsn after =
     commits events extent ps list e size _ after (λ grown then.
     let booted = booted_there (events ++ e ∷ []) x grown then in
     fair_reply _ (behind e booted.given) (booted.given, inl (events ++ e ∷ [], x, inl (refl, refl), booted.is), refl) booted.works booted.fair
-    (λ r. subst (λ (t : Reply). IsCompact t.after) (sym booted.is.2) (stays_compact events extent e size ∙ sym (booted_reach x (events ++ e ∷ [])))))
+    (λ r. subst (λ (t : Reply). IsCompact t.after) (sym booted.is.2) (stays_compact events extent e size ∙ sym (booted_reach x (events ++ e ∷ []) (none_rebooted events vsn)))))
 
 rebooted : (p : Place) (vsn : List ℕ) → IsFair p → Has (Transition.Acts p (reboots_node vsn))
 rebooted p vsn (of_raw x) = told_reply _ _ _ refl (of_raw x)

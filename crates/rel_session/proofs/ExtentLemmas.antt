@@ -2,10 +2,11 @@
 use Rattle.std.proofs.Common.{◌≡◌, inl, inr, ℕ, Bool, true, false, List, [], ◌∷◌, ◌++◌, length, Option, None, Some, refl, sym, ap, ◌∙◌, subst}
 use Rattle.std.specs.Option.{option_and_then}
 use Rattle.std.specs.Prelude.{if◌then◌else◌}
-use Rattle.rel_list.specs.Releases.{Releases}
-use Rattle.rel_list.specs.Event.{booted, list_after, step}
-use Rattle.rel_list.specs.Event.Event.{boot as booting}
-use Rattle.rel_records.proofs.EventRecords.{booted-twice}
+use Rattle.rel_list.specs.Releases.{Releases, has_one_shot}
+use Rattle.rel_list.specs.Event.{booted, list_after, recorded, step}
+use Rattle.rel_list.specs.Event.Event.{boot as booting, reboot_old as rebooting}
+use Rattle.rel_list.proofs.OneShotLaws.{boots_as_recorded, one_shots_come_from_restarts}
+use Rattle.rel_records.proofs.EventRecords.{recorded-twice}
 use Rattle.rel_records.specs.Image.{image_of}
 use Rattle.rel_handler.specs.Compaction.{compacted, extent_with, fits_image, is_long, MayReach, with_image}
 use Rattle.rel_handler.specs.Events.{Events, MayHave, certain}
@@ -37,17 +38,17 @@ compacted_twice x es = by_length (is_long x) refl
     by_fit body is true fits = shrinks (length body) (is ∙ ap (λ b. if b then extent_with x (length body) else x) fits)
     by_fit body is false fits = stays (is ∙ ap (λ b. if b then extent_with x (length body) else x) fits)
 
-    by_image : compacted x es ≡ with_image x (image_of (booted es)) → (o : Option (List ℕ)) → image_of (booted es) ≡ o → compacted x es ≡ compacted (compacted x es) es
+    by_image : compacted x es ≡ with_image x (image_of (recorded es)) → (o : Option (List ℕ)) → image_of (recorded es) ≡ o → compacted x es ≡ compacted (compacted x es) es
     by_image is None none = stays (is ∙ ap (with_image x) none)
     by_image is (Some body) some = by_fit body (is ∙ ap (with_image x) some) (fits_image x (length body)) refl
 
     by_length : (b : Bool) → is_long x ≡ b → compacted x es ≡ compacted (compacted x es) es
-    by_length true long = by_image (ap (λ b. if b then with_image x (image_of (booted es)) else x) long) (image_of (booted es)) refl
-    by_length false short = stays (ap (λ b. if b then with_image x (image_of (booted es)) else x) short)
+    by_length true long = by_image (ap (λ b. if b then with_image x (image_of (recorded es)) else x) long) (image_of (recorded es)) refl
+    by_length false short = stays (ap (λ b. if b then with_image x (image_of (recorded es)) else x) short)
 
--- The image of a list is that of the list behind a boot.
-compacted-booted : (x : Extent) (es : Releases) → compacted x (booted es) ≡ compacted x es
-compacted-booted x es = ap (λ l. if is_long x then with_image x (image_of l) else x) (booted-twice es)
+-- The image of a list without a one-shot is that of the list behind a boot.
+compacted-booted : (x : Extent) (es : Releases) → has_one_shot es ≡ false → compacted x (booted es) ≡ compacted x es
+compacted-booted x es none = ap (λ l. if is_long x then with_image x (image_of l) else x) (ap recorded (boots_as_recorded es none) ∙ recorded-twice es)
 
 releases-booted : (events : Events) → releases_after (events ++ booting ∷ []) ≡ booted (releases_after events)
 releases-booted events = ap list_or_none (list_after-more events booting) ∙ go (list_after events)
@@ -56,8 +57,20 @@ releases-booted events = ap list_or_none (list_after-more events booting) ∙ go
     go None = refl
     go (Some l) = refl
 
-pub booted_reach : (x : Extent) (events : Events) → compacted x (releases_after (events ++ booting ∷ [])) ≡ compacted x (releases_after events)
-booted_reach x events = ap (compacted x) (releases-booted events) ∙ compacted-booted x (releases_after events)
+pub booted_reach : (x : Extent) (events : Events) → has_one_shot (releases_after events) ≡ false → compacted x (releases_after (events ++ booting ∷ [])) ≡ compacted x (releases_after events)
+booted_reach x events none = ap (compacted x) (releases-booted events) ∙ compacted-booted x (releases_after events) none
+
+-- No release is a one-shot behind a reboot to an old release.
+pub none_rebooted : (events : Events) (vsn : List ℕ) → has_one_shot (releases_after (events ++ rebooting vsn ∷ [])) ≡ false
+none_rebooted events vsn = ap (λ o. has_one_shot (list_or_none o)) (list_after-more events (rebooting vsn)) ∙ go (list_after events)
+  where
+    behind : (l : Releases) (o : Option Releases) → step (rebooting vsn) l ≡ o → has_one_shot (list_or_none o) ≡ false
+    behind l None is = refl
+    behind l (Some next) is = one_shots_come_from_restarts (rebooting vsn) l next refl is
+
+    go : (o : Option Releases) → has_one_shot (list_or_none (option_and_then (step (rebooting vsn)) o)) ≡ false
+    go None = refl
+    go (Some l) = behind l (step (rebooting vsn) l) refl
 
 -- a store without an event in doubt has its events, and reaches as far as it does
 pub has_only : (events es : Events) (x y : Extent) → MayHave (certain events x) es y → (es ≡ events) × (y ≡ x)

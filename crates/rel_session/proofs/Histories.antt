@@ -1,48 +1,49 @@
 -- The events behind a list that a store's records make.
-use Rattle.std.proofs.Common.{◌≡◌, ◌⊎◌, inl, inr, ℕ, Bool, true, false, List, [], ◌∷◌, ◌++◌, length, map, Some, is_some, refl, sym, ap, ◌∙◌, subst, arith}
-use Rattle.std.specs.Prelude.{◌&&◌, ◌==◌, not, nat_lt}
+use Rattle.std.proofs.Common.{◌≡◌, ◌⊎◌, inl, inr, ℕ, true, List, [], ◌∷◌, ◌++◌, length, map, Some, refl, sym, ap, ◌∙◌, arith}
+use Rattle.std.specs.Prelude.{◌&&◌, ◌==◌, nat_lt}
 use Rattle.std.specs.Option.{option_and_then}
 use Rattle.std.proofs.lemmas.Bool.Decides.{nat_tests}
 use Rattle.rel_list.specs.declared.status.Status.{Status}
 use Rattle.rel_list.specs.Keyed.{IsOrderly}
-use Rattle.rel_list.specs.Laws.{bundles_of, IsAtRest}
-use Rattle.rel_list.specs.Releases.{Bundle, Releases, bundle_in, of_status, status_of}
-use Rattle.rel_list.specs.Status.{is_current, is_permanent}
-use Rattle.rel_list.specs.Event.{Event, booted, step, list_assigned, list_from, list_after}
+use Rattle.rel_list.specs.Laws.{bundles_of, IsRecorded}
+use Rattle.rel_list.specs.Releases.{Bundle, Releases, bundle_in, of_status}
+use Rattle.rel_list.specs.Status.{is_permanent}
+use Rattle.rel_list.specs.Event.{Event, booted, recorded, step, list_assigned, list_from, list_after}
 use Rattle.rel_list.specs.Event.Event.{made, unpacked, removed, boot as booting}
-use Rattle.rel_list.proofs.EventLaws.{orderly-after, orderly-assigned}
-use Rattle.rel_list.proofs.RestLaws.{rest_reached}
+use Rattle.rel_list.proofs.EventLaws.{list_from-append, orderly-after}
+use Rattle.rel_list.proofs.OneShotLaws.{boots_as_recorded}
+use Rattle.rel_list.proofs.RestLaws.{recorded_reached}
 use Rattle.rel_records.specs.Limits.{has_one_permanent, is_small, most_releases}
 use Rattle.rel_records.specs.Lists.{may_be_assigned, assign_all, assigned, own_status, MakesFrom}
 use Rattle.rel_records.specs.Record.{Assignment, Record, makes, adds, assigns, removes, images}
 use Rattle.rel_records.proofs.ImageEvents.{restored_by}
-use Rattle.rel_records.proofs.RecordPlaces.{chosen, both, assigned_so, event_of_record, settled_behind}
+use Rattle.rel_records.proofs.OrderlyLemmas.{statuses_orderly}
+use Rattle.rel_records.proofs.RecordPlaces.{chosen, assigned_so, event_of_record, settled_behind}
 use Rattle.rel_handler.specs.Events.{Events}
 use Rattle.rel_handler.specs.Image.{IsImageOf}
-use Rattle.rel_session.proofs.ListLemmas.{list_after-push, list_from-append}
+use Rattle.rel_session.proofs.ListLemmas.{list_after-push}
 
--- Assignments keep the releases, and no version stands twice behind them.
+-- Assignments keep the releases.
 bundles-assigned : (v : List ℕ) (t : Status) (es : Releases) → bundles_of (list_assigned v t es) ≡ bundles_of es
 bundles-assigned v t [] = refl
 bundles-assigned v t (e ∷ es) = ap (λ (l : List Bundle). bundle_in e ∷ l) (bundles-assigned v t es)
 
-not_so : (b : Bool) → not b ≡ true → b ≡ false
-not_so true e = absurd cc
-not_so false e = refl
-
-kept_by : (given : List Assignment) (es next : Releases) → IsOrderly es → assign_all given es ≡ Some next → IsOrderly next × (bundles_of next ≡ bundles_of es)
-kept_by [] es next orderly is = let same : es ≡ next = cc is in (subst IsOrderly same orderly, ap bundles_of (sym same))
-kept_by (a ∷ given) es next orderly is =
+kept_by : (given : List Assignment) (es next : Releases) → assign_all given es ≡ Some next → bundles_of next ≡ bundles_of es
+kept_by [] es next is = let same : es ≡ next = cc is in ap bundles_of (sym same)
+kept_by (a ∷ given) es next is =
     let (may, rest) = chosen (may_be_assigned a es) (assign_all given (list_assigned a.vsn a.status es)) next is in
-    let (settled, there) = both (not (is_current a.status)) (is_some (status_of a.vsn es)) may in
-    let (so, same) = kept_by given (list_assigned a.vsn a.status es) next (orderly-assigned a.vsn a.status es (not_so (is_current a.status) settled) orderly) rest in
-    (so, same ∙ bundles-assigned a.vsn a.status es)
+    kept_by given (list_assigned a.vsn a.status es) next rest ∙ bundles-assigned a.vsn a.status es
 
 is_one : (n : ℕ) → (n == 1) ≡ true → n ≡ 1
 is_one n e = grind (arith, nat_tests)
 
-at_rest : (es : Releases) → IsOrderly es → booted es ≡ es → has_one_permanent es ≡ true → IsAtRest es
-at_rest es orderly still one = record { distinct = orderly.distinct; as_booted = still; one_permanent = is_one (length (of_status is_permanent es)) one }
+as_told : (es : Releases) → IsOrderly es → recorded es ≡ es → has_one_permanent es ≡ true → IsRecorded es
+as_told es orderly still one = record {
+  distinct = orderly.distinct;
+  as_recorded = still;
+  one_permanent = is_one (length (of_status is_permanent es)) one;
+  one_temporary = orderly.one_temporary;
+}
 
 -- events that lead from the one list to the other
 abbrev Leads : Releases → Releases → Type 0
@@ -57,7 +58,7 @@ none_permanent [] same one = cc one
 none_permanent (e ∷ next) same one = cc same
 
 -- What a record makes of a list, events make of it.
-behind_record : (r : Record) (es next : Releases) → IsOrderly es → booted es ≡ es → (es ≡ []) ⊎ (has_one_permanent es ≡ true) → assigned r es ≡ Some next → Leads es next
+behind_record : (r : Record) (es next : Releases) → IsOrderly es → recorded es ≡ es → (es ≡ []) ⊎ (has_one_permanent es ≡ true) → assigned r es ≡ Some next → Leads es next
 behind_record (makes x ls o) es next orderly still one taken =
     let (p, of, is) = event_of_record made (is_small x) x ls o es next (assigned_so (makes x ls o) es next taken).0 in one_event (made p) es next is
 behind_record (adds x ls o) es next orderly still one taken =
@@ -68,8 +69,8 @@ behind_record (images xs ls) [] next orderly still one taken =
     let (is, permanent) = assigned_so (images xs ls) [] next taken in
     let by = restored_by xs ls next taken in
     let before = orderly-after by.events by.before by.leads in
-    let (so, same) = kept_by (map own_status xs) by.before next before by.set in
-    let (more, reached) = rest_reached by.before next (at_rest by.before before by.settled by.one) (at_rest next so (settled_behind (images xs ls) [] next is refl) permanent) same in
+    let so = statuses_orderly (map own_status xs) by.before next by.set before in
+    let (more, reached) = recorded_reached by.before next (as_told by.before before by.settled by.one) (as_told next so (settled_behind (images xs ls) [] next is refl) permanent) (kept_by (map own_status xs) by.before next by.set) in
     (by.events ++ more, list_from-append [] by.events more by.before next by.leads reached)
 behind_record (assigns given) es next orderly still one taken = by_one one
   where
@@ -77,13 +78,13 @@ behind_record (assigns given) es next orderly still one taken = by_one one
     assigned_there = (assigned_so (assigns given) es next taken).0
 
     by_one : (es ≡ []) ⊎ (has_one_permanent es ≡ true) → Leads es next
-    by_one (inl none) = absurd (none_permanent next ((kept_by given es next orderly assigned_there).1 ∙ ap bundles_of none) (assigned_so (assigns given) es next taken).1)
+    by_one (inl none) = absurd (none_permanent next (kept_by given es next assigned_there ∙ ap bundles_of none) (assigned_so (assigns given) es next taken).1)
     by_one (inr permanent) =
-        let (so, same) = kept_by given es next orderly assigned_there in
-        rest_reached es next (at_rest es orderly still permanent)
-        (at_rest next so (settled_behind (assigns given) es next assigned_there still) (assigned_so (assigns given) es next taken).1) same
+        recorded_reached es next (as_told es orderly still permanent)
+        (as_told next (statuses_orderly given es next assigned_there orderly) (settled_behind (assigns given) es next assigned_there still) (assigned_so (assigns given) es next taken).1)
+        (kept_by given es next assigned_there)
 
-events_behind : (events : Events) (es : Releases) (bodies : List (List ℕ)) (end : Releases) → list_after events ≡ Some es → booted es ≡ es → (es ≡ []) ⊎ (has_one_permanent es ≡ true)
+events_behind : (events : Events) (es : Releases) (bodies : List (List ℕ)) (end : Releases) → list_after events ≡ Some es → recorded es ≡ es → (es ≡ []) ⊎ (has_one_permanent es ≡ true)
     → MakesFrom es bodies end → (all : Events) × (list_after all ≡ Some end)
 events_behind events es [] end after still one is = (events, after ∙ ap (λ l. Some l) (sym is))
 events_behind events es (body ∷ bodies) end after still one (r, between, spelled, taken, rest) =
@@ -94,6 +95,6 @@ events_behind events es (body ∷ bodies) end after still one (r, between, spell
 -- A list that a disk stands for is one behind events, and behind a boot then.
 pub events_of_image : (image : List ℕ) (es : Releases) → IsImageOf image es → booted es ≡ es → (events : Events) × (list_after events ≡ Some es) × (list_after (events ++ booting ∷ []) ≡ Some es)
 events_of_image image es of still =
-    let (events, after) = events_behind [] [] of.bodies (booted es) refl refl (inl refl) of.list.0 in
-    let before : list_after events ≡ Some es = after ∙ ap (λ l. Some l) still in
+    let (events, after) = events_behind [] [] of.bodies (recorded es) refl refl (inl refl) of.list.makes.0 in
+    let before : list_after events ≡ Some es = after ∙ ap (λ l. Some l) (sym (boots_as_recorded es of.list.free) ∙ still) in
     (events, before, list_after-push events booting es es before (ap (λ l. Some l) still))

@@ -27,13 +27,3 @@ list_after-push events e mid end after next = list_after-more events e ∙ ap (o
 
 pub same_list : (events others : Events) (e : Event) → list_after events ≡ list_after others → list_after (events ++ e ∷ []) ≡ list_after (others ++ e ∷ [])
 same_list events others e is = list_after-more events e ∙ ap (option_and_then (step e)) is ∙ sym (list_after-more others e)
-
--- further events behind events
-pub list_from-append : (es : Releases) (events more : Events) (mid end : Releases) → list_from es events ≡ Some mid → list_from mid more ≡ Some end → list_from es (events ++ more) ≡ Some end
-list_from-append es [] more mid end so_far leads = let same : es ≡ mid = cc so_far in ap (λ l. list_from l more) same ∙ leads
-list_from-append es (e ∷ events) more mid end so_far leads = go (step e es) (λ l there. list_from-append l events more mid end there leads) so_far
-  where
-    go : (o : Option Releases) → ((l : Releases) → list_from l events ≡ Some mid → list_from l (events ++ more) ≡ Some end)
-        → option_and_then (λ l. list_from l events) o ≡ Some mid → option_and_then (λ l. list_from l (events ++ more)) o ≡ Some end
-    go None behind so_far = absurd cc
-    go (Some l) behind so_far = behind l so_far

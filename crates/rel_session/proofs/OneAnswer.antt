@@ -1,7 +1,7 @@
 -- Where neither the device fails nor memory is refused to a compaction, each command has one answer.
 use Rattle.std.proofs.Common.{◌≡◌, ◌≢◌, ◌⊎◌, inl, inr, ℕ, Bool, true, false, List, [], ◌∷◌, ◌++◌, Option, None, Some, Result, Ok, Err, refl, sym, ap, ◌∙◌, subst}
 use Rattle.std.specs.Option.{option_and_then}
-use Rattle.rel_list.specs.Releases.{Releases, running as running_release, permanent}
+use Rattle.rel_list.specs.Releases.{Releases, has_one_shot, running as running_release, permanent}
 use Rattle.rel_list.specs.Event.{list_after, step, booted}
 use Rattle.rel_list.specs.Event.{Event}
 use Rattle.rel_list.specs.Event.Event.{made, installed, reboot_old as rebooting, boot as booting}
@@ -9,7 +9,7 @@ use Rattle.rel_handler.specs.declared.error.BootError.{BootError}
 use Rattle.rel_handler.specs.declared.error.BootError.TheVariants as boot_error
 use Rattle.node_command.specs.declared.error.HandlerError.{HandlerError}
 use Rattle.rel_handler.specs.Events.{Events, MayHave, certain}
-use Rattle.rel_handler.specs.Compaction.{compacted, MayReach}
+use Rattle.rel_handler.specs.Compaction.{compacted}
 use Rattle.rel_handler.specs.Image.{Extent, extent_behind, first_extent, holds_a_store}
 use Rattle.node_command.specs.Files.{bundle_brought, made_size}
 use Rattle.node_command.specs.Place.{own_refusal}
@@ -40,7 +40,7 @@ use Rattle.rel_session.specs.Transition.Action.{answers, makes_node, changes_nod
 use Rattle.rel_session.proofs.AcknowledgedEvents.{next_answered, none_left}
 use Rattle.rel_session.proofs.SourceLemmas.{gives_one}
 use Rattle.rel_session.proofs.ActionLemmas.{AreTold, has_record, HasRecordOf, kind_of, one_action}
-use Rattle.rel_session.proofs.ExtentLemmas.{booted_reach, has_only, one_reach}
+use Rattle.rel_session.proofs.ExtentLemmas.{booted_reach, has_only, none_rebooted, one_reach}
 use Rattle.node_command.specs.Installing.{installation}
 use Rattle.node_processes.specs.Scripts.{behind_run}
 use Rattle.node_upgrade.specs.Failure.{Failure}
@@ -234,8 +234,9 @@ module _ (a b : Reply) (both : Both a b) where
       rests : (events : Events) (x : Extent) (r : Reply) → r.outcome.failed ≡ false → IsSmall r → Rebooted events x r → x ≡ compacted x (releases_after (events ++ rebooting vsn ∷ []))
       rests events x r fine small (s, inl (es, n, has, (list, after, told)), is) =
           let only = has_only (events ++ rebooting vsn ∷ []) es x n has in
+          let none : has_one_shot (releases_after es) ≡ false = subst (λ l. has_one_shot (releases_after l) ≡ false) (sym only.0) (none_rebooted events vsn) in
           let compact : n ≡ compacted n (releases_after (es ++ booting ∷ [])) = subst (λ (t : Reply). IsCompact t.after) told (small_as r _ is small tt) in
-          subst (λ l. x ≡ compacted x (releases_after l)) only.0 (subst (λ y. y ≡ compacted y (releases_after es)) only.1 (compact ∙ booted_reach n es))
+          subst (λ l. x ≡ compacted x (releases_after l)) only.0 (subst (λ y. y ≡ compacted y (releases_after es)) only.1 (compact ∙ booted_reach n es none))
       rests events x r fine small (s, inr fails, is) = failure s _ fails refl (works r s is fine)
 
   changed : (p q : Place) (c : Transition.Change) → HaveRecord (c.event ∷ []) → Alike p q → Transition.Acts p (changes_node c) a → Transition.Acts q (changes_node c) b → Same a b

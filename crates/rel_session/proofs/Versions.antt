@@ -9,14 +9,15 @@ use Rattle.rel_files.specs.Release.{Release}
 use Rattle.rel_list.specs.Releases.{Bundle, bundle_in}
 use Rattle.rel_list.specs.Releases.{Releases, Entry, status_of, has_current, permanent, current, running as running_release}
 use Rattle.rel_list.specs.Status.{is_current, is_permanent}
-use Rattle.rel_list.specs.Event.{Event, is_barred, may_be_installed, may_be_made_permanent, may_be_removed, may_be_rebooted, booted_status, with_statuses, list_installed, list_made_permanent, without, step, list_after, booted, entry}
+use Rattle.rel_list.specs.Event.{Event, is_barred, may_be_installed, may_be_made_permanent, may_be_removed, may_be_rebooted, booted_status, with_statuses, list_installed, list_restarted, list_made_permanent, without, own_step, step, list_after, booted, recorded, entry}
 use Rattle.rel_list.specs.declared.status.Status.{Status}
 use Rattle.rel_list.specs.declared.status.Status.TheVariants.{Unpacked, Permanent}
-use Rattle.rel_list.specs.Event.Event.{made, unpacked, installed, made_permanent, removed, reboot_old, boot as booting}
+use Rattle.rel_list.specs.Event.Event.{made, unpacked, installed, restart_installed, made_permanent, removed, reboot_old, boot as booting}
+use Rattle.rel_list.proofs.Waiting.{own_of_step}
 use Rattle.rel_records.specs.Lists.{HaveVersions}
 use Rattle.rel_records.specs.Startable.{AreStartable}
 use Rattle.rel_records.proofs.CompletionLemmas.{of_applications}
-use Rattle.rel_records.proofs.StartableLemmas.{make_startable, startable-of_booted}
+use Rattle.rel_records.proofs.StartableLemmas.{make_startable, startable-of_recorded}
 use Rattle.node_command.specs.Files.{bundle_brought, made_size}
 use Rattle.node_command.specs.Place.{own_refusal}
 use Rattle.node_command.proofs.CommandLemmas.{IsListRefusal, IsListAnswer, of_command}
@@ -74,22 +75,27 @@ where_allowed : (b : Bool) (next end : Releases) → AreOfFiles next → (if b t
 where_allowed true next end all is = let same : next ≡ end = cc in subst AreOfFiles same all
 where_allowed false next end all is = absurd cc
 
-step_versions : (e : Event) (es end : Releases) → OfEvent e → AreOfFiles es → step e es ≡ Some end → AreOfFiles end
-step_versions (made p) [] end of all is = let same : entry p Permanent ∷ [] ≡ end = cc in subst AreOfFiles same (of, tt)
-step_versions (made p) (f ∷ es) end of all is = absurd cc
-step_versions (unpacked p) es end of all is = go (is_barred p es) is
+own_versions : (e : Event) (es end : Releases) → OfEvent e → AreOfFiles es → own_step e es ≡ Some end → AreOfFiles end
+own_versions (made p) [] end of all is = let same : entry p Permanent ∷ [] ≡ end = cc in subst AreOfFiles same (of, tt)
+own_versions (made p) (f ∷ es) end of all is = absurd cc
+own_versions (unpacked p) es end of all is = go (is_barred p es) is
   where
     go : (b : Bool) → (if b then None else Some (es ++ entry p Unpacked ∷ [])) ≡ Some end → AreOfFiles end
     go true is = absurd cc
     go false is = let same : es ++ entry p Unpacked ∷ [] ≡ end = cc in subst AreOfFiles same (more_versions es (entry p Unpacked) all of)
-step_versions (installed v) es end of all is =
+own_versions (installed v) es end of all is =
     where_allowed (may_be_installed (has_current es) (status_of v es)) (list_installed v es) end (restated_versions _ es all) is
-step_versions (made_permanent v) es end of all is =
+own_versions (restart_installed v) es end of all is =
+    where_allowed (may_be_installed (has_current es) (status_of v es)) (list_restarted v es) end (restated_versions _ es all) is
+own_versions (made_permanent v) es end of all is =
     where_allowed (may_be_made_permanent (status_of v es)) (list_made_permanent v es) end (restated_versions _ es all) is
-step_versions (removed v) es end of all is = where_allowed (may_be_removed (status_of v es)) (without v es) end (fewer_versions v es all) is
-step_versions (reboot_old v) es end of all is =
+own_versions (removed v) es end of all is = where_allowed (may_be_removed (status_of v es)) (without v es) end (fewer_versions v es all) is
+own_versions (reboot_old v) es end of all is =
     where_allowed (may_be_rebooted (status_of v es)) (list_made_permanent v es) end (restated_versions _ es all) is
-step_versions booting es end of all is = let same : booted es ≡ end = cc in subst AreOfFiles same (booted_versions es all)
+own_versions booting es end of all is = let same : booted es ≡ end = cc in subst AreOfFiles same (booted_versions es all)
+
+step_versions : (e : Event) (es end : Releases) → OfEvent e → AreOfFiles es → step e es ≡ Some end → AreOfFiles end
+step_versions e es end of all is = own_versions e es end of all (own_of_step e es end is).1
 
 -- one event more
 abbrev pub OfList : Events → Type 0
@@ -211,7 +217,7 @@ reboots events extent ps vsn list o plain all =
 
 -- the list of an image
 pub of_image : (image : List ℕ) (es : Releases) → IsImageOf image es → AreOfFiles es
-of_image image es of = both es (have_versions of.bodies es of.list) (startable-of_booted es (make_startable of.bodies (booted es) of.list))
+of_image image es of = both es (have_versions of.bodies es of.list) (startable-of_recorded es (make_startable of.bodies (recorded es) of.list.makes))
   where
     both : (es : Releases) → HaveVersions es → AreStartable es → AreOfFiles es
     both [] versions start = tt

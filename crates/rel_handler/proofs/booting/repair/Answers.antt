@@ -1,7 +1,7 @@
 use Rattle.std.proofs.Common.{◌≡◌, Some, sym, ◌∙◌, subst}
 use Rattle.rel_files.specs.Release.{release_of}
 use Rattle.rel_list.specs.Releases.{permanent}
-use Rattle.rel_records.proofs.EventRecords.{one-booted}
+use Rattle.rel_records.proofs.EventRecords.{one-recorded}
 use Rattle.rel_store.specs.State.{records_in}
 use Rattle.start_record.specs.Text.{AreVersions, versions_of}
 use Rattle.rel_handler.specs.Booting.{RepairRefused}
@@ -16,7 +16,7 @@ use Rattle.rel_handler.proofs.booting.repair.Goals as goal
 pub unreachable-requires : goal.unreachable-requires
 unreachable-requires g c =
     let h = c.args.handler.now in
-    one_is_permanent (list_in h) (sym (one-booted (list_in h)) ∙ c.requires.list.1) (sym c.in_default.ensures)
+    one_is_permanent (list_in h) (sym (one-recorded (list_in h)) ∙ c.requires.list.makes.1) (sym c.in_default.ensures)
 
 pub returns-in_err-start-clause-refused : goal.returns-in_err-start-clause-refused
 returns-in_err-start-clause-refused g c =

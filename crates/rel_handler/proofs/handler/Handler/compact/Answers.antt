@@ -1,6 +1,6 @@
 use Rattle.std.proofs.Common.{inl, inr, [], ◌∷◌, None, Some, refl, string_bytes, sym, ap, ◌∙◌, subst}
 use Rattle.std.specs.Option.{option_map}
-use Rattle.rel_list.specs.Event.{booted}
+use Rattle.rel_list.specs.Event.{recorded}
 use Rattle.rel_records.specs.Lists.{Makes}
 use Rattle.rel_store.specs.State.{records_in}
 use Rattle.rel_handler.specs.State.{extent_in, list_in}
@@ -21,7 +21,7 @@ returns-then-not-is_long-clause-done g c =
 
 -- its records make its list
 pub image_body-requires : goal.image_body-requires
-image_body-requires g c = record { made = (records_in c.args.self.now.store, c.requires.ready.list) }
+image_body-requires g c = record { made = (records_in c.args.self.now.store, c.requires.ready.list.makes) }
 
 pub compact_to-requires-clause-long : goal.compact_to-requires-clause-long
 compact_to-requires-clause-long g c = sym c.if-not-is_long.ensures
@@ -32,7 +32,7 @@ compact_to-requires-clause-image g c =
 
 pub compact_to-requires-clause-makes : goal.compact_to-requires-clause-makes
 compact_to-requires-clause-makes g c =
-    subst (λ body. Makes (body ∷ []) (booted (list_in c.args.self.now))) (sym c.as_bytes.ensures.value) (c.in-Ok-Some.ensures.makes _ c.in-Ok-Some.field-0-is)
+    subst (λ body. Makes (body ∷ []) (recorded (list_in c.args.self.now))) (sym c.as_bytes.ensures.value) (c.in-Ok-Some.ensures.makes _ c.in-Ok-Some.field-0-is)
 
 -- there is no image
 pub returns-in-Ok-None-clause-compacts : goal.returns-in-Ok-None-clause-compacts

@@ -6,11 +6,14 @@ use Rattle.rel_handler.specs.State.{list_in}
 use Rattle.node_command.specs.declared.error.HandlerError.TheVariants.{Device}
 use Rattle.node_command.proofs.Refusals.{refuses_with}
 use Rattle.rel_handler.proofs.Commits.{unchanged}
-use Rattle.rel_handler.proofs.PermanenceLemmas.{brings_none, no_start, are_versions, moving, not_moved, moved_start, is_moved}
+use Rattle.rel_handler.proofs.PermanenceLemmas.{brings_none, makes_none, no_start, are_versions, moving, not_moved, moved_start, is_moved}
 use Rattle.rel_handler.proofs.handler.Handler.move_permanent.Goals as goal
 
 pub append_change-requires-clause-listed : goal.append_change-requires-clause-listed
 append_change-requires-clause-listed g c = brings_none c.args.vsn.now (event_of c.args.event) c.requires.moves
+
+pub append_change-requires-clause-other : goal.append_change-requires-clause-other
+append_change-requires-clause-other g c = makes_none c.args.vsn.now (event_of c.args.event) c.requires.moves
 
 pub commit_start-requires-clause-versions : goal.commit_start-requires-clause-versions
 commit_start-requires-clause-versions g c =
@@ -27,7 +30,7 @@ returns-in_err-start-clause-refused g c =
     let h = c.args.self.now in
     let why = c.in_err-start.field-0.0 in
     refuses_with (CommandRefused g.D.Disk.failures e (change_size e (list_in h)) h h) c.from_residual.result why c.from_residual.ensures
-    (no_start g.D.Disk.failures h c.requires.works c.args.vsn.now e c.requires.moves _ why c.in_err-start.ensures.refused)
+    (no_start g.D.Disk.failures h c.requires.works (c.requires.sound.ready c.requires.works).list.free c.args.vsn.now e c.requires.moves _ why c.in_err-start.ensures.refused)
 
 -- the first write failed, or was refused
 pub returns-in_err-append_change-clause-commits : goal.returns-in_err-append_change-clause-commits

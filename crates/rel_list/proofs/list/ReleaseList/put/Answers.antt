@@ -13,7 +13,7 @@ invariant_of-self-2 c =
     let put =
     inserted c.self.inside.releases c.in_ok-vsn.vsn (record { release = c.args.bundle.release; libraries = c.args.bundle.libraries; relup = c.args.bundle.relup; status = c.args.status }) c.self.invariant.keyed copied unlisted in
     let orderly =
-    orderly-push (entries_in c.self.inside.releases.entries) (entry (bundle_of c.args.bundle) c.args.status) c.requires.not_current unlisted
+    orderly-push (entries_in c.self.inside.releases.entries) (entry (bundle_of c.args.bundle) c.args.status) c.requires.not_temporary unlisted
     c.self.invariant.orderly in
     subst IsKept (sym (c.in_ok-insert.ensures.entries ∙ put)) (record {
       keyed = AreKeyed-push _ _ _ c.self.invariant.keyed copied;

@@ -1,5 +1,0 @@
-use Rattle.rel_list.proofs.BootLaws.{boot_changes_current_ones}
-use Rattle.rel_list.proofs.laws.a_boot_changes_current_releases.Goals as goal
-
-pub returns : goal.returns
-returns c = boot_changes_current_ones
