@@ -14,6 +14,7 @@ use text_cases::{Answer, first_word, number};
 /// - `append BODY`, `compact BODY`, `reserve N`, `fits N`, `write_slot TEXT`, `write_start ERTS VSN`, `read_start`.
 ///   Of a TEXT as much is written as has room.
 /// - `read_slot`: the first nine bytes of the start slot are told.
+/// - `format`: the store's format. `to_format_2`.
 /// - `records`: the bodies of the records. `rooms`: whether each has room for three bytes at most.
 pub(crate) fn follow_steps<D: Disk>(
     alloc: Global,
@@ -48,6 +49,7 @@ fn take_step<D: Disk>(alloc: Global, store: &mut Store<D>, step: &str, answer: &
         "read_slot" => read_slot(store, answer),
         "write_start" => push_done(write_versions(alloc, store, rest), answer),
         "read_start" => push_start_read(alloc, store, answer),
+        "to_format_2" => push_done(store.to_format_2(), answer),
         _ => tell(store, word, number(rest), answer),
     }
 }
@@ -57,6 +59,7 @@ fn tell<D: Disk>(store: &Store<D>, word: &str, len: usize, answer: &mut Answer) 
     match word {
         "fits" => answer.push(if store.fits(len) { "fits" } else { "too long" }),
         "records" | "rooms" => push_records(store.records(), word, answer),
+        "format" => answer.push_number(u64::from(store.format())),
         _ => answer.push("no such step"),
     }
 }

@@ -69,7 +69,7 @@ pub all_same : {D : Type 0} (h : Handler D) → IsSame h h
 all_same h = record { disk = refl; list = refl; dead = refl; extent = refl }
 
 pub store_same : {D : Type 0} (s : Store D) → store.IsSame s s
-store_same s = record { disk = refl; records = refl; base = refl; end = refl; failed = refl }
+store_same s = record { disk = refl; records = refl; base = refl; end = refl; format = refl; failed = refl }
 
 -- it reaches as far as it did
 pub extent_kept : {D : Type 0} (old new : Store D) → store.IsSame old new → store_extent new ≡ store_extent old

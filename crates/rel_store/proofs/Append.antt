@@ -142,6 +142,7 @@ pub record Appended (bodies : List (List ℕ)) (text body : List ℕ) (gate : �
   pub selector : slice_index new 9 ≡ slice_index old 9
   pub base : base_of new ≡ base_of old
   pub choice : slice_index new 10 ≡ slice_index old 10
+  pub kind : slice_index new 11 ≡ slice_index old 11
 
 pub appended : (bodies : List (List ℕ)) (text body old mid new : List ℕ) (gate : ℕ) → length body ≤ 16777216 → Staged bodies text body gate old mid → new ≡ overwritten gate (1 ∷ []) mid → Appended bodies text body gate old new
 appended bodies text body old mid new gate short s written =
@@ -159,4 +160,5 @@ appended bodies text body old mid new gate short s written =
       selector = same_index 9 (omega arith);
       base = omega (arith, s.holds.end behind, s.holds.end s.before, ap base_of from_head, ap base_of s.was);
       choice = same_index 10 (omega arith);
+      kind = same_index 11 (omega arith);
     }

@@ -2,7 +2,7 @@
 use Rattle.std.proofs.Common.{◌≡◌, ◌⊎◌, inl, inr, ℕ, ◌+◌, ◌^◌, ◌<◌, ◌≤◌, Bool, true, false, not, List, [], ◌∷◌, ◌++◌, length, get_or, take, drop, Ok, refl, sym, ◌∙◌, ap, subst, arith, append_assoc, length-append, length-drop}
 use Rattle.std.specs.Prelude.{if◌then◌else◌, ◌==◌, slice_index, bytes_eq}
 use Rattle.std.specs.Int.{w64, from_be_bytes, to_be_bytes}
-use Rattle.std.proofs.lemmas.List.{take_at, drop_at, length-take-le, take-append-le, take-take, drop-append-le, drop-take, get_or-drop, get_or-take, append-nil}
+use Rattle.std.proofs.lemmas.List.{take_at, drop_at, length-take-le, take-append-le, take-take, drop-append-le, drop-take, get_or-drop, get_or-take, get_or_append_left, append-nil}
 use Rattle.std.proofs.lemmas.Nat.{from_be_bytes-to_be_bytes_8}
 use Rattle.rel_disk.specs.Damage.{overwritten, Torn, Cut}
 use Rattle.rel_store.specs.Compaction.{image_bytes, base_place}
@@ -205,6 +205,13 @@ module _ (second : Bool) (bodies : List (List ℕ)) (text : List ℕ) (place : �
 
   pub start_index_kept : slice_index new 9 ≡ slice_index old 9
   start_index_kept = index-before 10 1 (byte ∷ []) old new p 9 (omega arith)
+
+  pub format_index_kept : slice_index new 11 ≡ slice_index old 11
+  format_index_kept =
+      sym (get_or-drop 11 new 0 0)
+      ∙ ap (λ l. get_or l 0 0) (beyond 10 1 (byte ∷ []) old new p 11 (omega arith) (omega (arith, long)))
+      ∙ get_or_append_left (drop 11 old) p.tail 0 0 (omega (arith, long, length-drop 11 old))
+      ∙ get_or-drop 11 old 0 0
 
   text_kept : text_of new ≡ text_of old
   text_kept =

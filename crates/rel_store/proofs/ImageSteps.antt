@@ -16,7 +16,8 @@ use Rattle.rel_store.specs.Records.{record_bytes, records_or_none, end_of, Stand
 use Rattle.rel_store.specs.State.{records_in, text_in, has_failed, IsSettled}
 use Rattle.rel_store.specs.declared.store.Store.{Store}
 use Rattle.rel_store.proofs.Append.{one, gate_low, gate_within}
-use Rattle.rel_store.proofs.Bases.{IsFree, torn_free, image_written, layout_kept, Keeps, Waits, base_slot_kept, Offered, offered, Moved, moved_stands, start_index_kept, choice_now, moved, either, cut_layout, cut_moved}
+use Rattle.rel_store.proofs.Bases.{IsFree, torn_free, image_written, layout_kept, Keeps, Waits, base_slot_kept, Offered, offered, Moved, moved_stands, format_index_kept, start_index_kept, choice_now, moved, either, cut_layout, cut_moved}
+use Rattle.rel_store.proofs.Layouts.{format_same}
 use Rattle.rel_store.proofs.Moments.{stands_now}
 use Rattle.rel_store.proofs.ReadLemmas.{length-record}
 use Rattle.rel_store.proofs.Slots.{Patched, patched_torn, patched_written, index-before}
@@ -68,6 +69,7 @@ pub record Replaced (second : Bool) (place : ℕ) (image text old new : List ℕ
   pub moved : Moved place image text new
   pub start : slice_index new 9 ≡ slice_index old 9
   pub choice : (slice_index new 10 == 1) ≡ second
+  pub kind : slice_index new 11 ≡ slice_index old 11
   pub is : new ≡ compacted place image old
 
 -- the steps on the bytes of a store that stands
@@ -169,11 +171,9 @@ module _ (second : Bool) (bodies : List (List ℕ)) (text : List ℕ) (gate plac
       other_choice true is = sym (ap (λ t. if t then 0 else 1) is)
       other_choice false is = sym (ap (λ t. if t then 0 else 1) is)
 
-  start_now : slice_index chosen 9 ≡ slice_index old 9
-  start_now =
-      start_index_kept second bodies text place image imaged with_place chosen (base_choice second) offered_now patched_now
-      ∙ index-before (base_place second) 8 (to_be_bytes w64 place) imaged with_place slot_now 9 (omega (arith, high second))
-      ∙ same_index 9 (omega arith)
+  -- the place is written behind the selectors and the format
+  before_slot : (i : ℕ) → i ≤ 11 → slice_index with_place i ≡ slice_index old i
+  before_slot i low = index-before (base_place second) 8 (to_be_bytes w64 place) imaged with_place slot_now i (omega (arith, low, high second)) ∙ same_index i (omega (arith, low))
     where
       high : (b : Bool) → 272 ≤ base_place b
       high true = omega arith
@@ -185,6 +185,12 @@ module _ (second : Bool) (bodies : List (List ℕ)) (text : List ℕ) (gate plac
 
       slot_now : Patched (base_place second) 8 (to_be_bytes w64 place) imaged with_place
       slot_now = patched_written (base_place second) (to_be_bytes w64 place) imaged with_place (omega (arith, low_place second, long)) refl
+
+  start_now : slice_index chosen 9 ≡ slice_index old 9
+  start_now = start_index_kept second bodies text place image imaged with_place chosen (base_choice second) offered_now patched_now ∙ before_slot 9 (omega arith)
+
+  kind_now : slice_index chosen 11 ≡ slice_index old 11
+  kind_now = format_index_kept second bodies text place image imaged with_place chosen (base_choice second) offered_now patched_now ∙ before_slot 11 (omega arith)
 
   choice_chosen : (slice_index chosen 10 == 1) ≡ second
   choice_chosen = ap (λ b. b == 1) (choice_now second bodies text place image imaged with_place chosen (base_choice second) offered_now patched_now) ∙ chooses second
@@ -199,6 +205,7 @@ module _ (second : Bool) (bodies : List (List ℕ)) (text : List ℕ) (gate plac
             moved = subst (Moved place image text) (sym all) moved_now;
             start = ap (λ l. slice_index l 9) all ∙ start_now;
             choice = ap (λ l. slice_index l 10 == 1) all ∙ choice_chosen;
+            kind = ap (λ l. slice_index l 11) all ∙ kind_now;
             is = is ∙ ap (cut_behind place (length bytes)) same_base;
           }
         where
@@ -217,6 +224,7 @@ module _ (second : Bool) (bodies : List (List ℕ)) (text : List ℕ) (gate plac
             moved = subst (λ q. Moved q image text new) (sym first) (cut_moved image text chosen new m c);
             start = index-same 9 288 new chosen (omega arith) same ∙ start_now;
             choice = ap (λ b. b == 1) (index-same 10 288 new chosen (omega arith) same) ∙ choice_chosen;
+            kind = index-same 11 288 new chosen (omega arith) same ∙ kind_now;
             is = is ∙ ap (cut_behind place (length bytes)) same_base;
           }
 
@@ -290,9 +298,9 @@ module _ {D : Type 0} (moment : D → ℕ) (left_since : D → ℕ → List ℕ 
       (written ∙ ap (λ l. cut_behind place (length l) (with_base_in second place (overwritten place l now))) is)
 
   -- what the store is then
-  pub settled_now : (new : Store D) → has_failed new ≡ false → Replaced second place image (text_in seen store) now (seen new.disk) → Only (seen new.disk) (may_leave new.disk) → records_in new ≡ image ∷ [] → new.gate ≡ place + (5 + length image) → new.second_start ≡ store.second_start → new.base ≡ place → new.second_base ≡ second
+  pub settled_now : (new : Store D) → has_failed new ≡ false → Replaced second place image (text_in seen store) now (seen new.disk) → Only (seen new.disk) (may_leave new.disk) → records_in new ≡ image ∷ [] → new.gate ≡ place + (5 + length image) → new.second_start ≡ store.second_start → new.base ≡ place → new.second_base ≡ second → new.format ≡ store.format
       → IsSettled seen may_leave new
-  settled_now new works r durable records gate start base choice =
+  settled_now new works r durable records gate start base choice format =
       let stands = moved_stands place image (text_in seen store) (seen new.disk) fits.0 r.moved in
       let end : place + (5 + length image) ≡ base_of (seen new.disk) + space (image ∷ []) = omega (arith, r.moved.base) in
       record {
@@ -303,6 +311,7 @@ module _ {D : Type 0} (moment : D → ℕ) (left_since : D → ℕ → List ℕ 
         start = start ∙ s.start ∙ ap (λ selector. selector == 1) (sym r.start);
         base = base ∙ sym r.moved.base;
         chooses = choice ∙ sym r.choice;
+        format = format ∙ s.format ∙ sym (format_same (seen new.disk) now r.kind);
       }
 
 -- a settled store stands and ends as it did before the first write

@@ -5,12 +5,16 @@ use Rattle.std.specs.Int.{w64, from_be_bytes}
 use Rattle.std.proofs.lemmas.Bool.Decides.{nat_tests}
 use Rattle.std.proofs.lemmas.List.{take-take}
 use Rattle.rel_store.specs.Contents.{OpenRefused, RecordsRefused}
-use Rattle.rel_store.specs.Layout.{part, has_magic, selected, base_slot, base_of}
+use Rattle.rel_store.specs.Layout.{part, has_magic, selected, base_slot, base_of, format_of}
 use Rattle.rel_store.specs.Records.{records_from, records_of}
 use Rattle.rel_store.specs.declared.error.StoreError.{StoreError}
 use Rattle.rel_store.specs.declared.error.StoreError.TheVariants.{NotAStore, Damaged}
 use Rattle.rel_store.proofs.Scan.{open_refused}
 use Rattle.rel_store.proofs.Whole.{Sound, readable, index-same, magic-same, base-same}
+
+-- byte 11 tells the format
+pub format_same : (new old : List ℕ) → slice_index new 11 ≡ slice_index old 11 → format_of new ≡ format_of old
+format_same new old kind = ap (λ (b : ℕ). if b == 0 then 1 else 2) kind
 
 module _ (bytes layout : List ℕ) (is : layout ≡ take 288 bytes) where
   same : take 288 layout ≡ take 288 bytes
@@ -29,6 +33,9 @@ module _ (bytes layout : List ℕ) (is : layout ≡ take 288 bytes) where
 
   pub choice_there : (slice_index layout 10 == 1) ≡ (slice_index bytes 10 == 1)
   choice_there = ap (λ b. b == 1) (index-same 10 288 layout bytes (omega arith) same)
+
+  pub format_there : format_of layout ≡ format_of bytes
+  format_there = format_same layout bytes (index-same 11 288 layout bytes (omega arith) same)
 
   module _ (slot base : ℕ) (long : 289 ≤ length bytes) (magic : has_magic layout ≡ true) (slot_is : slot ≡ base_slot layout) (base_is : base ≡ from_be_bytes w64 (part slot 8 layout)) where
     base_there : base ≡ base_of bytes

@@ -9,7 +9,7 @@ use Rattle.rel_disk.specs.Damage.{overwritten, Torn, Only, Within}
 use Rattle.rel_disk.specs.Moments.{LeavesOnly}
 use Rattle.rel_disk.proofs.Moments.{weakened}
 use Rattle.rel_store.specs.Creation.{IsNoneOrNew, IsBegunAt, Creates, new_store}
-use Rattle.rel_store.specs.Layout.{magic, has_magic, base_slot, base_of, text_of, slot_with, new_layout}
+use Rattle.rel_store.specs.Layout.{magic, has_magic, base_slot, base_of, text_of, format_of, slot_with, new_choices, new_layout}
 use Rattle.rel_store.specs.Moments.{IsTornFrom, IsTornInSteps}
 use Rattle.rel_store.specs.Records.{record_bytes, records_from, records_of, Stands}
 use Rattle.rel_store.specs.declared.error.StoreError.TheVariants.{NotAStore, Damaged}
@@ -43,7 +43,7 @@ record IsNew (first start bytes : List ℕ) : Type 0 where
 
 module _ (start : List ℕ) (few : length start ≤ 127) where
   abbrev beginning : List ℕ
-  beginning = 1 ∷ (magic ++ replicate 7 0)
+  beginning = 1 ∷ (magic ++ new_choices)
 
   abbrev slot : List ℕ
   slot = slot_with start
@@ -120,6 +120,9 @@ module _ (start : List ℕ) (few : length start ≤ 127) where
 
       pub new_choice : slice_index bytes 10 ≡ 0
       new_choice = ap (λ l. slice_index l 10) is_new.is
+
+      pub new_format : format_of bytes ≡ 2
+      new_format = ap (λ l. format_of l) is_new.is
 
     -- with its gate in any state
     any_gate : (gate : ℕ) (layout rest : List ℕ) → layout ≡ new_layout start ++ (1 ∷ (record_bytes first ++ 0 ∷ rest)) → IsNoneOrNew first start (gate ∷ layout)

@@ -10,7 +10,7 @@ use Rattle.rel_disk.proofs.Moments.{started, weakened}
 use Rattle.rel_disk.proofs.PlaceLemmas.{torn_keeps}
 use Rattle.rel_store.specs.Changed.{LeavesOthers}
 use Rattle.rel_store.specs.Layout.{selected}
-use Rattle.rel_store.specs.Moments.{IsTornInSteps}
+use Rattle.rel_store.specs.Moments.{IsTornFrom, IsTornInSteps}
 
 -- a call owns each byte of a write
 abbrev pub Owns : (ℕ → Type 0) → ℕ → ℕ → Type 0
@@ -55,6 +55,14 @@ overwritten_in_two at byte bytes old within =
 module _ {D : Type 0} (moment : D → ℕ) (left_since : D → ℕ → List ℕ → Type 0) (seen : D → List ℕ) (may_leave : D → List ℕ → Type 0) (is_own : ℕ → Type 0) where
   pub at_rest : (old : D) → Only (seen old) (may_leave old) → ((c : List ℕ) → left_since old (moment old) c → may_leave old c) → LeavesOnly moment left_since old old (LeavesOthers is_own (seen old))
   at_rest old only only_now = started moment left_since old (LeavesOthers is_own (seen old)) (λ c left. subst (LeavesOthers is_own (seen old)) (sym (only c (only_now c left))) (untouched is_own (seen old)))
+
+  -- and at those of a write that stands alone
+  pub write_leaves : (old : D) → Only (seen old) (may_leave old) → (at n : ℕ) → Owns is_own at n → (new : D) → LeavesOnly moment left_since old new (IsTornFrom (may_leave old) at n) → LeavesOnly moment left_since old new (LeavesOthers is_own (seen old))
+  write_leaves old only at n own new leaves = weakened moment left_since old new (IsTornFrom (may_leave old) at n) (LeavesOthers is_own (seen old)) each leaves
+    where
+      each : (c : List ℕ) → IsTornFrom (may_leave old) at n c → LeavesOthers is_own (seen old) c
+      each c (inl now) = subst (LeavesOthers is_own (seen old)) (sym (only c now)) (untouched is_own (seen old))
+      each c (inr torn) = torn_leaves is_own at n (seen old) c own (subst (λ d. Torn at n d c) (only torn.0 torn.1) torn.2)
 
   module _ (old : D) (only : Only (seen old) (may_leave old)) (at : ℕ) (bytes : List ℕ) (mark : ℕ) (own : Owns is_own at (length bytes)) (own_mark : Owns is_own mark 1) where
     pub steps_leave : (new : D) → LeavesOnly moment left_since old new (IsTornInSteps (may_leave old) at bytes mark (seen old)) → LeavesOnly moment left_since old new (LeavesOthers is_own (seen old))

@@ -37,11 +37,11 @@ pub none_answered : {T : Type 0} (v : T) (f : StoreError) (P : Type 0) → (P �
 none_answered v f P never = (λ told. cc told, λ p. absurd (never p))
 
 pub same_store : {D : Type 0} (s : Store D) → IsSame s s
-same_store s = record { disk = refl; records = refl; base = refl; end = refl; failed = refl }
+same_store s = record { disk = refl; records = refl; base = refl; end = refl; format = refl; failed = refl }
 
 -- where only the memory for its records and for the next one is other, a store is as sound as it was
 pub sound_still : {D : Type 0} (seen : D → List ℕ) (may_leave : D → List ℕ → Type 0) (s : Store D) (records : Vec (Vec ℕ Global) Global) (spare : Vec ℕ Global) → records.items ≡ s.records.items → IsSoundStore seen may_leave s
-    → IsSoundStore seen may_leave (record { disk = s.disk; records = records; gate = s.gate; second_start = s.second_start; base = s.base; second_base = s.second_base; must_reopen = s.must_reopen; spare = spare })
+    → IsSoundStore seen may_leave (record { disk = s.disk; records = records; gate = s.gate; second_start = s.second_start; base = s.base; second_base = s.second_base; format = s.format; must_reopen = s.must_reopen; spare = spare })
 sound_still seen may_leave s records spare items sound =
     let same : map (λ v. v.items) records.items ≡ records_in s = ap (map (λ v. v.items)) items in
     record {
@@ -55,5 +55,6 @@ sound_still seen may_leave s records spare items sound =
             start = old.start;
             base = old.base;
             chooses = old.chooses;
+            format = old.format;
           };
     }

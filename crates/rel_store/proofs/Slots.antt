@@ -139,6 +139,7 @@ pub record Slotted (second : Bool) (bodies : List (List ℕ)) (text slot was byt
   pub other : part (slot_place second) 128 bytes ≡ slot
   pub base : base_of bytes ≡ base_of was
   pub choice : slice_index bytes 10 ≡ slice_index was 10
+  pub kind : slice_index bytes 11 ≡ slice_index was 11
 
 pub slotted : (second : Bool) (slot old new : List ℕ) (bodies : List (List ℕ)) (text : List ℕ) → length slot ≡ 128 → Stands bodies text old → (slice_index old 9 == 1) ≡ not second → new ≡ overwritten (slot_place second) slot old
     → Slotted second bodies text slot old new
@@ -151,6 +152,7 @@ slotted second slot old new bodies text long here counts written =
       other = inside (slot_place second) 128 slot old new p;
       base = base-kept (slot_place second) 128 slot old new p bodies (omega (arith, low-place second)) (index-before (slot_place second) 128 slot old new p 10 (omega (arith, high-place second))) here.records;
       choice = index-before (slot_place second) 128 slot old new p 10 (omega (arith, high-place second));
+      kind = index-before (slot_place second) 128 slot old new p 11 (omega (arith, high-place second));
     }
   where
     low-place : (b : Bool) → slot_place b ≤ 144
@@ -163,12 +165,18 @@ slotted second slot old new bodies text long here counts written =
 
 -- a selector of this value chooses this slot
 module _ (old new : List ℕ) (byte : ℕ) (p : Patched 9 1 (byte ∷ []) old new) (long : 289 ≤ length old) where
+  selector-behind : (i : ℕ) → 10 ≤ i → i ≤ 288 → slice_index new i ≡ slice_index old i
+  selector-behind i from within =
+      let here : i + 0 ≡ i = omega arith in
+      ap (λ k. get_or new k 0) (sym here)
+      ∙ sym (get_or-drop i new 0 0)
+      ∙ ap (λ l. get_or l 0 0) (beyond 9 1 (byte ∷ []) old new p i (omega (arith, from)) (omega (arith, long, within)))
+      ∙ get_or_append_left (drop i old) p.tail 0 0 (omega (arith, long, within, length-drop i old))
+      ∙ get_or-drop i old 0 0
+      ∙ ap (λ k. get_or old k 0) here
+
   selector-base : slice_index new 10 ≡ slice_index old 10
-  selector-base =
-      sym (get_or-drop 10 new 0 0)
-      ∙ ap (λ l. get_or l 0 0) (beyond 9 1 (byte ∷ []) old new p 10 (omega arith) (omega (arith, long)))
-      ∙ get_or_append_left (drop 10 old) p.tail 0 0 (omega (arith, long, length-drop 10 old))
-      ∙ get_or-drop 10 old 0 0
+  selector-base = selector-behind 10 (omega arith) (omega arith)
 
   selector-start : slice_index new 9 ≡ byte
   selector-start = sym (get_or-drop 9 new 0 0) ∙ sym (get_or-take 1 (drop 9 new) 0 0 (omega arith)) ∙ ap (λ l. get_or l 0 0) (inside 9 1 (byte ∷ []) old new p)
@@ -228,6 +236,7 @@ pub record Selected (second : Bool) (bodies : List (List ℕ)) (slot old new : L
   pub base : base_of new ≡ base_of old
   pub counts : (slice_index new 9 == 1) ≡ second
   pub choice : slice_index new 10 ≡ slice_index old 10
+  pub kind : slice_index new 11 ≡ slice_index old 11
 
 pub selected_now : (second : Bool) (bodies : List (List ℕ)) (text slot was old new : List ℕ) (byte : ℕ) → (byte == 1) ≡ second → Slotted second bodies text slot was old → new ≡ overwritten 9 (byte ∷ []) old → Selected second bodies slot was new
 selected_now second bodies text slot was old new byte is s written =
@@ -238,4 +247,47 @@ selected_now second bodies text slot was old new byte is s written =
       base = base-kept 9 1 (byte ∷ []) old new p bodies (omega arith) (selector-base old new byte p whole.long) s.here.records ∙ s.base;
       counts = ap (λ b. b == 1) (selector-start old new byte p whole.long) ∙ is;
       choice = selector-base old new byte p whole.long ∙ s.choice;
+      kind = selector-behind old new byte p whole.long 11 (omega arith) (omega arith) ∙ s.kind;
+    }
+
+-- The byte that tells the format is written, or torn: the store stands as it was.
+pub format_kept : (middle old new : List ℕ) (bodies : List (List ℕ)) (text : List ℕ) → Stands bodies text old → Patched 11 1 middle old new → Stands bodies text new
+format_kept middle old new bodies text here p =
+    let s = sound old bodies here.records in
+    let at9 : slice_index new 9 ≡ slice_index old 9 = index-before 11 1 middle old new p 9 (omega arith) in
+    record {
+      records = records-kept 11 1 middle old new p bodies (omega arith) (omega arith) (index-before 11 1 middle old new p 10 (omega arith)) here.records;
+      start =
+          ap (λ b. part (selected b 16 144) 128 new) at9
+          ∙ behind 11 1 middle old new p (selected (slice_index old 9) 16 144) 128 (omega (arith, selected-ge (slice_index old 9) 16 144 16 (omega arith) (omega arith)))
+          (omega (arith, s.long, selected-le (slice_index old 9) 16 144 144 (omega arith) (omega arith)))
+          ∙ here.start;
+    }
+
+pub format_leaves : (bodies : List (List ℕ)) (text old : List ℕ) (images : List ℕ → Type 0) → Stands bodies text old → Only old images → (c : List ℕ) → IsTornFrom images 11 1 c → Stands bodies text c
+format_leaves bodies text old images here only c (inl now) = subst (Stands bodies text) (sym (only c now)) here
+format_leaves bodies text old images here only c (inr torn) =
+    let from = subst (λ d. Torn 11 1 d c) (only torn.0 torn.1) torn.2 in
+    let long = (sound old bodies here.records).long in
+    format_kept from.middle old c bodies text here (patched_torn 11 1 old c (omega (arith, long)) from)
+
+-- what stands once it is written
+pub record Formatted (bodies : List (List ℕ)) (text old new : List ℕ) : Type 0 where
+  pub here : Stands bodies text new
+  pub base : base_of new ≡ base_of old
+  pub selector : slice_index new 9 ≡ slice_index old 9
+  pub choice : slice_index new 10 ≡ slice_index old 10
+  pub kind : slice_index new 11 ≡ 2
+
+pub formatted : (bodies : List (List ℕ)) (text old new : List ℕ) → Stands bodies text old → new ≡ overwritten 11 (2 ∷ []) old → Formatted bodies text old new
+formatted bodies text old new here written =
+    let long = (sound old bodies here.records).long in
+    let p = patched_written 11 (2 ∷ []) old new (omega (arith, long)) written in
+    let at10 = index-before 11 1 (2 ∷ []) old new p 10 (omega arith) in
+    record {
+      here = format_kept (2 ∷ []) old new bodies text here p;
+      base = base-kept 11 1 (2 ∷ []) old new p bodies (omega arith) at10 here.records;
+      selector = index-before 11 1 (2 ∷ []) old new p 9 (omega arith);
+      choice = at10;
+      kind = sym (get_or-drop 11 new 0 0) ∙ sym (get_or-take 1 (drop 11 new) 0 0 (omega arith)) ∙ ap (λ l. get_or l 0 0) (inside 11 1 (2 ∷ []) old new p);
     }

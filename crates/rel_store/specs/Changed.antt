@@ -1,5 +1,5 @@
 -- Which bytes of a disk a call changes, and what it makes of them.
-use Rattle.std.specs.Prelude.{◌≡◌, ◌⊎◌, ℕ, ◌+◌, ◌<◌, ◌≤◌, List, [], ◌∷◌, ◌++◌, length, slice_index}
+use Rattle.std.specs.Prelude.{◌≡◌, ◌⊎◌, ℕ, ◌+◌, ◌<◌, ◌≤◌, ◌==◌, if◌then◌else◌, List, [], ◌∷◌, ◌++◌, length, slice_index}
 use Rattle.rel_disk.specs.Damage.{overwritten}
 use Rattle.rel_store.specs.Layout.{other_slot, other_selector, other_base_slot, slot_with}
 use Rattle.rel_store.specs.Records.{record_bytes}
@@ -21,6 +21,10 @@ IsInRecord gate n i = (gate ≤ i) × (i < gate + (6 + n))
 abbrev pub IsInOtherSlot : List ℕ → ℕ → Type 0
 IsInOtherSlot bytes i = (i ≡ 9) ⊎ ((other_slot bytes ≤ i) × (i < other_slot bytes + 128))
 
+-- a change of format's own: the byte that tells it
+abbrev pub IsFormat : ℕ → Type 0
+IsFormat i = i ≡ 11
+
 -- a creation's own: the layout, a record with a body of n bytes, and the gate behind it
 abbrev pub IsInNewStore : ℕ → ℕ → Type 0
 IsInNewStore n i = i < 294 + n
@@ -37,3 +41,7 @@ with_record gate body bytes = overwritten gate (1 ∷ (record_bytes body ++ 0 �
 -- these bytes with this text in the start slot that didn't count, and now counts
 abbrev pub with_start : List ℕ → List ℕ → List ℕ
 with_start text bytes = overwritten 9 (other_selector bytes ∷ []) (overwritten (other_slot bytes) (slot_with text) bytes)
+
+-- these bytes of a store of this format, made one of format 2
+abbrev pub with_format_2 : ℕ → List ℕ → List ℕ
+with_format_2 format bytes = if format == 2 then bytes else overwritten 11 (2 ∷ []) bytes

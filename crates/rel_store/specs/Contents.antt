@@ -2,7 +2,7 @@
 use Rattle.std.specs.Prelude.{◌≡◌, ℕ, ◌+◌, ◌==◌, false, List, drop, map, Result, Ok, Err, slice_index}
 use Rattle.rel_disk.specs.Damage.{Only, Within}
 use Rattle.rel_disk.specs.Moments.{LeavesOnly, HasFailed}
-use Rattle.rel_store.specs.Layout.{base_of}
+use Rattle.rel_store.specs.Layout.{base_of, format_of}
 use Rattle.rel_store.specs.Records.{is_whole, records_of, space}
 use Rattle.rel_store.specs.declared.contents.Contents.{Contents}
 use Rattle.rel_store.specs.declared.error.StoreError.{StoreError}
@@ -15,6 +15,7 @@ pub record AreContentsOf (bytes : List ℕ) (contents : Contents) : Type 0 where
   pub start : contents.second_start ≡ (slice_index bytes 9 == 1)
   pub base : contents.base ≡ base_of bytes
   pub chooses : contents.second_base ≡ (slice_index bytes 10 == 1)
+  pub format : contents.format ≡ format_of bytes
 
 -- Why an opening of these bytes refuses them: what they tell, or a failure of the device, or out of memory.
 abbrev pub OpenRefused : List ℕ → ℕ → ℕ → StoreError → Type 0

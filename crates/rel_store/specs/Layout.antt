@@ -33,6 +33,10 @@ other_selector bytes = selected (slice_index bytes 9) 1 0
 abbrev pub text_of : List ℕ → List ℕ
 text_of bytes = part (start_slot bytes) 128 bytes
 
+-- the format of a store: 1 where byte 11 is 0, and 2 where it is anything else
+abbrev pub format_of : List ℕ → ℕ
+format_of bytes = if slice_index bytes 11 == 0 then 1 else 2
+
 -- the place of the base slot that counts
 abbrev pub base_slot : List ℕ → ℕ
 base_slot bytes = selected (slice_index bytes 10) 272 280
@@ -52,6 +56,10 @@ base_of bytes = from_be_bytes w64 (part (base_slot bytes) 8 bytes)
 abbrev pub slot_with : List ℕ → List ℕ
 slot_with text = length text ∷ (text ++ replicate (127 - length text) 0)
 
--- the bytes 1 to 287 of a new store: both selectors 0, this text in the first start slot, 288 in the first base slot
+-- the bytes 9 to 15 of a new store: both selectors 0, format 2, zeros
+abbrev pub new_choices : List ℕ
+new_choices = 0 ∷ 0 ∷ 2 ∷ 0 ∷ 0 ∷ 0 ∷ 0 ∷ []
+
+-- the bytes 1 to 287 of a new store: these, this text in the first start slot, 288 in the first base slot
 abbrev pub new_layout : List ℕ → List ℕ
-new_layout text = magic ++ (replicate 7 0 ++ (slot_with text ++ (replicate 128 0 ++ (to_be_bytes w64 288 ++ replicate 8 0))))
+new_layout text = magic ++ (new_choices ++ (slot_with text ++ (replicate 128 0 ++ (to_be_bytes w64 288 ++ replicate 8 0))))

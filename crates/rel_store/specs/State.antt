@@ -2,7 +2,7 @@
 use Rattle.std.specs.Prelude.{◌≡◌, ℕ, ◌+◌, ◌<◌, ◌≤◌, min, Bool, true, false, ◌==◌, List, map, Result, Ok, Err, vec_len, vec_capacity, slice_index}
 use Rattle.rel_disk.specs.Damage.{Only}
 use Rattle.rel_disk.specs.Moments.{HasFailed}
-use Rattle.rel_store.specs.Layout.{text_of, base_of}
+use Rattle.rel_store.specs.Layout.{text_of, base_of, format_of}
 use Rattle.rel_store.specs.Records.{records_of, space}
 use Rattle.rel_store.specs.declared.error.StoreError.{StoreError}
 use Rattle.rel_store.specs.declared.error.StoreError.TheVariants.{Full, Device, NoMemory, MustReopen}
@@ -37,6 +37,10 @@ base_in store = store.base
 abbrev pub end_in : {D : Type 0} → Store D → ℕ
 end_in store = store.gate + 1
 
+-- its format, 1 or 2
+abbrev pub format_in : {D : Type 0} → Store D → ℕ
+format_in store = store.format
+
 -- the device has failed, and the store has to be opened again
 abbrev pub has_failed : {D : Type 0} → Store D → Bool
 has_failed store = store.must_reopen
@@ -58,6 +62,7 @@ pub record IsSettled {D : Type 0} (seen : D → List ℕ) (may_leave : D → Lis
   pub start : store.second_start ≡ (slice_index (seen store.disk) 9 == 1)
   pub base : store.base ≡ base_of (seen store.disk)
   pub chooses : store.second_base ≡ (slice_index (seen store.disk) 10 == 1)
+  pub format : store.format ≡ format_of (seen store.disk)
 
 -- What is known of a store between two calls: it is settled, unless the device has failed.
 pub record IsSoundStore {D : Type 0} (seen : D → List ℕ) (may_leave : D → List ℕ → Type 0) (store : Store D) : Type 0 where
@@ -69,6 +74,7 @@ pub record IsSame {D : Type 0} (old new : Store D) : Type 0 where
   pub records : records_in new ≡ records_in old
   pub base : base_in new ≡ base_in old
   pub end : end_in new ≡ end_in old
+  pub format : format_in new ≡ format_in old
   pub failed : has_failed new ≡ has_failed old
 
 -- Why a call on a store refuses, and what stands after it: Full and NoMemory where these hold, Device where the disk's

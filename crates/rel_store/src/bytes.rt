@@ -3,7 +3,7 @@ ghost use Rattle.std.specs.Prelude.{◌≡◌, ◌+◌, ◌<◌, ◌≤◌, [], 
 ghost use Rattle.rel_store.specs.Layout.{new_layout, slot_with};
 ghost use Rattle.rel_store.specs.Records.{record_bytes};
 
-use crate::layout::{CLOSED, FIRST_RECORD, MAGIC, OPEN, RECORD_HEAD, SHORTEST};
+use crate::layout::{CLOSED, FIRST_RECORD, MAGIC, NEW_CHOICES, OPEN, RECORD_HEAD, SHORTEST};
 use std::alloc::{AllocError, Global};
 
 // Empties the buffer, and makes it hold this many bytes without taking memory again.
@@ -72,7 +72,7 @@ fn push_layout(buffer: &mut Vec<u8>, start: &[u8]) -> Result<(), AllocError>
     ensures { OnOk result (buffer.new.items ≡ buffer.old.items ++ new_layout start.now) }
 {
     buffer.extend_from_slice(&MAGIC)?;
-    buffer.extend_from_slice(&[0; 7])?;
+    buffer.extend_from_slice(&NEW_CHOICES)?;
     buffer.extend_from_slice(&start_slot(start))?;
     buffer.extend_from_slice(&[0; 128])?;
     buffer.extend_from_slice(&FIRST_RECORD.to_be_bytes())?;

@@ -4,7 +4,7 @@ ghost use Rattle.rel_disk.specs.Damage.{overwritten, Only};
 ghost use Rattle.rel_disk.specs.Moments.{LeavesOnly, HasFailed};
 ghost use Rattle.rel_store.specs.Changed.{IsInCompaction, KeepsOthers};
 ghost use Rattle.rel_store.specs.Compaction.{compacted, cut_behind, image_end, image_place, with_base_in, EndsEither, FitsImage, IsCutFrom, IsTornInCompaction, StandsOrImage};
-ghost use Rattle.rel_store.specs.State.{disk_in, records_in, text_in, base_in, end_in, has_failed, HasRoom, IsSettled, IsSoundStore, Refused};
+ghost use Rattle.rel_store.specs.State.{disk_in, records_in, text_in, base_in, end_in, format_in, has_failed, HasRoom, IsSettled, IsSoundStore, Refused};
 
 use crate::bytes::{body_of_record, spell_record};
 use crate::device::{write_and_commit, write_through};
@@ -36,6 +36,7 @@ impl<D: Disk> Store<D> {
         ensures end { OnOk result
             (end_in self.new ≡ image_end (base_in self.old) (end_in self.old)
             (length image.now)) }
+        ensures format { format_in self.new ≡ format_in self.old }
         ensures bytes { OnOk result
             (D.seen (disk_in self.new) ≡ compacted (base_in self.new) image.now
             (D.seen (disk_in self.old))) }

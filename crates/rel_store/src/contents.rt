@@ -6,7 +6,7 @@ ghost use Rattle.rel_store.specs.Records.{is_whole, records_from, space, told_le
 use crate::StoreError;
 use crate::layout::{
     BASE_SELECTOR, FIRST_RECORD, MAX_BODY, OPEN, RECORD_HEAD, SHORTEST, START_SELECTOR,
-    base_slot_of, begins_a_store, body_length, place_at,
+    base_slot_of, begins_a_store, body_length, format_of, place_at,
 };
 use rel_disk::Disk;
 use std::alloc::Global;
@@ -19,6 +19,7 @@ pub(crate) struct Contents {
     pub(crate) second_start: bool,
     pub(crate) base: u64,
     pub(crate) second_base: bool,
+    pub(crate) format: u8,
 }
 
 // Records, and the place of the closed gate behind them.
@@ -60,6 +61,7 @@ impl Contents {
             second_start: layout[START_SELECTOR] == 1,
             base,
             second_base: layout[BASE_SELECTOR] == 1,
+            format: format_of(&layout),
         })
     }
 }

@@ -4,7 +4,7 @@ ghost use Rattle.rel_disk.specs.Damage.{overwritten, Only, Within};
 ghost use Rattle.rel_disk.specs.Moments.{LeavesOnly, HasFailed};
 ghost use Rattle.rel_store.specs.Creation.{new_store, IsBehindGate, IsBegunAt, Creates, IsUnwritten, CreationRefused};
 ghost use Rattle.rel_store.specs.Layout.{has_magic, slot_with};
-ghost use Rattle.rel_store.specs.State.{disk_in, disk_of, base_in, end_in, records_in, text_in, Fits, IsSettled, IsSoundStore};
+ghost use Rattle.rel_store.specs.State.{disk_in, disk_of, base_in, end_in, format_in, records_in, text_in, Fits, IsSettled, IsSoundStore};
 
 use crate::bytes::spell_store;
 use crate::device::{write_and_commit, write_through};
@@ -14,7 +14,7 @@ use rel_disk::{DeviceFault, Disk};
 use std::alloc::{AllocError, Global};
 
 impl<D: Disk> Store<D> {
-    /// Makes a store with one record on a disk that has none, and with this text of at most 127 bytes as its start slot.
+    /// Makes a store of format 2 with one record on a disk that has none, and with this text of at most 127 bytes as its start slot.
     /// What stands on the disk behind the store's closed gate stays.
     ///
     /// Told in this order: `Exists` where the disk begins with an open gate and the magic, `Full` where the record is
@@ -35,6 +35,7 @@ impl<D: Disk> Store<D> {
             (D.seen disk)) }
         ensures fits { OnOk result (Fits 289 (length first.now)) }
         ensures base { IfOk result (λ store. base_in store ≡ 288) }
+        ensures format { IfOk result (λ store. format_in store ≡ 2) }
         ensures end { IfOk result (λ store. end_in store ≡ 289 + (5 + length first.now)) }
 
         // At each moment from the first sync on a crash leaves no store, or one with the first record.
@@ -62,6 +63,7 @@ impl<D: Disk> Store<D> {
                 second_start: false,
                 base: FIRST_RECORD,
                 second_base: false,
+                format: 2,
                 must_reopen: false,
                 spare: Vec::new(alloc),
             }),

@@ -1,7 +1,7 @@
 // Where the parts of a store stand, and how they are read.
 ghost use Rattle.std.specs.Prelude.{◌≡◌, ◌+◌, ◌≤◌, length, drop, if◌then◌else◌};
 ghost use Rattle.std.specs.Int.{w64, from_be_bytes};
-ghost use Rattle.rel_store.specs.Layout.{part, has_magic, selected, base_slot, base_of};
+ghost use Rattle.rel_store.specs.Layout.{part, has_magic, selected, base_slot, base_of, format_of};
 ghost use Rattle.rel_store.specs.Records.{told_length};
 
 /// The longest body of a record, in bytes.
@@ -32,12 +32,25 @@ pub(crate) const START_SELECTOR: usize = 9;
 
 pub(crate) const BASE_SELECTOR: usize = 10;
 
+pub(crate) const FORMAT: usize = 11;
+
+// The selectors of a new store, its format and zeros.
+pub(crate) const NEW_CHOICES: [u8; 7] = [0, 0, 2, 0, 0, 0, 0];
+
 // Whether the bytes begin with an open gate and the magic.
 pub(crate) fn begins_a_store(bytes: &[u8]) -> bool
     requires { 9 ≤ length bytes.now }
     ensures { result ≡ has_magic bytes.now }
 {
     bytes[0] == OPEN && bytes[1..BEGINNING] == MAGIC[..]
+}
+
+// The format of a store: 1, or 2.
+pub(crate) fn format_of(bytes: &[u8]) -> u8
+    requires { 288 ≤ length bytes.now }
+    ensures { result ≡ format_of bytes.now }
+{
+    if bytes[FORMAT] == 0 { 1 } else { 2 }
 }
 
 // The place of the base slot that counts.

@@ -44,6 +44,7 @@ impl<D: Disk> Store<D> {
                 second_start: contents.second_start,
                 base: contents.base,
                 second_base: contents.second_base,
+                format: contents.format,
                 must_reopen: false,
                 spare: Vec::new(alloc),
             }),

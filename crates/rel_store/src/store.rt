@@ -1,17 +1,17 @@
 // A record store on a disk, and the calls on an open one.
 ghost use Rattle.std.specs.Prelude.{◌≡◌, ℕ, ◌↔◌, ◌≤◌, ◌+◌, [], ◌∷◌, ◌++◌, map, length, true, false, IsTrue, IsErrOf, IfErr, OnOk};
 ghost use Rattle.rel_disk.specs.Moments.{LeavesOnly};
-ghost use Rattle.rel_store.specs.Changed.{LeavesOthers, IsInRecord, IsInOtherSlot, with_record, with_start};
+ghost use Rattle.rel_store.specs.Changed.{LeavesOthers, IsFormat, IsInRecord, IsInOtherSlot, with_format_2, with_record, with_start};
 ghost use Rattle.rel_store.specs.Contents.{HasOnlyRead};
 ghost use Rattle.rel_store.specs.Layout.{slot_with};
 ghost use Rattle.rel_store.specs.Records.{Stands, StandsEither, StandsWithEither};
-ghost use Rattle.rel_store.specs.State.{disk_in, records_in, text_in, gate_in, base_in, end_in, has_failed, Fits, HasRoom, IsSettled, IsSoundStore, IsSame, Refused};
+ghost use Rattle.rel_store.specs.State.{disk_in, records_in, text_in, gate_in, base_in, end_in, format_in, has_failed, Fits, HasRoom, IsSettled, IsSoundStore, IsSame, Refused};
 
 use crate::StoreError;
 use crate::bytes::{body_of_record, make_room, spell_record, start_slot};
-use crate::device::write_and_commit;
+use crate::device::{write_and_commit, write_through};
 use crate::layout::{
-    MAX_BODY, MAX_END, OPEN, RECORD_HEAD, START_SELECTOR, selector_of, slot_place,
+    FORMAT, MAX_BODY, MAX_END, OPEN, RECORD_HEAD, START_SELECTOR, selector_of, slot_place,
 };
 use rel_disk::Disk;
 use std::alloc::Global;
@@ -30,6 +30,8 @@ pub struct Store<D: Disk> {
     pub(crate) base: u64,
     // the second base slot counts
     pub(crate) second_base: bool,
+    // 1 or 2
+    pub(crate) format: u8,
     pub(crate) must_reopen: bool,
     // memory for the next record
     pub(crate) spare: Vec<u8>,
@@ -47,6 +49,7 @@ impl<D: Disk> Store<D> {
             second_start: _,
             base: _,
             second_base: _,
+            format: _,
             must_reopen: _,
             spare: _,
         } = self;
@@ -58,6 +61,13 @@ impl<D: Disk> Store<D> {
         ensures { map (λ v. v.items) result.now ≡ records_in self.now }
     {
         &self.records
+    }
+
+    /// The format of the store: 1, or 2, which a store of an earlier version of this library doesn't have.
+    pub fn format(&self) -> u8
+        ensures { result ≡ format_in self.now }
+    {
+        self.format
     }
 
     /// Whether an `append` of a body of this many bytes wouldn't answer `Full`.
@@ -100,6 +110,7 @@ impl<D: Disk> Store<D> {
         ensures start { OnOk result (text_in D.seen self.new ≡ text_in D.seen self.old) }
         ensures base { base_in self.new ≡ base_in self.old }
         ensures end { OnOk result (end_in self.new ≡ end_in self.old + (5 + length body.now)) }
+        ensures format { format_in self.new ≡ format_in self.old }
         ensures bytes { OnOk result
             (D.seen (disk_in self.new) ≡ with_record (gate_in self.old) body.now
             (D.seen (disk_in self.old))) }
@@ -161,6 +172,7 @@ impl<D: Disk> Store<D> {
             (disk_in self.old) (disk_in self.new) }
         ensures base { base_in self.new ≡ base_in self.old }
         ensures end { end_in self.new ≡ end_in self.old }
+        ensures format { format_in self.new ≡ format_in self.old }
         ensures room { (n : ℕ) → HasRoom n self.old → HasRoom n self.new }
         ensures any_moment { has_failed self.old ≡ false
             → LeavesOnly D.moment D.left_since (disk_in self.old) (disk_in self.new)
@@ -190,6 +202,7 @@ impl<D: Disk> Store<D> {
         ensures records { records_in self.new ≡ records_in self.old }
         ensures base { base_in self.new ≡ base_in self.old }
         ensures end { end_in self.new ≡ end_in self.old }
+        ensures format { format_in self.new ≡ format_in self.old }
         ensures room { (n : ℕ) → HasRoom n self.old → HasRoom n self.new }
         ensures bytes { OnOk result
             (D.seen (disk_in self.new) ≡ with_start text.now (D.seen (disk_in self.old))) }
@@ -221,6 +234,47 @@ impl<D: Disk> Store<D> {
             selector_of(second),
         )?;
         self.second_start = second;
+        self.must_reopen = false;
+        Ok(())
+    }
+    /// Makes the store one of format 2, and behind an `Ok` a crash leaves it one. The records and the start text stay as they are at
+    /// every moment. Takes no memory, and writes nothing where the store is one of format 2 already.
+    ///
+    /// Refusals: `MustReopen`, `Device`.
+    pub fn to_format_2(&mut self) -> Result<(), StoreError>
+        requires { IsSoundStore D.seen D.may_leave self.old }
+        ensures sound { IsSoundStore D.seen D.may_leave self.new }
+        ensures settled { OnOk result (IsSettled D.seen D.may_leave self.new) }
+        ensures format { OnOk result (format_in self.new ≡ 2) }
+        ensures bytes { OnOk result (D.seen (disk_in self.new) ≡ with_format_2 (format_in self.old) (D.seen (disk_in self.old))) }
+        ensures records { records_in self.new ≡ records_in self.old }
+        ensures start { OnOk result (text_in D.seen self.new ≡ text_in D.seen self.old) }
+        ensures base { base_in self.new ≡ base_in self.old }
+        ensures end { end_in self.new ≡ end_in self.old }
+        ensures room { (n : ℕ) → HasRoom n self.old → HasRoom n self.new }
+
+        // A crash at any moment of the call leaves the records and the start text, and all bytes as they were but the one that
+        // tells the format.
+        ensures any_moment { has_failed self.old ≡ false
+            → LeavesOnly D.moment D.left_since (disk_in self.old) (disk_in self.new)
+            (Stands (records_in self.old) (text_in D.seen self.old)) }
+        ensures others { has_failed self.old ≡ false
+            → LeavesOnly D.moment D.left_since (disk_in self.old) (disk_in self.new)
+            (LeavesOthers IsFormat (D.seen (disk_in self.old))) }
+
+        ensures counted { D.failures (disk_in self.old) ≤ D.failures (disk_in self.new) }
+        ensures reopened { IsErrOf result StoreError.MustReopen ↔ (has_failed self.old ≡ true) }
+        ensures refused { IfErr result (Refused D.failures ⊥ ⊥ self.old self.new) }
+    {
+        if self.must_reopen {
+            return Err(StoreError::MustReopen);
+        }
+        if self.format == 2 {
+            return Ok(());
+        }
+        self.must_reopen = true;
+        write_through(&mut self.disk, FORMAT as u64, &[2])?;
+        self.format = 2;
         self.must_reopen = false;
         Ok(())
     }

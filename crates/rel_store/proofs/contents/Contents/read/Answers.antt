@@ -3,7 +3,7 @@ use Rattle.rel_store.specs.Contents.{RecordsRefused}
 use Rattle.rel_store.specs.Records.{records_from, space}
 use Rattle.rel_store.specs.declared.error.StoreError.TheVariants.{Device}
 use Rattle.rel_store.proofs.Exits.{no_value}
-use Rattle.rel_store.proofs.Layouts.{no_magic, selector_there, choice_there, no_base, records_there, place_there, refused_by_records}
+use Rattle.rel_store.proofs.Layouts.{no_magic, selector_there, choice_there, format_there, no_base, records_there, place_there, refused_by_records}
 use Rattle.rel_store.proofs.OnlyReads.{read_first, read_twice, read_on}
 use Rattle.rel_store.proofs.Scan.{bodies_of, passed_on, failed_since, refused_since}
 use Rattle.rel_store.proofs.contents.Contents.read.Goals as goal
@@ -50,6 +50,7 @@ returns-clause-ok g c =
       start = selector_there bytes c.read.new.buf layout;
       base = place;
       chooses = choice_there bytes c.read.new.buf layout;
+      format = c.format_of.ensures ∙ format_there bytes c.read.new.buf layout;
     }
 
 pub returns-in_err-len-clause-reads : goal.returns-in_err-len-clause-reads

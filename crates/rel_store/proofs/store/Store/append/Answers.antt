@@ -8,6 +8,7 @@ use Rattle.rel_store.specs.Layout.{base_of}
 use Rattle.rel_store.specs.Records.{record_bytes, space}
 use Rattle.rel_store.proofs.Exits.{no_success}
 use Rattle.rel_store.proofs.Append.{gate_within}
+use Rattle.rel_store.proofs.Layouts.{format_same}
 use Rattle.rel_store.proofs.Moments.{stands_now, resting, after_append, appended_now}
 use Rattle.rel_store.proofs.Ownership.{Owns, at_rest, steps_leave, overwritten_in_two}
 use Rattle.rel_store.proofs.ReadLemmas.{length-record}
@@ -81,6 +82,7 @@ returns-clause-settled g c =
       start = s.start ∙ ap (λ selector. selector == 1) (sym a.selector);
       base = s.base ∙ sym a.base;
       chooses = s.chooses ∙ ap (λ selector. selector == 1) (sym a.choice);
+      format = s.format ∙ sym (format_same (g.D.Disk.seen c.write_and_commit.new.disk) (g.D.Disk.seen c.args.self.now.disk) a.kind);
     }
 
 pub returns-clause-sound : goal.returns-clause-sound

@@ -98,7 +98,7 @@ returns-clause-compacted g c = grind (arith, common_steps)
 pub returns-clause-settled : goal.returns-clause-settled
 returns-clause-settled g c =
     let r = replaced_now g.D.Disk.moment g.D.Disk.left_since g.D.Disk.seen g.D.Disk.may_leave c.args.self.now (c.requires.settled c.if-self.false) c.args.image.now c.in_ok-place.place (at_place _ _ _ c.in_ok-place.ensures.ok_part c.place_of_image.ensures.place) (fits_so _ _ _ c.in_ok-place.ensures.ok_part c.place_of_image.ensures.fits) c.put_image.new.disk c.deref.result.now (c.deref.ensures.value ∙ c.in_ok-spell_record.ensures.ok) c.in_ok-put_image.ensures.written in
-    settled_now g.D.Disk.moment g.D.Disk.left_since g.D.Disk.seen g.D.Disk.may_leave c.args.self.now (c.requires.settled c.if-self.false) c.args.image.now c.in_ok-place.place (at_place _ _ _ c.in_ok-place.ensures.ok_part c.place_of_image.ensures.place) (fits_so _ _ _ c.in_ok-place.ensures.ok_part c.place_of_image.ensures.fits) _ refl r c.in_ok-put_image.ensures.durable (returns-clause-compacted g c) refl refl refl refl
+    settled_now g.D.Disk.moment g.D.Disk.left_since g.D.Disk.seen g.D.Disk.may_leave c.args.self.now (c.requires.settled c.if-self.false) c.args.image.now c.in_ok-place.place (at_place _ _ _ c.in_ok-place.ensures.ok_part c.place_of_image.ensures.place) (fits_so _ _ _ c.in_ok-place.ensures.ok_part c.place_of_image.ensures.fits) _ refl r c.in_ok-put_image.ensures.durable (returns-clause-compacted g c) refl refl refl refl refl
 
 pub returns-clause-sound : goal.returns-clause-sound
 returns-clause-sound g c = record { settled = λ works. returns-clause-settled g c }

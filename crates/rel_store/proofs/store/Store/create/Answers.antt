@@ -2,7 +2,7 @@ use Rattle.std.proofs.Common.{◌≡◌, ◌+◌, [], ◌∷◌, length, refl, s
 use Rattle.std.specs.Prelude.{◌==◌}
 use Rattle.rel_store.specs.Layout.{base_of}
 use Rattle.rel_store.specs.Records.{space}
-use Rattle.rel_store.proofs.NewStore.{new_stands, new_base, new_selector, new_choice}
+use Rattle.rel_store.proofs.NewStore.{new_stands, new_base, new_selector, new_choice, new_format}
 use Rattle.rel_store.proofs.store.Store.create.Goals as goal
 
 pub returns-in-Ok-clause-settled : goal.returns-in-Ok-clause-settled
@@ -20,6 +20,7 @@ returns-in-Ok-clause-settled g c =
       start = ap (λ selector. selector == 1) (sym (new_selector c.args.start.now c.requires c.args.first.now e.short bytes _ e.written));
       base = sym base;
       chooses = ap (λ selector. selector == 1) (sym (new_choice c.args.start.now c.requires c.args.first.now e.short bytes _ e.written));
+      format = sym (new_format c.args.start.now c.requires c.args.first.now e.short bytes _ e.written);
     }
 
 pub returns-in-Ok-clause-start : goal.returns-in-Ok-clause-start

@@ -1,7 +1,7 @@
 use Rattle.std.proofs.Common.{inr, ◌+◌, refl, sym, ◌∙◌, ap}
 use Rattle.std.specs.Prelude.{◌==◌, slice_index}
 use Rattle.rel_store.specs.Contents.{AreContentsOf}
-use Rattle.rel_store.specs.Layout.{base_of}
+use Rattle.rel_store.specs.Layout.{base_of, format_of}
 use Rattle.rel_store.specs.Records.{records_of, space}
 use Rattle.rel_store.proofs.Exits.{no_error, same_error, value_of, other_one, first_so}
 use Rattle.rel_store.proofs.Scan.{bodies_of}
@@ -20,6 +20,7 @@ returns-in-Ok-clause-settled g c =
       start = read.start ∙ ap (λ l. slice_index l 9 == 1) (sym synced.same);
       base = read.base ∙ ap (λ l. base_of l) (sym synced.same);
       chooses = read.chooses ∙ ap (λ l. slice_index l 10 == 1) (sym synced.same);
+      format = read.format ∙ ap (λ l. format_of l) (sym synced.same);
     }
 
 pub returns-in-Ok-clause-sound : goal.returns-in-Ok-clause-sound

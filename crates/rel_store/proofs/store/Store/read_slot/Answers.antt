@@ -1,7 +1,7 @@
 use Rattle.std.proofs.Common.{◌≡◌, ℕ, ◌+◌, ◌-◌, Bool, List, take, drop, refl, sym, ◌∙◌, ap, arith, true≢false}
 use Rattle.std.proofs.Math.Nat.{le_refl}
 use Rattle.std.specs.Prelude.{◌==◌, if◌then◌else◌, slice_index, slice_range}
-use Rattle.rel_store.specs.Layout.{base_of, start_slot, text_of}
+use Rattle.rel_store.specs.Layout.{base_of, format_of, start_slot, text_of}
 use Rattle.rel_store.specs.Records.{records_of, space}
 use Rattle.rel_store.specs.State.{records_in}
 use Rattle.rel_store.proofs.Exits.{no_success}
@@ -35,6 +35,7 @@ returns-clause-settled g c =
       start = s.start ∙ ap (λ l. slice_index l 9 == 1) (sym same);
       base = s.base ∙ ap (λ l. base_of l) (sym same);
       chooses = s.chooses ∙ ap (λ l. slice_index l 10 == 1) (sym same);
+      format = s.format ∙ ap (λ l. format_of l) (sym same);
     }
 
 pub returns-clause-sound : goal.returns-clause-sound

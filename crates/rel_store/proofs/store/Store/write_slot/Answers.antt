@@ -7,6 +7,7 @@ use Rattle.rel_store.specs.Layout.{other_slot, slot_with}
 use Rattle.rel_store.specs.Records.{space}
 use Rattle.rel_store.specs.State.{records_in}
 use Rattle.rel_store.proofs.Exits.{no_success}
+use Rattle.rel_store.proofs.Layouts.{format_same}
 use Rattle.rel_store.proofs.Append.{gate_low, gate_within}
 use Rattle.rel_store.proofs.Moments.{after_start, selected_slot, stands_now}
 use Rattle.rel_store.proofs.Ownership.{Owns, steps_leave, other}
@@ -54,6 +55,7 @@ returns-clause-settled g c =
       start = sym new.counts;
       base = s.base ∙ sym new.base;
       chooses = s.chooses ∙ ap (λ b. b == 1) (sym new.choice);
+      format = s.format ∙ sym (format_same (g.D.Disk.seen c.write_and_commit.new.disk) (g.D.Disk.seen c.args.self.now.disk) new.kind);
     }
 
 pub returns-clause-written : goal.returns-clause-written
