@@ -1,5 +1,5 @@
 -- What a flood answers and leaves, by where the tree has a process, and that the handler holds nothing behind one.
-use Rattle.std.proofs.Common.{◌≡◌, ℕ, ◌+◌, List, [], ◌∷◌, ◌++◌, length, Option, Some, None, refl, ap, sym, subst, ◌∙◌, inl, inr, arith}
+use Rattle.std.proofs.Common.{◌≡◌, ℕ, ◌+◌, List, [], ◌∷◌, length, Some, None, refl, ap, sym, ◌∙◌, arith}
 use Rattle.std.specs.Prelude.{◌-◌, IfOk, Result, Ok, Err}
 use Rattle.proc_history.specs.declared.value.Outcome.{Outcome}
 use Rattle.proc_history.specs.declared.value.Value.{Value}
@@ -11,14 +11,13 @@ use Rattle.proc_table.specs.declared.pid.Pid.{Pid}
 use Rattle.proc_table.specs.declared.view.View.{View}
 use Rattle.proc_table.specs.Views.{seen}
 use Rattle.proc_workers.specs.declared.floods.FloodCounts.{FloodCounts}
-use Rattle.proc_workers.specs.Floods.{calls_with, Counts, IsBrokenOff, IsFlooded, outcomes_of}
+use Rattle.proc_workers.specs.Floods.{calls_with, Counts, IsFlooded, outcomes_of}
 use Rattle.sup_tree.specs.Loaded.{NamedModules}
 use Rattle.sup_tree.specs.Tree.{App, find_process}
-use Rattle.held_processes.specs.Following.{HoldsNothing}
 use Rattle.node_processes.specs.Answers.{no_process_line, value_at}
 use Rattle.node_processes.specs.Processes.{Processes}
 use Rattle.node_processes.specs.Floods.{after_calls, counts_line, flood_line, flooded, flooded_at, flooded_line, outcomes_at, outcomes_line}
-use Rattle.node_processes.proofs.CommandLemmas.{behind_pass, node}
+use Rattle.node_processes.proofs.CommandLemmas.{node}
 use Rattle.node_processes.proofs.SlotLemmas.{value_of, value_there, value_set}
 
 -- the calls of a pass leave what calls with their outcomes do

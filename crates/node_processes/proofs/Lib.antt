@@ -1,11 +1,7 @@
 pub mod TableVersions
 pub mod EventVersions
+pub mod RunningEntry
 pub mod ModuleVersions
-pub mod FreshLemmas
-pub mod StartLemmas
-pub mod TableLemmas
-pub mod ReadyLemmas
-pub mod PermanentLemmas
 pub mod SlotLemmas
 pub mod CommandLemmas
 pub mod FloodLemmas

@@ -4,10 +4,8 @@ use Rattle.std.specs.List.{AllByRecursion, slice_get}
 use Rattle.std.specs.Str.{bytes_eq}
 use Rattle.rel_files.specs.Name.{IsVersion}
 use Rattle.rel_list.specs.Releases.{Releases, Entry}
-use Rattle.rel_list.specs.Status.{is_permanent}
 use Rattle.library.specs.Library.{Library, IsLibrary}
 use Rattle.rel_check.specs.Modules.{Part, Tables, parts}
-use Rattle.rel_records.proofs.EachRelease.{each-found}
 use Rattle.sup_tree.specs.Loaded.{Module, NamedModules, module_named}
 use Rattle.sup_tree.specs.Starts.{beginning_of}
 use Rattle.sup_tree.specs.Walk.{top_children, app_starts}
@@ -22,7 +20,7 @@ use Rattle.node_processes.specs.Answers.{outcome_at, value_at, behind_call, call
 use Rattle.node_processes.specs.Calls.{Calls, left_by}
 use Rattle.node_processes.specs.Calls.Calls.{once, often}
 use Rattle.node_processes.specs.Floods.{after_calls, flooded, flooded_at, outcomes_at}
-use Rattle.node_processes.specs.Fresh.{started_parts, part_starts, part_beginnings, beginnings, first_value, first_values, tables_in, fresh_entry, permanent_entry, fresh}
+use Rattle.node_processes.specs.Fresh.{started_parts, part_starts, part_beginnings, beginnings, first_value, first_values, tables_in, fresh_entry, running_entry, fresh}
 use Rattle.node_processes.specs.Processes.{Processes, process_named}
 use Rattle.node_processes.specs.ModuleVersions.{HasModuleVersion, HaveModuleVersions}
 use Rattle.relup_instruction.specs.declared.instruction.Direction.{Direction}
@@ -40,6 +38,7 @@ use Rattle.relup_exec.specs.Alone.{fails_at, outcome, outcome_from, unless_fault
 use Rattle.relup_exec.specs.Alone.Outcome.{ends}
 use Rattle.node_processes.specs.Scripts.{behind_run, ended_run, run_on}
 use Rattle.node_processes.proofs.EventVersions.{begun_version, after_version, replay_versions, added_versions, worker_version, course_versions, AllVersions, each_courses, load_versions, change_versions, begun_versions, ended_versions, given_up_versions}
+use Rattle.node_processes.proofs.RunningEntry.{running_found}
 use Rattle.node_processes.proofs.TableVersions.{OrNone, each_set, each_got, each_mapped, each_image, each_flat, each_kept, HasNamedVersion, listed_versions, HaveTableVersions, module_table, table_versions, StartsVersion, start_versions, HaveVersions, found_version, with_versions, from_versions, library_is}
 pub use Rattle.node_processes.proofs.EventVersions.{nothing_version}
 pub use Rattle.node_processes.proofs.TableVersions.{AreWithLibraries, each_at}
@@ -60,15 +59,15 @@ first_versions : (bs : List Beginning) → AllByRecursion BeginsVersion bs → A
 first_versions bs all = each_mapped HasModuleVersion (λ i. first_value (slice_get bs i)) (λ i. first_version (slice_get bs i) (each_got BeginsVersion bs i all)) _
 
 pub fresh_versions : (es : Releases) → AreWithLibraries es → HaveModuleVersions (fresh es)
-fresh_versions es all = go (permanent_entry es) refl
+fresh_versions es all = go (running_entry es) refl
   where
-    go : (o : Option Entry) → permanent_entry es ≡ o → HaveModuleVersions (fresh_entry o)
+    go : (o : Option Entry) → running_entry es ≡ o → HaveModuleVersions (fresh_entry o)
     go None is = record {
       values = first_versions (beginnings (tables_in []) (started_parts (parts [] []))) (beginning_versions (tables_in []) (table_versions [] tt) (started_parts (parts [] [])));
       modules = tt;
     }
     go (Some e) is =
-        let of = each-found (λ (f : Entry). AllByRecursion IsLibrary f.libraries) (λ (f : Entry). is_permanent f.status) es e all is in
+        let of = running_found (λ (f : Entry). AllByRecursion IsLibrary f.libraries) es e all is in
         record {
           values = first_versions (beginnings (tables_in e.libraries) (started_parts (parts e.release.apps e.libraries)))
               (beginning_versions (tables_in e.libraries) (table_versions e.libraries of) (started_parts (parts e.release.apps e.libraries)));

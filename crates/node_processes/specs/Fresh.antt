@@ -1,14 +1,15 @@
--- What runs right after a boot: the applications of the permanent release that are of type permanent, transient or temporary, in
+-- What runs right after a boot: the applications of the release that runs that are of type permanent, transient or temporary, in
 -- order, each with the workers below its top, in order (OTP: application, supervisor). What is loaded are the modules of all its
 -- libraries, whatever the type of their applications.
 use Rattle.std.specs.Prelude.{ℕ, suc, ◌+◌, ◌<◌, ◌≤◌, ◌⊎◌, List, [], ◌∷◌, length, map, slice_get, Option, Some, None}
+use Rattle.std.specs.Option.{option_or}
 use Rattle.std.specs.List.{find, filter, flat_map, range_with_len}
 use Rattle.std.proofs.Common.{inl, inr}
 use Rattle.std.proofs.lemmas.Bool.{cases_lt}
 use Rattle.rel_files.specs.Release.{Application}
 use Rattle.library.specs.Library.{Library}
 use Rattle.rel_list.specs.Releases.{Releases, Entry}
-use Rattle.rel_list.specs.Status.{is_permanent}
+use Rattle.rel_list.specs.Status.{is_current, is_permanent}
 use Rattle.rel_check.specs.Modules.{Part, Tables, parts}
 use Rattle.rel_check.specs.Walk.{is_started}
 use Rattle.proc_history.specs.declared.beginning.Beginning.{Beginning}
@@ -87,9 +88,9 @@ fresh_release as' ls =
     let started = started_parts (parts as' ls) in
     record { values = first_values (beginnings (tables_in ls) started); apps = apps_from 0 (tables_in ls) started; modules = listed_modules ls }
 
--- the release that a boot runs
-abbrev pub permanent_entry : Releases → Option Entry
-permanent_entry es = find (λ (e : Entry). is_permanent e.status) es
+-- the release that runs behind a boot: a current one, which was a one-shot before it, or else the permanent one
+abbrev pub running_entry : Releases → Option Entry
+running_entry es = option_or (find (λ (e : Entry). is_current e.status) es) (find (λ (e : Entry). is_permanent e.status) es)
 
 abbrev pub fresh_entry : Option Entry → Processes
 fresh_entry None = fresh_release [] []
@@ -97,4 +98,4 @@ fresh_entry (Some e) = fresh_release e.release.apps e.libraries
 
 -- the processes of a node that has just booted to this list
 abbrev pub fresh : Releases → Processes
-fresh es = fresh_entry (permanent_entry es)
+fresh es = fresh_entry (running_entry es)

@@ -5,5 +5,4 @@ pub mod Answers
 pub mod Floods
 pub mod Calls
 pub mod ModuleVersions
-pub mod Starting
 pub mod Scripts

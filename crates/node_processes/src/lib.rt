@@ -1,7 +1,7 @@
-//! The processes of a node: a boot starts them, and commands list, peek, call and flood them.
+//! The processes of a node: commands list, peek, call and flood them.
 //!
 //! [`Processes`] are seen as what stands in each slot, which applications are started, and which modules are loaded
-//! (specs/Processes). [`Processes::start`] gives what runs right after a boot to a list of releases (specs/Fresh).
+//! (specs/Processes); specs/Fresh says which run right after a boot to a list of releases.
 //! [`Processes::list`], [`Processes::list_modules`], [`Processes::peek`] and [`Processes::call`] answer as a session's commands
 //! do, and a call leaves what the table of its process says (specs/Answers). [`Processes::flood`] makes many calls of a process
 //! from threads, and answers how often each outcome came; it leaves what these calls do one after another (specs/Floods). No
@@ -18,6 +18,5 @@
 mod commands;
 mod look;
 mod processes;
-mod start;
 
 pub use processes::Processes;

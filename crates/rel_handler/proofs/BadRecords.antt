@@ -1,11 +1,8 @@
 -- The bytes of a disk stand for one list, or a boot refuses them.
-use Rattle.std.proofs.Common.{◌≡◌, ◌⊎◌, inl, inr, ℕ, zero, suc, ◌+◌, Bool, true, false, ◌||◌, not, List, [], ◌∷◌, length, drop, Result, Ok, Err, refl, sym, ap, ◌∙◌, true≢false, subst}
+use Rattle.std.proofs.Common.{◌≡◌, ◌⊎◌, inl, inr, ℕ, zero, suc, ◌+◌, Bool, true, false, ◌||◌, not, List, [], ◌∷◌, length, drop, Result, Ok, Err, refl, sym, subst}
 use Rattle.std.specs.Prelude.{if◌then◌else◌, nat_lt, nat_le, ◌==◌}
-use Rattle.rel_list.specs.Releases.{Releases, has_one_shot}
-use Rattle.rel_list.proofs.BootLaws.{boot_leaves_no_one_shot}
-use Rattle.rel_list.proofs.OneShotLaws.{boots_as_recorded}
-use Rattle.std.proofs.lemmas.Bool.{cases_Bool}
-use Rattle.rel_list.specs.Event.{booted, recorded}
+use Rattle.rel_list.specs.Releases.{Releases}
+use Rattle.rel_list.specs.Event.{recorded}
 use Rattle.rel_records.specs.Lists.{Makes, IsBadRecord}
 use Rattle.rel_records.proofs.ListLemmas.{makes_not_bad}
 use Rattle.rel_records.proofs.RecordLaws.{make_or_bad}
@@ -15,11 +12,12 @@ use Rattle.rel_store.specs.declared.error.StoreError.{StoreError}
 use Rattle.rel_store.specs.declared.error.StoreError.TheVariants as store
 use Rattle.rel_handler.specs.declared.error.BootError.{BootError}
 use Rattle.rel_handler.specs.declared.error.BootError.TheVariants as boot
-use Rattle.rel_handler.specs.Image.{IsImageOf}
+use Rattle.rel_handler.specs.Image.{extent_of, HasBootSpace, IsImageOf}
 use Rattle.rel_handler.specs.Laws.{StandsForOneList, RefusesNoImage}
 use Rattle.rel_handler.specs.Refusals.{IsBootRefusal}
-use Rattle.rel_handler.proofs.Boots.{image_so}
-use Rattle.rel_handler.proofs.Images.{booted_image}
+use Rattle.rel_handler.proofs.BootLists.{boot_alike, boots_or_not, space_recorded}
+use Rattle.rel_handler.proofs.Boots.{made_again}
+use Rattle.rel_handler.proofs.Images.{recorded_image}
 
 -- What a store says of the bytes alone: its records, that it is none, or that a record is damaged.
 abbrev IsOfBytes : Result (List (List ℕ)) StoreError → Type 0
@@ -47,17 +45,17 @@ of_bytes bytes =
     of_bytes_if (nat_lt (length bytes) 289 || not (has_magic bytes)) (Err store.NotAStore) _ tt
     (of_bytes_if (nat_lt (base_of bytes) 288 || nat_le (length bytes) (base_of bytes)) (Err (store.Damaged (base_slot bytes))) _ tt (of_bytes_from (base_of bytes) 0 (drop (base_of bytes) bytes)))
 
--- Bytes stand for a list, which is the same behind a boot, or a boot refuses them.
+-- Bytes stand for a list, as records tell it, or a boot refuses them.
 abbrev BootsOrNot : List ℕ → Type 0
-BootsOrNot bytes = ((es : Releases) × IsImageOf bytes es × (booted es ≡ es)) ⊎ ((why : BootError) × IsBootRefusal bytes why)
+BootsOrNot bytes = ((es : Releases) × IsImageOf bytes es × (recorded es ≡ es)) ⊎ ((why : BootError) × IsBootRefusal bytes why)
 
-pub boots_or_not : (bytes : List ℕ) → BootsOrNot bytes
-boots_or_not bytes = by_records (records_of bytes) refl (of_bytes bytes)
+pub image_or_refused : (bytes : List ℕ) → BootsOrNot bytes
+image_or_refused bytes = by_records (records_of bytes) refl (of_bytes bytes)
   where
     by_list : (bodies : List (List ℕ)) → records_of bytes ≡ Ok bodies → ((es : Releases) × Makes bodies es × (recorded es ≡ es)) ⊎ ((i : ℕ) × IsBadRecord bodies i) → BootsOrNot bytes
-    by_list bodies read (inl (es, is, still)) = elim (cases_Bool (has_one_shot es)) [
-      | inl one ↦ inr (boot.BadRecord (length bodies), (bodies, read, inr (es, is, one, refl)))
-      | inr none ↦ let (image, again) = image_so bytes bodies bodies es refl is none read in inl (es, image, again)
+    by_list bodies read (inl (es, is, still)) = elim (boots_or_not (extent_of bytes) es) [
+      | inl room ↦ inl (es, record { bodies = bodies; store = read; list = made_again bodies bodies es refl is; room = room }, still)
+      | inr over_it ↦ inr (boot.BadRecord (length bodies), (bodies, read, inr (es, is, over_it, refl)))
     ]
     by_list bodies read (inr (i, is_bad)) = inr (boot.BadRecord i, (bodies, read, inl is_bad))
 
@@ -67,10 +65,9 @@ boots_or_not bytes = by_records (records_of bytes) refl (of_bytes bytes)
     by_records (Err (store.Damaged at)) read is = inr (boot.Damaged at, read)
     by_records (Err e) read is = absurd is
 
--- They stand for one list, as it is behind a boot.
+-- They stand for one list.
 pub stands_for_one : StandsForOneList
-stands_for_one bytes es fs image other =
-    boots_as_recorded es image.list.free ∙ booted_image bytes image.bodies (recorded es) fs image.store image.list.makes other
+stands_for_one bytes es fs image other = boot_alike es fs image.list.alone other.list.alone (recorded_image bytes image.bodies (recorded es) fs image.store image.list.makes other)
 
 -- A boot refuses no bytes that stand for a list.
 pub no_image_refused : RefusesNoImage
@@ -79,8 +76,8 @@ no_image_refused bytes es (boot.Damaged at) image refused = cc (refused, image.s
 no_image_refused bytes es (boot.BadRecord i) image (bodies, read, inl is_bad) =
     let same : image.bodies ≡ bodies = cc (read, image.store) in
     makes_not_bad bodies (recorded es) i (subst (λ bs. Makes bs (recorded es)) same image.list.makes) is_bad
-no_image_refused bytes es (boot.BadRecord i) image (bodies, read, inr (fs, makes, one, is)) =
-    let same : fs ≡ booted es = booted_image bytes bodies fs es read makes image in
-    true≢false (sym one ∙ ap has_one_shot same ∙ boot_leaves_no_one_shot es)
+no_image_refused bytes es (boot.BadRecord i) image (bodies, read, inr (fs, makes, over_it, is)) =
+    let same : fs ≡ recorded es = recorded_image bytes bodies fs es read makes image in
+    over_it (subst (HasBootSpace (extent_of bytes)) (sym same) (space_recorded (extent_of bytes) es image.list.alone image.room))
 no_image_refused bytes es boot.Device image refused = refused
 no_image_refused bytes es boot.NoMemory image refused = refused

@@ -9,8 +9,7 @@ use Rattle.rel_files.specs.Name.{IsVersion}
 use Rattle.rel_files.specs.Release.{Release}
 use Rattle.rel_list.specs.declared.status.Status.TheVariants.{Permanent}
 use Rattle.rel_list.specs.Releases.{Bundle, Releases, has_one_shot}
-use Rattle.rel_list.proofs.OneShotLaws.{boots_as_recorded}
-use Rattle.rel_list.specs.Event.{entry, booted, recorded}
+use Rattle.rel_list.specs.Event.{entry, recorded}
 use Rattle.rel_list.specs.Event.Event.{made}
 use Rattle.rel_records.specs.Lists.{Makes, IsBadRecord}
 use Rattle.rel_records.specs.Reading.{Spells}
@@ -32,25 +31,25 @@ use Rattle.rel_handler.specs.Start.{start_text}
 use Rattle.rel_handler.specs.Image.{AreRecordsOf, IsImageOf, IsStarted}
 use Rattle.rel_handler.specs.Moments.{Begins, BeginsAt, SettlesAt}
 use Rattle.rel_handler.specs.Refusals.{told_records, told_create, IsCreateError, MakingRefused}
-use Rattle.rel_handler.specs.State.{IsSound}
+use Rattle.rel_handler.specs.State.{store_extent, IsSound}
 use Rattle.rel_handler.specs.declared.error.BootError.{BootError}
 use Rattle.rel_handler.specs.declared.error.BootError.TheVariants as boot
-use Rattle.rel_handler.proofs.Images.{first_record, while_creating}
+use Rattle.rel_handler.proofs.Images.{first_record, no_boot_space, while_creating}
 
--- a list that was read from the records of a store
-pub made_again : (bodies records : List (List ℕ)) (es : Releases) → bodies ≡ records → Makes bodies es → has_one_shot es ≡ false → AreRecordsOf records es
-made_again bodies records es same makes_it none =
-    subst (λ rs. AreRecordsOf rs es) same (record { makes = subst (Makes bodies) (sym (as_recorded bodies es makes_it)) makes_it; free = none })
+-- A list that was read from the records of a store: no release of it is current.
+pub made_again : (bodies records : List (List ℕ)) (es : Releases) → bodies ≡ records → Makes bodies es → AreRecordsOf records es
+made_again bodies records es same makes_it =
+    let still = as_recorded bodies es makes_it in
+    subst (λ rs. AreRecordsOf rs es) same (record { makes = subst (Makes bodies) (sym still) makes_it; alone = λ one. still })
 
 -- a handler of such a list
 pub sound_so : {D : Type 0} (seen : D → List ℕ) (may_leave : D → List ℕ → Type 0) (of : Store D) (es : Releases) → store.IsSettled seen may_leave of → AreRecordsOf (store.records_in of) es
-    → ((c : List ℕ) → may_leave of.disk c → IsStarted es c) → IsSound seen may_leave (record { store = of; list = es; dead = false })
-sound_so seen may_leave of es settled makes_it started = record { ready = λ alive. record { store = settled; list = makes_it }; started = λ alive. started }
-
--- bytes with the records of a list stand for it
-pub image_so : (c : List ℕ) (bodies records : List (List ℕ)) (es : Releases) → bodies ≡ records → Makes bodies es → has_one_shot es ≡ false → records_of c ≡ Ok records → IsImageOf c es × (booted es ≡ es)
-image_so c bodies records es same makes_it none read =
-    (record { bodies = records; store = read; list = made_again bodies records es same makes_it none }, boots_as_recorded es none ∙ as_recorded bodies es makes_it)
+    → has_one_shot es ≡ false → ((c : List ℕ) → may_leave of.disk c → IsStarted es c) → IsSound seen may_leave (record { store = of; list = es; dead = false })
+sound_so seen may_leave of es settled makes_it none started = record {
+  ready = λ alive. record { store = settled; list = makes_it; room = no_boot_space (store_extent of) es none };
+  started = λ alive. started;
+  free = λ alive. none;
+}
 
 -- the records that were read are those of the bytes
 pub read_so : (c : List ℕ) (bodies records : List (List ℕ)) → bodies ≡ records → records_of c ≡ Ok records → records_of c ≡ Ok bodies

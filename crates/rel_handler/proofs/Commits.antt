@@ -9,10 +9,11 @@ use Rattle.rel_disk.proofs.Moments.{started, joined, weakened, both}
 use Rattle.rel_files.specs.File.{HasVersions}
 use Rattle.rel_files.specs.Release.{Release}
 use Rattle.library.specs.Library.{IsLibrary}
-use Rattle.rel_list.specs.Releases.{Bundle, Entry, Releases, permanent}
+use Rattle.rel_list.specs.Releases.{Bundle, Entry, Releases, has_one_shot, permanent}
 use Rattle.rel_list.specs.Event.{Event, recorded, step, list_after}
 use Rattle.rel_list.specs.Event.Event.{unpacked}
 use Rattle.rel_list.proofs.LibraryLaws.{libraries-recorded}
+use Rattle.rel_list.proofs.OneShotLaws.{one_shots_come_from_restarts}
 use Rattle.rel_records.specs.Lists.{HaveVersions, HaveLibraries}
 use Rattle.rel_records.specs.Reading.{Spells}
 use Rattle.rel_records.specs.Startable.{AreStartable}
@@ -32,7 +33,7 @@ use Rattle.rel_store.specs.declared.error.StoreError.TheVariants as fault
 use Rattle.rel_store.specs.declared.store.Store.{Store}
 use Rattle.rel_handler.specs.Commits.{Commits, IsAppended, IsRecordFor, Keeps, HasOldStartOr}
 use Rattle.rel_handler.specs.Events.{Events, uncertain, IsStoredAs}
-use Rattle.rel_handler.specs.Image.{AreRecordsOf, extent_behind, HasSpace, IsImageAt, IsStarted, start_slot}
+use Rattle.rel_handler.specs.Image.{AreRecordsOf, extent_behind, HasBootSpace, HasSpace, IsImageAt, IsStarted, start_slot}
 use Rattle.rel_handler.specs.Refusals.{CommandRefused, HasNoRoom, IsAllowed}
 use Rattle.rel_handler.specs.State.{disk_in, extent_in, list_in, is_dead, start_in, store_extent, HasStarted, IsReady, IsSound, IsSame}
 use Rattle.node_command.specs.Taking.{commanded}
@@ -47,7 +48,7 @@ use Rattle.node_command.specs.declared.error.HandlerError.{HandlerError}
 use Rattle.node_command.specs.declared.error.HandlerError.TheVariants.{Dead, Device, Exists, Full, NoMemory}
 use Rattle.rel_handler.specs.declared.handler.Handler.{Handler}
 use Rattle.node_command.proofs.CommandLemmas.{commanded_step, small_and_few}
-use Rattle.rel_handler.proofs.Images.{each_image, extent_so, same_extent, settled_so, stored_before, stored_after, started_by, started_by_text, while_committing, with_record}
+use Rattle.rel_handler.proofs.Images.{each_image, extent_so, image_at, no_boot_space, none_beside, same_extent, settled_so, stored_before, stored_after, started_by, started_by_text, while_committing, with_record}
 
 -- what holds of a call that didn't fail
 pub opened : {T E : Type 0} (r : Result T E) (P : Type 0) → false ≡ is_err r → OnOk r P → P
@@ -163,6 +164,10 @@ module _ {D : Type 0} (v : Ghosts D) (h mid : Handler D) (same : IsSame h mid) (
   refused_behind Exists r = absurd r
   refused_behind why r = ((sym same.dead ∙ r.0.0, ap (commanded e) (sym same.list) ∙ r.0.1), same_both h mid new same r.1)
 
+-- No release is a one-shot behind an event that makes none one.
+pub none_behind : {D : Type 0} (v : Ghosts D) (e : Event) (size : ℕ) (h mid : Handler D) → makes_one_shot e ≡ false → IsAppended v e size h mid → has_one_shot (list_in mid) ≡ false
+none_behind v e size h mid other appended = one_shots_come_from_restarts e (list_in h) (list_in mid) other (commanded_step e (list_in h) (list_in mid) appended.accepted)
+
 -- an event that the list allows, and that brings no release, is taken
 pub taken_so : (e : Event) (es : Releases) (r : Result (Unit {0}) ListError) → true ≡ is_err r → IfErr r (IsRefusedWith e es) → refusal e es ≡ None → brings_release e ≡ false → ⊥
 taken_so e es (Ok x) err refused none brings = cc err
@@ -174,6 +179,7 @@ pub dead_is_sound : {D : Type 0} (v : Ghosts D) (h : Handler D) → is_dead h �
 dead_is_sound v h dead = record {
   ready = λ alive. absurd (true≢false (sym dead ∙ alive));
   started = λ alive. absurd (true≢false (sym dead ∙ alive));
+  free = λ alive. absurd (true≢false (sym dead ∙ alive));
 }
 
 -- a handler that is dead behind what was read of its disk
@@ -187,14 +193,14 @@ lost_commits v e size h mid c = record { sound = dead_is_sound v (lost mid) refl
 abbrev pub revived : {D : Type 0} → Handler D → Handler D
 revived h = record { store = h.store; list = h.list; dead = false }
 
--- It is sound where it is ready and has the start record of its list.
-pub revived_is_sound : {D : Type 0} (v : Ghosts D) (h : Handler D) → IsReady v.seen v.may_leave h → HasStarted v.may_leave h → IsSound v.seen v.may_leave (revived h)
-revived_is_sound v h ready started = record { ready = λ alive. record { store = ready.store; list = ready.list }; started = λ alive. started }
+-- It is sound where it is ready, has the start record of its list, and no release of that is a one-shot.
+pub revived_is_sound : {D : Type 0} (v : Ghosts D) (h : Handler D) → IsReady v.seen v.may_leave h → HasStarted v.may_leave h → has_one_shot (list_in h) ≡ false → IsSound v.seen v.may_leave (revived h)
+revived_is_sound v h ready started free = record { ready = λ alive. record { store = ready.store; list = ready.list; room = ready.room }; started = λ alive. started; free = λ alive. free }
 
 module _ {D : Type 0} (v : Ghosts D) (h : Handler D) (ready : IsReady v.seen v.may_leave h) where
   -- each image of its disk stands for its list
   pub image_now : (c : List ℕ) → v.may_leave (disk_in h) c → IsImageAt c (list_in h) (extent_in h)
-  image_now c now = each_image v.seen v.may_leave h.store (list_in h) ready.store ready.list c now
+  image_now c now = each_image v.seen v.may_leave h.store (list_in h) ready.store ready.list ready.room c now
 
   -- The start record is being written, and the records stay.
   module _ (new : Store D) (words : List ℕ) (leaves : LeavesOnly v.moment v.left_since (disk_in h) (store.disk_in new) (StandsWithEither (store.records_in h.store) (start_in v.seen h) (slot_with words)))
@@ -211,12 +217,9 @@ module _ {D : Type 0} (v : Ghosts D) (h : Handler D) (ready : IsReady v.seen v.m
     starting =
         weakened v.moment v.left_since (disk_in h) (store.disk_in new) _ (HasOldStartOr v.seen h (λ c. start_slot c ≡ slot_with words))
         (λ c either. (
-          record {
-            image_of = record { bodies = store.records_in h.store; store = records_stay c either.0; list = ready.list };
-            reaches =
-                extent_so c (store.records_in h.store) (base_of (v.seen (disk_in h))) (records_stay c either.0) (stores.base_kept_by_start v.moment v.left_since v.seen v.may_leave h.store ready.store c either.1)
-                ∙ settled_so v.seen v.may_leave h.store ready.store;
-          },
+          image_at c (store.records_in h.store) (list_in h) (extent_in h) (records_stay c either.0) ready.list ready.room
+              (extent_so c (store.records_in h.store) (base_of (v.seen (disk_in h))) (records_stay c either.0) (stores.base_kept_by_start v.moment v.left_since v.seen v.may_leave h.store ready.store c either.1)
+              ∙ settled_so v.seen v.may_leave h.store ready.store),
           either_slot c either.0,
         ))
         (both v.moment v.left_since (disk_in h) (store.disk_in new) _ _ leaves kept)
@@ -227,12 +230,16 @@ module _ {D : Type 0} (v : Ghosts D) (h : Handler D) (ready : IsReady v.seen v.m
         record { dead = refl; list = refl; extent = same_extent (store_extent new) (extent_in h) base end (ap (λ bodies. length bodies) records); any_moment = starting; counted = counted }
 
   -- It is there, and the handler is ready.
-  module _ (new : Store D) (settled : store.IsSettled v.seen v.may_leave new) (records : store.records_in new ≡ store.records_in h.store) where
+  module _ (new : Store D) (settled : store.IsSettled v.seen v.may_leave new) (records : store.records_in new ≡ store.records_in h.store) (base : store.base_in new ≡ store.base_in h.store) (end : store.end_in new ≡ store.end_in h.store) where
     pub ready_still : IsReady v.seen v.may_leave (record { store = new; list = h.list; dead = true })
-    ready_still = record { store = settled; list = subst (λ bodies. AreRecordsOf bodies h.list) (sym records) ready.list }
+    ready_still = record {
+      store = settled;
+      list = subst (λ bodies. AreRecordsOf bodies h.list) (sym records) ready.list;
+      room = subst (λ x. HasBootSpace x h.list) (sym (same_extent (store_extent new) (extent_in h) base end (ap (λ bodies. length bodies) records))) ready.room;
+    }
 
     pub images_still : (words : List ℕ) → store.text_in v.seen new ≡ slot_with words → (c : List ℕ) → v.may_leave (store.disk_in new) c → IsImageAt c h.list (store_extent new) × (start_slot c ≡ slot_with words)
-    images_still words written c now = (each_image v.seen v.may_leave new h.list settled ready_still.list c now, ap (λ l. start_slot l) (settled.durable c now) ∙ written)
+    images_still words written c now = (each_image v.seen v.may_leave new h.list settled ready_still.list ready_still.room c now, ap (λ l. start_slot l) (settled.durable c now) ∙ written)
 
 module _ {D : Type 0} (v : Ghosts D) (h : Handler D) (s : IsSound v.seen v.may_leave h) where
   module _ (only_now : (c : List ℕ) → v.left_since (disk_in h) (v.moment (disk_in h)) c → v.may_leave (disk_in h) c) (e : Event) (size : ℕ) where
@@ -256,8 +263,10 @@ module _ {D : Type 0} (v : Ghosts D) (h : Handler D) (s : IsSound v.seen v.may_l
           ready = λ alive. record {
             store = sound.settled (same.failed ∙ (s.ready alive).store.works);
             list = subst (λ bodies. AreRecordsOf bodies h.list) (sym same.records) (s.ready alive).list;
+            room = subst (λ x. HasBootSpace x h.list) (sym (extent_kept h.store reserved same)) (s.ready alive).room;
           };
           started = λ alive. subst (λ d. (c : List ℕ) → v.may_leave d c → IsStarted (list_in h) c) (sym same.disk) (s.started alive);
+          free = s.free;
         };
         any_moment = resting (store.disk_in reserved) same.disk;
         counted = subst (λ d. v.failures (disk_in h) ≤ v.failures d) (sym same.disk) (omega arith);
@@ -283,25 +292,30 @@ module _ {D : Type 0} (v : Ghosts D) (h : Handler D) (s : IsSound v.seen v.may_l
       committing events after =
           subst (λ d. LeavesOnly v.moment v.left_since d (store.disk_in new) (IsStoredAs (uncertain events (extent_in h) e (length body)))) same.disk
           (weakened v.moment v.left_since (store.disk_in reserved) (store.disk_in new) _ (IsStoredAs (uncertain events (extent_in h) e (length body)))
-          (λ c either. while_committing e (list_in h) next (store.records_in h.store) body text events (s.ready alive).list told other is after (base_of (v.seen (disk_in h))) (extent_in h) (settled_so v.seen v.may_leave h.store (s.ready alive).store)
+          (λ c either. while_committing e (list_in h) next (store.records_in h.store) body text events (s.ready alive).list told other is after (base_of (v.seen (disk_in h))) (extent_in h) (settled_so v.seen v.may_leave h.store (s.ready alive).store) (s.ready alive).room
           (v.seen (disk_in h)) (sym slot) (s.started alive (v.seen (disk_in h)) (reads (disk_in h))) c
           (subst (λ bodies. StandsEither bodies body text c) same.records either.0, base_there c (subst (λ d. LeavesOthers (IsInRecord (store.gate_in reserved) (length body)) (v.seen d) c) same.disk either.1)))
           (both v.moment v.left_since (store.disk_in reserved) (store.disk_in new) _ _ leaves kept))
 
       pub commits : v.failures (store.disk_in reserved) ≤ v.failures (store.disk_in new) → Commits v e (length body) h (record { store = new; list = next; dead = true })
       commits counted = record {
-        sound = record { ready = λ living. cc living; started = λ living. cc living };
+        sound = record { ready = λ living. cc living; started = λ living. cc living; free = λ living. cc living };
         any_moment = λ living. committing;
         counted = subst (λ d. v.failures d ≤ v.failures (store.disk_in new)) same.disk counted;
       }
 
     -- It is there.
     module _ (new : Store D) (settled : store.IsSettled v.seen v.may_leave new) (added : store.records_in new ≡ store.records_in reserved ++ body ∷ []) where
+      none_next : has_one_shot next ≡ false
+      none_next = one_shots_come_from_restarts e (list_in h) next other is
+
       pub ready_next : IsReady v.seen v.may_leave (record { store = new; list = next; dead = true })
       ready_next = record {
         store = settled;
         list =
-            subst (λ bodies. AreRecordsOf bodies next) (sym (added ∙ ap (λ bodies. bodies ++ body ∷ []) same.records)) (with_record e (list_in h) next (store.records_in h.store) body (s.ready alive).list told other is);
+            subst (λ bodies. AreRecordsOf bodies next) (sym (added ∙ ap (λ bodies. bodies ++ body ∷ []) same.records))
+            (with_record e (list_in h) next (store.records_in h.store) body (s.ready alive).list told (none_beside next none_next) is);
+        room = no_boot_space (store_extent new) next none_next;
       }
 
       pub is_appended : commanded e (list_in h) ≡ Ok next → HasSpace (extent_in h) (length body) → store.base_in new ≡ store.base_in reserved → store.end_in new ≡ store.end_in reserved + (5 + length body)
@@ -309,7 +323,7 @@ module _ {D : Type 0} (v : Ghosts D) (h : Handler D) (s : IsSound v.seen v.may_l
       is_appended accepted fits base end = record {
         worked = alive;
         accepted = accepted;
-        acknowledged = λ c now. each_image v.seen v.may_leave new next settled ready_next.list c now;
+        acknowledged = λ c now. each_image v.seen v.may_leave new next settled ready_next.list ready_next.room c now;
         fits = fits;
         reaches =
             same_extent (store_extent new) (extent_behind (extent_in h) (length body)) (base ∙ same.base) (end ∙ ap (λ n. n + (5 + length body)) same.end)

@@ -6,8 +6,8 @@ use Rattle.rel_disk.specs.declared.disk.Disk.{Ghosts}
 use Rattle.rel_disk.specs.Moments.{LeavesOnly, HasFailed}
 use Rattle.rel_disk.proofs.Moments.{started, joined, weakened}
 use Rattle.rel_list.specs.Event.{Event, recorded, list_after}
-use Rattle.rel_list.specs.Laws.{leaves_permanent}
-use Rattle.rel_list.specs.Releases.{Releases, permanent}
+use Rattle.rel_list.specs.Laws.{leaves_permanent, makes_one_shot}
+use Rattle.rel_list.specs.Releases.{Releases, has_one_shot, permanent}
 use Rattle.rel_records.specs.Image.{image_of}
 use Rattle.rel_records.specs.Lists.{Makes}
 use Rattle.rel_store.specs.Compaction.{EndsEither, FitsImage, image_end, image_place}
@@ -27,8 +27,8 @@ use Rattle.rel_handler.specs.Image.{AreRecordsOf, Extent, extent_behind, extent_
 use Rattle.rel_handler.specs.Refusals.{CommandRefused, told_compaction}
 use Rattle.rel_handler.specs.State.{disk_in, extent_in, list_in, is_dead, start_in, store_extent, HasStarted, IsReady, IsSound}
 use Rattle.rel_handler.specs.declared.handler.Handler.{Handler}
-use Rattle.rel_handler.proofs.Commits.{dead_is_sound, extent_kept, failed_behind, image_now, revived, revived_is_sound, start_is_right}
-use Rattle.rel_handler.proofs.Images.{extent_by_end, extent_with_records, same_extent, settled_so, started_by, stored_after}
+use Rattle.rel_handler.proofs.Commits.{dead_is_sound, extent_kept, failed_behind, image_now, none_behind, revived, revived_is_sound, start_is_right}
+use Rattle.rel_handler.proofs.Images.{extent_by_end, extent_with_records, no_boot_space, same_extent, settled_so, started_by, stored_after}
 
 -- a short store stays as it is
 pub short_stays : (x : Extent) (es : Releases) → is_long x ≡ false → compacted x es ≡ x
@@ -52,7 +52,7 @@ fits_not x n is (short, ends) = both_within n 16777216 (image_end x.base x.end n
 one_record : (place : ℕ) (body : List ℕ) → place + (6 + length body) ≡ (place + space (body ∷ [])) + 1
 one_record place body = omega arith
 
-module _ {D : Type 0} (v : Ghosts D) (h : Handler D) (ready : IsReady v.seen v.may_leave h) where
+module _ {D : Type 0} (v : Ghosts D) (h : Handler D) (ready : IsReady v.seen v.may_leave h) (free : has_one_shot (list_in h) ≡ false) where
   -- each image of its disk is that of the store that is there
   old_now : (c : List ℕ) → v.may_leave (disk_in h) c → IsOldOrCompacted v.seen h c
   old_now c now =
@@ -76,6 +76,7 @@ module _ {D : Type 0} (v : Ghosts D) (h : Handler D) (ready : IsReady v.seen v.m
       ready = record {
         store = sound.settled (same.failed ∙ ready.store.works);
         list = subst (λ bodies. AreRecordsOf bodies h.list) (sym same.records) ready.list;
+        room = no_boot_space (store_extent kept) (list_in h) free;
       };
       start = ap (λ d. start_slot (v.seen d)) same.disk;
       reaches = subst (λ x. MayReach (extent_in h) (list_in h) x) (sym (extent_kept h.store kept same)) reaches;
@@ -84,11 +85,11 @@ module _ {D : Type 0} (v : Ghosts D) (h : Handler D) (ready : IsReady v.seen v.m
   -- A long store is compacted to an image of its list.
   module _ (image : List ℕ) (long : is_long (extent_in h) ≡ true) (is : image_of (recorded (list_in h)) ≡ Some image) (makes : Makes (image ∷ []) (recorded (list_in h))) (new : Store D) where
     by_the_image : AreRecordsOf (image ∷ []) (list_in h)
-    by_the_image = record { makes = makes; free = ready.list.free }
+    by_the_image = record { makes = makes; alone = ready.list.alone }
 
     with_records : (c : List ℕ) → Stands (store.records_in h.store) (start_in v.seen h) c × (end_of c ≡ store.end_in h.store) → IsOldOrCompacted v.seen h c
     with_records c (stands, ends) = (
-      record { bodies = store.records_in h.store; store = stands.records; list = ready.list },
+      record { bodies = store.records_in h.store; store = stands.records; list = ready.list; room = no_boot_space (extent_of c) (list_in h) free },
       inl (
           extent_by_end c (store.records_in h.store) (base_of (v.seen (disk_in h))) (store.end_in h.store) stands.records ends (ap (λ g. g + 1) ready.store.end)
           ∙ settled_so v.seen v.may_leave h.store ready.store
@@ -101,7 +102,7 @@ module _ {D : Type 0} (v : Ghosts D) (h : Handler D) (ready : IsReady v.seen v.m
     with_the_image fits c (stands, ends) =
         let place = image_place (store.base_in h.store) (store.end_in h.store) (length image) in
         let far : extent_with_records place (image ∷ []) ≡ extent_with (extent_in h) (length image) = same_extent (extent_with_records place (image ∷ [])) (extent_with (extent_in h) (length image)) refl (sym (one_record place image)) refl in (
-          record { bodies = image ∷ []; store = stands.records; list = by_the_image },
+          record { bodies = image ∷ []; store = stands.records; list = by_the_image; room = no_boot_space (extent_of c) (list_in h) free },
           inr (
               extent_by_end c (image ∷ []) place (image_end (store.base_in h.store) (store.end_in h.store) (length image)) stands.records ends (one_record place image)
               ∙ far ∙ sym (image_reaches (extent_in h) (list_in h) image long is fits)
@@ -157,7 +158,7 @@ module _ {D : Type 0} (v : Ghosts D) (h : Handler D) (ready : IsReady v.seen v.m
         → OnOk r (store.records_in new ≡ image ∷ []) → OnOk r (store.text_in v.seen new ≡ start_in v.seen h) → OnOk r (store.base_in new ≡ image_place (store.base_in h.store) (store.end_in h.store) (length image))
         → OnOk r (store.end_in new ≡ image_end (store.base_in h.store) (store.end_in h.store) (length image)) → OnOk (told_compaction r) (IsCompacted v h (record { store = new; list = h.list; dead = h.dead }))
     done_so (Ok u) full refused sound settled records start base end = record {
-      ready = record { store = settled; list = subst (λ bodies. AreRecordsOf bodies h.list) (sym records) by_the_image };
+      ready = record { store = settled; list = subst (λ bodies. AreRecordsOf bodies h.list) (sym records) by_the_image; room = no_boot_space (store_extent new) (list_in h) free };
       start = start;
       reaches = inl (reaches_image full records base end);
     }
@@ -186,17 +187,18 @@ pub refused_then : {T : Type 0} (r : Result T HandlerError) (failed : Type 0) (Q
 refused_then (Ok x) failed Q so device is = tt
 refused_then (Err e) failed Q so device is = so e device is
 
--- A command has committed its event, and the start record is that of its list.
+-- A command has committed its event, which makes no release a one-shot, and the start record is that of its list.
 pub record HasCommitted {D : Type 0} (v : Ghosts D) (e : Event) (size : ℕ) (h mid : Handler D) : Type 0 where
   pub commits : Commits v e size h mid
   pub appended : IsAppended v e size h mid
+  pub other : makes_one_shot e ≡ false
   pub right : HasStarted v.may_leave mid
 
 -- It has where the event leaves the permanent release.
 pub committed_change : {D : Type 0} (v : Ghosts D) (h : Handler D) → IsSound v.seen v.may_leave h → is_dead h ≡ false → (e : Event) (size : ℕ) (mid : Handler D) → Commits v e size h mid → IsAppended v e size h mid
-    → IsReady v.seen v.may_leave mid → start_in v.seen mid ≡ start_in v.seen h → ((d : D) → v.may_leave d (v.seen d)) → leaves_permanent e ≡ true → HasCommitted v e size h mid
-committed_change v h s alive e size mid commits appended ready stays reads leaves =
-    record { commits = commits; appended = appended; right = start_is_right v h s alive e size mid commits appended ready stays reads leaves }
+    → IsReady v.seen v.may_leave mid → start_in v.seen mid ≡ start_in v.seen h → ((d : D) → v.may_leave d (v.seen d)) → makes_one_shot e ≡ false → leaves_permanent e ≡ true → HasCommitted v e size h mid
+committed_change v h s alive e size mid commits appended ready stays reads other leaves =
+    record { commits = commits; appended = appended; other = other; right = start_is_right v h s alive e size mid commits appended ready stays reads leaves }
 
 -- Then it has the store compacted.
 module _ {D : Type 0} (v : Ghosts D) (h : Handler D) (e : Event) (size : ℕ) (mid : Handler D) (committed : HasCommitted v e size h mid) (reads : (d : D) → v.may_leave d (v.seen d)) (new : Handler D) (compacts : Compacts v mid new) where
@@ -227,8 +229,11 @@ module _ {D : Type 0} (v : Ghosts D) (h : Handler D) (e : Event) (size : ℕ) (m
     right_still c now =
         started_by (list_in mid) (list_in new) (v.seen (disk_in mid)) c (ap permanent compacts.list) (ap (λ l. start_slot l) (done.ready.store.durable c now) ∙ done.start) (committed.right (v.seen (disk_in mid)) (reads (disk_in mid)))
 
+    none_still : has_one_shot (list_in new) ≡ false
+    none_still = ap has_one_shot compacts.list ∙ none_behind v e size h mid committed.other committed.appended
+
     pub commits_alive : Commits v e size h (revived new)
-    commits_alive = record { sound = revived_is_sound v new done.ready right_still; any_moment = commits_compacting.any_moment; counted = commits_compacting.counted }
+    commits_alive = record { sound = revived_is_sound v new done.ready right_still none_still; any_moment = commits_compacting.any_moment; counted = commits_compacting.counted }
 
     pub is_done : IsDone v e size h new
     is_done = record {

@@ -1,15 +1,15 @@
 -- Which lists the images of a disk stand for.
-use Rattle.std.proofs.Common.{◌≡◌, ◌⊎◌, inl, inr, ⊎_elim, ℕ, ◌+◌, length, length-append, arith, Bool, true, false, List, [], ◌∷◌, ◌++◌, Some, Ok, refl, sym, ap, ◌∙◌, subst}
+use Rattle.std.proofs.Common.{◌≡◌, ◌⊎◌, inl, inr, ⊎_elim, ℕ, ◌+◌, length, length-append, arith, Bool, true, false, List, [], ◌∷◌, ◌++◌, Some, Ok, refl, sym, ap, ◌∙◌, subst, true≢false}
 use Rattle.std.specs.Prelude.{is_some, if◌then◌else◌}
 use Rattle.std.proofs.lemmas.List.{append-nil}
 use Rattle.rel_files.specs.File.{HasVersions}
 use Rattle.rel_files.specs.Release.{Release}
 use Rattle.rel_list.specs.declared.status.Status.TheVariants.{Permanent}
-use Rattle.rel_list.specs.Releases.{Bundle, Releases, permanent}
+use Rattle.rel_list.specs.Releases.{Bundle, Releases, has_one_shot, permanent}
 use Rattle.rel_list.specs.Event.{Event, entry, booted, recorded, step, list_after}
 use Rattle.rel_list.specs.Event.Event.{made, boot}
 use Rattle.rel_list.specs.Laws.{makes_one_shot}
-use Rattle.rel_list.proofs.OneShotLaws.{boots_as_recorded, one_shots_come_from_restarts}
+use Rattle.rel_list.proofs.OneShotLaws.{one_shots_come_from_restarts}
 use Rattle.rel_records.specs.Lists.{assigned, MakesFrom, Makes}
 use Rattle.rel_records.specs.Reading.{Spells}
 use Rattle.rel_records.specs.Writing.{record_of, IsWithinLimits}
@@ -27,7 +27,7 @@ use Rattle.rel_handler.specs.Commits.{IsRecordFor}
 use Rattle.rel_handler.specs.Events.{Known, doubted, IsPrefix, IsOfPrefix, IsNoneOrOfPrefix, compacted_or_same, uncertain, IsStoredAs}
 use Rattle.rel_handler.specs.Start.{started, start_text}
 use Rattle.rel_handler.specs.Compaction.{compacted}
-use Rattle.rel_handler.specs.Image.{AreRecordsOf, Extent, extent_behind, extent_of, IsImageOf, IsImageAt, IsStarted, start_slot, holds_a_store}
+use Rattle.rel_handler.specs.Image.{AreRecordsOf, Extent, extent_behind, extent_of, HasBootSpace, IsImageOf, IsImageAt, IsStarted, start_slot, holds_a_store}
 use Rattle.rel_handler.specs.State.{store_extent}
 use Rattle.start_record.specs.Text.{Versions, AreVersions, SpellsStart, start_text as text_of_start}
 use Rattle.start_record.proofs.StartMoments.{reads_back}
@@ -70,13 +70,24 @@ settled_so seen may_leave store s =
 pub settled_extent : {D : Type 0} (seen : D → List ℕ) (may_leave : D → List ℕ → Type 0) (store : Store D) → IsSettled seen may_leave store → extent_of (seen store.disk) ≡ store_extent store
 settled_extent seen may_leave store s = extent_so (seen store.disk) (records_in store) (base_of (seen store.disk)) s.records refl ∙ settled_so seen may_leave store s
 
+-- where no release is a one-shot, the next boot needs no room
+pub no_boot_space : (x : Extent) (es : Releases) → has_one_shot es ≡ false → HasBootSpace x es
+no_boot_space x es none one = absurd (true≢false (sym one ∙ none))
+
+-- and no release stands beside one
+pub none_beside : (es : Releases) → has_one_shot es ≡ false → has_one_shot es ≡ true → recorded es ≡ es
+none_beside es none one = absurd (true≢false (sym one ∙ none))
+
+-- bytes with the records of a list, in a store that reaches so far
+pub image_at : (c : List ℕ) (bodies : List (List ℕ)) (es : Releases) (x : Extent) → records_of c ≡ Ok bodies → AreRecordsOf bodies es → HasBootSpace x es → extent_of c ≡ x → IsImageAt c es x
+image_at c bodies es x read are room reaches =
+    record { image_of = record { bodies = bodies; store = read; list = are; room = subst (λ y. HasBootSpace y es) (sym reaches) room }; reaches = reaches }
+
 -- each image of a settled store's disk stands for the list that its records make
-pub each_image : {D : Type 0} (seen : D → List ℕ) (may_leave : D → List ℕ → Type 0) (store : Store D) (es : Releases) → IsSettled seen may_leave store → AreRecordsOf (records_in store) es
+pub each_image : {D : Type 0} (seen : D → List ℕ) (may_leave : D → List ℕ → Type 0) (store : Store D) (es : Releases) → IsSettled seen may_leave store → AreRecordsOf (records_in store) es → HasBootSpace (store_extent store) es
     → (c : List ℕ) → may_leave store.disk c → IsImageAt c es (store_extent store)
-each_image seen may_leave store es s makes_it c now = record {
-  image_of = record { bodies = records_in store; store = ap records_of (s.durable c now) ∙ s.records; list = makes_it };
-  reaches = ap (λ d. extent_of d) (s.durable c now) ∙ settled_extent seen may_leave store s;
-}
+each_image seen may_leave store es s makes_it room c now =
+    image_at c (records_in store) es (store_extent store) (ap records_of (s.durable c now) ∙ s.records) makes_it room (ap (λ d. extent_of d) (s.durable c now) ∙ settled_extent seen may_leave store s)
 
 -- the acknowledged events are a prefix that lacks the one in doubt
 pub prefix_without : (events : List Event) (e : Event) → IsPrefix (doubted events e) events
@@ -110,7 +121,7 @@ stored_after events x e size es next c after is image reaches started = record {
   list = next;
   after = all;
   image_of = image;
-  start = ⊎_elim (λ old. inr (events, e, refl, (es, after, old))) (λ new. inl (next, all, new)) started;
+  start = ⊎_elim (λ old. inr (events, e, [], refl, tt, (es, after, old))) (λ new. inl (next, all, new)) started;
 }
   where
     all : list_after (events ++ e ∷ []) ≡ Some next
@@ -127,35 +138,51 @@ as_after events e es end c after next image =
     record { events = events ++ e ∷ []; prefix = prefix_with events e end all; list = end; after = all; image_of = image }
 
 -- With the record of an event the store has the records of the list behind it.
-pub with_record : (e : Event) (es next : Releases) (bodies : List (List ℕ)) (body : List ℕ) → AreRecordsOf bodies es → IsRecordFor body e es → makes_one_shot e ≡ false → step e es ≡ Some next
+pub with_record : (e : Event) (es next : Releases) (bodies : List (List ℕ)) (body : List ℕ) → AreRecordsOf bodies es → IsRecordFor body e es → (has_one_shot next ≡ true → recorded next ≡ next) → step e es ≡ Some next
     → AreRecordsOf (bodies ++ body ∷ []) next
-with_record e es next bodies body are told other is =
+with_record e es next bodies body are told alone is =
     let behind : assigned (record_of e es) (recorded es) ≡ Some (recorded next) = told.tells next is (sym (one-recorded es) ∙ are.makes.1) in
     record {
       makes = (makes-push [] bodies (recorded es) body (record_of e es) (recorded next) are.makes.0 told.spells behind, one_behind (record_of e es) (recorded es) (recorded next) behind);
-      free = one_shots_come_from_restarts e es next other is;
+      alone = alone;
     }
 
--- The record of an event is being appended: the store makes the list from before it or the one behind it.
+-- A record is being appended: the store has the records of the list from before it, or those of the one behind it.
+pub either_image : (es next : Releases) (bodies : List (List ℕ)) (body text : List ℕ) → AreRecordsOf bodies es → AreRecordsOf (bodies ++ body ∷ []) next
+    → (base : ℕ) (x : Extent) → extent_with_records base bodies ≡ x → HasBootSpace x es → HasBootSpace (extent_behind x (length body)) next
+    → (c : List ℕ) → StandsEither bodies body text c × (base_of c ≡ base) → (IsImageAt c es x ⊎ IsImageAt c next (extent_behind x (length body))) × (start_slot c ≡ text)
+either_image es next bodies body text are behind base x at room room_then c (inl stands, kept) =
+    (inl (image_at c bodies es x stands.records are room (extent_so c bodies base stands.records kept ∙ at)), stands.start)
+either_image es next bodies body text are behind base x at room room_then c (inr stands, kept) = (
+  inr (
+      image_at c (bodies ++ body ∷ []) next (extent_behind x (length body)) stands.records behind room_then
+      (extent_so c (bodies ++ body ∷ []) base stands.records kept ∙ extent-push base bodies body ∙ ap (λ y. extent_behind y (length body)) at)
+      ),
+  stands.start,
+)
+
+-- So it is while a command appends the record of its event, where that makes no release a one-shot.
 pub while_committing : (e : Event) (es next : Releases) (bodies : List (List ℕ)) (body text : List ℕ) (events : List Event)
     → AreRecordsOf bodies es → IsRecordFor body e es → makes_one_shot e ≡ false → step e es ≡ Some next → list_after events ≡ Some es
-    → (base : ℕ) (x : Extent) → extent_with_records base bodies ≡ x → (old : List ℕ) → start_slot old ≡ text → IsStarted es old
+    → (base : ℕ) (x : Extent) → extent_with_records base bodies ≡ x → HasBootSpace x es → (old : List ℕ) → start_slot old ≡ text → IsStarted es old
     → (c : List ℕ) → StandsEither bodies body text c × (base_of c ≡ base) → IsStoredAs (uncertain events x e (length body)) c
-while_committing e es next bodies body text events makes_it told other is after base x at old slot started c (inl stands, kept) =
-    stored_before events x e (length body) es c after (record {
-      image_of = record { bodies = bodies; store = stands.records; list = makes_it };
-      reaches = extent_so c bodies base stands.records kept ∙ at;
-    }) (started_by es es old c refl (stands.start ∙ sym slot) started)
-while_committing e es next bodies body text events makes_it told other is after base x at old slot started c (inr stands, kept) =
-    stored_after events x e (length body) es next c after is (record { bodies = bodies ++ body ∷ []; store = stands.records; list = with_record e es next bodies body makes_it told other is })
-    (inl (extent_so c (bodies ++ body ∷ []) base stands.records kept ∙ extent-push base bodies body ∙ ap (λ y. extent_behind y (length body)) at))
-    (inl (started_by es es old c refl (stands.start ∙ sym slot) started))
+while_committing e es next bodies body text events makes_it told other is after base x at room old slot started c either = go (either_image es next bodies body text makes_it behind base x at room (no_boot_space (extent_behind x (length body)) next none) c either)
+  where
+    none : has_one_shot next ≡ false
+    none = one_shots_come_from_restarts e es next other is
+
+    behind : AreRecordsOf (bodies ++ body ∷ []) next
+    behind = with_record e es next bodies body makes_it told (none_beside next none) is
+
+    go : (IsImageAt c es x ⊎ IsImageAt c next (extent_behind x (length body))) × (start_slot c ≡ text) → IsStoredAs (uncertain events x e (length body)) c
+    go (inl image, same) = stored_before events x e (length body) es c after image (started_by es es old c refl (same ∙ sym slot) started)
+    go (inr image, same) = stored_after events x e (length body) es next c after is image.image_of (inl image.reaches) (inl (started_by es es old c refl (same ∙ sym slot) started))
 
 -- the first record is that of its release
 pub first_record : (p : Bundle) (body : List ℕ) → IsWithinLimits (made p) [] → Spells body (record_of (made p) []) → AreRecordsOf (body ∷ []) (entry p Permanent ∷ [])
 first_record p body fits spelled = record {
   makes = ((record_of (made p) [], entry p Permanent ∷ [], spelled, tells (made p) [] (entry p Permanent ∷ []) tt tt refl fits refl, refl), refl);
-  free = refl;
+  alone = none_beside (entry p Permanent ∷ []) refl;
 }
 
 -- A start slot with the text of a release's start is that release's start record.
@@ -174,7 +201,7 @@ unfolding as_after
 while_creating p body start fits versions is spelled c (inl none) = inl none
 while_creating p body start fits versions is spelled c (inr stands) =
     inr (
-      as_after [] (made p) [] (entry p Permanent ∷ []) c refl refl (record { bodies = body ∷ []; store = stands.records; list = first_record p body fits spelled }),
+      as_after [] (made p) [] (entry p Permanent ∷ []) c refl refl (record { bodies = body ∷ []; store = stands.records; list = first_record p body fits spelled; room = no_boot_space (extent_of c) (entry p Permanent ∷ []) refl }),
       inl (entry p Permanent ∷ [], refl, started_new p start c versions is stands.start),
     )
 
@@ -182,11 +209,11 @@ while_creating p body start fits versions is spelled c (inr stands) =
 pub has_a_store : (bytes : List ℕ) (es : Releases) → IsImageOf bytes es → holds_a_store bytes ≡ true
 has_a_store bytes es image = (sound bytes image.bodies image.store).begins
 
--- A disk that stands for a list is booted to it.
-pub booted_image : (c : List ℕ) (bodies : List (List ℕ)) (found es : Releases) → records_of c ≡ Ok bodies → Makes bodies found → IsImageOf c es → found ≡ booted es
-booted_image c bodies found es read makes_it image =
+-- A list that was read from the records of bytes is that for which they stand, as records tell it.
+pub recorded_image : (c : List ℕ) (bodies : List (List ℕ)) (found es : Releases) → records_of c ≡ Ok bodies → Makes bodies found → IsImageOf c es → found ≡ recorded es
+recorded_image c bodies found es read makes_it image =
     let same : bodies ≡ image.bodies = cc (read, image.store) in
-    makes_once [] bodies found (recorded es) makes_it.0 (subst (λ l. MakesFrom [] l (recorded es)) (sym same) image.list.makes.0) ∙ sym (boots_as_recorded es image.list.free)
+    makes_once [] bodies found (recorded es) makes_it.0 (subst (λ l. MakesFrom [] l (recorded es)) (sym same) image.list.makes.0)
 
 pub boots_to : (k : Known) (c : List ℕ) (found : Releases) (of : IsOfPrefix k c) → found ≡ booted of.list → BootsTo k found
 boots_to k c found of is = record {

@@ -113,7 +113,7 @@ with_dead h dead = record { store = h.store; list = h.list; dead = dead }
 
 pub not_run_commits : {D : Type 0} (v : Ghosts D) (e : Event) (size : ℕ) (h mid : Handler D) (dead : Bool) → is_dead mid ≡ false → Commits v e size h mid → Commits v e size h (with_dead mid dead)
 not_run_commits v e size h mid true alive c = lost_commits v e size h mid c
-not_run_commits v e size h mid false alive c = record { sound = revived_is_sound v mid (c.sound.ready alive) (c.sound.started alive); any_moment = c.any_moment; counted = c.counted }
+not_run_commits v e size h mid false alive c = record { sound = revived_is_sound v mid (c.sound.ready alive) (c.sound.started alive) (c.sound.free alive); any_moment = c.any_moment; counted = c.counted }
 
 -- Its event is written behind the script, by the version that was asked for.
 module _ {D : Type 0} (v : Ghosts D) (h mid w : Handler D) (same : IsSame h mid) (text vsn : List ℕ) (is : text ≡ vsn) (size size' : ℕ) (long : size ≡ size') where
@@ -134,4 +134,4 @@ module _ {D : Type 0} (v : Ghosts D) (h mid w : Handler D) (same : IsSame h mid)
   pub written_committed : IsSound v.seen v.may_leave mid → is_dead h ≡ false → ((d : D) → v.may_leave d (v.seen d)) → Commits v (installed text) size mid w → IsAppended v (installed text) size mid w → IsReady v.seen v.may_leave w
       → start_in v.seen w ≡ start_in v.seen mid → HasCommitted v (installed vsn) size' h w
   written_committed sound alive reads c a ready stays =
-      record { commits = written c; appended = is_written a; right = start_is_right v mid sound (same.dead ∙ alive) (installed text) size w c a ready stays reads refl }
+      record { commits = written c; appended = is_written a; other = refl; right = start_is_right v mid sound (same.dead ∙ alive) (installed text) size w c a ready stays reads refl }

@@ -3,7 +3,10 @@ pub mod CommandLemmas
 pub mod Images
 pub mod Boots
 pub mod PermanenceLemmas
+pub mod BootLists
+pub mod OneShotLemmas
 pub mod RepairLemmas
+pub mod BootMoments
 mod BadRecords
 pub mod Commits
 pub mod CompactionLemmas

@@ -1,36 +1,74 @@
--- The two parts of a boot: a node is read from its disk, and its start record is repaired.
-use Rattle.std.specs.Prelude.{◌≡◌, ◌⊎◌, ℕ, ◌≤◌, List}
+-- The two parts of a boot: a node is read from its disk; then a one-shot is taken away, and the start record repaired.
+use Rattle.std.specs.Prelude.{◌≡◌, ◌⊎◌, ℕ, ◌≤◌, true, false, List, length, Option, None, Some, String, string_bytes}
+use Rattle.std.specs.declared.alloc.Global.{Global}
 use Rattle.rel_disk.specs.declared.disk.Disk.{Ghosts}
 use Rattle.rel_disk.specs.Moments.{LeavesOnly, HasFailed}
-use Rattle.rel_list.specs.Event.{booted}
+use Rattle.rel_list.specs.Releases.{Releases, has_one_shot}
+use Rattle.rel_list.specs.Event.{booted, recorded}
+use Rattle.rel_list.specs.Event.Event.{boot}
+use Rattle.rel_records.specs.Lists.{Makes}
 use Rattle.rel_store.specs.Contents.{HasOnlyRead}
-use Rattle.rel_handler.specs.Commits.{HasOldStartOr}
-use Rattle.rel_handler.specs.Image.{extent_of, IsImageOf, IsImageAt, IsStarted}
-use Rattle.rel_handler.specs.State.{disk_in, extent_in, list_in, IsReady}
+use Rattle.rel_store.specs.State as of_store
+use Rattle.rel_handler.specs.Commits.{IsRecordFor}
+use Rattle.rel_handler.specs.Image.{Extent, boot_size, booted_extent, extent_of, HasBootSpace, IsImageAt, IsStarted, start_slot}
+use Rattle.rel_handler.specs.State.{disk_in, extent_in, list_in, start_in, IsReady}
 use Rattle.rel_handler.specs.declared.error.BootError.{BootError}
-use Rattle.rel_handler.specs.declared.error.BootError.TheVariants.{Device, NoMemory}
+use Rattle.rel_handler.specs.declared.error.BootError.TheVariants.{BadRecord, Device, NoMemory}
 use Rattle.rel_handler.specs.declared.handler.Handler.{Handler}
 
--- The handler was read from this disk: the bytes of the disk stand for its list, and so does what a crash leaves.
+-- Its store is settled, and its records make its list, in which no release is current. For the next boot there may be no room.
+pub record IsRead {D : Type 0} (seen : D → List ℕ) (may_leave : D → List ℕ → Type 0) (handler : Handler D) : Type 0 where
+  pub store : of_store.IsSettled seen may_leave handler.store
+  pub makes : Makes (of_store.records_in handler.store) (list_in handler)
+  pub as_recorded : recorded (list_in handler) ≡ list_in handler
+
+-- The handler was read from this disk.
 pub record IsOpened {D : Type 0} (v : Ghosts D) (disk : D) (handler : Handler D) : Type 0 where
-  pub ready : IsReady v.seen v.may_leave handler
+  pub read : IsRead v.seen v.may_leave handler
   pub only_read : HasOnlyRead v.seen v.may_leave v.moment v.left_since disk (disk_in handler)
-  pub image : IsImageOf (v.seen disk) (list_in handler)
-  pub again : booted (list_in handler) ≡ list_in handler
-  pub acknowledged : (c : List ℕ) → v.may_leave (disk_in handler) c → IsImageAt c (list_in handler) (extent_in handler)
-  pub extent : extent_in handler ≡ extent_of (v.seen disk)
 
--- Whatever a repair of the start record answers: a crash at any moment of it leaves what one before it would have left, or
--- the list with the old start record or that of the permanent release.
-pub record Repairs {D : Type 0} (v : Ghosts D) (old new : Handler D) : Type 0 where
-  pub list : list_in new ≡ list_in old
-  pub extent : extent_in new ≡ extent_in old
-  pub any_moment : LeavesOnly v.moment v.left_since (disk_in old) (disk_in new)
-      (λ c. v.may_leave (disk_in old) c ⊎ HasOldStartOr v.seen old (IsStarted (list_in old)) c)
-  pub counted : v.failures (disk_in old) ≤ v.failures (disk_in new)
+-- the body of the record by which a boot takes the one-shot of this list away, if it has one
+abbrev pub IsBootRecord : Releases → Option (String Global) → Type 0
+IsBootRecord es None = has_one_shot es ≡ false
+IsBootRecord es (Some body) =
+    (has_one_shot es ≡ true) × IsRecordFor (string_bytes body) boot es × (length (string_bytes body) ≡ boot_size es)
 
--- Why the start record isn't repaired: memory was refused, and nothing was written; or the device failed.
-abbrev pub RepairRefused : {D : Type 0} → Ghosts D → Handler D → Handler D → BootError → Type 0
-RepairRefused v old new NoMemory = HasOnlyRead v.seen v.may_leave v.moment v.left_since (disk_in old) (disk_in new)
-RepairRefused v old new Device = HasFailed (v.failures (disk_in old)) (v.failures (disk_in new))
-RepairRefused v old new why = ⊥
+-- Why there is no such record: it would not fit behind the last one, or memory was refused.
+abbrev pub RecordRefused : Extent → Releases → BootError → Type 0
+RecordRefused x es (BadRecord i) = (HasBootSpace x es → ⊥) × (i ≡ x.count)
+RecordRefused x es NoMemory = Unit {0}
+RecordRefused x es why = ⊥
+
+-- The handler has the list that a boot makes of this one, which these bytes stand for.
+pub record IsBootOf {D : Type 0} (bytes : List ℕ) (es : Releases) (handler : Handler D) : Type 0 where
+  pub list : list_in handler ≡ booted es
+  pub extent : extent_in handler ≡ booted_extent (extent_of bytes) es
+
+-- These bytes stand for the handler's list as it is behind a boot.
+abbrev pub IsImageBehindBoot : {D : Type 0} → Handler D → List ℕ → Type 0
+IsImageBehindBoot h c = IsImageAt c (booted (list_in h)) (booted_extent (extent_in h) (list_in h))
+
+-- They stand for its list, as it is or as it is behind a boot, and have its start slot.
+abbrev pub IsOldOrTaken : {D : Type 0} → (D → List ℕ) → Handler D → List ℕ → Type 0
+IsOldOrTaken seen h c = (IsImageAt c (list_in h) (extent_in h) ⊎ IsImageBehindBoot h c) × (start_slot c ≡ start_in seen h)
+
+-- So they do, or they stand for its list as it is behind a boot, and have the start record of the permanent release.
+abbrev pub IsOldOrBooted : {D : Type 0} → (D → List ℕ) → Handler D → List ℕ → Type 0
+IsOldOrBooted seen h c = IsOldOrTaken seen h c ⊎ (IsImageBehindBoot h c × IsStarted (list_in h) c)
+
+-- At each moment a crash leaves bytes of which P holds.
+pub record Leaves {D : Type 0} (v : Ghosts D) (P : List ℕ → Type 0) (old new : D) : Type 0 where
+  pub any_moment : LeavesOnly v.moment v.left_since old new P
+  pub counted : v.failures old ≤ v.failures new
+
+-- The handler has the list behind a boot, and its store the records of it.
+pub record IsBooted {D : Type 0} (v : Ghosts D) (old new : Handler D) : Type 0 where
+  pub list : list_in new ≡ booted (list_in old)
+  pub extent : extent_in new ≡ booted_extent (extent_in old) (list_in old)
+  pub ready : IsReady v.seen v.may_leave new
+
+-- Why a boot doesn't come to its end: memory was refused, and nothing was written; or the device failed.
+abbrev pub FinishRefused : {D : Type 0} → Ghosts D → Handler D → Handler D → BootError → Type 0
+FinishRefused v old new NoMemory = HasOnlyRead v.seen v.may_leave v.moment v.left_since (disk_in old) (disk_in new)
+FinishRefused v old new Device = HasFailed (v.failures (disk_in old)) (v.failures (disk_in new))
+FinishRefused v old new why = ⊥

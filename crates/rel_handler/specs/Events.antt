@@ -2,10 +2,11 @@
 use Rattle.std.specs.Prelude.{◌≡◌, ◌⊎◌, ℕ, List, [], ◌∷◌, ◌++◌, is_some, if◌then◌else◌, Option, None, Some, Err}
 use Rattle.rel_list.specs.Releases.{Releases}
 use Rattle.rel_list.specs.Event.{Event, list_after}
+use Rattle.rel_list.specs.Event.Event.{boot}
 use Rattle.rel_store.specs.Records.{records_of}
 use Rattle.rel_store.specs.declared.error.StoreError.TheVariants.{NotAStore}
 use Rattle.rel_handler.specs.Compaction.{compacted}
-use Rattle.rel_handler.specs.Image.{Extent, extent_behind, extent_of, IsImageOf, IsStarted}
+use Rattle.rel_handler.specs.Image.{Extent, booted_extent, extent_behind, extent_of, IsImageOf, IsStarted}
 
 abbrev pub Events : Type 0
 Events = List Event
@@ -52,11 +53,18 @@ pub record IsOfPrefix (k : Known) (image : List ℕ) : Type 0 where
 abbrev pub StartsBehind : Events → List ℕ → Type 0
 StartsBehind events image = (es : Releases) × (list_after events ≡ Some es) × IsStarted es image
 
--- It is, or that of the release that was permanent before the last of them.
+-- each of them is a boot
+abbrev pub AreBoots : Events → Type 0
+AreBoots [] = Unit {0}
+AreBoots (boot ∷ events) = AreBoots events
+AreBoots (e ∷ events) = ⊥
+
+-- It is, or that of the release that was permanent before the last of them, boots aside.
 abbrev pub HasStart : Events → List ℕ → Type 0
 HasStart events image =
     StartsBehind events image
-    ⊎ ((earlier : Events) × (last : Event) × (events ≡ earlier ++ last ∷ []) × StartsBehind earlier image)
+    ⊎ ((earlier : Events) × (last : Event) × (boots : Events)
+    × (events ≡ earlier ++ last ∷ boots) × AreBoots boots × StartsBehind earlier image)
 
 -- They are no store, or stand for such a list, and have a start record of its events.
 abbrev pub IsNoneOrOfPrefix : Known → List ℕ → Type 0
@@ -90,6 +98,17 @@ uncertain events x e size =
       appended = behind;
       compacted = compacted_or_same behind (list_after (events ++ e ∷ []));
     }
+
+-- how far a store reaches behind a boot, where its events lead to a list
+abbrev pub booted_or_same : Extent → Option Releases → Extent
+booted_or_same x None = x
+booted_or_same x (Some es) = booted_extent x es
+
+-- Behind these events, where the store reaches so far, a boot is in doubt. No compaction follows it.
+abbrev pub uncertain_boot : Events → Extent → Stored
+uncertain_boot events x =
+    let behind = booted_or_same x (list_after events) in
+    record { known = doubted events boot; extent = x; appended = behind; compacted = behind }
 
 -- The store has these events and reaches so far: the acknowledged ones, or those with the one in doubt.
 abbrev pub MayHave : Stored → Events → Extent → Type 0

@@ -1,25 +1,15 @@
 -- What a disk stands for, how far its store reaches, and what fits behind it.
-use Rattle.std.specs.Prelude.{◌≡◌, ◌⊎◌, ℕ, ◌+◌, ◌≤◌, Bool, false, List, length, Some, Ok}
+use Rattle.std.specs.Prelude.{◌≡◌, ◌⊎◌, ℕ, ◌+◌, ◌≤◌, Bool, true, List, length, Some, Ok, if◌then◌else◌}
+use Rattle.node_command.specs.Taking.{change_size}
 use Rattle.rel_files.specs.Release.{Release}
 use Rattle.rel_list.specs.Releases.{Releases, has_one_shot, permanent}
-use Rattle.rel_list.specs.Event.{recorded}
+use Rattle.rel_list.specs.Event.{booted, recorded}
+use Rattle.rel_list.specs.Event.Event.{boot}
 use Rattle.rel_store.specs.Layout.{base_of, has_magic, text_of}
 use Rattle.rel_store.specs.Records.{end_of, records_of, records_or_none}
 use Rattle.rel_records.specs.Lists.{Makes}
 use Rattle.rel_handler.specs.Start.{started}
 use Rattle.start_record.specs.Text.{SpellsStart}
-
--- These bodies are the records of a list: they make it as records tell it. No boot starts a one-shot yet, so none of its releases
--- is one.
-pub record AreRecordsOf (bodies : List (List ℕ)) (es : Releases) : Type 0 where
-  pub makes : Makes bodies (recorded es)
-  pub free : has_one_shot es ≡ false
-
--- These bytes stand for the list: they are a whole store with its records.
-pub record IsImageOf (image : List ℕ) (es : Releases) : Type 0 where
-  pub bodies : List (List ℕ)
-  pub store : records_of image ≡ Ok bodies
-  pub list : AreRecordsOf bodies es
 
 -- How far a store reaches: where its first record stands, where it ends, one past its closed gate, and how many records it has.
 pub record Extent : Type 0 where
@@ -31,6 +21,42 @@ pub record Extent : Type 0 where
 abbrev pub extent_of : List ℕ → Extent
 extent_of image =
     record { base = base_of image; end = end_of image; count = length (records_or_none (records_of image)) }
+
+-- how far a store reaches behind one record more, whose body has so many bytes
+abbrev pub extent_behind : Extent → ℕ → Extent
+extent_behind x size = record { base = x.base; end = x.end + (5 + size); count = x.count + 1 }
+
+-- how far one without records reaches
+abbrev pub first_extent : Extent
+first_extent = record { base = 288; end = 289; count = 0 }
+
+-- a record with a body of so many bytes fits into a store that reaches so far
+abbrev pub HasSpace : Extent → ℕ → Type 0
+HasSpace x size = (size ≤ 16777216) × ((extent_behind x size).end ≤ 67108864)
+
+-- how many bytes the body of the record has by which a boot takes the one-shot of this list away
+abbrev pub boot_size : Releases → ℕ
+boot_size es = change_size boot es
+
+-- how far a store that has the records of this list reaches behind a boot
+abbrev pub booted_extent : Extent → Releases → Extent
+booted_extent x es = if has_one_shot es then extent_behind x (boot_size es) else x
+
+-- Where the list has a one-shot, there is room for the record of the boot that takes it away.
+abbrev pub HasBootSpace : Extent → Releases → Type 0
+HasBootSpace x es = has_one_shot es ≡ true → HasSpace x (boot_size es)
+
+-- These bodies are the records of a list: they make it as records tell it. Beside a one-shot no release is current.
+pub record AreRecordsOf (bodies : List (List ℕ)) (es : Releases) : Type 0 where
+  pub makes : Makes bodies (recorded es)
+  pub alone : has_one_shot es ≡ true → recorded es ≡ es
+
+-- These bytes stand for the list: they are a whole store with its records, and with room for the next boot.
+pub record IsImageOf (image : List ℕ) (es : Releases) : Type 0 where
+  pub bodies : List (List ℕ)
+  pub store : records_of image ≡ Ok bodies
+  pub list : AreRecordsOf bodies es
+  pub room : HasBootSpace (extent_of image) es
 
 -- They do, in a store that reaches so far.
 pub record IsImageAt (image : List ℕ) (es : Releases) (extent : Extent) : Type 0 where
@@ -47,26 +73,15 @@ pub record IsStarted (es : Releases) (image : List ℕ) : Type 0 where
   pub listed : permanent es ≡ Some release
   pub spells : SpellsStart (start_slot image) (started release)
 
--- Nothing but the start record of these bytes was written: the image stands for their list, in a store that reaches as far as
--- theirs, with the start slot that they had, or with the start record of the list's permanent release.
-pub record IsRepairOf (bytes image : List ℕ) : Type 0 where
+-- A boot of these bytes has written so much: nothing; or the record that takes a one-shot away, if there was one, and the start
+-- record or not.
+pub record IsLeftByBoot (bytes image : List ℕ) : Type 0 where
   pub list : Releases
   pub was : IsImageOf bytes list
-  pub image_at : IsImageAt image list (extent_of bytes)
-  pub start : (start_slot image ≡ start_slot bytes) ⊎ IsStarted list image
+  pub left : (IsImageAt image list (extent_of bytes) × (start_slot image ≡ start_slot bytes))
+      ⊎ (IsImageAt image (booted list) (booted_extent (extent_of bytes) list)
+      × ((start_slot image ≡ start_slot bytes) ⊎ IsStarted list image))
 
 -- The bytes begin as those of a store do, whole or damaged. No node is made on such a disk.
 abbrev pub holds_a_store : List ℕ → Bool
 holds_a_store bytes = has_magic bytes
-
--- how far a store reaches behind one record more, whose body has so many bytes
-abbrev pub extent_behind : Extent → ℕ → Extent
-extent_behind x size = record { base = x.base; end = x.end + (5 + size); count = x.count + 1 }
-
--- how far one without records reaches
-abbrev pub first_extent : Extent
-first_extent = record { base = 288; end = 289; count = 0 }
-
--- a record with a body of so many bytes fits into a store that reaches so far
-abbrev pub HasSpace : Extent → ℕ → Type 0
-HasSpace x size = (size ≤ 16777216) × ((extent_behind x size).end ≤ 67108864)

@@ -1,19 +1,24 @@
 -- Laws of the bytes of disks, whatever boots them.
 use Rattle.std.specs.Prelude.{◌≡◌, ◌⊎◌, ℕ, List}
 use Rattle.rel_list.specs.Releases.{Releases}
-use Rattle.rel_list.specs.Event.{booted}
-use Rattle.rel_handler.specs.Image.{IsImageOf}
+use Rattle.rel_list.specs.Event.{booted, recorded}
+use Rattle.rel_handler.specs.Image.{Extent, booted_extent, IsImageOf}
 use Rattle.rel_handler.specs.Refusals.{IsBootRefusal}
 use Rattle.rel_handler.specs.declared.error.BootError.{BootError}
 
--- The bytes of a disk stand for a list, which is the same behind a boot, or a boot refuses them.
+-- The bytes of a disk stand for a list, as records tell it, or a boot refuses them.
 abbrev pub BootsOrIsRefused : Type 0
 BootsOrIsRefused =
-    (bytes : List ℕ) → ((es : Releases) × IsImageOf bytes es × (booted es ≡ es)) ⊎ ((why : BootError) × IsBootRefusal bytes why)
+    (bytes : List ℕ) → ((es : Releases) × IsImageOf bytes es × (recorded es ≡ es)) ⊎ ((why : BootError) × IsBootRefusal bytes why)
 
--- They stand for one list, as it is behind a boot.
+-- Two lists for which bytes stand differ in nothing that a boot finds: both leave the same list, in stores that reach as far.
+pub record BootAlike (es fs : Releases) : Type 0 where
+  pub recorded : recorded es ≡ recorded fs
+  pub booted : booted es ≡ booted fs
+  pub extents : (x : Extent) → booted_extent x es ≡ booted_extent x fs
+
 abbrev pub StandsForOneList : Type 0
-StandsForOneList = (bytes : List ℕ) (es fs : Releases) → IsImageOf bytes es → IsImageOf bytes fs → booted es ≡ booted fs
+StandsForOneList = (bytes : List ℕ) (es fs : Releases) → IsImageOf bytes es → IsImageOf bytes fs → BootAlike es fs
 
 -- A boot refuses no bytes that stand for a list.
 abbrev pub RefusesNoImage : Type 0

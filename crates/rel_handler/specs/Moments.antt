@@ -1,14 +1,15 @@
 -- What the calls of a handler leave at each moment.
 use Rattle.std.specs.Prelude.{◌≡◌, ◌⊎◌, ℕ, List, [], ◌∷◌, ◌++◌, Some, Result, Ok, Err}
 use Rattle.rel_disk.specs.Damage.{Only}
+use Rattle.rel_disk.specs.declared.disk.Disk.{Ghosts}
 use Rattle.rel_disk.specs.Moments.{LeavesOnly}
 use Rattle.rel_list.specs.Releases.{Releases}
 use Rattle.rel_list.specs.Event.{Event, list_after}
 use Rattle.rel_list.specs.Event.Event.{boot}
 use Rattle.rel_store.specs.Creation.{IsUnwritten}
 use Rattle.rel_store.specs.Moments.{IsTornFrom}
-use Rattle.rel_handler.specs.Events.{Known, IsPrefix, IsNoneOrOfPrefix}
-use Rattle.rel_handler.specs.Image.{IsRepairOf}
+use Rattle.rel_handler.specs.Events.{Events, Known, IsPrefix, IsNoneOrOfPrefix, Stored, MayHave, uncertain_boot, IsStoredAs}
+use Rattle.rel_handler.specs.Image.{Extent, IsLeftByBoot}
 use Rattle.rel_handler.specs.State.{disk_in}
 use Rattle.rel_handler.specs.declared.error.BootError.{BootError}
 use Rattle.rel_handler.specs.declared.error.BootError.TheVariants.{Device}
@@ -37,15 +38,28 @@ pub record BootsTo (k : Known) (es : Releases) : Type 0 where
   pub after : list_after (events ++ boot ∷ []) ≡ Some es
 
 -- The disk was synced at this moment of a boot. Up to it a crash leaves nothing that none before would have left; from then
--- on it leaves what a read gave, but for the start record.
+-- on it leaves what a read gave, and what the boot has written.
 pub record SettlesAt {D : Type 0} (seen : D → List ℕ) (may_leave : D → List ℕ → Type 0) (moment : D → ℕ) (left_since : D → ℕ → List ℕ → Type 0) (old new at : D) : Type 0 where
   pub until : LeavesOnly moment left_since old at (may_leave old)
-  pub from : LeavesOnly moment left_since at new (λ c. (c ≡ seen old) ⊎ IsRepairOf (seen old) c)
+  pub from : LeavesOnly moment left_since at new (λ c. (c ≡ seen old) ⊎ IsLeftByBoot (seen old) c)
 
 -- A boot syncs the disk, whatever it answers. So an event in doubt is settled there. Where the device failed, it may have
--- failed in the sync.
+-- failed in the sync or before it, and then a crash leaves nothing new.
 abbrev pub IsSynced : {D : Type 0} → (D → List ℕ) → (D → List ℕ → Type 0) → (D → ℕ) → (D → ℕ → List ℕ → Type 0) → D → Result (Handler D) (BootError × D) → Type 0
 IsSynced {D} seen may_leave moment left_since old (Ok handler) =
     (at : D) × SettlesAt seen may_leave moment left_since old (disk_in handler) at
 IsSynced {D} seen may_leave moment left_since old (Err refusal) =
-    (refusal.0 ≡ Device) ⊎ ((at : D) × SettlesAt seen may_leave moment left_since old refusal.1 at)
+    ((refusal.0 ≡ Device) × LeavesOnly moment left_since old refusal.1 (may_leave old))
+    ⊎ ((at : D) × SettlesAt seen may_leave moment left_since old refusal.1 at)
+
+-- A boot of a store whose events are known has settled which it has. From then on its own event is in doubt.
+pub record SettlesStore {D : Type 0} (v : Ghosts D) (s : Stored) (old new : D) : Type 0 where
+  pub events : Events
+  pub extent : Extent
+  pub has : MayHave s events extent
+  pub any_moment : LeavesOnly v.moment v.left_since old new (λ c. IsStoredAs s c ⊎ IsStoredAs (uncertain_boot events extent) c)
+  pub now : (c : List ℕ) → v.may_leave new c → IsStoredAs (uncertain_boot events extent) c
+
+-- It has, or a crash leaves all the time what was known before.
+abbrev pub KeepsStore : {D : Type 0} → Ghosts D → Stored → D → D → Type 0
+KeepsStore v s old new = LeavesOnly v.moment v.left_since old new (IsStoredAs s) ⊎ SettlesStore v s old new

@@ -1,12 +1,12 @@
 -- Why a call is refused, and what stands after it.
 use Rattle.std.specs.Prelude.{◌≡◌, ◌⊎◌, ℕ, true, false, List, length, None, Result, Ok, Err}
 use Rattle.rel_disk.specs.Moments.{HasFailed}
-use Rattle.rel_list.specs.Releases.{Releases, has_one_shot, release_at}
+use Rattle.rel_list.specs.Releases.{Releases, release_at}
 use Rattle.rel_list.specs.Event.{Event}
 use Rattle.rel_store.specs.Records.{records_of}
 use Rattle.rel_store.specs.declared.error.StoreError.{StoreError}
 use Rattle.rel_store.specs.declared.error.StoreError.TheVariants as store
-use Rattle.rel_handler.specs.Image.{Extent, first_extent, HasSpace, holds_a_store}
+use Rattle.rel_handler.specs.Image.{Extent, extent_of, first_extent, HasBootSpace, HasSpace, holds_a_store}
 use Rattle.rel_records.specs.Lists.{IsBadRecord, Makes}
 use Rattle.rel_records.specs.declared.fault.RecordsError.{RecordsError}
 use Rattle.rel_records.specs.declared.fault.RecordsError.TheVariants as records
@@ -69,16 +69,18 @@ MakingRefused bytes size before now unwritten NoMemory = unwritten
 MakingRefused bytes size before now unwritten Device = HasFailed before now
 MakingRefused bytes size before now unwritten _ = ⊥
 
--- They make a list with a one-shot, which no boot starts yet: the last of them is the bad one.
-abbrev pub HaveOneShot : List (List ℕ) → ℕ → Type 0
-HaveOneShot bodies i = (es : Releases) × Makes bodies es × (has_one_shot es ≡ true) × (i ≡ length bodies)
+-- They make a list with a one-shot, and behind them is no room for the record of the boot that takes it away: the last of them
+-- is the bad one.
+abbrev pub LeaveNoBootSpace : Extent → List (List ℕ) → ℕ → Type 0
+LeaveNoBootSpace x bodies i = (es : Releases) × Makes bodies es × (HasBootSpace x es → ⊥) × (i ≡ length bodies)
 
 -- Why a boot refuses these bytes: they are no store, a record of theirs is damaged, or no command could have written one.
 abbrev pub IsBootRefusal : List ℕ → BootError → Type 0
 IsBootRefusal bytes boot.NotAStore = records_of bytes ≡ Err store.NotAStore
 IsBootRefusal bytes (boot.Damaged at) = records_of bytes ≡ Err (store.Damaged at)
 IsBootRefusal bytes (boot.BadRecord i) =
-    (bodies : List (List ℕ)) × (records_of bytes ≡ Ok bodies) × (IsBadRecord bodies i ⊎ HaveOneShot bodies i)
+    (bodies : List (List ℕ)) × (records_of bytes ≡ Ok bodies)
+    × (IsBadRecord bodies i ⊎ LeaveNoBootSpace (extent_of bytes) bodies i)
 IsBootRefusal bytes e = ⊥
 
 -- Why a boot refuses a disk with these bytes: for them, for a failure of the device, or out of memory.

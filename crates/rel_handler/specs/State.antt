@@ -1,10 +1,10 @@
 -- A handler as its callers see it: its disk, its list, and what is known of them.
 use Rattle.std.specs.Prelude.{◌≡◌, ℕ, Bool, false, List, [], length, Option, None, Some, Result, Ok, Err}
 use Rattle.rel_files.specs.Release.{Release}
-use Rattle.rel_list.specs.Releases.{Releases}
+use Rattle.rel_list.specs.Releases.{Releases, has_one_shot}
 use Rattle.rel_store.specs.State as of_store
 use Rattle.rel_store.specs.declared.store.Store.{Store}
-use Rattle.rel_handler.specs.Image.{AreRecordsOf, Extent, IsStarted}
+use Rattle.rel_handler.specs.Image.{AreRecordsOf, Extent, HasBootSpace, IsStarted}
 use Rattle.rel_handler.specs.declared.handler.Handler.{Handler}
 
 -- its disk
@@ -37,19 +37,21 @@ extent_in handler = store_extent handler.store
 abbrev pub start_in : {D : Type 0} → (D → List ℕ) → Handler D → List ℕ
 start_in seen handler = of_store.text_in seen handler.store
 
--- Its store is settled, and has the records of its list.
+-- Its store is settled, has the records of its list, and room for the next boot.
 pub record IsReady {D : Type 0} (seen : D → List ℕ) (may_leave : D → List ℕ → Type 0) (handler : Handler D) : Type 0 where
   pub store : of_store.IsSettled seen may_leave handler.store
   pub list : AreRecordsOf (of_store.records_in handler.store) handler.list
+  pub room : HasBootSpace (extent_in handler) handler.list
 
 -- From now on each crash leaves the start record of the list's permanent release.
 abbrev pub HasStarted : {D : Type 0} → (D → List ℕ → Type 0) → Handler D → Type 0
 HasStarted may_leave handler = (c : List ℕ) → may_leave (disk_in handler) c → IsStarted (list_in handler) c
 
--- What is known of a handler between two calls, unless it is dead.
+-- What is known of a handler between two calls, unless it is dead. No release is a one-shot then: a boot has to come first.
 pub record IsSound {D : Type 0} (seen : D → List ℕ) (may_leave : D → List ℕ → Type 0) (handler : Handler D) : Type 0 where
   pub ready : is_dead handler ≡ false → IsReady seen may_leave handler
   pub started : is_dead handler ≡ false → HasStarted may_leave handler
+  pub free : is_dead handler ≡ false → has_one_shot (list_in handler) ≡ false
 
 -- nothing of it has changed but the memory that it holds
 pub record IsSame {D : Type 0} (old new : Handler D) : Type 0 where

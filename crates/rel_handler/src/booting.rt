@@ -1,49 +1,52 @@
 // A node is read from its disk again.
 ghost use Rattle.std.specs.Prelude.{◌≡◌, ◌⊎◌, ◌↔◌, ℕ, ◌≤◌, List, false, IsTrue, IfOk, IfErr, OnOk, MatchResult};
 ghost use Rattle.rel_disk.specs.Moments.{LeavesOnly};
-ghost use Rattle.rel_list.specs.Releases.{Releases};
-ghost use Rattle.rel_list.specs.Event.{booted};
+ghost use Rattle.rel_list.specs.Releases.{Releases, has_one_shot};
+ghost use Rattle.rel_list.specs.Event.{recorded};
 ghost use Rattle.rel_store.specs.Contents.{OpenRefused, HasOnlyRead};
-ghost use Rattle.rel_handler.specs.Booting.{IsOpened, Repairs, RepairRefused};
+ghost use Rattle.rel_handler.specs.Booting.{IsRead, IsOpened, IsBootOf, IsBootRecord, RecordRefused, IsBooted, IsOldOrTaken, IsOldOrBooted, Leaves, FinishRefused};
 ghost use Rattle.rel_handler.specs.Commits.{HasRead};
 ghost use Rattle.rel_handler.specs.Events.{Known, IsOfPrefix, Stored, IsStoredAs};
-ghost use Rattle.rel_handler.specs.Image.{extent_of, IsImageOf, IsImageAt, IsStarted, IsRepairOf};
-ghost use Rattle.rel_handler.specs.Moments.{BootsTo, IsSynced};
+ghost use Rattle.rel_handler.specs.Image.{HasBootSpace, IsImageOf, IsImageAt, IsStarted, IsLeftByBoot};
+ghost use Rattle.rel_handler.specs.Moments.{BootsTo, IsSynced, KeepsStore};
 ghost use Rattle.rel_handler.specs.Refusals.{BootRefused, told_boot, IsOpenError};
 ghost use Rattle.rel_handler.specs.State.{disk_in, disk_of, extent_in, list_in, is_dead, start_in, HasStarted, IsReady, IsSound};
 ghost use Rattle.start_record.specs.Text.{versions_of, SpellsStart};
 
 use crate::start::start_of;
 use crate::{BootError, Handler};
+use record_writer::change_body;
 use rel_disk::Disk;
+use rel_list::Event;
 use rel_records::read_list;
 use rel_store::{Store, StoreError};
 use start_record::{Start, StartError, read_start};
 use std::alloc::Global;
 
-/// Boots the node on a disk: its list is that of the store's records. Syncs the disk, reads each record once, and then the
-/// start record, which it writes where it isn't that of the permanent release; nothing else is written.
+/// Boots the node on a disk: its list is that of the store's records, as a boot makes it. Syncs the disk, reads each record
+/// once, and then the start record. It writes a record that takes a one-shot away, where the list has one, so that no later
+/// boot starts it; and then the start record, where it isn't that of the permanent release.
 ///
 /// Refusals: `Device`, `NoMemory`, `NotAStore`, `Damaged`, and `BadRecord` with the number of the first record that no
-/// command could have written where it stands, or of the last one where they make a list with a one-shot, which no boot starts yet. A disk that stands for a list is refused for memory or the device
-/// alone.
+/// command could have written where it stands, or of the last one where there is no room to take a one-shot away. A disk that
+/// stands for a list is refused for memory or the device alone.
 pub fn boot<D: Disk>(alloc: Global, disk: D) -> Result<Handler<D>, (BootError, D)>
     ensures sound { IfOk result (IsSound D.seen D.may_leave) }
     ensures works { IfOk result (λ handler. is_dead handler ≡ false) }
-    ensures image { IfOk result (λ handler. IsImageOf (D.seen disk) (list_in handler)
-        × (booted (list_in handler) ≡ list_in handler)) }
+    ensures image { OnOk result ((es : Releases) × IsImageOf (D.seen disk) es
+        × (recorded es ≡ es)) }
     ensures acknowledged { IfOk result (λ handler. (c : List ℕ) → D.may_leave (disk_in handler) c
         → IsImageAt c (list_in handler) (extent_in handler)) }
-    ensures extent { IfOk result (λ handler. extent_in handler ≡ extent_of (D.seen disk)) }
 
-    // A start record that was that of the permanent release is not written; behind the boot it is (`sound`).
-    ensures right { IfOk result (λ handler. IsStarted (list_in handler) (D.seen disk)
-        → HasOnlyRead D.seen D.may_leave D.moment D.left_since disk (disk_in handler)) }
-
-    // A disk that stands for a list is booted to that list.
+    // A disk that stands for a list is booted to what a boot makes of that list.
     ensures only { (es : Releases) → IsImageOf (D.seen disk) es
-        → MatchResult result (λ handler. list_in handler ≡ booted es)
+        → MatchResult result (IsBootOf (D.seen disk) es)
         (λ e. (e.0 ≡ BootError.Device) ⊎ (e.0 ≡ BootError.NoMemory)) }
+
+    // Where there is no one-shot, and the start record is right, nothing is written; behind the boot it is right (`sound`).
+    ensures right { (es : Releases) → IsImageOf (D.seen disk) es → has_one_shot es ≡ false
+        → IsStarted es (D.seen disk) → IfOk result (λ handler.
+        HasOnlyRead D.seen D.may_leave D.moment D.left_since disk (disk_in handler)) }
 
     // So whatever a crash left of a node is booted to the list of a prefix of its accepted events that holds every
     // acknowledged one.
@@ -51,16 +54,15 @@ pub fn boot<D: Disk>(alloc: Global, disk: D) -> Result<Handler<D>, (BootError, D
         → MatchResult result (λ handler. BootsTo k (list_in handler))
         (λ e. (e.0 ≡ BootError.Device) ⊎ (e.0 ≡ BootError.NoMemory)) }
 
-    // A crash in the call leaves what one before it would have left, or what a read gave, but for its start record. From
-    // the sync on it leaves nothing but the latter. A boot that answers `Device` may have failed in the sync, and `synced`
-    // says nothing then.
+    // A crash in the call leaves what one before it would have left, or what a read gave with so much of what the boot writes.
+    // From the sync on it leaves nothing but the latter, unless the device failed before.
     ensures any_moment { LeavesOnly D.moment D.left_since disk (disk_of result)
-        (λ c. D.may_leave disk c ⊎ IsRepairOf (D.seen disk) c) }
+        (λ c. D.may_leave disk c ⊎ IsLeftByBoot (D.seen disk) c) }
     ensures synced { IsSynced D.seen D.may_leave D.moment D.left_since disk result }
 
-    // So a store whose events are known is one with these events all the time.
+    // So a store whose events are known keeps them, with the boot's own behind them or without.
     ensures stored { (s : Stored) → ((c : List ℕ) → D.may_leave disk c → IsStoredAs s c)
-        → LeavesOnly D.moment D.left_since disk (disk_of result) (IsStoredAs s) }
+        → KeepsStore D.Disk s disk (disk_of result) }
 
     // Where it is refused, and not by the device, nothing was written.
     ensures quiet { IfErr result (λ e. (e.0 ≡ BootError.Device)
@@ -74,7 +76,11 @@ pub fn boot<D: Disk>(alloc: Global, disk: D) -> Result<Handler<D>, (BootError, D
         Ok(handler) => handler,
         Err(refusal) => return Err(refusal),
     };
-    match repair(alloc, &mut handler) {
+    let body = match boot_record(alloc, &handler) {
+        Ok(body) => body,
+        Err(error) => return Err((error, handler.into_disk())),
+    };
+    match finish(alloc, &mut handler, body) {
         Ok(()) => {
             handler.dead = false;
             Ok(handler)
@@ -83,11 +89,11 @@ pub fn boot<D: Disk>(alloc: Global, disk: D) -> Result<Handler<D>, (BootError, D
     }
 }
 
-// Reads the node from a disk. It is dead until its start record is that of its permanent release.
+// Reads the node from a disk. It is dead until the boot has written what it has to.
 fn open<D: Disk>(alloc: Global, disk: D) -> Result<Handler<D>, (BootError, D)>
     ensures opened { IfOk result (IsOpened D.Disk disk) }
-    ensures only { (es : Releases) → IsImageOf (D.seen disk) es
-        → MatchResult result (λ handler. list_in handler ≡ booted es)
+    ensures only { (es : Releases) → IsImageOf (D.seen disk) es → MatchResult result
+        (λ handler. list_in handler ≡ recorded es)
         (λ e. (e.0 ≡ BootError.Device) ⊎ (e.0 ≡ BootError.NoMemory)) }
     ensures any_moment { LeavesOnly D.moment D.left_since disk (disk_of result) (D.may_leave disk) }
     ensures synced { IsSynced D.seen D.may_leave D.moment D.left_since disk result }
@@ -99,44 +105,98 @@ fn open<D: Disk>(alloc: Global, disk: D) -> Result<Handler<D>, (BootError, D)>
 {
     match Store::open_disk(alloc, disk) {
         Ok(store) => match read_list(alloc, store.records()) {
-            Ok(list) => {
-                if list.one_shot().is_some() {
-                    let last = store.records().len() as u64;
-                    return Err((BootError::BadRecord(last), store.into_disk()));
-                }
-                Ok(Handler {
-                    store,
-                    list,
-                    dead: true,
-                })
-            }
+            Ok(list) => Ok(Handler {
+                store,
+                list,
+                dead: true,
+            }),
             Err(error) => Err((BootError::from(error), store.into_disk())),
         },
         Err((error, disk)) => Err((boot_error(error), disk)),
     }
 }
 
-// Writes the start record where it isn't that of the permanent release.
-fn repair<D: Disk>(alloc: Global, handler: &mut Handler<D>) -> Result<(), BootError>
-    requires { IsReady D.seen D.may_leave handler.old }
-    ensures repairs { Repairs D.Disk handler.old handler.new }
-    ensures ready { OnOk result (IsReady D.seen D.may_leave handler.new) }
-    ensures acknowledged { OnOk result ((c : List ℕ) → D.may_leave (disk_in handler.new) c
-        → IsImageAt c (list_in handler.new) (extent_in handler.new)) }
+// The body of the record by which the boot takes a one-shot away, where the list has one.
+fn boot_record<D: Disk>(alloc: Global, handler: &Handler<D>) -> Result<Option<String>, BootError>
+    requires { IsRead D.seen D.may_leave handler.now }
+    ensures body { IfOk result (IsBootRecord (list_in handler.now)) }
+    ensures room { OnOk result (HasBootSpace (extent_in handler.now) (list_in handler.now)) }
+    ensures refused { IfErr result (RecordRefused (extent_in handler.now) (list_in handler.now)) }
+{
+    if handler.list.one_shot().is_none() {
+        return Ok(None);
+    }
+    let body = change_body(alloc, &handler.list, &Event::Boot)?;
+    if !handler.store.fits(body.len()) {
+        let last = handler.store.records().len() as u64;
+        return Err(BootError::BadRecord(last));
+    }
+    Ok(Some(body))
+}
+
+// Takes a one-shot away, and writes the start record where it isn't that of the permanent release. Memory is asked for before
+// the first write.
+fn finish<D: Disk>(
+    alloc: Global,
+    handler: &mut Handler<D>,
+    body: Option<String>,
+) -> Result<(), BootError>
+    requires ready { IsReady D.seen D.may_leave handler.old }
+    requires recorded { recorded (list_in handler.old) ≡ list_in handler.old }
+    requires body { IsBootRecord (list_in handler.old) body }
+    ensures leaves { Leaves D.Disk (IsOldOrBooted D.seen handler.old)
+        (disk_in handler.old) (disk_in handler.new) }
+    ensures booted { OnOk result (IsBooted D.Disk handler.old handler.new) }
     ensures started { OnOk result (HasStarted D.may_leave handler.new) }
-    ensures right { OnOk result (IsStarted (list_in handler.old) (D.seen (disk_in handler.old))
+    ensures right { OnOk result (has_one_shot (list_in handler.old) ≡ false
+        → IsStarted (list_in handler.old) (D.seen (disk_in handler.old))
         → HasOnlyRead D.seen D.may_leave D.moment D.left_since
         (disk_in handler.old) (disk_in handler.new)) }
-    ensures refused { IfErr result (RepairRefused D.Disk handler.old handler.new) }
+    ensures refused { IfErr result (FinishRefused D.Disk handler.old handler.new) }
 {
     let Some(release) = handler.list.permanent() else {
         unreachable!();
     };
     let start = start_of(alloc, release)?;
-    if starts(alloc, handler, &start)? {
+    let right = starts(alloc, handler, &start)?;
+    take_one_shot(alloc, handler, body)?;
+    if right {
         return Ok(());
     }
     handler.commit_start(&start)?;
+    Ok(())
+}
+
+// Takes a one-shot away by the record of the boot, where there is one: the record is appended, and the list is that behind a
+// boot.
+fn take_one_shot<D: Disk>(
+    alloc: Global,
+    handler: &mut Handler<D>,
+    body: Option<String>,
+) -> Result<(), BootError>
+    requires ready { IsReady D.seen D.may_leave handler.old }
+    requires recorded { recorded (list_in handler.old) ≡ list_in handler.old }
+    requires body { IsBootRecord (list_in handler.old) body }
+    ensures leaves { Leaves D.Disk (IsOldOrTaken D.seen handler.old)
+        (disk_in handler.old) (disk_in handler.new) }
+    ensures booted { OnOk result (IsBooted D.Disk handler.old handler.new) }
+    ensures start { OnOk result (start_in D.seen handler.new ≡ start_in D.seen handler.old) }
+    ensures free { has_one_shot (list_in handler.old) ≡ false
+        → disk_in handler.new ≡ disk_in handler.old }
+    ensures refused { IfErr result (FinishRefused D.Disk handler.old handler.new) }
+{
+    let Some(body) = body else {
+        return Ok(());
+    };
+    if handler.store.reserve(alloc, body.len()).is_err() {
+        return Err(BootError::NoMemory);
+    }
+    if handler.list.accept(alloc, Event::Boot).is_err() {
+        unreachable!();
+    }
+    if handler.store.append(alloc, body.as_bytes()).is_err() {
+        return Err(BootError::Device);
+    }
     Ok(())
 }
 
@@ -151,7 +211,7 @@ fn starts<D: Disk>(
     ensures ready { OnOk result (IsReady D.seen D.may_leave handler.new) }
     ensures value { IfOk result (λ is. IsTrue is
         ↔ SpellsStart (start_in D.seen handler.old) (versions_of start.now)) }
-    ensures refused { IfErr result (RepairRefused D.Disk handler.old handler.new) }
+    ensures refused { IfErr result (FinishRefused D.Disk handler.old handler.new) }
 {
     match read_start(alloc, &mut handler.store) {
         Ok(found) => Ok(is_same(&found, start)),

@@ -1,7 +1,8 @@
 // A store of many records is compacted behind a commit.
-ghost use Rattle.std.specs.Prelude.{◌≡◌, [], ◌∷◌, true, Some, IfErr, OnOk};
+ghost use Rattle.std.specs.Prelude.{◌≡◌, [], ◌∷◌, true, false, Some, IfErr, OnOk};
 ghost use Rattle.rel_disk.specs.Moments.{HasFailed};
 ghost use Rattle.rel_list.specs.Event.{recorded};
+ghost use Rattle.rel_list.specs.Releases.{has_one_shot};
 ghost use Rattle.rel_records.specs.Image.{image_of};
 ghost use Rattle.rel_records.specs.Lists.{Makes};
 ghost use Rattle.rel_handler.specs.Commits.{Compacts, IsCompacted};
@@ -21,9 +22,11 @@ const MANY_RECORDS: usize = 64;
 
 impl<D: Disk> Handler<D> {
     // Compacts the store to the image of its list, where it has many records. It stays as it was where memory is refused, and
-    // where there is no image or the image doesn't fit. A command calls it behind its last write, while the handler is dead.
+    // where there is no image or the image doesn't fit. A command calls it behind its last write, while the handler is dead. A
+    // list with a one-shot is never compacted, so that the room for the next boot stays.
     pub(crate) fn compact(&mut self, alloc: Global) -> Result<(), HandlerError>
         requires ready { IsReady D.seen D.may_leave self.old }
+        requires free { has_one_shot (list_in self.old) ≡ false }
         requires dead { is_dead self.old ≡ true }
         ensures compacts { Compacts D.Disk self.old self.new }
         ensures done { OnOk result (IsCompacted D.Disk self.old self.new) }
@@ -51,6 +54,7 @@ impl<D: Disk> Handler<D> {
     // Compacts a long store to this image of its list.
     fn compact_to(&mut self, alloc: Global, image: &[u8]) -> Result<(), HandlerError>
         requires ready { IsReady D.seen D.may_leave self.old }
+        requires free { has_one_shot (list_in self.old) ≡ false }
         requires dead { is_dead self.old ≡ true }
         requires long { is_long (extent_in self.old) ≡ true }
         requires image { image_of (recorded (list_in self.old)) ≡ Some image.now }

@@ -31,6 +31,10 @@
 //! each moment that, or the one of the release that was permanent before the last event of the prefix (`HasStart`): a boot
 //! repairs it.
 //!
+//! A boot has a one-shot as the current release, and has taken it away from the disk by a record of its own before it is `Ok`
+//! (`only`, `acknowledged`): no later boot starts it. A store for which a list with a one-shot stands has room for that record
+//! (`HasBootSpace`). A list with a one-shot is never compacted.
+//!
 //! The law `a_disk_boots_or_is_refused` says of all bytes that they stand for one list or a boot refuses them, never both.
 //!
 //! The clauses speak of the bytes of a store as a whole (`IsImageOf`) and of its records by `rel_records` (`Makes`). One

@@ -89,14 +89,14 @@ left k = at_rest
 
 abbrev booted : Kind → Report → Effect
 booted k it_is_done = effect (done (booting ∷ [])) runs
-booted k boot_failed = effect (failed_with None) (left k)
+booted k boot_failed = effect (failed_with (Some booting)) (left k)
 booted k t = effect nothing k
 
 -- A reboot is done with its boot on a node that runs, or without it, or the device failed in its commit.
 abbrev rebooted : Kind → List ℕ → Report → Effect
 rebooted runs vsn it_is_done = effect (done (reboot_old vsn ∷ booting ∷ [])) runs
 rebooted runs vsn it_failed = effect (failed_with (Some (reboot_old vsn))) fails
-rebooted runs vsn boot_failed = effect (record { acknowledged = reboot_old vsn ∷ []; in_doubt = None; failed = true }) at_rest
+rebooted runs vsn boot_failed = effect (record { acknowledged = reboot_old vsn ∷ []; in_doubt = Some booting; failed = true }) at_rest
 rebooted k vsn t = effect nothing k
 
 -- the start is told where a node runs
@@ -177,7 +177,8 @@ changes events extent ps c l None o plain a is = commits c.event (changed runs c
 -- the boot behind a commit
 boots_behind : (vsn : List ℕ) (s : Stored) (a b : Reply) → Transition.BootsStore s b → a ≡ behind (reboot_old vsn) b → HasEffect (rebooted runs vsn) a
 boots_behind vsn s a b (inl (events, extent, has, (list, after, is))) told = effect_as (rebooted runs vsn) a _ (told ∙ ap (behind (reboot_old vsn)) is) refl
-boots_behind vsn s a b (inr is) told = effect_as (rebooted runs vsn) a _ (told ∙ ap (behind (reboot_old vsn)) is) refl
+boots_behind vsn s a b (inr (inl is)) told = effect_as (rebooted runs vsn) a _ (told ∙ ap (behind (reboot_old vsn)) is) refl
+boots_behind vsn s a b (inr (inr (events, extent, has, is))) told = effect_as (rebooted runs vsn) a _ (told ∙ ap (behind (reboot_old vsn)) is) refl
 
 reboots : (events : Events) (extent : Extent) (ps : Processes) (vsn : List ℕ) (l : Releases) (o : Result Releases HandlerError) → IsPlainList o → (a : Reply) → Transition.Reboots events extent ps vsn l o a → HasEffect (rebooted runs vsn) a
 reboots events extent ps vsn l o plain =
@@ -204,7 +205,8 @@ makes (dead s) b a is = effect_as (created fails (bundle_brought b)) a _ is refl
 -- boot
 boots_store : (k : Kind) (s : Stored) (a : Reply) → left k ≡ at_rest → Transition.BootsStore s a → HasEffect (booted k) a
 boots_store k s a there (inl (events, extent, has, (list, after, is))) = effect_as (booted k) a _ is refl
-boots_store k s a there (inr is) = effect_as (booted k) a _ is (ap (effect (failed_with None)) (sym there))
+boots_store k s a there (inr (inl is)) = effect_as (booted k) a _ is (ap (effect (failed_with (Some booting))) (sym there))
+boots_store k s a there (inr (inr (events, extent, has, is))) = effect_as (booted k) a _ is (ap (effect (failed_with (Some booting))) (sym there))
 
 boots_refused : (x : List ℕ) (why : BootError) → IsBootRefusal x why → HasEffect (booted of_bytes) (reply (boot_line why) nothing (raw x))
 boots_refused x boot_error.NotAStore is = refl

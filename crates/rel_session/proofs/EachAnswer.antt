@@ -1,9 +1,8 @@
 -- Each input has an answer in which neither the device fails nor memory is refused to a compaction.
-use Rattle.std.proofs.Common.{◌≡◌, ◌⊎◌, inl, inr, ℕ, ◌+◌, ◌<◌, ◌≤◌, Bool, true, false, List, [], ◌∷◌, ◌++◌, Option, None, Some, Result, Ok, Err, refl, sym, ap, ◌∙◌, subst, arith}
-use Rattle.std.proofs.lemmas.Bool.{cases_lt}
+use Rattle.std.proofs.Common.{◌≡◌, ◌⊎◌, inl, inr, ℕ, Bool, true, false, List, [], ◌∷◌, ◌++◌, Option, None, Some, Result, Ok, Err, refl, sym, ap, ◌∙◌, subst}
 use Rattle.rel_list.specs.Releases.{Bundle}
-use Rattle.rel_list.specs.Releases.{Releases}
-use Rattle.rel_list.specs.Event.{Event, list_after, booted}
+use Rattle.rel_list.specs.Releases.{Releases, has_one_shot}
+use Rattle.rel_list.specs.Event.{Event, list_after, booted, recorded}
 use Rattle.rel_list.specs.Event.Event.{made, installed, reboot_old as rebooting, boot as booting}
 use Rattle.rel_list.specs.Event.{entry}
 use Rattle.rel_list.specs.declared.status.Status.TheVariants.{Permanent}
@@ -11,7 +10,8 @@ use Rattle.rel_handler.specs.declared.error.BootError.{BootError}
 use Rattle.node_command.specs.declared.error.HandlerError.{HandlerError}
 use Rattle.rel_handler.specs.Events.{Events, certain}
 use Rattle.rel_handler.specs.Compaction.{compacted}
-use Rattle.rel_handler.specs.Image.{Extent, extent_behind, extent_of, first_extent, HasSpace, holds_a_store, IsImageOf}
+use Rattle.rel_handler.specs.Image.{Extent, booted_extent, extent_behind, extent_of, first_extent, HasSpace, holds_a_store, IsImageOf}
+use Rattle.rel_handler.proofs.BootLists.{extent_of_none, fits_or_not}
 use Rattle.node_command.specs.Files.{bundle_brought, made_size}
 use Rattle.node_command.specs.Place.{own_refusal}
 use Rattle.rel_handler.specs.Refusals.{IsBootRefusal}
@@ -50,18 +50,6 @@ use Rattle.rel_session.proofs.Histories.{events_of_image}
 use Rattle.rel_session.proofs.ListLemmas.{list_after-push}
 use Rattle.rel_session.proofs.ExtentLemmas.{booted_reach, compacted_twice, none_rebooted}
 use Rattle.rel_session.proofs.LoopLemmas.{replies_next}
-
--- A record fits or it does not.
-fits_or_not : (x : Extent) (size : ℕ) → HasSpace x size ⊎ (HasSpace x size → ⊥)
-fits_or_not x size = by_size (cases_lt 16777216 size)
-  where
-    by_end : size ≤ 16777216 → (67108864 < x.end + (5 + size)) ⊎ (x.end + (5 + size) ≤ 67108864) → HasSpace x size ⊎ (HasSpace x size → ⊥)
-    by_end short (inl past) = inr (λ fits. let stop : x.end + (5 + size) ≤ 67108864 = fits.1 in omega arith)
-    by_end short (inr within) = inl (short, within)
-
-    by_size : (16777216 < size) ⊎ (size ≤ 16777216) → HasSpace x size ⊎ (HasSpace x size → ⊥)
-    by_size (inl long) = inr (λ fits. let short : size ≤ 16777216 = fits.0 in omega arith)
-    by_size (inr short) = by_end short (cases_lt 67108864 (x.end + (5 + size)))
 
 -- Where the device does not fail, the place behind a reply is one of these again.
 pub data IsFair : Place → Type 0 where
@@ -142,14 +130,14 @@ makes p found (died events extent list after) = told_reply _ _ _ refl (died even
 booted_there : (events : Events) (extent : Extent) (list : Releases) → list_after events ≡ Some list → Has (Transition.IsBooted events extent)
 booted_there events extent list after =
     let then = list_after-push events booting list (booted list) after refl in
-    fair_reply _ _ (booted list, then, refl) refl (runs (events ++ booting ∷ []) extent (fresh (releases_after (events ++ booting ∷ []))) (booted list) then) (λ r. absurd r)
+    fair_reply _ _ (list, after, refl) refl (runs (events ++ booting ∷ []) (booted_extent extent list) (fresh (releases_after (events ++ booting ∷ []))) (booted list) then) (λ r. absurd r)
 
 boots_bytes : BootLaws → (x : List ℕ) → Has (Transition.BootsBytes x)
 boots_bytes laws x = go (laws.either x)
   where
-    go : ((es : Releases) × IsImageOf x es × (booted es ≡ es)) ⊎ ((why : BootError) × IsBootRefusal x why) → Has (Transition.BootsBytes x)
+    go : ((es : Releases) × IsImageOf x es × (recorded es ≡ es)) ⊎ ((why : BootError) × IsBootRefusal x why) → Has (Transition.BootsBytes x)
     go (inl (es, image, still)) =
-        let (events, before, after) = events_of_image x es image still in
+        let (events, before) = events_of_image x es image still in
         let extent = extent_of x in
         mapped (Transition.IsBooted events extent) (Transition.BootsBytes x) (λ a is. inl (events, es, extent, before, record { image_of = image; reaches = refl }, is)) (booted_there events extent es before)
     go (inr (why, is)) = told_reply _ (boot_line why) (raw x) (inr (inl (why, is, refl))) (of_raw x)
@@ -160,6 +148,16 @@ boots laws p (rests events extent list after) = mapped (Transition.IsBooted even
 boots laws p (died events extent list after) = mapped (Transition.IsBooted events extent) (Transition.BootsStore (certain events extent)) (λ a is. inl (events, extent, inl (refl, refl), is)) (booted_there events extent list after)
 boots laws p (runs events extent ps list after) = mapped (Transition.IsBooted events extent) (Transition.BootsStore (certain events extent)) (λ a is. inl (events, extent, inl (refl, refl), is)) (booted_there events extent list after)
 
+-- A boot behind a reboot writes no record, so the store stays as short.
+rebooted_compact : (events : Events) (extent : Extent) (size : ℕ) (vsn : List ℕ) (list : Releases) → list_after (events ++ rebooting vsn ∷ []) ≡ Some list
+    → IsCompact (running ((events ++ rebooting vsn ∷ []) ++ booting ∷ []) (booted_extent (reach events extent (rebooting vsn) size) list) (fresh (releases_after ((events ++ rebooting vsn ∷ []) ++ booting ∷ []))))
+rebooted_compact events extent size vsn list after =
+    let all = events ++ rebooting vsn ∷ [] in
+    let x = reach events extent (rebooting vsn) size in
+    let none = none_rebooted events vsn in
+    let free : has_one_shot list ≡ false = ap (λ o. has_one_shot (list_or_none o)) (sym after) ∙ none in
+    subst (λ y. y ≡ compacted y (releases_after (all ++ booting ∷ []))) (sym (extent_of_none x list free)) (stays_compact events extent (rebooting vsn) size ∙ sym (booted_reach x all none))
+
 reboots : (events : Events) (extent : Extent) (ps : Processes) (list : Releases) (vsn : List ℕ) → list_after events ≡ Some list
     → Has (Transition.Reboots events extent ps vsn (releases_after events) (commanded (rebooting vsn) (releases_after events)))
 reboots events extent ps list vsn after =
@@ -169,7 +167,7 @@ reboots events extent ps list vsn after =
     commits events extent ps list e size _ after (λ grown then.
     let booted = booted_there (events ++ e ∷ []) x grown then in
     fair_reply _ (behind e booted.given) (booted.given, inl (events ++ e ∷ [], x, inl (refl, refl), booted.is), refl) booted.works booted.fair
-    (λ r. subst (λ (t : Reply). IsCompact t.after) (sym booted.is.2) (stays_compact events extent e size ∙ sym (booted_reach x (events ++ e ∷ []) (none_rebooted events vsn)))))
+    (λ r. subst (λ (t : Reply). IsCompact t.after) (sym booted.is.2) (rebooted_compact events extent size vsn booted.is.0 booted.is.1)))
 
 rebooted : (p : Place) (vsn : List ℕ) → IsFair p → Has (Transition.Acts p (reboots_node vsn))
 rebooted p vsn (of_raw x) = told_reply _ _ _ refl (of_raw x)

@@ -19,10 +19,8 @@ use Rattle.rel_session.specs.Files.{files_behind, source_of}
 use Rattle.node_processes.specs.Processes.{Processes}
 use Rattle.rel_session.specs.Node.{Place, Reply, releases_after}
 use Rattle.rel_session.specs.Node.Place.{raw, closed, running, dead}
-use Rattle.rel_session.specs.Refusals.{refusal_line}
-use Rattle.rel_session.specs.Refusals.Refusal.{device}
 use Rattle.rel_session.specs.Run.{Executes, MayLeave}
-use Rattle.rel_session.specs.AnswerLaws.{FailsOnlyWithTheDevice, TellsDoubt}
+use Rattle.rel_session.specs.AnswerLaws.{FailsOnlyWithTheDevice, TellsDoubt, TellsFailure}
 use Rattle.rel_session.specs.Transition
 use Rattle.rel_session.specs.Transition.Action.{answers, makes_node, changes_node, installs, reboots_node, boots_node, tells_start, calls}
 use Rattle.rel_session.proofs.AcknowledgedEvents.{first_answered}
@@ -31,7 +29,7 @@ use Rattle.rel_session.proofs.InstallationLemmas.{each_reply}
 
 -- Nothing is in doubt, or the device failed and that is told.
 abbrev IsPlain : Reply → Type 0
-IsPlain a = (a.outcome.in_doubt ≡ None) ⊎ ((a.outcome.failed ≡ true) × (a.answer ≡ refusal_line device))
+IsPlain a = (a.outcome.in_doubt ≡ None) ⊎ ((a.outcome.failed ≡ true) × TellsFailure a.answer)
 
 plain : (a b : Reply) → a ≡ b → IsPlain b → IsPlain a
 plain a b is of = subst IsPlain (sym is) of
@@ -39,7 +37,7 @@ plain a b is of = subst IsPlain (sym is) of
 commits : (events : Events) (extent : Extent) (ps : Processes) (e : Event) (size : ℕ) (o : Result Releases HandlerError) (P : Extent → Reply → Type 0) → ((x : Extent) (a : Reply) → P x a → IsPlain a) → (a : Reply) → Transition.IsCommit events extent ps e size o P a → IsPlain a
 commits events extent ps e size (Err why) P done a is = plain a _ is (inl refl)
 commits events extent ps e size (Ok list) P done a (inl (fits, inl (x, reach, is))) = done x a is
-commits events extent ps e size (Ok list) P done a (inl (fits, inr is)) = plain a _ is (inr (refl, refl))
+commits events extent ps e size (Ok list) P done a (inl (fits, inr is)) = plain a _ is (inr (refl, inl refl))
 commits events extent ps e size (Ok list) P done a (inr (over, is)) = plain a _ is (inl refl)
 
 changes : (events : Events) (extent : Extent) (ps : Processes) (c : Transition.Change) (l : Releases) (f : Option Refusal) (o : Result Releases HandlerError) (a : Reply) → Transition.Changes events extent ps c l f o a → IsPlain a
@@ -57,27 +55,27 @@ makes_on bytes b false a is = makes_with bytes (bundle_brought b) (made_size b) 
 
 makes : (p : Place) (found : Brought) (a : Reply) → Transition.MakesNode p found a → IsPlain a
 makes (raw bytes) found a (inl is) = makes_on bytes found (holds_a_store bytes) a is
-makes (raw bytes) found a (inr (torn, is)) = plain a _ is (inr (refl, refl))
+makes (raw bytes) found a (inr (torn, is)) = plain a _ is (inr (refl, inl refl))
 makes (closed s) found a (inl is) = plain a _ is (inl refl)
-makes (closed s) found a (inr is) = plain a _ is (inr (refl, refl))
+makes (closed s) found a (inr is) = plain a _ is (inr (refl, inl refl))
 makes (running events extent ps) found a is = plain a _ is (inl refl)
 makes (dead s) found a is = plain a _ is (inl refl)
 
--- a boot leaves nothing in doubt
-boots_store : (s : Stored) (a : Reply) → Transition.BootsStore s a → a.outcome.in_doubt ≡ None
-boots_store s a (inl (events, extent, has, (list, after, is))) = ap (λ (r : Reply). r.outcome.in_doubt) is
-boots_store s a (inr is) = ap (λ (r : Reply). r.outcome.in_doubt) is
+boots_store : (s : Stored) (a : Reply) → Transition.BootsStore s a → IsPlain a
+boots_store s a (inl (events, extent, has, (list, after, is))) = plain a _ is (inl refl)
+boots_store s a (inr (inl is)) = plain a _ is (inr (refl, inr refl))
+boots_store s a (inr (inr (events, extent, has, is))) = plain a _ is (inr (refl, inr refl))
 
 reboots : (events : Events) (extent : Extent) (ps : Processes) (vsn : List ℕ) (l : Releases) (o : Result Releases HandlerError) (a : Reply) → Transition.Reboots events extent ps vsn l o a → IsPlain a
-reboots events extent ps vsn l o = commits events extent ps (rebooting vsn) _ o _ (λ x a (b, boot, is). plain a _ is (inl (boots_store (Transition.rebooted events x vsn) b boot)))
+reboots events extent ps vsn l o = commits events extent ps (rebooting vsn) _ o _ (λ x a (b, boot, is). plain a _ is (boots_store (Transition.rebooted events x vsn) b boot))
 
 boots : (p : Place) (a : Reply) → Transition.Boots p a → IsPlain a
 boots (raw bytes) a (inl (events, list, extent, after, image, (list_then, after_then, is))) = plain a _ is (inl refl)
 boots (raw bytes) a (inr (inl (why, told, is))) = plain a _ is (inl refl)
-boots (raw bytes) a (inr (inr (torn, is))) = plain a _ is (inl refl)
-boots (closed s) a is = inl (boots_store s a is)
-boots (running events extent ps) a is = inl (boots_store (certain events extent) a is)
-boots (dead s) a is = inl (boots_store s a is)
+boots (raw bytes) a (inr (inr (torn, is))) = plain a _ is (inr (refl, inr refl))
+boots (closed s) a is = boots_store s a is
+boots (running events extent ps) a is = boots_store (certain events extent) a is
+boots (dead s) a is = boots_store s a is
 
 acts : (p : Place) (does : Transition.Action) (a : Reply) → Transition.Acts p does a → IsPlain a
 acts p (answers text) a is = plain a _ is (inl refl)
@@ -94,7 +92,7 @@ acts (running events extent ps) (installs vsn) a is =
       over_full = inl refl;
       broken = λ f. inl refl;
       done_so = λ f r reach found comes. inl refl;
-      doubted_so = λ f found. inr (refl, refl);
+      doubted_so = λ f found. inr (refl, inl refl);
     }) a is
 acts (raw bytes) (installs vsn) a is = plain a _ is (inl refl)
 acts (closed s) (installs vsn) a is = plain a _ is (inl refl)
@@ -120,7 +118,7 @@ is_plain source p c a (does, comes, is) = acts p does a is
 pub tells_doubt : (source : Source) → TellsDoubt source
 tells_doubt source p c a e is doubt = go (is_plain source p c a is)
   where
-    go : IsPlain a → (a.outcome.failed ≡ true) × (a.answer ≡ refusal_line device)
+    go : IsPlain a → (a.outcome.failed ≡ true) × TellsFailure a.answer
     go (inl none) = let lost : Some e ≡ None = sym doubt ∙ none in absurd cc
     go (inr told) = told
 

@@ -8,10 +8,9 @@ use Rattle.rel_list.specs.Keyed.{IsOrderly}
 use Rattle.rel_list.specs.Laws.{bundles_of, IsRecorded}
 use Rattle.rel_list.specs.Releases.{Bundle, Releases, bundle_in, of_status}
 use Rattle.rel_list.specs.Status.{is_permanent}
-use Rattle.rel_list.specs.Event.{Event, booted, recorded, step, list_assigned, list_from, list_after}
-use Rattle.rel_list.specs.Event.Event.{made, unpacked, removed, boot as booting}
+use Rattle.rel_list.specs.Event.{Event, recorded, step, list_assigned, list_from, list_after}
+use Rattle.rel_list.specs.Event.Event.{made, unpacked, removed}
 use Rattle.rel_list.proofs.EventLaws.{list_from-append, orderly-after}
-use Rattle.rel_list.proofs.OneShotLaws.{boots_as_recorded}
 use Rattle.rel_list.proofs.RestLaws.{recorded_reached}
 use Rattle.rel_records.specs.Limits.{has_one_permanent, is_small, most_releases}
 use Rattle.rel_records.specs.Lists.{may_be_assigned, assign_all, assigned, own_status, MakesFrom}
@@ -21,7 +20,6 @@ use Rattle.rel_records.proofs.OrderlyLemmas.{statuses_orderly}
 use Rattle.rel_records.proofs.RecordPlaces.{chosen, assigned_so, event_of_record, settled_behind}
 use Rattle.rel_handler.specs.Events.{Events}
 use Rattle.rel_handler.specs.Image.{IsImageOf}
-use Rattle.rel_session.proofs.ListLemmas.{list_after-push}
 
 -- Assignments keep the releases.
 bundles-assigned : (v : List ℕ) (t : Status) (es : Releases) → bundles_of (list_assigned v t es) ≡ bundles_of es
@@ -92,9 +90,8 @@ events_behind events es (body ∷ bodies) end after still one (r, between, spell
     let (next, permanent) = assigned_so r es between taken in
     events_behind (events ++ more) between bodies end (list_from-append [] events more es between after leads) (settled_behind r es between next still) (inr permanent) rest
 
--- A list that a disk stands for is one behind events, and behind a boot then.
-pub events_of_image : (image : List ℕ) (es : Releases) → IsImageOf image es → booted es ≡ es → (events : Events) × (list_after events ≡ Some es) × (list_after (events ++ booting ∷ []) ≡ Some es)
+-- A list that a disk stands for is one behind events, where it is as records tell it.
+pub events_of_image : (image : List ℕ) (es : Releases) → IsImageOf image es → recorded es ≡ es → (events : Events) × (list_after events ≡ Some es)
 events_of_image image es of still =
     let (events, after) = events_behind [] [] of.bodies (recorded es) refl refl (inl refl) of.list.makes.0 in
-    let before : list_after events ≡ Some es = after ∙ ap (λ l. Some l) (sym (boots_as_recorded es of.list.free) ∙ still) in
-    (events, before, list_after-push events booting es es before (ap (λ l. Some l) still))
+    (events, after ∙ ap (λ l. Some l) still)

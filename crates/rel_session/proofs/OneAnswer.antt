@@ -1,16 +1,16 @@
 -- Where neither the device fails nor memory is refused to a compaction, each command has one answer.
 use Rattle.std.proofs.Common.{◌≡◌, ◌≢◌, ◌⊎◌, inl, inr, ℕ, Bool, true, false, List, [], ◌∷◌, ◌++◌, Option, None, Some, Result, Ok, Err, refl, sym, ap, ◌∙◌, subst}
-use Rattle.std.specs.Option.{option_and_then}
 use Rattle.rel_list.specs.Releases.{Releases, has_one_shot, running as running_release, permanent}
-use Rattle.rel_list.specs.Event.{list_after, step, booted}
+use Rattle.rel_list.specs.Event.{list_after, booted}
 use Rattle.rel_list.specs.Event.{Event}
 use Rattle.rel_list.specs.Event.Event.{made, installed, reboot_old as rebooting, boot as booting}
 use Rattle.rel_handler.specs.declared.error.BootError.{BootError}
 use Rattle.rel_handler.specs.declared.error.BootError.TheVariants as boot_error
 use Rattle.node_command.specs.declared.error.HandlerError.{HandlerError}
-use Rattle.rel_handler.specs.Events.{Events, MayHave, certain}
+use Rattle.rel_handler.specs.Events.{Events, Stored, MayHave, certain}
 use Rattle.rel_handler.specs.Compaction.{compacted}
-use Rattle.rel_handler.specs.Image.{Extent, extent_behind, first_extent, holds_a_store}
+use Rattle.rel_handler.specs.Image.{Extent, booted_extent, extent_behind, first_extent, holds_a_store}
+use Rattle.rel_handler.proofs.BootLists.{extent_of_none}
 use Rattle.node_command.specs.Files.{bundle_brought, made_size}
 use Rattle.node_command.specs.Place.{own_refusal}
 use Rattle.rel_handler.specs.Refusals.{IsBootRefusal}
@@ -28,7 +28,7 @@ use Rattle.node_processes.specs.Calls.{Calls, calls_line, left_by}
 use Rattle.node_processes.specs.Fresh.{fresh}
 use Rattle.node_processes.specs.Processes.{Processes}
 use Rattle.rel_session.specs.LawsBelow.{BootLaws}
-use Rattle.rel_session.specs.Node.{Place, Outcome, Reply, releases_after, list_or_none, behind}
+use Rattle.rel_session.specs.Node.{Place, Outcome, Reply, reply, releases_after, list_or_none, just_booted, done, behind}
 use Rattle.rel_session.specs.Node.Place.{raw, closed, running, dead}
 use Rattle.rel_session.specs.Refusals.{boot_line}
 use Rattle.rel_session.specs.Run.{Replies, Ending}
@@ -49,7 +49,7 @@ use Rattle.relup_exec.specs.Alone as script
 use Rattle.relup_script.specs.Search.{FoundForm}
 use Rattle.rel_session.specs.Installation.{Begins, installed_reply, Installs, Leads, upgrade_outcome}
 use Rattle.rel_handler.specs.Installing.{install_size}
-use Rattle.rel_session.proofs.ListLemmas.{list_after-more, same_list}
+use Rattle.rel_session.proofs.ListLemmas.{list_after-push, same_list}
 
 -- Two places that nothing tells apart: the events of a boot of bytes are any that have the list.
 data Alike : Place → Place → Type 0 where
@@ -104,6 +104,10 @@ as_these a b x y is also same = subst (λ z. Same z b) (sym is) (subst (Same x) 
 failure : {T : Type 0} (a x : Reply) → a ≡ x → x.outcome.failed ≡ true → a.outcome.failed ≡ false → T
 failure a x is failed works = let lost : true ≡ false = sym failed ∙ ap (λ (r : Reply). r.outcome.failed) (sym is) ∙ works in absurd cc
 
+boot_failure : {T : Type 0} (a : Reply) (s : Stored) → Transition.FailsOnStore s a → a.outcome.failed ≡ false → T
+boot_failure a s (inl is) works = failure a _ is refl works
+boot_failure a s (inr (events, extent, has, is)) works = failure a _ is refl works
+
 module _ (a b : Reply) (both : Both a b) where
   -- a commit, where what is committed leaves one reply
   commits : (events others : Events) (extent : Extent) (ps qs : Processes) (e : Event) (size : ℕ) (o : Result Releases HandlerError) (P Q : Extent → Reply → Type 0) → list_after events ≡ list_after others
@@ -156,25 +160,30 @@ module _ (a b : Reply) (both : Both a b) where
   makes p q found (same_lists events others extent ps qs same one) is also = as_these a b _ _ is also (refl, refl, same_lists events others extent ps qs same one)
 
   -- boots of the same list
-  booted_same : (events others : Events) (extent : Extent) → list_after (events ++ booting ∷ []) ≡ list_after (others ++ booting ∷ [])
+  booted_same : (events others : Events) (extent : Extent) → ((l m : Releases) → list_after events ≡ Some l → list_after others ≡ Some m → (booted l ≡ booted m) × (booted_extent extent l ≡ booted_extent extent m))
       → Transition.IsBooted events extent a → Transition.IsBooted others extent b → Same a b
-  booted_same events others extent same (list, after, is) (again, after_too, also) =
-      let one : list ≡ again = let e : Some list ≡ Some again = sym after ∙ same ∙ after_too in cc in
+  booted_same events others extent alike (list, after, is) (again, after_too, also) =
+      let (one, far) = alike list again after after_too in
       let first = events ++ booting ∷ [] in
       let second = others ++ booting ∷ [] in
-      let just_alike = same_lists first second extent (fresh (releases_after first)) (fresh (releases_after second)) same (ap (λ o. fresh (list_or_none o)) same) in
-      as_these a b _ _ is also (ap (λ (l : Releases). Transition.ok_line (Transition.version_of (running_release l))) one, refl, just_alike)
+      let same : list_after first ≡ list_after second = list_after-push events booting list (booted list) after refl ∙ ap (λ l. Some l) one ∙ sym (list_after-push others booting again (booted again) after_too refl) in
+      let just_alike = same_lists first second (booted_extent extent list) (fresh (releases_after first)) (fresh (releases_after second)) same (ap (λ o. fresh (list_or_none o)) same) in
+      as_these a b _ _ is (subst (λ x. b ≡ reply (Transition.ok_line (Transition.version_of (running_release (booted again)))) (done (booting ∷ [])) (just_booted second x)) (sym far) also)
+      (ap (λ (l : Releases). Transition.ok_line (Transition.version_of (running_release l))) one, refl, just_alike)
 
   boots_store : (events others : Events) (extent : Extent) → list_after events ≡ list_after others → Transition.BootsStore (certain events extent) a → Transition.BootsStore (certain others extent) b → Same a b
   boots_store events others extent same (inl (es, n, has, is)) (inl (fs, m, has_too, also)) =
-      booted_same events others extent (same_list events others booting same) (only events extent a es n has is) (only others extent b fs m has_too also)
+      booted_same events others extent alike (only events extent a es n has is) (only others extent b fs m has_too also)
     where
+      alike : (l k : Releases) → list_after events ≡ Some l → list_after others ≡ Some k → (booted l ≡ booted k) × (booted_extent extent l ≡ booted_extent extent k)
+      alike l k after after_too = let one : l ≡ k = let e : Some l ≡ Some k = sym after ∙ same ∙ after_too in cc in (ap booted one, ap (booted_extent extent) one)
+
       only : (events : Events) (extent : Extent) (r : Reply) (es : Events) (n : Extent) → MayHave (certain events extent) es n → Transition.IsBooted es n r → Transition.IsBooted events extent r
       only events extent r es n has is =
           let (here, reaches) = has_only events es extent n has in
           subst (λ l. Transition.IsBooted l extent r) here (subst (λ k. Transition.IsBooted es k r) reaches is)
-  boots_store events others extent same (inl is) (inr also) = failure b _ also refl both.1
-  boots_store events others extent same (inr is) other = failure a _ is refl both.0
+  boots_store events others extent same (inl is) (inr also) = boot_failure b _ also both.1
+  boots_store events others extent same (inr is) other = boot_failure a _ is both.0
 
   -- one list for the bytes, or one line for what is wrong with them
   refusal_line_once : (x : List ℕ) (why other : BootError) → IsBootRefusal x why → IsBootRefusal x other → boot_line why ≡ boot_line other
@@ -194,10 +203,12 @@ module _ (a b : Reply) (both : Both a b) where
 
   boots_bytes : BootLaws → (x : List ℕ) → Transition.BootsBytes x a → Transition.BootsBytes x b → Same a b
   boots_bytes laws x (inl (events, list, extent, after, image, is)) (inl (others, again, stop, after_too, image_too, also)) =
-      let one : booted list ≡ booted again = laws.one x list again image.image_of image_too.image_of in
+      let one = laws.one x list again image.image_of image_too.image_of in
       let there : stop ≡ extent = sym image_too.reaches ∙ image.reaches in
-      booted_same events others extent
-      (list_after-more events booting ∙ ap (option_and_then (step booting)) after ∙ ap (λ l. Some l) one ∙ sym (list_after-more others booting ∙ ap (option_and_then (step booting)) after_too))
+      booted_same events others extent (λ l m l_after m_after.
+      let l_is : list ≡ l = let e : Some list ≡ Some l = sym after ∙ l_after in cc in
+      let m_is : again ≡ m = let e : Some again ≡ Some m = sym after_too ∙ m_after in cc in
+      (ap booted (sym l_is) ∙ one.booted ∙ ap booted m_is, ap (booted_extent extent) (sym l_is) ∙ one.extents extent ∙ ap (booted_extent extent) m_is))
       is (subst (λ n. Transition.IsBooted others n b) there also)
   boots_bytes laws x (inl (events, list, extent, after, image, is)) (inr (inl (why, told, also))) = absurd (laws.never_both x list why image.image_of told)
   boots_bytes laws x (inl is) (inr (inr (torn, also))) = failure b _ also refl both.1
@@ -235,9 +246,11 @@ module _ (a b : Reply) (both : Both a b) where
       rests events x r fine small (s, inl (es, n, has, (list, after, told)), is) =
           let only = has_only (events ++ rebooting vsn ∷ []) es x n has in
           let none : has_one_shot (releases_after es) ≡ false = subst (λ l. has_one_shot (releases_after l) ≡ false) (sym only.0) (none_rebooted events vsn) in
-          let compact : n ≡ compacted n (releases_after (es ++ booting ∷ [])) = subst (λ (t : Reply). IsCompact t.after) told (small_as r _ is small tt) in
+          let free : has_one_shot list ≡ false = ap (λ o. has_one_shot (list_or_none o)) (sym after) ∙ none in
+          let compact : n ≡ compacted n (releases_after (es ++ booting ∷ [])) =
+          subst (λ y. y ≡ compacted y (releases_after (es ++ booting ∷ []))) (extent_of_none n list free) (subst (λ (t : Reply). IsCompact t.after) told (small_as r _ is small tt)) in
           subst (λ l. x ≡ compacted x (releases_after l)) only.0 (subst (λ y. y ≡ compacted y (releases_after es)) only.1 (compact ∙ booted_reach n es none))
-      rests events x r fine small (s, inr fails, is) = failure s _ fails refl (works r s is fine)
+      rests events x r fine small (s, inr fails, is) = boot_failure s _ fails (works r s is fine)
 
   changed : (p q : Place) (c : Transition.Change) → HaveRecord (c.event ∷ []) → Alike p q → Transition.Acts p (changes_node c) a → Transition.Acts q (changes_node c) b → Same a b
   changed p q c has (same_bytes x) is also = as_these a b _ _ is also (refl, refl, same_bytes x)

@@ -1,12 +1,18 @@
 -- What is known of a store, and the prefixes of its events.
-use Rattle.std.proofs.Common.{◌≡◌, ◌⊎◌, inl, inr, ℕ, Bool, true, false, List, [], ◌∷◌, ◌++◌, Option, Some, None, refl, sym, ap, ◌∙◌, subst}
+use Rattle.std.proofs.Common.{◌≡◌, ◌⊎◌, inl, inr, ⊎_elim, ℕ, Bool, true, false, List, [], ◌∷◌, ◌++◌, Option, Some, None, refl, sym, ap, ◌∙◌, subst}
+use Rattle.std.specs.Option.{option_and_then}
 use Rattle.std.specs.Prelude.{is_some, if◌then◌else◌}
 use Rattle.std.proofs.lemmas.List.{append-nil, append_assoc}
 use Rattle.rel_list.specs.Releases.{Releases}
-use Rattle.rel_list.specs.Event.{Event, list_after}
-use Rattle.rel_handler.specs.Events.{Events, Known, settled, with_doubt, accepted, IsPrefix, Stored, certain, uncertain, MayHave, HasStart, IsStoredAs}
+use Rattle.rel_list.specs.Event.{Event, list_after, step}
+use Rattle.rel_list.specs.Event.Event.{boot}
+use Rattle.rel_handler.specs.Events.{Events, Known, settled, with_doubt, accepted, IsPrefix, Stored, certain, uncertain, uncertain_boot, MayHave, HasStart, IsStoredAs}
 use Rattle.rel_handler.specs.Image.{Extent, IsImageAt, IsStarted}
+use Rattle.rel_handler.specs.Moments.{KeepsStore}
+use Rattle.rel_session.specs.Device.{Device, LeavesOnly}
 use Rattle.rel_session.specs.Run.{IsReached}
+use Rattle.rel_session.proofs.DeviceLemmas.{weakened}
+use Rattle.rel_session.proofs.ListLemmas.{list_after-more}
 
 abbrev doubt_of : Option Event → Events
 doubt_of None = []
@@ -93,6 +99,50 @@ reached_with events extent e size c of = by_events _ of.has
       image_of = of.image_of;
       start = subst (λ l. HasStart l c) is of.start;
     }
+
+-- the events in front of a boot have a list
+list_before : (events : Events) (end : Releases) → list_after (events ++ boot ∷ []) ≡ Some end → (list : Releases) × (list_after events ≡ Some list)
+list_before events end after = go (list_after events) refl (sym (list_after-more events boot) ∙ after)
+  where
+    go : (o : Option Releases) → list_after events ≡ o → option_and_then (step boot) o ≡ Some end → (list : Releases) × (list_after events ≡ Some list)
+    go None is never = cc never
+    go (Some list) is after_boot = (list, is)
+
+-- what is reached where a boot is in doubt
+reached_with_boot : (s : Stored) (events : Events) (extent : Extent) → MayHave s events extent → (c : List ℕ) → IsStoredAs (uncertain_boot events extent) c → IsReached s.known (boot ∷ []) c
+reached_with_boot s events extent has c of = by_events _ of.has
+  where
+    by_events : (n : Extent) → MayHave (uncertain_boot events extent) of.events n → IsReached s.known (boot ∷ []) c
+    by_events n (inl (is, at)) = record {
+      events = events;
+      prefix = prefix_of s events extent of.list has (ap list_after (sym is) ∙ of.after);
+      more = [];
+      left = boot ∷ [];
+      begins = refl;
+      list = of.list;
+      after = ap list_after (append-nil events ∙ sym is) ∙ of.after;
+      image_of = of.image_of;
+      start = subst (λ l. HasStart l c) (is ∙ sym (append-nil events)) of.start;
+    }
+    by_events n (inr (is, at)) =
+        let (list, before) = list_before events of.list (ap list_after (sym is) ∙ of.after) in
+        record {
+          events = events;
+          prefix = prefix_of s events extent list has before;
+          more = boot ∷ [];
+          left = [];
+          begins = refl;
+          list = of.list;
+          after = ap list_after (sym is) ∙ of.after;
+          image_of = of.image_of;
+          start = subst (λ l. HasStart l c) is of.start;
+        }
+
+-- So it is at each moment of a boot of a store.
+pub reached_booting : {D : Type 0} (v : Device D) (s : Stored) (old new : D) → KeepsStore v s old new → LeavesOnly v old new (IsReached s.known (boot ∷ []))
+reached_booting v s old new (inl all) = weakened v old new (IsStoredAs s) _ (reached s (boot ∷ [])) all
+reached_booting v s old new (inr k) =
+    weakened v old new _ _ (λ c. ⊎_elim (reached s (boot ∷ []) c) (reached_with_boot s k.events k.extent k.has c)) k.any_moment
 
 nothing_behind : (l more : Events) → l ≡ l ++ more → more ≡ []
 nothing_behind [] more is = sym is

@@ -3,7 +3,7 @@ use Rattle.std.proofs.Common.{◌≡◌, inl, inr, ℕ, Bool, true, false, List,
 use Rattle.std.specs.List.{AllByRecursion}
 use Rattle.library.specs.Library.{IsLibrary}
 use Rattle.rel_list.specs.Releases.{Bundle, Releases}
-use Rattle.rel_list.specs.Event.{Event, list_after, entry}
+use Rattle.rel_list.specs.Event.{Event, booted, list_after, entry}
 use Rattle.rel_list.specs.declared.status.Status.TheVariants.{Permanent}
 use Rattle.rel_list.specs.Event.Event.{reboot_old as rebooting, boot as booting}
 use Rattle.rel_records.proofs.CompletionLemmas.{of_applications}
@@ -31,6 +31,7 @@ use Rattle.node_processes.specs.ModuleVersions.{HaveModuleVersions}
 use Rattle.node_processes.proofs.ModuleVersions.{AreWithLibraries, fresh_versions, left_versions, script_versions}
 use Rattle.node_upgrade.specs.Upgrade.{site_for, upgrade_to}
 use Rattle.rel_session.proofs.InstallationLemmas.{each_reply}
+use Rattle.rel_session.proofs.ListLemmas.{list_after-push}
 use Rattle.rel_session.proofs.Versions.{OfList, of_image, list_versions, listed_versions, stored_versions, certain_versions}
 
 -- the place behind a reply has such versions
@@ -49,11 +50,14 @@ booted_versions : (events : Events) (list : Releases) → list_after events ≡ 
 booted_versions events list after have = subst (λ o. HaveModuleVersions (fresh (list_or_none o))) (sym after) (fresh_versions list have)
 
 boots_to : (events : Events) (extent : Extent) → OfList events → (a : Reply) → Transition.IsBooted events extent a → KeepsVersions a
-boots_to events extent all a (list, after, is) = versions_as a _ is (booted_versions (events ++ booting ∷ []) list after (libraries_of list (list_versions events booting tt all list after)))
+boots_to events extent all a (list, after, is) =
+    let grown = list_after-push events booting list (booted list) after refl in
+    versions_as a _ is (booted_versions (events ++ booting ∷ []) (booted list) grown (libraries_of (booted list) (list_versions events booting tt all (booted list) grown)))
 
 boots_store : (s : Stored) → HasVersionsAt (closed s) → (a : Reply) → Transition.BootsStore s a → KeepsVersions a
 boots_store s all a (inl (events, extent, has, is)) = boots_to events extent (stored_versions s all events extent has) a is
-boots_store s all a (inr is) = versions_as a _ is tt
+boots_store s all a (inr (inl is)) = versions_as a _ is tt
+boots_store s all a (inr (inr (events, extent, has, is))) = versions_as a _ is tt
 
 boots : (p : Place) → HasVersionsAt p → (a : Reply) → Transition.Boots p a → KeepsVersions a
 boots (raw x) all a (inl (events, list, extent, after, image, is)) =

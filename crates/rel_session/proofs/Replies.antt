@@ -1,19 +1,21 @@
 -- What each command replies, wherever the disk stands, as the handler's clauses give it.
-use Rattle.std.proofs.Common.{◌≡◌, ◌≢◌, ◌⊎◌, inl, inr, ⊎_elim, ℕ, ◌≤◌, Bool, true, false, List, [], ◌∷◌, ◌++◌, Some, None, Result, Ok, Err, refl, sym, ap, ◌∙◌, subst, arith}
+use Rattle.std.proofs.Common.{◌≡◌, ◌≢◌, ◌⊎◌, inl, inr, ⊎_elim, ℕ, ◌≤◌, true, false, List, [], ◌∷◌, ◌++◌, Some, Result, Ok, Err, refl, sym, ap, ◌∙◌, subst, arith}
 use Rattle.std.specs.Result.{IsErrAnd}
 use Rattle.std.specs.Prelude.{IfOk, IsErr, String, string_bytes, MatchResult}
 use Rattle.std.specs.declared.alloc.Global.{Global}
 use Rattle.std.specs.declared.alloc.AllocError.{AllocError}
 use Rattle.rel_list.specs.Releases.{Releases, running as running_release}
-use Rattle.rel_list.specs.Event.{list_after, booted}
+use Rattle.rel_list.specs.Event.{list_after, booted, recorded}
 use Rattle.rel_list.specs.Event.Event.{boot as booting}
 use Rattle.node_command.specs.declared.error.HandlerError.{HandlerError}
 use Rattle.node_command.specs.declared.error.HandlerError.TheVariants as handler_error
 use Rattle.rel_handler.specs.declared.error.BootError.{BootError}
 use Rattle.rel_handler.specs.declared.error.BootError.TheVariants as boot_error
 use Rattle.rel_handler.specs.declared.handler.Handler.{Handler}
-use Rattle.rel_handler.specs.Events.{Events, Stored, MayHave, certain, StartsBehind, IsStoredAs}
-use Rattle.rel_handler.specs.Image.{Extent, IsImageAt, IsImageOf, IsRepairOf}
+use Rattle.rel_handler.specs.Booting.{IsBootOf}
+use Rattle.rel_handler.specs.Events.{Events, Stored, certain, uncertain_boot, StartsBehind, IsStoredAs}
+use Rattle.rel_handler.specs.Moments.{KeepsStore}
+use Rattle.rel_handler.specs.Image.{Extent, booted_extent, extent_of, IsImageAt, IsImageOf, IsLeftByBoot}
 use Rattle.rel_handler.specs.Refusals.{BootRefused, IsBootRefusal}
 use Rattle.rel_handler.specs.State.{disk_in, list_in, is_dead, extent_in, HasStarted, IsSame}
 use Rattle.node_processes.specs.Answers.{processes_line, modules_line, peek_line}
@@ -30,7 +32,7 @@ use Rattle.session_input.specs.Commands.Command.{file, create, set_unpacked, che
 use Rattle.rel_session.specs.Device.{Device, LeavesOnly, HasFailed}
 use Rattle.rel_unpack.specs.Source.{Source}
 use Rattle.rel_session.specs.InMemory.{disk_at, IsAt, Replied, Leads, NothingDone, Answers, TellsReply, TellsOrStops, AnswersOrStops, IsStarted, NeedsNode}
-use Rattle.rel_session.specs.Node.{Place, just_booted, at_rest, list_or_none, Reply, reply, refused, failed, nothing, done, failed_with}
+use Rattle.rel_session.specs.Node.{Place, just_booted, at_rest, list_or_none, Outcome, Reply, reply, refused, failed, nothing, done, failed_with}
 use Rattle.rel_session.specs.Node.Place.{raw, closed, running, dead}
 use Rattle.rel_session.specs.Refusals.{refusal_of, refusal_line, boot_line}
 use Rattle.rel_session.specs.Refusals.Refusal.{dead as dead_node}
@@ -41,7 +43,7 @@ use Rattle.rel_session.specs.Transition.StopsWithin.{without_its_node}
 use Rattle.rel_session.proofs.DeviceLemmas.{IsDevice, weakened, still}
 use Rattle.rel_session.proofs.Histories.{events_of_image}
 use Rattle.rel_session.proofs.ListLemmas.{list_after-push}
-use Rattle.rel_session.proofs.Prefixes.{reached, stored}
+use Rattle.rel_session.proofs.Prefixes.{reached, reached_booting, stored}
 
 -- what an error became is the refusal
 pub told_so : (r : Result (String Global) HandlerError) (why : HandlerError) → IsErrAnd r (λ e. e ≡ why) → r ≡ Err why
@@ -220,22 +222,27 @@ module _ {D : Type 0} (v : Device D) (laws : IsDevice v) where
 
   -- a boot that is done
   module _ (old : PlaceInMemory D) (disk : D) (taken : disk ≡ disk_at old) (h : Handler D) (alive : is_dead h ≡ false)
-      (image : IsImageAt (v.seen disk) (list_in h) (extent_in h)) (again : booted (list_in h) ≡ list_in h)
+      (image : (es : Releases) × IsImageOf (v.seen disk) es × (recorded es ≡ es))
       (images : (c : List ℕ) → v.may_leave (disk_in h) c → IsImageAt c (list_in h) (extent_in h)) (started : HasStarted v.may_leave h)
-      (only : (es : Releases) → IsImageOf (v.seen disk) es → list_in h ≡ booted es)
-      (leaves : LeavesOnly v disk (disk_in h) (λ c. v.may_leave disk c ⊎ IsRepairOf (v.seen disk) c))
-      (stored_all : (s : Stored) → ((c : List ℕ) → v.may_leave disk c → IsStoredAs s c) → LeavesOnly v disk (disk_in h) (IsStoredAs s)) (counted : v.failures disk ≤ v.failures (disk_in h)) where
+      (only : (es : Releases) → IsImageOf (v.seen disk) es → IsBootOf (v.seen disk) es h)
+      (leaves : LeavesOnly v disk (disk_in h) (λ c. v.may_leave disk c ⊎ IsLeftByBoot (v.seen disk) c))
+      (stored_all : (s : Stored) → ((c : List ℕ) → v.may_leave disk c → IsStoredAs s c) → KeepsStore v s disk (disk_in h)) (counted : v.failures disk ≤ v.failures (disk_in h)) where
     abbrev version_line : List ℕ
     version_line = Transition.ok_line (Transition.version_of (running_release (list_in h)))
 
     -- with these events
-    boots_with : (p : Place) (events : Events) (extent : Extent) → extent_in h ≡ extent → list_after (events ++ booting ∷ []) ≡ Some (list_in h) → Moments v p (done (booting ∷ [])) disk (disk_in h)
+    boots_with : (p : Place) (events : Events) (extent : Extent) (list : Releases) → list_after events ≡ Some list → list_in h ≡ booted list → extent_in h ≡ booted_extent extent list → Moments v p (done (booting ∷ [])) disk (disk_in h)
         → (P : Reply → Type 0) → ((a : Reply) → Transition.IsBooted events extent a → P a) → HasBooted p (λ a. P a × (a.answer ≡ version_line)) old h
-    boots_with p events extent at after moments P right =
-        let place = booted_at h (events ++ booting ∷ []) extent alive after at images started in
+    boots_with p events extent list after is ends moments P right =
+        let then : list_after (events ++ booting ∷ []) ≡ Some (list_in h) = list_after-push events booting list (booted list) after refl ∙ ap (λ l. Some l) (sym is) in
+        let place = booted_at h (events ++ booting ∷ []) (booted_extent extent list) alive then ends images started in
         record {
-          given = reply version_line (done (booting ∷ [])) (just_booted (events ++ booting ∷ []) extent);
-          right = (right _ (list_in h, after, refl), refl);
+          given = reply version_line (done (booting ∷ [])) (just_booted (events ++ booting ∷ []) (booted_extent extent list));
+          right = (
+            right _
+                (list, after, ap (λ (l : Releases). reply (Transition.ok_line (Transition.version_of (running_release l))) (done (booting ∷ [])) (just_booted (events ++ booting ∷ []) (booted_extent extent list))) is),
+            refl,
+          );
           at = place.1;
           happens = record {
             moments = subst (λ d. Moments v p (done (booting ∷ [])) d (disk_in h)) taken moments;
@@ -249,15 +256,18 @@ module _ {D : Type 0} (v : Device D) (laws : IsDevice v) where
         → HasBooted p (λ a. Transition.BootsStore s a × (a.answer ≡ version_line)) old h
     boots_store p s here moments =
         let of = here (v.seen disk) (laws.reads_an_image disk) in
-        boots_with p of.events (extent_in h) refl
-        (list_after-push of.events booting of.list (booted of.list) of.after refl ∙ ap (λ l. Some l) (sym (only of.list of.image_of)))
-        (moments (weakened v disk (disk_in h) (IsStoredAs s) _ (reached s (booting ∷ [])) (stored_all s here))) (Transition.BootsStore s) (λ a is. inl (of.events, extent_in h, subst (MayHave s of.events) image.reaches of.has, is))
+        let is = only of.list of.image_of in
+        boots_with p of.events (extent_of (v.seen disk)) of.list of.after is.list is.extent
+        (moments (reached_booting v s disk (disk_in h) (stored_all s here))) (Transition.BootsStore s) (λ a is. inl (of.events, extent_of (v.seen disk), of.has, is))
 
     boots_at : (p : Place) → Holds v p disk → HasBooted p (λ a. Transition.Boots p a × (a.answer ≡ version_line)) old h
     boots_at (raw bytes) here =
-        let (events, before, after) = events_of_image (v.seen disk) (list_in h) image.image_of again in
-        boots_with (raw bytes) events (extent_in h) refl after leaves (Transition.Boots (raw bytes))
-        (λ a is. inl (events, list_in h, extent_in h, before, subst (λ b. IsImageAt b (list_in h) (extent_in h)) here image, is))
+        let (es, image_of, still) = image in
+        let (events, before) = events_of_image (v.seen disk) es image_of still in
+        let is = only es image_of in
+        let at : IsImageAt (v.seen disk) es (extent_of (v.seen disk)) = record { image_of = image_of; reaches = refl } in
+        boots_with (raw bytes) events (extent_of (v.seen disk)) es before is.list is.extent leaves (Transition.Boots (raw bytes))
+        (λ a is. inl (events, es, extent_of (v.seen disk), before, subst (λ b. IsImageAt b es (extent_of (v.seen disk))) here at, is))
     boots_at (closed s) here = boots_store (closed s) s here (λ m. m)
     boots_at (running events extent ps) here = boots_store (running events extent ps) (certain events extent) (λ c now. (here c now).0) (λ m. m)
     boots_at (dead s) here = boots_store (dead s) s here (λ m. m)
@@ -270,20 +280,16 @@ module _ {D : Type 0} (v : Device D) (laws : IsDevice v) where
   IsQuiet old new = (v.seen new ≡ v.seen old) × LeavesOnly v old new (v.may_leave old)
 
   -- a boot that is refused
-  module _ (old : PlaceInMemory D) (disk new : D) (taken : disk ≡ disk_at old) (leaves : LeavesOnly v disk new (λ c. v.may_leave disk c ⊎ IsRepairOf (v.seen disk) c))
-      (stored_all : (s : Stored) → ((c : List ℕ) → v.may_leave disk c → IsStoredAs s c) → LeavesOnly v disk new (IsStoredAs s)) (counted : v.failures disk ≤ v.failures new) where
-    -- the disk stands where it stood
-    rests_on : (s : Stored) → ((c : List ℕ) → v.may_leave disk c → IsStoredAs s c) → IsAt v (memory.Idle new) (closed s)
-    rests_on s here c now = let all = stored_all s here in all.each c (laws.counts_now new (v.moment disk) c all.later now)
-
-    refused_at : (p q : Place) (answer : List ℕ) (b : Bool) (P : Reply → Type 0) → Moments v p (record { acknowledged = []; in_doubt = None; failed = b }) disk new → IsAt v (memory.Idle new) q → (b ≡ true → HasFailed v disk new)
-        → P (reply answer (record { acknowledged = []; in_doubt = None; failed = b }) q) → Replied v p (λ a. P a × (a.answer ≡ answer)) old (memory.Idle new)
-    refused_at p q answer b P moments then cause right = record {
-      given = reply answer (record { acknowledged = []; in_doubt = None; failed = b }) q;
+  module _ (old : PlaceInMemory D) (disk new : D) (taken : disk ≡ disk_at old) (leaves : LeavesOnly v disk new (λ c. v.may_leave disk c ⊎ IsLeftByBoot (v.seen disk) c))
+      (stored_all : (s : Stored) → ((c : List ℕ) → v.may_leave disk c → IsStoredAs s c) → KeepsStore v s disk new) (counted : v.failures disk ≤ v.failures new) where
+    refused_at : (p q : Place) (answer : List ℕ) (o : Outcome) (P : Reply → Type 0) → Moments v p o disk new → IsAt v (memory.Idle new) q → (o.failed ≡ true → HasFailed v disk new)
+        → P (reply answer o q) → Replied v p (λ a. P a × (a.answer ≡ answer)) old (memory.Idle new)
+    refused_at p q answer o P moments then cause right = record {
+      given = reply answer o q;
       right = (right, refl);
       at = then;
       happens = record {
-        moments = subst (λ d. Moments v p (record { acknowledged = []; in_doubt = None; failed = b }) d new) taken moments;
+        moments = subst (λ d. Moments v p o d new) taken moments;
         holds = held (memory.Idle new) q then;
         cause = λ e. subst (λ d. HasFailed v d new) taken (cause e);
         counted = subst (λ d. v.failures d ≤ v.failures new) taken counted;
@@ -293,27 +299,35 @@ module _ {D : Type 0} (v : Device D) (laws : IsDevice v) where
     module _ (why : BootError) (is : BootRefused (v.seen disk) (v.failures disk) (v.failures new) why) (read : (why ≢ boot_error.Device) → IsQuiet disk new)
         (only : (es : Releases) → IsImageOf (v.seen disk) es → (why ≡ boot_error.Device) ⊎ (why ≡ boot_error.NoMemory)) (known : why ≢ boot_error.NoMemory) where
       -- on a store nothing but the device refuses
-      by_store : (p : Place) (s : Stored) → ((c : List ℕ) → v.may_leave disk c → IsStoredAs s c) → (LeavesOnly v disk new (IsReached s.known []) → Moments v p (failed_with None) disk new) → Replied v p (λ a. Transition.BootsStore s a × (a.answer ≡ boot_line why)) old (memory.Idle new)
+      by_store : (p : Place) (s : Stored) → ((c : List ℕ) → v.may_leave disk c → IsStoredAs s c) → (LeavesOnly v disk new (IsReached s.known (booting ∷ [])) → Moments v p (failed_with (Some booting)) disk new)
+          → Replied v p (λ a. Transition.BootsStore s a × (a.answer ≡ boot_line why)) old (memory.Idle new)
       by_store p s here moments = go (only (here (v.seen disk) (laws.reads_an_image disk)).list (here (v.seen disk) (laws.reads_an_image disk)).image_of)
         where
+          failed_to : (q : Place) → why ≡ boot_error.Device → IsAt v (memory.Idle new) q → Transition.FailsOnStore s (Transition.boot_failed q) → Replied v p (λ a. Transition.BootsStore s a × (a.answer ≡ boot_line why)) old (memory.Idle new)
+          failed_to q failed then fails =
+              refused_at p q (boot_line why) (failed_with (Some booting)) (Transition.BootsStore s) (moments (reached_booting v s disk new (stored_all s here))) then (λ e. subst (BootRefused (v.seen disk) (v.failures disk) (v.failures new)) failed is)
+              (subst (λ w. Transition.BootsStore s (reply (boot_line w) (failed_with (Some booting)) q)) (sym failed) (inr fails))
+
+          fails_so : why ≡ boot_error.Device → KeepsStore v s disk new → Replied v p (λ a. Transition.BootsStore s a × (a.answer ≡ boot_line why)) old (memory.Idle new)
+          fails_so failed (inl all) = failed_to (closed s) failed (λ c now. all.each c (laws.counts_now new (v.moment disk) c all.later now)) (inl refl)
+          fails_so failed (inr k) = failed_to (closed (uncertain_boot k.events k.extent)) failed k.now (inr (k.events, k.extent, k.has, refl))
+
           go : (why ≡ boot_error.Device) ⊎ (why ≡ boot_error.NoMemory) → Replied v p (λ a. Transition.BootsStore s a × (a.answer ≡ boot_line why)) old (memory.Idle new)
-          go (inl failed) = refused_at p (closed s) (boot_line why) true (Transition.BootsStore s) (moments (weakened v disk new (IsStoredAs s) _ (reached s []) (stored_all s here))) (rests_on s here)
-              (λ e. subst (BootRefused (v.seen disk) (v.failures disk) (v.failures new)) failed is)
-              (inr (ap (λ w. reply (boot_line w) (failed_with None) (closed s)) failed))
+          go (inl failed) = fails_so failed (stored_all s here)
           go (inr memory) = absurd (known memory)
 
       by_bytes : (bytes : List ℕ) → v.seen disk ≡ bytes → Replied v (raw bytes) (λ a. Transition.BootsBytes bytes a × (a.answer ≡ boot_line why)) old (memory.Idle new)
       by_bytes bytes here = go why refl is
         where
           plainly : (w : BootError) → why ≡ w → w ≢ boot_error.Device → IsBootRefusal (v.seen disk) w → Replied v (raw bytes) (λ a. Transition.BootsBytes bytes a × (a.answer ≡ boot_line why)) old (memory.Idle new)
-          plainly w e other told = refused_at (raw bytes) (raw bytes) (boot_line why) false (Transition.BootsBytes bytes) (read (λ d. other (sym e ∙ d))).1 ((read (λ d. other (sym e ∙ d))).0 ∙ here) (λ f. never f)
+          plainly w e other told = refused_at (raw bytes) (raw bytes) (boot_line why) nothing (Transition.BootsBytes bytes) (read (λ d. other (sym e ∙ d))).1 ((read (λ d. other (sym e ∙ d))).0 ∙ here) (λ f. never f)
               (inr (inl (why, subst (λ b. IsBootRefusal b why) here (subst (IsBootRefusal (v.seen disk)) (sym e) told), refl)))
 
           go : (w : BootError) → why ≡ w → BootRefused (v.seen disk) (v.failures disk) (v.failures new) w → Replied v (raw bytes) (λ a. Transition.BootsBytes bytes a × (a.answer ≡ boot_line why)) old (memory.Idle new)
           go boot_error.NotAStore e told = plainly boot_error.NotAStore e (λ f. cc f) told
           go (boot_error.Damaged at) e told = plainly (boot_error.Damaged at) e (λ f. cc f) told
-          go boot_error.Device e told = refused_at (raw bytes) (raw (v.seen new)) (boot_line why) true (Transition.BootsBytes bytes) leaves refl (λ f. told)
-              (inr (inr (v.seen new, ap (λ w. reply (boot_line w) (failed_with None) (raw (v.seen new))) e)))
+          go boot_error.Device e told = refused_at (raw bytes) (raw (v.seen new)) (boot_line why) (failed_with (Some booting)) (Transition.BootsBytes bytes) leaves refl (λ f. told)
+              (inr (inr (v.seen new, ap (λ w. reply (boot_line w) (failed_with (Some booting)) (raw (v.seen new))) e)))
           go boot_error.NoMemory e told = absurd (known e)
           go (boot_error.BadRecord i) e told = plainly (boot_error.BadRecord i) e (λ f. cc f) told
 

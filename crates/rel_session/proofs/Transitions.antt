@@ -2,9 +2,9 @@
 use Rattle.std.proofs.Common.{◌≡◌, ◌≢◌, ◌⊎◌, inl, inr, ⊎_elim, ℕ, Bool, true, false, List, [], ◌∷◌, ◌++◌, Option, None, Some, Result, Ok, Err, refl, sym, ap, ◌∙◌, subst, append-nil, append_assoc}
 use Rattle.rel_list.specs.Releases.{Releases}
 use Rattle.rel_list.specs.Event.{Event}
-use Rattle.rel_list.specs.Event.Event.{reboot_old as rebooting}
+use Rattle.rel_list.specs.Event.Event.{reboot_old as rebooting, boot as booting}
 use Rattle.node_command.specs.declared.error.HandlerError.{HandlerError}
-use Rattle.rel_handler.specs.Events.{Events, Stored, MayHave, certain}
+use Rattle.rel_handler.specs.Events.{Events, Stored, MayHave, certain, uncertain_boot}
 use Rattle.rel_handler.specs.Image.{Extent, holds_a_store}
 use Rattle.node_command.specs.Files.{bundle_brought, made_size}
 use Rattle.node_command.specs.Place.{own_refusal}
@@ -99,7 +99,8 @@ may_have s events extent (inr (is, at)) = inr is
 
 boots_store : (p : Place) (s : Stored) (a : Reply) → ((events : Events) (extent : Extent) → MayHave s events extent → Finds p events) → Finds p s.known.acknowledged → Transition.BootsStore s a → Keeps p a
 boots_store p s a finds here (inl (events, extent, has, is)) = booted p events extent a (finds events extent has) is
-boots_store p s a finds here (inr is) = failed_as s _ None p a here is
+boots_store p s a finds here (inr (inl is)) = failed_as s _ (Some booting) p a here is
+boots_store p s a finds here (inr (inr (events, extent, has, is))) = failed_as (uncertain_boot events extent) _ (Some booting) p a (finds events extent has) is
 
 -- behind an event that was committed
 keeps_behind : (events : Events) (extent : Extent) (ps : Processes) (then : Extent) (e : Event) (b : Reply) → Keeps (closed (certain (events ++ e ∷ []) then)) b → Keeps (running events extent ps) (behind e b)
@@ -117,7 +118,7 @@ reboots events extent ps vsn l o =
 boots : (p : Place) (a : Reply) → Transition.Boots p a → Keeps p a
 boots (raw bytes) a (inl (events, list, extent, after, image, is)) = booted (raw bytes) events extent a (inr (list, after, image.image_of)) is
 boots (raw bytes) a (inr (inl (why, told, is))) = still_as (raw bytes) _ a is
-boots (raw bytes) a (inr (inr (torn, is))) = torn_as bytes torn _ None a is
+boots (raw bytes) a (inr (inr (torn, is))) = torn_as bytes torn _ (Some booting) a is
 boots (closed s) a is = boots_store (closed s) s a (may_have s) (inl refl) is
 boots (running events extent ps) a is = boots_store (running events extent ps) (certain events extent) a (λ es n has. ⊎_elim (λ e. e) (λ e. e) (may_have (certain events extent) es n has)) refl is
 boots (dead s) a is = boots_store (dead s) s a (may_have s) (inl refl) is

@@ -25,7 +25,7 @@ use Rattle.rel_handler.proofs.Commits.{have_versions}
 use Rattle.rel_handler.proofs.RepairLemmas.{permanent_versions}
 use Rattle.node_command.specs.declared.error.HandlerError.{HandlerError}
 use Rattle.node_command.specs.declared.error.HandlerError.TheVariants as handler_error
-use Rattle.rel_handler.specs.Events.{Events, Stored, MayHave, certain, uncertain}
+use Rattle.rel_handler.specs.Events.{Events, Stored, MayHave, certain, uncertain, uncertain_boot}
 use Rattle.rel_handler.specs.Image.{Extent, holds_a_store, IsImageOf}
 use Rattle.node_processes.specs.Processes.{Processes}
 use Rattle.node_command.specs.Taking.{commanded}
@@ -41,7 +41,7 @@ use Rattle.rel_session.specs.AnswerLaws.{HasLinePath, IsOfFiles, AreOfFiles, Has
 use Rattle.rel_session.specs.Transition
 use Rattle.rel_session.specs.Transition.Action.{answers, makes_node, changes_node, installs, reboots_node, boots_node, tells_start, calls}
 use Rattle.rel_session.proofs.ActionLemmas.{OfEvent, TellsFilesLine, IsGoodAction, good_action}
-use Rattle.rel_session.proofs.ListLemmas.{list_after-more}
+use Rattle.rel_session.proofs.ListLemmas.{list_after-more, list_after-push}
 use Rattle.rel_session.proofs.ProcessLines.{calls_whole}
 use Rattle.rel_session.proofs.Transitions.{may_have}
 use Rattle.rel_session.proofs.AnswerLines.{IsWhole, ok_whole, done_whole, installed_whole, listed_whole, refusal_whole, boot_line_whole}
@@ -198,11 +198,18 @@ makes (dead s) found good all a is = good_as a _ is ((λ behind. refl), all)
 boots_to : (events : Events) (extent : Extent) → OfList events → (a : Reply) → Transition.IsBooted events extent a → IsGood a
 boots_to events extent all a (list, after, is) =
     let behind = list_versions events booting tt all in
-    good_as a _ is (ok_whole (Transition.version_of (running_release list)) (running_version list (behind list after)), behind)
+    let grown = list_after-push events booting list (booted list) after refl in
+    good_as a _ is (ok_whole (Transition.version_of (running_release (booted list))) (running_version (booted list) (behind (booted list) grown)), behind)
+
+-- a store whose boot is in doubt
+uncertain_boot_versions : (events : Events) (extent : Extent) → OfList events → HasVersionsAt (closed (uncertain_boot events extent))
+uncertain_boot_versions events extent all es l (inl same) after = all l (ap list_after (sym same) ∙ after)
+uncertain_boot_versions events extent all es l (inr same) after = list_versions events booting tt all l (ap list_after (sym same) ∙ after)
 
 boots_store : (s : Stored) → HasVersionsAt (closed s) → (a : Reply) → Transition.BootsStore s a → IsGood a
 boots_store s all a (inl (events, extent, has, is)) = boots_to events extent (stored_versions s all events extent has) a is
-boots_store s all a (inr is) = good_as a _ is ((λ behind. refl), all)
+boots_store s all a (inr (inl is)) = good_as a _ is ((λ behind. refl), all)
+boots_store s all a (inr (inr (events, extent, has, is))) = good_as a _ is ((λ behind. refl), uncertain_boot_versions events extent (stored_versions s all events extent has))
 
 -- a store with nothing in doubt
 pub certain_versions : (events : Events) (extent : Extent) → OfList events → HasVersionsAt (closed (certain events extent))

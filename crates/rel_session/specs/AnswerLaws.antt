@@ -1,5 +1,5 @@
 -- What is so of the answers of whole sessions.
-use Rattle.std.specs.Prelude.{◌≡◌, ◌≢◌, true, ℕ, List, [], ◌∷◌, None, Some}
+use Rattle.std.specs.Prelude.{◌≡◌, ◌≢◌, ◌⊎◌, true, ℕ, List, [], ◌∷◌, None, Some}
 use Rattle.std.specs.List.{AllByRecursion}
 use Rattle.erl_term.specs.Lines.{is_one_line}
 use Rattle.rel_files.specs.File.{HasVersions}
@@ -9,6 +9,7 @@ use Rattle.rel_list.specs.Event.{Event, list_after}
 use Rattle.rel_list.specs.Event.Event.{boot as booting}
 use Rattle.node_processes.specs.ModuleVersions.{HaveModuleVersions}
 use Rattle.rel_handler.specs.Compaction.{compacted}
+use Rattle.rel_handler.specs.declared.error.BootError.TheVariants as boot_error
 use Rattle.rel_handler.specs.Events.{Events, certain}
 use Rattle.session_input.specs.Commands.{Command}
 use Rattle.session_input.specs.Commands.Command.{create, set_unpacked, relup}
@@ -20,7 +21,7 @@ use Rattle.rel_unpack.specs.Source.{Source, GivesOne, GivesEach}
 use Rattle.rel_session.specs.Files.{Files}
 use Rattle.rel_session.specs.Node.{Place, Reply, releases_after}
 use Rattle.rel_session.specs.Node.Place.{raw, closed, running, dead}
-use Rattle.rel_session.specs.Refusals.{refusal_line}
+use Rattle.rel_session.specs.Refusals.{boot_line, refusal_line}
 use Rattle.rel_session.specs.Refusals.Refusal.{device}
 use Rattle.rel_session.specs.Run.{Starts, Holds, Executes, Replies, Ending, answers_of, commands_in, IsRun}
 use Rattle.rel_session.specs.Run.Ending.{early}
@@ -39,12 +40,16 @@ FailsOnlyWithTheDevice {D} v base =
     → Replies base files p commands ending replies → Executes v p replies old new → (HasFailed v old new → ⊥)
     → NoneFails replies × NoneInDoubt replies
 
+-- that the device failed, in a command or in a boot
+abbrev pub TellsFailure : List ℕ → Type 0
+TellsFailure answer = (answer ≡ refusal_line device) ⊎ (answer ≡ boot_line boot_error.Device)
+
 -- The answer of a reply with an event in doubt tells that the device failed.
 abbrev pub TellsDoubt : Source → Type 0
 TellsDoubt source =
     (p : Place) (c : Command) (a : Reply) (e : Event)
     → Transition source p c a → a.outcome.in_doubt ≡ Some e
-    → (a.outcome.failed ≡ true) × (a.answer ≡ refusal_line device)
+    → (a.outcome.failed ≡ true) × TellsFailure a.answer
 
 -- A device that does not fail leaves no choice there: bytes, or a store with nothing in doubt.
 abbrev pub IsCertain : Place → Type 0
@@ -58,7 +63,7 @@ abbrev pub IsCompact : Place → Type 0
 IsCompact (running events extent ps) = extent ≡ compacted extent (releases_after events)
 IsCompact p = Unit {0}
 
--- one of these events has a record
+-- one of these events has a record behind which a long store is compacted: each has but a boot
 abbrev pub HaveRecord : Events → Type 0
 HaveRecord [] = ⊥
 HaveRecord (booting ∷ events) = HaveRecord events

@@ -4,7 +4,7 @@ use Rattle.rel_list.specs.Releases.{Releases}
 use Rattle.rel_list.specs.Event.{Event, list_after}
 use Rattle.rel_list.specs.Event.Event.{made}
 use Rattle.rel_handler.specs.Events.{Known, Events, settled, IsPrefix, with_doubt, StartsBehind, HasStart, IsStoredAs, certain}
-use Rattle.rel_handler.specs.Image.{IsImageOf, IsRepairOf}
+use Rattle.rel_handler.specs.Image.{IsImageOf, IsLeftByBoot}
 use Rattle.rel_handler.specs.Moments.{Begins, BeginsAt}
 use Rattle.rel_handler.specs.Events.{doubted}
 use Rattle.session_input.specs.Commands.{Command, commands_of}
@@ -53,15 +53,15 @@ pub record IsReached (k : Known) (command : Events) (image : List ℕ) : Type 0 
   pub start : HasStart (events ++ more) image
 
 -- At each moment of a command on a disk on which no node is known: a creation has this from its first sync on, and one in
--- doubt if there was such a sync. A boot that is done or that the device failed leaves nothing new but the start record;
--- any other command nothing at all.
+-- doubt if there was such a sync. A boot that is done or that the device failed leaves nothing new but what it has written; any
+-- other command nothing at all.
 abbrev pub MomentsOf : {D : Type 0} → Device D → Events → Option Event → Bool → D → D → Type 0
 MomentsOf {D} v (made p ∷ more) doubt failed old new =
     (at : D) × BeginsAt v.seen v.may_leave v.moment v.left_since (doubted [] (made p)) old new at
 MomentsOf v [] (Some (made p)) failed old new =
     Begins v.seen v.may_leave v.moment v.left_since (doubted [] (made p)) old new
 MomentsOf v [] None false old new = LeavesOnly v old new (v.may_leave old)
-MomentsOf v acknowledged doubt failed old new = LeavesOnly v old new (λ c. v.may_leave old c ⊎ IsRepairOf (v.seen old) c)
+MomentsOf v acknowledged doubt failed old new = LeavesOnly v old new (λ c. v.may_leave old c ⊎ IsLeftByBoot (v.seen old) c)
 
 -- At each moment of a command with this outcome.
 abbrev pub Moments : {D : Type 0} → Device D → Place → Outcome → D → D → Type 0

@@ -3,15 +3,15 @@ use Rattle.std.specs.Prelude.{◌≡◌, ◌⊎◌, ℕ, Bool, true, false, List
 use Rattle.erl_term.specs.Printing.{text_of}
 use Rattle.rel_files.specs.Release.{Release}
 use Rattle.rel_list.specs.Releases.{Bundle, Releases, running as running_release, permanent as permanent_release}
-use Rattle.rel_list.specs.Event.{Event, list_after}
+use Rattle.rel_list.specs.Event.{Event, booted, list_after}
 use Rattle.rel_list.specs.Event.Event.{made, unpacked, made_permanent, removed, reboot_old as rebooting, boot as booting}
 use Rattle.rel_handler.specs.declared.error.BootError.{BootError}
 use Rattle.rel_handler.specs.declared.error.BootError.TheVariants as boot_error
 use Rattle.node_command.specs.declared.error.HandlerError.{HandlerError}
 use Rattle.node_command.specs.Files.{bundle_brought, made_size, unpacked_size, Brings}
-use Rattle.rel_handler.specs.Events.{Events, Stored, MayHave, certain, uncertain}
+use Rattle.rel_handler.specs.Events.{Events, Stored, MayHave, certain, uncertain, uncertain_boot}
 use Rattle.rel_handler.specs.Compaction.{MayReach}
-use Rattle.rel_handler.specs.Image.{Extent, extent_behind, first_extent, HasSpace, holds_a_store, IsImageAt}
+use Rattle.rel_handler.specs.Image.{Extent, booted_extent, extent_behind, first_extent, HasSpace, holds_a_store, IsImageAt}
 use Rattle.rel_handler.specs.Refusals.{IsBootRefusal}
 use Rattle.node_command.specs.Installing.{installation}
 use Rattle.node_command.specs.Taking.{commanded, change_size}
@@ -205,16 +205,16 @@ MakesNode (raw bytes) b a =
 MakesNode (closed s) b a = (a ≡ refused exists (closed s)) ⊎ (a ≡ failed (Some (made (bundle_brought b))) (closed s))
 MakesNode p b a = a ≡ refused exists p
 
--- A boot of a store with these events is done. The answer names the version of the release that runs.
+-- A boot of a store with these events is done, and a one-shot taken away. The answer names the version of the release that runs.
 abbrev pub IsBooted : Events → Extent → Reply → Type 0
 IsBooted events extent a =
-    (list : Releases) × (list_after (events ++ booting ∷ []) ≡ Some list)
-    × (a ≡ reply (ok_line (version_of (running_release list))) (done (booting ∷ []))
-    (just_booted (events ++ booting ∷ []) extent))
+    (list : Releases) × (list_after events ≡ Some list)
+    × (a ≡ reply (ok_line (version_of (running_release (booted list)))) (done (booting ∷ []))
+    (just_booted (events ++ booting ∷ []) (booted_extent extent list)))
 
--- a boot in which the device failed
+-- a boot in which the device failed, so that its event is in doubt
 abbrev pub boot_failed : Place → Reply
-boot_failed p = reply (boot_line boot_error.Device) (failed_with None) p
+boot_failed p = reply (boot_line boot_error.Device) (failed_with (Some booting)) p
 
 -- A boot of a disk with these bytes: they stand for the list of some events, or are refused, or the device failed.
 abbrev pub BootsBytes : List ℕ → Reply → Type 0
@@ -224,11 +224,16 @@ BootsBytes bytes a =
     ⊎ (((why : BootError) × IsBootRefusal bytes why × (a ≡ reply (boot_line why) nothing (raw bytes)))
     ⊎ ((torn : List ℕ) × (a ≡ boot_failed (raw torn))))
 
+-- The device failed in the boot of a store, before it had settled which events the store has, or behind that.
+abbrev pub FailsOnStore : Stored → Reply → Type 0
+FailsOnStore s a =
+    (a ≡ boot_failed (closed s))
+    ⊎ ((events : Events) × (extent : Extent) × MayHave s events extent × (a ≡ boot_failed (closed (uncertain_boot events extent))))
+
 -- A boot of a store: it has the acknowledged events, with the one in doubt or without.
 abbrev pub BootsStore : Stored → Reply → Type 0
 BootsStore s a =
-    ((events : Events) × (extent : Extent) × MayHave s events extent × IsBooted events extent a)
-    ⊎ (a ≡ boot_failed (closed s))
+    ((events : Events) × (extent : Extent) × MayHave s events extent × IsBooted events extent a) ⊎ FailsOnStore s a
 
 abbrev pub Boots : Place → Reply → Type 0
 Boots (raw bytes) a = BootsBytes bytes a

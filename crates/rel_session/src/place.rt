@@ -19,6 +19,8 @@ use file_source::Files;
 use node_command::{HandlerError, bring_release};
 use node_listing::listing;
 use node_processes::Processes;
+use node_start::{Started, start_running};
+use proc_table::ProcTable;
 use rel_disk::Disk;
 use rel_handler::{BootError, Handler};
 use rel_list::ReleaseList;
@@ -141,7 +143,14 @@ fn begun<D: Disk, R: Wait>(
         unreachable!();
     };
     let line = ok_line(alloc, running_version(list))?;
-    let processes = Processes::start(rt, alloc, list)?;
+    let (table, mut seat) = ProcTable::new(alloc)?;
+    let Started { tree, loaded } = start_running(rt, alloc, handler, &table, &mut seat)?;
+    let processes = Processes {
+        table,
+        seat,
+        tree,
+        loaded,
+    };
     Ok((line, processes))
 }
 

@@ -1,4 +1,4 @@
-use Rattle.std.proofs.Common.{◌≡◌, List, ℕ, Ok, Err, sym, subst, ◌∙◌, string_bytes}
+use Rattle.std.proofs.Common.{◌≡◌, List, ℕ, sym, subst, ◌∙◌, string_bytes}
 use Rattle.std.specs.Result.{IfOk}
 use Rattle.sup_tree.specs.Loaded.{listed_in}
 use Rattle.node_processes.proofs.FloodLemmas.{always_ok, is_flood_of}

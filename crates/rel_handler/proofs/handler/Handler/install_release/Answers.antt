@@ -16,7 +16,7 @@ use Rattle.rel_handler.specs.Image.{HasSpace, start_slot}
 use Rattle.rel_handler.specs.Installing.{InstallRefused, install_size}
 use Rattle.rel_handler.specs.Refusals.{HasNoRoom}
 use Rattle.rel_handler.specs.State.{extent_in, list_in}
-use Rattle.rel_handler.proofs.Commits.{all_same, have_versions, rested, same_with, unchanged}
+use Rattle.rel_handler.proofs.Commits.{all_same, have_versions, none_behind, rested, same_with, unchanged}
 use Rattle.rel_handler.proofs.CompactionLemmas.{commits_alive, commits_compacting, fails_compacting, is_done_alive}
 use Rattle.rel_handler.proofs.InstallLemmas.{device_failed, installation_is_commanded, no_room_for, no_upgrade, not_run, not_run_commits, script_allows, with_dead, written, written_committed}
 use Rattle.rel_handler.proofs.handler.Handler.install_release.Goals as goal
@@ -197,3 +197,10 @@ returns-in-Err-clause-refused g c =
     subst (λ d. InstallRefused g.D.Disk.failures c.args.vsn.now h (with_dead mid d) old new c.in-Err.error) (sym c.must_boot-self.ensures)
     (not_run g.D.Disk.failures c.args.vsn.now h c.if-self.false mid (same_with h c.make_room.new.store c.make_room.ensures.kept) (upgrade_of c.in_ok-upgrade.upgrade) c.in_ok-upgrade.ensures.found old new c.in-Err.error
     (subst (λ size. HasSpace (extent_in h) size) long c.in_ok-make_room.ensures.space) c.in-Err.ensures.refused)
+
+-- no release is a one-shot then
+pub compact-requires-clause-free : goal.compact-requires-clause-free
+compact-requires-clause-free g c =
+    let h = c.args.self.now in
+    let mid : Handler _ = record { store = c.make_room.new.store; list = h.list; dead = h.dead } in
+    none_behind g.D.Disk (installed _) _ mid c.write.new.self refl c.in_ok-write-in-Ok.ensures.appended

@@ -30,7 +30,7 @@ returns-in_err-start-clause-refused g c =
     let h = c.args.self.now in
     let why = c.in_err-start.field-0.0 in
     refuses_with (CommandRefused g.D.Disk.failures e (change_size e (list_in h)) h h) c.from_residual.result why c.from_residual.ensures
-    (no_start g.D.Disk.failures h c.requires.works (c.requires.sound.ready c.requires.works).list.free c.args.vsn.now e c.requires.moves _ why c.in_err-start.ensures.refused)
+    (no_start g.D.Disk.failures h c.requires.works (c.requires.sound.free c.requires.works) c.args.vsn.now e c.requires.moves _ why c.in_err-start.ensures.refused)
 
 -- the first write failed, or was refused
 pub returns-in_err-append_change-clause-commits : goal.returns-in_err-append_change-clause-commits

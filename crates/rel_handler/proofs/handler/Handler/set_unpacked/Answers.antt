@@ -30,7 +30,7 @@ returns-in_err-vsn-clause-refused g c =
     let b = brought_of c.in_ok-brought.brought in
     let why = c.in_err-vsn.field-0.0 in
     refuses_with (UnpackingRefused g.D.Disk source c.args.path.now h h) c.from_residual-in_err-vsn.result why c.from_residual-in_err-vsn.ensures
-    (no_place g.D.Disk source c.args.path.now h b why c.if-self.false (c.requires.ready c.if-self.false).list.free c.in_ok-brought.ensures.small c.in_ok-brought.ensures.brought
+    (no_place g.D.Disk source c.args.path.now h b why c.if-self.false (c.requires.free c.if-self.false) c.in_ok-brought.ensures.small c.in_ok-brought.ensures.brought
     (unchanged g.D.Disk h c.requires (g.met.D.Disk.only_now _) (unpacked (bundle_brought b)) (unpacked_size b h.list)) c.in_err-vsn.ensures.refused)
 
 -- its files are refused

@@ -56,7 +56,7 @@ commit-requires-clause-allowed g c =
     let have = have_libraries (records_in h.store) (list_in h) (c.requires.sound.ready c.requires.alive).list in
     let own = own_libraries (list_in h) b (bundle_of c.new_bundle-rel.result.bundle) (map shared_of c.in_ok-libraries.libraries.items) have c.requires.whole.carried c.requires.agree c.new_bundle-rel.ensures.bundle c.in_ok-libraries.ensures in
     let same = shared_bundle b (bundle_of c.new_bundle-rel.result.bundle) (map shared_of c.in_ok-libraries.libraries.items) c.new_bundle-rel.ensures.bundle own in
-    let takes = takes_it b (list_in h) (c.requires.sound.ready c.requires.alive).list.free c.requires.small c.requires.fresh c.requires.agree c.requires.room in
+    let takes = takes_it b (list_in h) (c.requires.sound.free c.requires.alive) c.requires.small c.requires.fresh c.requires.agree c.requires.room in
     (c.requires.alive, (takes.0, subst (λ p. commanded (unpacked p) (list_in h) ≡ Ok takes.0) (sym same) takes.1))
 
 -- the record tells the event
@@ -69,7 +69,7 @@ commit-requires-clause-told g c =
     let have = have_libraries (records_in h.store) (list_in h) (c.requires.sound.ready c.requires.alive).list in
     let own = own_libraries (list_in h) b (bundle_of n.bundle) (map shared_of c.in_ok-libraries.libraries.items) have c.requires.whole.carried c.requires.agree c.new_bundle-rel.ensures.bundle c.in_ok-libraries.ensures in
     let same = shared_bundle b (bundle_of n.bundle) (map shared_of c.in_ok-libraries.libraries.items) c.new_bundle-rel.ensures.bundle own in
-    let takes = takes_it b (list_in h) (c.requires.sound.ready c.requires.alive).list.free c.requires.small c.requires.fresh c.requires.agree c.requires.room in
+    let takes = takes_it b (list_in h) (c.requires.sound.free c.requires.alive) c.requires.small c.requires.fresh c.requires.agree c.requires.room in
     let spelled = rw (sym c.as_str.ensures.value) at c.in_ok-body.ensures.spells p.release p.relup (carried_says n.rel n.relup b c.new_bundle-rel.ensures.terms c.requires.terms) in
     subst (λ q. IsRecordFor c.as_str.result.now (unpacked q) (list_in h)) (sym same)
     (unpacked_told p (list_in h) takes.0 c.as_str.result.now

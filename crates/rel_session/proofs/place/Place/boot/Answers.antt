@@ -1,4 +1,4 @@
-use Rattle.std.proofs.Common.{⊎_elim, sym}
+use Rattle.std.proofs.Common.{⊎_elim}
 use Rattle.rel_session.specs.Transition.{Boots, StopsWithin}
 use Rattle.rel_session.specs.Transition.Action.{boots_node}
 use Rattle.rel_session.specs.declared.place.Place.TheVariants as memory
@@ -9,7 +9,7 @@ use Rattle.rel_session.proofs.place.Place.boot.Goals as goal
 pub returns-in-Ok-clause-booted : goal.returns-in-Ok-clause-booted
 returns-in-Ok-clause-booted g c =
     let laws : IsDevice g.D.Disk = record { reads_an_image = g.met.D.Disk.reads_an_image; counts_now = g.met.D.Disk.counts_now; only_now = g.met.D.Disk.only_now } in
-    boots g.D.Disk laws c.args.self c.into_disk.result c.into_disk.ensures c.in-Ok.handler c.in-Ok.ensures.works (record { image_of = c.in-Ok.ensures.image.0; reaches = sym c.in-Ok.ensures.extent }) c.in-Ok.ensures.image.1
+    boots g.D.Disk laws c.args.self c.into_disk.result c.into_disk.ensures c.in-Ok.handler c.in-Ok.ensures.works c.in-Ok.ensures.image
     c.in-Ok.ensures.acknowledged (c.in-Ok.ensures.sound.started c.in-Ok.ensures.works) c.in-Ok.ensures.only c.in-Ok.ensures.any_moment c.in-Ok.ensures.stored c.in-Ok.ensures.counted c.started.result.1 c.started.result.0 c.started.ensures.started
 
 pub returns-in-Err-clause-booted : goal.returns-in-Err-clause-booted

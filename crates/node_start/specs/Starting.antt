@@ -8,6 +8,7 @@ use Rattle.proc_table.specs.Free.{free_count}
 use Rattle.sup_tree.specs.Starts.{AppStarted}
 use Rattle.sup_tree.specs.Tree.{App, app_named}
 use Rattle.sup_tree.specs.Walk.{app_fault}
+use Rattle.held_processes.specs.Following.{HoldsNothing}
 use Rattle.node_processes.specs.Fresh.{part_starts}
 
 abbrev pub part_name : Part → List ℕ
@@ -35,3 +36,8 @@ abbrev pub StartedAll : Tables → List Part → List App → View → List App 
 StartedAll tables [] apps v apps' w = (apps' ≡ apps) × (w ≡ v)
 StartedAll tables (p ∷ ps) apps v apps' w =
     (mid : List App) × (u : View) × AppStarted (part_name p) p.library.app.top tables apps v mid u × StartedAll tables ps mid u apps' w
+
+-- The handler has lent no pass, and holds no process.
+pub record IsAlone (v : View) : Type 0 where
+  pub lent : v.lent ≡ []
+  pub free : HoldsNothing v

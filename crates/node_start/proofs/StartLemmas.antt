@@ -28,9 +28,8 @@ use Rattle.sup_tree.specs.Starts.{beginning_of, BeganInOrder, AppStarted}
 use Rattle.sup_tree.specs.Tree.{App, app_named, is_named}
 use Rattle.sup_tree.specs.Walk.{Start, app_fault, app_starts}
 use Rattle.node_processes.specs.Fresh.{part_starts, started_parts}
-use Rattle.node_processes.specs.declared.processes.Processes.{Processes}
-use Rattle.node_processes.specs.InMemory.{AreSound}
-use Rattle.node_processes.specs.Starting.{AreReady, StartedAll, IsNew, part_name}
+use Rattle.node_start.specs.declared.start.Started.{Started}
+use Rattle.node_start.specs.Starting.{AreReady, IsAlone, StartedAll, IsNew, part_name}
 
 -- a process that begins leaves the handler's passes as they are
 begin_lends_none : (app : List ℕ) (s : Start) (v u : View) (p : StartedProcess) → BeganLowest (beginning_of app s) v (Ok p.pid) u → u.lent ≡ v.lent
@@ -172,11 +171,11 @@ module _ (tables : Tables) (as' : List RelApp) (rcs : List (Rc declared.Library 
       let same = split false starts in
       (subst (λ ps. AreReady tables ps mid u) same ready, subst (λ ps. Completes tables all apps v ps mid u) same so_far)
 
--- These processes were started of a release, and the applications from this place on are left.
-abbrev pub AreStartedTo : Processes → List RelApp → List (Rc declared.Library Global) → ℕ → Processes → Type 0
-AreStartedTo old as' rcs k ps =
+-- So much was started of a release, and the applications from this place on are left.
+abbrev pub AreStartedTo : Started → View → List RelApp → List (Rc declared.Library Global) → ℕ → Started → View → Type 0
+AreStartedTo old v as' rcs k s u =
     let tables = tables_of (modules_in old.loaded) in
-    AreSound ps
-    × (ps.loaded ≡ old.loaded)
-    × AreReady tables (left_from as' rcs k) ps.tree ps.seat.view
-    × Completes tables (started_parts (parts (map application_of as') (map shared_of rcs))) old.tree old.seat.view (left_from as' rcs k) ps.tree ps.seat.view
+    IsAlone u
+    × (s.loaded ≡ old.loaded)
+    × AreReady tables (left_from as' rcs k) s.tree u
+    × Completes tables (started_parts (parts (map application_of as') (map shared_of rcs))) old.tree v (left_from as' rcs k) s.tree u

@@ -28,7 +28,7 @@ use Rattle.sup_tree.proofs.BeginLemmas.{first_slots}
 use Rattle.sup_tree.proofs.NamesInOrder.{kept_supervisors}
 use Rattle.node_processes.specs.Fresh.{first_value, first_values, first_pid, pid_if, process_if, processes_from, app_from, apps_from, beginnings, part_beginnings, part_starts, tables_in}
 use Rattle.node_processes.specs.InMemory.{values_in}
-use Rattle.node_processes.specs.Starting.{StartedAll}
+use Rattle.node_start.specs.Starting.{StartedAll}
 
 -- Each of these began in the slot of its place, and nothing stands behind them.
 pub record HaveBegun (bs : List Beginning) (v : View) : Type 0 where

@@ -27,8 +27,8 @@ use Rattle.sup_tree.specs.Walk.{Start, StartFault, app_fault, app_starts, childr
 use Rattle.sup_tree.proofs.BeginLemmas.{first_slots}
 use Rattle.sup_tree.proofs.CheckLemmas.{checked_starts}
 use Rattle.node_processes.specs.Fresh.{part_starts, started_parts, tables_in}
-use Rattle.node_processes.specs.Starting.{AreReady, HasNoFault, IsNew, part_name, starts_in_all}
-use Rattle.node_processes.proofs.TableLemmas.{same_tables}
+use Rattle.node_start.specs.Starting.{AreReady, HasNoFault, IsNew, part_name, starts_in_all}
+use Rattle.node_start.proofs.TableLemmas.{same_tables}
 
 -- of two that may be found neither is
 neither_found : {X : Type 0} (a b : Option X) → option_or a b ≡ None → (a ≡ None) × (b ≡ None)

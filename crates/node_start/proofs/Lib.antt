@@ -1,0 +1,6 @@
+pub mod FreshLemmas
+pub mod StartLemmas
+pub mod TableLemmas
+pub mod ReadyLemmas
+pub mod RunningLemmas
+pub mod OneShotLemmas

@@ -1,0 +1,223 @@
+-- What a crash leaves at each moment of a boot, and the events that a store has then.
+use Rattle.std.proofs.Common.{◌≡◌, ◌⊎◌, inl, inr, ⊎_elim, ℕ, ◌≤◌, Bool, true, false, List, [], ◌∷◌, ◌++◌, Some, refl, sym, ap, ◌∙◌, subst}
+use Rattle.std.proofs.lemmas.List.{append_assoc}
+use Rattle.rel_disk.specs.declared.disk.Disk.{Ghosts}
+use Rattle.rel_disk.specs.Moments.{LeavesOnly}
+use Rattle.rel_disk.proofs.Moments.{joined, weakened}
+use Rattle.rel_list.specs.Releases.{Releases, has_one_shot, permanent}
+use Rattle.rel_list.specs.Event.{booted, recorded, list_after}
+use Rattle.rel_list.specs.Event.Event.{boot}
+use Rattle.rel_list.proofs.OneShotLaws.{none_recorded}
+use Rattle.rel_list.proofs.PermanentLaws.{permanent-of_booted, permanent-of_recorded}
+use Rattle.rel_records.specs.Lists.{Makes}
+use Rattle.rel_store.specs.State as store
+use Rattle.rel_store.specs.Records.{records_of}
+use Rattle.rel_handler.specs.Booting.{IsOpened, IsBootOf, IsBooted, IsOldOrBooted, Leaves, RecordRefused}
+use Rattle.rel_handler.specs.Events.{Events, AreBoots, HasStart, Stored, booted_or_same, uncertain_boot, IsStoredAs}
+use Rattle.rel_handler.specs.Image.{AreRecordsOf, Extent, booted_extent, extent_of, HasBootSpace, IsImageAt, IsImageOf, IsLeftByBoot, IsStarted, start_slot}
+use Rattle.rel_handler.specs.Laws.{BootAlike}
+use Rattle.rel_handler.specs.Moments.{KeepsStore, SettlesAt, SettlesStore}
+use Rattle.rel_handler.specs.State.{disk_in, extent_in, list_in, IsReady}
+use Rattle.rel_handler.specs.declared.handler.Handler.{Handler}
+use Rattle.rel_handler.proofs.BadRecords.{stands_for_one}
+use Rattle.rel_handler.specs.Refusals.{BootRefused}
+use Rattle.rel_handler.specs.declared.error.BootError.{BootError}
+use Rattle.rel_handler.specs.declared.error.BootError.TheVariants as boot_error
+use Rattle.rel_handler.proofs.BootLists.{booted_recorded, extent_recorded, space_of_recorded, space_recorded}
+use Rattle.rel_handler.proofs.Boots.{IsLack}
+use Rattle.rel_handler.proofs.Images.{settled_extent, started_by}
+use Rattle.rel_handler.proofs.Lists.{list_after-push}
+
+-- A handler was read from a disk: it reaches as far as what a read gave.
+pub extent_there : {D : Type 0} (v : Ghosts D) (disk : D) (h : Handler D) → IsOpened v disk h → extent_in h ≡ extent_of (v.seen disk)
+extent_there v disk h opened = sym (ap (λ bytes. extent_of bytes) (sym opened.only_read.same) ∙ settled_extent v.seen v.may_leave h.store opened.read.store)
+
+-- There is room for its boot.
+module _ {D : Type 0} (v : Ghosts D) (disk : D) (h : Handler D) (opened : IsOpened v disk h) (room : HasBootSpace (extent_in h) (list_in h)) where
+  far : extent_in h ≡ extent_of (v.seen disk)
+  far = extent_there v disk h opened
+
+  are_records : AreRecordsOf (store.records_in h.store) (list_in h)
+  are_records = record { makes = subst (Makes (store.records_in h.store)) (sym opened.read.as_recorded) opened.read.makes; alone = λ one. opened.read.as_recorded }
+
+  pub ready_now : IsReady v.seen v.may_leave h
+  ready_now = record { store = opened.read.store; list = are_records; room = room }
+
+  -- what a read gave stands for its list
+  pub image_there : IsImageOf (v.seen disk) (list_in h)
+  image_there = record {
+    bodies = store.records_in h.store;
+    store = ap records_of (sym opened.only_read.same) ∙ opened.read.store.records;
+    list = are_records;
+    room = subst (λ x. HasBootSpace x (list_in h)) far room;
+  }
+
+  -- What it leaves has the boot of these bytes left.
+  left_by_boot : (c : List ℕ) → IsOldOrBooted v.seen h c → IsLeftByBoot (v.seen disk) c
+  left_by_boot c old = record { list = list_in h; was = image_there; left = by_image old }
+    where
+      slot_there : start_slot (v.seen (disk_in h)) ≡ start_slot (v.seen disk)
+      slot_there = ap (λ l. start_slot l) opened.only_read.same
+
+      behind : IsImageAt c (booted (list_in h)) (booted_extent (extent_in h) (list_in h)) → IsImageAt c (booted (list_in h)) (booted_extent (extent_of (v.seen disk)) (list_in h))
+      behind image = subst (λ x. IsImageAt c (booted (list_in h)) (booted_extent x (list_in h))) far image
+
+      by_image : IsOldOrBooted v.seen h c
+          → (IsImageAt c (list_in h) (extent_of (v.seen disk)) × (start_slot c ≡ start_slot (v.seen disk)))
+          ⊎ (IsImageAt c (booted (list_in h)) (booted_extent (extent_of (v.seen disk)) (list_in h)) × ((start_slot c ≡ start_slot (v.seen disk)) ⊎ IsStarted (list_in h) c))
+      by_image (inl (inl image, slot)) = inl (subst (IsImageAt c (list_in h)) far image, slot ∙ slot_there)
+      by_image (inl (inr image, slot)) = inr (behind image, inl (slot ∙ slot_there))
+      by_image (inr (image, right)) = inr (behind image, inr right)
+
+  -- A boot is a reading of the node and what it writes.
+  module _ (counts_now : (disk : D) (t : ℕ) (c : List ℕ) → t ≤ v.moment disk → v.may_leave disk c → v.left_since disk t c) (new : D) (leaves : Leaves v (IsOldOrBooted v.seen h) (disk_in h) new) where
+    pub boot_moments : LeavesOnly v.moment v.left_since disk new (λ c. v.may_leave disk c ⊎ IsLeftByBoot (v.seen disk) c)
+    boot_moments =
+        joined v.moment v.left_since disk (disk_in h) new _ (weakened v.moment v.left_since disk (disk_in h) (v.may_leave disk) _ (λ c now. inl now) opened.only_read.any_moment)
+        (weakened v.moment v.left_since (disk_in h) new _ (λ c. v.may_leave disk c ⊎ IsLeftByBoot (v.seen disk) c) (λ c old. inr (left_by_boot c old)) leaves.any_moment)
+
+    pub boot_settles : (at : D) → SettlesAt v.seen v.may_leave v.moment v.left_since disk (disk_in h) at → SettlesAt v.seen v.may_leave v.moment v.left_since disk new at
+    boot_settles at s = record {
+      until = s.until;
+      from =
+          joined v.moment v.left_since at (disk_in h) new _ s.from
+          (weakened v.moment v.left_since (disk_in h) new _ (λ c. (c ≡ v.seen disk) ⊎ IsLeftByBoot (v.seen disk) c) (λ c old. inr (left_by_boot c old)) leaves.any_moment);
+    }
+
+-- What is read is what the bytes stand for, as records tell it.
+module _ {D : Type 0} (v : Ghosts D) (disk : D) (h : Handler D) (opened : IsOpened v disk h) (es : Releases) (image : IsImageOf (v.seen disk) es) (only : list_in h ≡ recorded es) where
+  -- so the list behind the boot is that of the bytes
+  pub boot_of : (new : Handler D) (dead : Bool) → IsBooted v h new → IsBootOf (v.seen disk) es (record { store = new.store; list = new.list; dead = dead })
+  boot_of new dead is = record {
+    list = is.list ∙ (ap booted only ∙ booted_recorded es image.list.alone);
+    extent = is.extent ∙ ((λ i. booted_extent (extent_there v disk h opened i) (only i)) ∙ extent_recorded es image.list.alone (extent_of (v.seen disk)));
+  }
+
+  -- and there is room for it
+  pub record_lack : (e : BootError) → RecordRefused (extent_in h) (list_in h) e → IsLack e
+  record_lack boot_error.NoMemory refused = inr refl
+  record_lack (boot_error.BadRecord i) refused =
+      absurd (refused.0 (subst (λ x. HasBootSpace x (list_in h)) (sym (extent_there v disk h opened)) (subst (HasBootSpace (extent_of (v.seen disk))) (sym only) (space_recorded (extent_of (v.seen disk)) es image.list.alone image.room))))
+  record_lack boot_error.NotAStore refused = absurd refused
+  record_lack (boot_error.Damaged at) refused = absurd refused
+  record_lack boot_error.Device refused = absurd refused
+
+  -- where nothing is to be written, nothing was
+  pub right_there : has_one_shot es ≡ false → IsStarted es (v.seen disk) → (has_one_shot (list_in h) ≡ false) × IsStarted (list_in h) (v.seen (disk_in h))
+  right_there none right = (
+    ap has_one_shot only ∙ none_recorded es none,
+    started_by es (list_in h) (v.seen disk) (v.seen (disk_in h)) (ap permanent only ∙ permanent-of_recorded es) (ap (λ l. start_slot l) opened.only_read.same) right,
+  )
+
+-- Why there is no record of a boot is why the boot is refused.
+pub record_refused : {D : Type 0} (v : Ghosts D) (disk now : D) (h : Handler D) → IsOpened v disk h → (e : BootError) → RecordRefused (extent_in h) (list_in h) e
+    → BootRefused (v.seen disk) (v.failures disk) (v.failures now) e
+record_refused v disk now h opened boot_error.NoMemory refused = tt
+record_refused v disk now h opened (boot_error.BadRecord i) refused = (
+  store.records_in h.store,
+  ap records_of (sym opened.only_read.same) ∙ opened.read.store.records,
+  inr (list_in h, opened.read.makes, (λ space. refused.0 (subst (λ x. HasBootSpace x (list_in h)) (sym (extent_there v disk h opened)) space)), refused.1),
+)
+record_refused v disk now h opened boot_error.NotAStore refused = absurd refused
+record_refused v disk now h opened (boot_error.Damaged at) refused = absurd refused
+record_refused v disk now h opened boot_error.Device refused = absurd refused
+
+-- A store of one list is one of another that records tell alike.
+pub image_alike : (c : List ℕ) (es fs : Releases) → recorded es ≡ recorded fs → (has_one_shot fs ≡ true → recorded fs ≡ fs) → IsImageOf c es → IsImageOf c fs
+image_alike c es fs same alone image = record {
+  bodies = image.bodies;
+  store = image.store;
+  list = record { makes = subst (Makes image.bodies) same image.list.makes; alone = alone };
+  room = space_of_recorded (extent_of c) es fs alone same (space_recorded (extent_of c) es image.list.alone image.room);
+}
+
+boots-push : (boots : Events) → AreBoots boots → AreBoots (boots ++ boot ∷ [])
+boots-push [] are = tt
+boots-push (boot ∷ boots) are = boots-push boots are
+boots-push (e ∷ boots) are = absurd are
+
+-- The bytes were read of a store with these events, and this is left of them.
+module _ (s : Stored) (bytes : List ℕ) (of : IsStoredAs s bytes) where
+  abbrev x : Extent
+  x = extent_of bytes
+
+  -- as they were read
+  pub stored_read : IsStoredAs (uncertain_boot of.events x) bytes
+  stored_read = record { events = of.events; has = inl (refl, refl); list = of.list; after = of.after; image_of = of.image_of; start = of.start }
+
+  all : list_after (of.events ++ boot ∷ []) ≡ Some (booted of.list)
+  all = list_after-push of.events boot of.list (booted of.list) of.after refl
+
+  module _ (c : List ℕ) where
+    moved : start_slot c ≡ start_slot bytes → (es fs : Releases) → permanent fs ≡ permanent es → IsStarted es bytes → IsStarted fs c
+    moved slot es fs same started = started_by es fs bytes c same slot started
+
+    same_start : start_slot c ≡ start_slot bytes → HasStart of.events bytes → HasStart of.events c
+    same_start slot (inl (es, after, started)) = inl (es, after, moved slot es es refl started)
+    same_start slot (inr (earlier, last, boots, is, are, (es, after, started))) = inr (earlier, last, boots, is, are, (es, after, moved slot es es refl started))
+
+    -- with the boot's event
+    later_start : start_slot c ≡ start_slot bytes → HasStart of.events bytes → HasStart (of.events ++ boot ∷ []) c
+    later_start slot (inl (es, after, started)) =
+        let one : es ≡ of.list = let e : Some es ≡ Some of.list = sym after ∙ of.after in cc in
+        inl (booted of.list, all, moved slot es (booted of.list) (permanent-of_booted of.list ∙ ap permanent (sym one)) started)
+    later_start slot (inr (earlier, last, boots, is, are, (es, after, started))) = inr (
+      earlier,
+      last,
+      boots ++ boot ∷ [],
+      ap (λ (l : Events). l ++ boot ∷ []) is ∙ append_assoc earlier (last ∷ boots) (boot ∷ []),
+      boots-push boots are,
+      (es, after, moved slot es es refl started),
+    )
+
+    module _ (left : IsLeftByBoot bytes c) where
+      alike : BootAlike left.list of.list
+      alike = stands_for_one bytes left.list of.list left.was of.image_of
+
+      pub stored_left : IsStoredAs (uncertain_boot of.events x) c
+      stored_left = by_image left.left
+        where
+          by_image : (IsImageAt c left.list x × (start_slot c ≡ start_slot bytes)) ⊎ (IsImageAt c (booted left.list) (booted_extent x left.list) × ((start_slot c ≡ start_slot bytes) ⊎ IsStarted left.list c)) → IsStoredAs (uncertain_boot of.events x) c
+          by_image (inl (image, slot)) = record {
+            events = of.events;
+            has = inl (refl, image.reaches);
+            list = of.list;
+            after = of.after;
+            image_of = image_alike c left.list of.list alike.recorded of.image_of.list.alone image.image_of;
+            start = same_start slot of.start;
+          }
+          by_image (inr (image, slot)) = record {
+            events = of.events ++ boot ∷ [];
+            has = inr (refl, inl (image.reaches ∙ (alike.extents x ∙ ap (booted_or_same x) (sym of.after))));
+            list = booted of.list;
+            after = all;
+            image_of = subst (IsImageOf c) alike.booted image.image_of;
+            start = ⊎_elim (λ old. later_start old of.start) (λ new. inl (booted of.list, all, started_by left.list (booted of.list) c c (ap permanent (sym alike.booted) ∙ permanent-of_booted left.list) refl new)) slot;
+          }
+
+-- So a boot that has settled a store's events keeps them, with its own or without.
+pub settles_store : {D : Type 0} (v : Ghosts D) → ((disk : D) → v.may_leave disk (v.seen disk)) → ((disk : D) (t : ℕ) (c : List ℕ) → t ≤ v.moment disk → v.may_leave disk c → v.left_since disk t c)
+    → (disk new at : D) → SettlesAt v.seen v.may_leave v.moment v.left_since disk new at → (s : Stored) → ((c : List ℕ) → v.may_leave disk c → IsStoredAs s c) → SettlesStore v s disk new
+settles_store {D} v reads counts_now disk new at settles s here = record {
+  events = of.events;
+  extent = extent_of (v.seen disk);
+  has = of.has;
+  any_moment =
+      joined v.moment v.left_since disk at new _ (weakened v.moment v.left_since disk at (v.may_leave disk) _ (λ c now. inl (here c now)) settles.until)
+      (weakened v.moment v.left_since at new _ (λ c. IsStoredAs s c ⊎ IsStoredAs (uncertain_boot of.events (extent_of (v.seen disk))) c) (λ c left. inr (from c left)) settles.from);
+  now = λ c now. from c (settles.from.each c (counts_now new (v.moment at) c settles.from.later now));
+}
+  where
+    of : IsStoredAs s (v.seen disk)
+    of = here (v.seen disk) (reads disk)
+
+    from : (c : List ℕ) → (c ≡ v.seen disk) ⊎ IsLeftByBoot (v.seen disk) c → IsStoredAs (uncertain_boot of.events (extent_of (v.seen disk))) c
+    from c (inl is) = subst (IsStoredAs (uncertain_boot of.events (extent_of (v.seen disk)))) (sym is) (stored_read s (v.seen disk) of)
+    from c (inr left) = stored_left s (v.seen disk) of c left
+
+-- So it is of a boot from its reading on.
+pub keeps_store : {D : Type 0} (v : Ghosts D) → ((disk : D) → v.may_leave disk (v.seen disk)) → (counts_now : (disk : D) (t : ℕ) (c : List ℕ) → t ≤ v.moment disk → v.may_leave disk c → v.left_since disk t c)
+    → (disk : D) (h : Handler D) (opened : IsOpened v disk h) (room : HasBootSpace (extent_in h) (list_in h)) (new : D) (leaves : Leaves v (IsOldOrBooted v.seen h) (disk_in h) new)
+    → (at : D) → SettlesAt v.seen v.may_leave v.moment v.left_since disk (disk_in h) at → (s : Stored) → ((c : List ℕ) → v.may_leave disk c → IsStoredAs s c) → KeepsStore v s disk new
+keeps_store v reads counts_now disk h opened room new leaves at settles s here =
+    inr (settles_store v reads counts_now disk new at (boot_settles v disk h opened room counts_now new leaves at settles) s here)

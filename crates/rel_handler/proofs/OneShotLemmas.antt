@@ -1,0 +1,97 @@
+-- A one-shot that a boot takes away.
+use Rattle.std.proofs.Common.{◌≡◌, inl, inr, ⊎_elim, ℕ, ◌+◌, ◌≤◌, Bool, true, false, List, [], ◌∷◌, ◌++◌, length, length-append, refl, sym, ap, ◌∙◌, subst, arith}
+use Rattle.rel_disk.specs.declared.disk.Disk.{Ghosts}
+use Rattle.rel_disk.specs.Moments.{LeavesOnly}
+use Rattle.rel_disk.proofs.Moments.{started, weakened, both}
+use Rattle.rel_list.specs.Releases.{Releases, has_one_shot}
+use Rattle.rel_list.specs.Event.{booted, recorded}
+use Rattle.rel_list.specs.Event.Event.{boot}
+use Rattle.rel_list.proofs.BootLaws.{boot_leaves_no_one_shot}
+use Rattle.rel_store.specs.Changed.{LeavesOthers, IsInRecord}
+use Rattle.rel_store.specs.Layout.{base_of}
+use Rattle.rel_store.specs.Records.{StandsEither}
+use Rattle.rel_store.specs.State as store
+use Rattle.rel_store.specs.declared.store.Store.{Store}
+use Rattle.rel_store.proofs.Moments as stores
+use Rattle.rel_handler.specs.Booting.{IsBooted, IsOldOrTaken, Leaves}
+use Rattle.rel_handler.specs.Commits.{IsRecordFor}
+use Rattle.rel_handler.specs.Image.{AreRecordsOf, boot_size, booted_extent, extent_behind, HasSpace, IsImageAt, start_slot}
+use Rattle.rel_handler.specs.State.{disk_in, extent_in, list_in, start_in, store_extent, IsReady}
+use Rattle.rel_handler.specs.declared.handler.Handler.{Handler}
+use Rattle.rel_handler.proofs.BootLists.{booted_still, extent_of_none, extent_of_one}
+use Rattle.rel_handler.proofs.Commits.{image_now}
+use Rattle.rel_handler.proofs.Images.{either_image, no_boot_space, none_beside, same_extent, settled_so, with_record}
+
+module _ {D : Type 0} (v : Ghosts D) (h : Handler D) (ready : IsReady v.seen v.may_leave h) where
+  -- each image of its disk stands for its list
+  pub old_taken : (c : List ℕ) → v.may_leave (disk_in h) c → IsOldOrTaken v.seen h c
+  old_taken c now = (inl (image_now v h ready c now), ap (λ l. start_slot l) (ready.store.durable c now))
+
+  -- nothing was written
+  module _ (only_now : (c : List ℕ) → v.left_since (disk_in h) (v.moment (disk_in h)) c → v.may_leave (disk_in h) c) where
+    pub takes_nothing : (new : D) → new ≡ disk_in h → Leaves v (IsOldOrTaken v.seen h) (disk_in h) new
+    takes_nothing new same = subst (λ d. Leaves v (IsOldOrTaken v.seen h) (disk_in h) d) (sym same) (record {
+      any_moment = started v.moment v.left_since (disk_in h) (IsOldOrTaken v.seen h) (λ c left. old_taken c (only_now c left));
+      counted = omega arith;
+    })
+
+  -- there was nothing to write
+  pub booted_so : recorded (list_in h) ≡ list_in h → has_one_shot (list_in h) ≡ false → IsBooted v h h
+  booted_so still none = record { list = sym (booted_still (list_in h) none still); extent = sym (extent_of_none (extent_in h) (list_in h) none); ready = ready }
+
+  -- The record of the boot is appended behind a reservation.
+  module _ (one : has_one_shot (list_in h) ≡ true) (reserved : Store D) (same : store.IsSame h.store reserved) (body : List ℕ) (told : IsRecordFor body boot (list_in h)) (long : length body ≡ boot_size (list_in h)) where
+    abbrev next : Releases
+    next = booted (list_in h)
+
+    none : has_one_shot next ≡ false
+    none = boot_leaves_no_one_shot (list_in h)
+
+    are_next : AreRecordsOf (store.records_in h.store ++ body ∷ []) next
+    are_next = with_record boot (list_in h) next (store.records_in h.store) body ready.list told (none_beside next none) refl
+
+    far : extent_behind (extent_in h) (length body) ≡ booted_extent (extent_in h) (list_in h)
+    far = ap (extent_behind (extent_in h)) long ∙ sym (extent_of_one (extent_in h) (list_in h) one)
+
+    -- there is space for it
+    pub fits_reserved : store.Fits (store.end_in reserved) (length body)
+    fits_reserved = subst (λ e. store.Fits e (length body)) (sym same.end) (subst (λ n. HasSpace (extent_in h) n) (sym long) (ready.room one))
+
+    -- the records begin where they began
+    base_there : (c : List ℕ) → LeavesOthers (IsInRecord (store.gate_in reserved) (length body)) (v.seen (disk_in h)) c → base_of c ≡ base_of (v.seen (disk_in h))
+    base_there c leaves =
+        let same_gate : store.gate_in reserved ≡ store.gate_in h.store = omega (arith, same.end) in
+        stores.base_kept v.moment v.left_since v.seen v.may_leave h.store ready.store (length body) c (subst (λ g. LeavesOthers (IsInRecord g (length body)) (v.seen (disk_in h)) c) same_gate leaves)
+
+    taking : (text c : List ℕ) → text ≡ start_in v.seen h → StandsEither (store.records_in h.store) body text c × (base_of c ≡ base_of (v.seen (disk_in h))) → IsOldOrTaken v.seen h c
+    taking text c slot either =
+        let (image, at) = either_image (list_in h) next (store.records_in h.store) body text ready.list are_next (base_of (v.seen (disk_in h))) (extent_in h) (settled_so v.seen v.may_leave h.store ready.store) ready.room (no_boot_space (extent_behind (extent_in h) (length body)) next none) c either in
+        (⊎_elim (λ old. inl old) (λ taken. inr (subst (IsImageAt c next) far taken)) image, at ∙ slot)
+
+    pub takes : (new : Store D) (text : List ℕ) → LeavesOnly v.moment v.left_since (store.disk_in reserved) (store.disk_in new) (StandsEither (store.records_in reserved) body text)
+        → LeavesOnly v.moment v.left_since (store.disk_in reserved) (store.disk_in new) (LeavesOthers (IsInRecord (store.gate_in reserved) (length body)) (v.seen (store.disk_in reserved)))
+        → text ≡ start_in v.seen h → v.failures (store.disk_in reserved) ≤ v.failures (store.disk_in new) → Leaves v (IsOldOrTaken v.seen h) (disk_in h) (store.disk_in new)
+    takes new text leaves kept slot counted = record {
+      any_moment =
+          subst (λ d. LeavesOnly v.moment v.left_since d (store.disk_in new) (IsOldOrTaken v.seen h)) same.disk
+          (weakened v.moment v.left_since (store.disk_in reserved) (store.disk_in new) _ (IsOldOrTaken v.seen h)
+          (λ c either. taking text c slot (subst (λ bodies. StandsEither bodies body text c) same.records either.0, base_there c (subst (λ d. LeavesOthers (IsInRecord (store.gate_in reserved) (length body)) (v.seen d) c) same.disk either.1)))
+          (both v.moment v.left_since (store.disk_in reserved) (store.disk_in new) _ _ leaves kept));
+      counted = subst (λ d. v.failures d ≤ v.failures (store.disk_in new)) same.disk counted;
+    }
+
+    -- It is there.
+    pub taken : (new : Store D) (dead : Bool) → store.IsSettled v.seen v.may_leave new → store.records_in new ≡ store.records_in reserved ++ body ∷ [] → store.base_in new ≡ store.base_in reserved → store.end_in new ≡ store.end_in reserved + (5 + length body)
+        → IsBooted v h (record { store = new; list = next; dead = dead })
+    taken new dead settled added base end = record {
+      list = refl;
+      extent =
+          same_extent (store_extent new) (extent_behind (extent_in h) (length body)) (base ∙ same.base) (end ∙ ap (λ n. n + (5 + length body)) same.end)
+          (ap (λ bodies. length bodies) (added ∙ ap (λ bodies. bodies ++ body ∷ []) same.records) ∙ omega (arith, length-append (store.records_in h.store) (body ∷ [])))
+          ∙ far;
+      ready = record {
+        store = settled;
+        list = subst (λ bodies. AreRecordsOf bodies next) (sym (added ∙ ap (λ bodies. bodies ++ body ∷ []) same.records)) are_next;
+        room = no_boot_space (store_extent new) next none;
+      };
+    }
