@@ -5,6 +5,7 @@ use Rattle.proc_table.specs.declared.view.View.{View}
 use Rattle.relup_instruction.specs.Instruction.{ChangeForm, Instruction}
 use Rattle.relup_instruction.specs.Instruction.Instruction.{apply, code_change, point_of_no_return}
 use Rattle.relup_script.specs.Script.{IsRunnable, is_point}
+use Rattle.relup_script.proofs.ScriptLemmas.{are_early}
 use Rattle.library.specs.Library.{Library}
 use Rattle.relup_instruction.specs.declared.instruction.Direction.{Direction}
 use Rattle.sup_tree.specs.Tree.{app_named}
@@ -66,7 +67,7 @@ pub next_is_early : (script : List Instruction) (runnable : IsRunnable script) (
     → AllByRecursion IsEarly front → is_point i ≡ false → IsEarly i
 next_is_early script runnable front i rest parts so_far other =
     ⊎_elim (λ early. early) (λ is. absurd (cc (sym other ∙ ap is_point is)))
-    (early_or_point runnable.before runnable.after front i rest runnable.early so_far (sym runnable.is ∙ parts))
+    (early_or_point runnable.before runnable.after front i rest (are_early runnable.before runnable.early) so_far (sym runnable.is ∙ parts))
 
 -- not all may stand before the point
 pub not_all_early : (script : List Instruction) → IsRunnable script → AllByRecursion IsEarly script → ⊥

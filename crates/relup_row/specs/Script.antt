@@ -1,6 +1,6 @@
 -- What the instructions of an appup become in a script (OTP: appup(4)).
-use Rattle.std.specs.Prelude.{ℕ, List, [], ◌∷◌, ◌++◌, map, Option, None, Some, codes}
-use Rattle.std.specs.List.{filter_map, flat_map}
+use Rattle.std.specs.Prelude.{ℕ, Bool, true, false, List, [], ◌∷◌, ◌++◌, map, Option, None, Some, codes, if◌then◌else◌}
+use Rattle.std.specs.List.{filter_map, flat_map, list_any}
 use Rattle.erl_term.specs.Value.{Values}
 use Rattle.erl_term.specs.Value.Value.{atom}
 use Rattle.erl_term.specs.Value.Values.{no_values, value}
@@ -9,7 +9,7 @@ use Rattle.rel_files.specs.declared.release.StartType.TheVariants.{Load, Unloade
 use Rattle.rel_files.specs.Form.{start_word}
 use Rattle.relup_instruction.specs.declared.instruction.PurgeMode.TheVariants.{Brutal}
 use Rattle.relup_instruction.specs.Instruction.{PurgingForm, Instruction}
-use Rattle.relup_instruction.specs.Instruction.Instruction.{load_object_code, point_of_no_return, load, remove, purge, apply}
+use Rattle.relup_instruction.specs.Instruction.Instruction.{load_object_code, point_of_no_return, load, remove, purge, apply, restart_emulator}
 use Rattle.appup_file.specs.Instruction.{AppupInstruction}
 use Rattle.appup_file.specs.Instruction.AppupInstruction.{update, update_supervisor, load_module, add_module, delete_module, add_application, remove_application, restart_application, low_level}
 use Rattle.relup_row.specs.Release.{RelupAppForm, RelupReleaseForm, WayForm, app_named}
@@ -72,9 +72,10 @@ restarting w app = of_app stopping (app_named app w.left) ++ of_app (λ (a : Rel
 abbrev pub deleting : List ℕ → List Instruction
 deleting name = remove_plainly name ∷ purge (name ∷ []) ∷ []
 
--- A written `load_object_code` stands elsewhere.
+-- A written `load_object_code` stands elsewhere, and a `restart_emulator` too.
 abbrev pub in_place : Instruction → List Instruction
 in_place (load_object_code f) = []
+in_place restart_emulator = []
 in_place i = i ∷ []
 
 -- what an instruction outside a block becomes, behind the point of no return
@@ -147,9 +148,18 @@ written_fetch i = []
 abbrev pub written_fetches : List AppupInstruction → List Instruction
 written_fetches = flat_map written_fetch
 
+-- The appup asks for a restart of the runtime system.
+abbrev pub asks_restart : AppupInstruction → Bool
+asks_restart (low_level restart_emulator) = true
+asks_restart i = false
+
+-- However often rows ask for it, it is the last instruction, once.
+abbrev pub restart_at_end : List (List AppupInstruction) → List Instruction
+restart_at_end rows = if list_any (list_any asks_restart) rows then restart_emulator ∷ [] else []
+
 -- the script of rows of instructions, one for each application that changes
 abbrev pub script : WayForm → List (List AppupInstruction) → List Instruction
 script w rows =
     fetching (flat_map (mentions w) rows)
     ++ (flat_map written_fetches rows
-    ++ (point_of_no_return ∷ flat_map (row_script w) rows))
+    ++ (point_of_no_return ∷ (flat_map (row_script w) rows ++ restart_at_end rows)))

@@ -1,12 +1,12 @@
 //! What a row of instructions becomes: the modules that it loads, its own fetches, and the rest of it.
 ghost use Rattle.std.specs.Prelude.{◌≡◌, ◌++◌, OnOk, map, option_to_list, string_bytes};
-ghost use Rattle.std.specs.List.{filter_map};
+ghost use Rattle.std.specs.List.{filter_map, list_any};
 ghost use Rattle.std.specs.Option.{option_map};
 ghost use Rattle.appup_file.specs.Instruction.{appup_instruction_of, row_of};
 ghost use Rattle.relup_row.specs.Release.{relup_release_of, way_of};
 ghost use Rattle.relup_block.specs.Order.{block_item_of};
 ghost use Rattle.relup_row.specs.Fetches.{mention, mention_of};
-ghost use Rattle.relup_row.specs.Script.{app_modules, block_item, mentions_by, mentions, written_fetch, written_fetches, row_script};
+ghost use Rattle.relup_row.specs.Script.{app_modules, block_item, mentions_by, mentions, written_fetch, written_fetches, row_script, asks_restart};
 ghost use Rattle.relup_block.specs.Memory.{Appends};
 
 use crate::copies::copy_instr;
@@ -128,6 +128,30 @@ pub fn push_written_fetches(
         push_written_fetch(alloc, instr, out)?;
     }
     Ok(())
+}
+
+fn asks_restart(instr: &AppupInstr) -> bool
+    ensures { result ≡ asks_restart (appup_instruction_of instr.now) }
+{
+    match instr {
+        AppupInstr::LowLevel(instr) => match instr {
+            Instr::RestartEmulator => true,
+            _ => false,
+        },
+        _ => false,
+    }
+}
+
+/// Whether a row asks for a restart of the runtime system.
+pub fn row_asks_restart(row: &[AppupInstr]) -> bool
+    ensures { result ≡ list_any asks_restart (row_of row.now) }
+{
+    for instr in row {
+        if asks_restart(instr) {
+            return true;
+        }
+    }
+    false
 }
 
 // An instruction that belongs to a block.

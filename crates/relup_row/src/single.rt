@@ -168,7 +168,7 @@ fn push_in_place(alloc: Global, instr: &Instr, out: &mut Vec<Instr>) -> Result<(
         (Appends out.old.items out.new.items (in_place (instruction_of instr.now))) }
 {
     match instr {
-        Instr::LoadObjectCode(_) => Ok(()),
+        Instr::LoadObjectCode(_) | Instr::RestartEmulator => Ok(()),
         instr => push_instr(copy_instr(alloc, instr)?, out),
     }
 }

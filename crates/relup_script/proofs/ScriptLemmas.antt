@@ -1,6 +1,7 @@
 -- Scripts and their faults: what is found in a script is its fault.
-use Rattle.std.proofs.Common.{◌≡◌, ℕ, ◌+◌, ◌<◌, suc, Bool, true, false, ◌&&◌, List, [], ◌∷◌, ◌++◌, length, Option, Some, None, if◌then◌else◌, ◌⊎◌, inl, inr, refl, sym, ap, subst, ◌∙◌, arith}
-use Rattle.std.specs.Prelude.{is_some}
+use Rattle.std.proofs.Common.{◌≡◌, ℕ, ◌+◌, ◌<◌, suc, Bool, true, false, ◌&&◌, ◌||◌, not, List, [], ◌∷◌, ◌++◌, length, Option, Some, None, if◌then◌else◌, ◌⊎◌, inl, inr, refl, sym, ap, subst, ◌∙◌, arith}
+use Rattle.std.specs.Prelude.{is_some, IsTrue, ◌==◌}
+use Rattle.std.proofs.lemmas.Bool.Decides.{nat_tests}
 use Rattle.std.specs.List.{AllByRecursion}
 use Rattle.std.specs.Option.{option_map}
 use Rattle.rel_files.proofs.Options.{mapped, both, both_true}
@@ -10,80 +11,104 @@ use Rattle.relup_script.specs.declared.script.Side.{Side}
 use Rattle.relup_script.specs.declared.script.Side.TheVariants.{Early, Late}
 use Rattle.relup_instruction.specs.Instruction.{Instruction}
 use Rattle.relup_instruction.specs.Instruction.Instruction.{point_of_no_return}
-use Rattle.relup_script.specs.Script.{is_point, is_supported, may_precede, may_follow, may_stand, IsRight, points, IsRunnable, fault_at, IsFirstFault, HasWrong, IsScriptFault, split_point, first_fault, part_fault, split_fault, script_fault}
+use Rattle.relup_script.specs.Script.{is_point, is_supported, may_precede, may_follow, is_restart, may_stand, IsRight, AreRight, is_end, points, IsRunnable, fault_at, IsFirstFault, HasWrong, IsScriptFault, split_point, first_fault, part_fault, split_fault, script_fault}
 
 -- The faults of one side.
-right_none : (side : Side) (n : ℕ) (i : Instruction) → IsRight side i → fault_at side n i ≡ None
-right_none side n i h =
-    let parts = both (is_supported i) (may_stand side i) h in
-    ap (λ (b : Bool). if b then (if may_stand side i then None else Some (Misplaced n)) else Some (Unsupported n)) parts.0
+right_none : (side : Side) (is_last : Bool) (n : ℕ) (i : Instruction) → IsRight side is_last i → fault_at side is_last n i ≡ None
+right_none side is_last n i h =
+    let parts = both (is_supported i) (may_stand side is_last i) h in
+    ap (λ (b : Bool). if b then (if may_stand side is_last i then None else Some (Misplaced n)) else Some (Unsupported n)) parts.0
     ∙ ap (λ (b : Bool). if b then None else Some (Misplaced n)) parts.1
 
-none_right : (side : Side) (n : ℕ) (i : Instruction) → fault_at side n i ≡ None → IsRight side i
-none_right side n i e = go (is_supported i) (may_stand side i) refl refl e
+none_right : (side : Side) (is_last : Bool) (n : ℕ) (i : Instruction) → fault_at side is_last n i ≡ None → IsRight side is_last i
+none_right side is_last n i e = go (is_supported i) (may_stand side is_last i) refl refl e
   where
-    go : (a b : Bool) → is_supported i ≡ a → may_stand side i ≡ b → (if a then (if b then None else Some (Misplaced n)) else Some (Unsupported n)) ≡ None → IsRight side i
-    go true true p q f = both_true (is_supported i) (may_stand side i) p q
+    go : (a b : Bool) → is_supported i ≡ a → may_stand side is_last i ≡ b → (if a then (if b then None else Some (Misplaced n)) else Some (Unsupported n)) ≡ None → IsRight side is_last i
+    go true true p q f = both_true (is_supported i) (may_stand side is_last i) p q
     go true false p q f = absurd cc
     go false b p q f = absurd cc
 
-all_right : (side : Side) (n : ℕ) (is : List Instruction) → part_fault side n is ≡ None → AllByRecursion (IsRight side) is
+all_right : (side : Side) (n : ℕ) (is : List Instruction) → part_fault side n is ≡ None → AreRight side is
 all_right side n [] e = tt
-all_right side n (i ∷ is) e = go (all_right side (n + 1) is) (fault_at side (n + 1) i) refl e
+all_right side n (i ∷ is) e = go (all_right side (n + 1) is) (fault_at side (is_end is) (n + 1) i) refl e
   where
-    go : (part_fault side (n + 1) is ≡ None → AllByRecursion (IsRight side) is) → (o : Option ScriptFault) → fault_at side (n + 1) i ≡ o
-        → first_fault o (part_fault side (n + 1) is) ≡ None → AllByRecursion (IsRight side) (i ∷ is)
-    go more None p q = (none_right side (n + 1) i p, more q)
+    go : (part_fault side (n + 1) is ≡ None → AreRight side is) → (o : Option ScriptFault) → fault_at side (is_end is) (n + 1) i ≡ o
+        → first_fault o (part_fault side (n + 1) is) ≡ None → AreRight side (i ∷ is)
+    go more None p q = (none_right side (is_end is) (n + 1) i p, more q)
     go more (Some f) p q = absurd cc
 
-right_all : (side : Side) (n : ℕ) (is : List Instruction) → AllByRecursion (IsRight side) is → part_fault side n is ≡ None
+right_all : (side : Side) (n : ℕ) (is : List Instruction) → AreRight side is → part_fault side n is ≡ None
 right_all side n [] h = refl
 right_all side n (i ∷ is) h =
-    ap (λ (o : Option ScriptFault). first_fault o (part_fault side (n + 1) is)) (right_none side (n + 1) i h.0) ∙ right_all side (n + 1) is h.1
+    ap (λ (o : Option ScriptFault). first_fault o (part_fault side (n + 1) is)) (right_none side (is_end is) (n + 1) i h.0) ∙ right_all side (n + 1) is h.1
+
+not_nothing : (n : ℕ) → (suc n == 0) ≡ false
+not_nothing n = grind (arith, nat_tests)
+
+-- the end isn't in front of a further instruction
+no_end : (front : List Instruction) (wrong : Instruction) (rest : List Instruction) → is_end (front ++ (wrong ∷ rest)) ≡ false
+no_end [] wrong rest = not_nothing (length rest)
+no_end (i ∷ front) wrong rest = not_nothing (length (front ++ (wrong ∷ rest)))
 
 from_part : (side : Side) (n : ℕ) (is : List Instruction) (f : ScriptFault) → part_fault side n is ≡ Some f → IsFirstFault side n is f
 from_part side n [] f e = absurd cc
-from_part side n (i ∷ is) f e = go (from_part side (n + 1) is f) (fault_at side (n + 1) i) refl e
+from_part side n (i ∷ is) f e = go (from_part side (n + 1) is f) (fault_at side (is_end is) (n + 1) i) refl e
   where
-    go : (part_fault side (n + 1) is ≡ Some f → IsFirstFault side (n + 1) is f) → (o : Option ScriptFault) → fault_at side (n + 1) i ≡ o
+    go : (part_fault side (n + 1) is ≡ Some f → IsFirstFault side (n + 1) is f) → (o : Option ScriptFault) → fault_at side (is_end is) (n + 1) i ≡ o
         → first_fault o (part_fault side (n + 1) is) ≡ Some f → IsFirstFault side n (i ∷ is) f
     go more (Some g) p q = record { front = []; wrong = i; rest = is; is = refl; right = tt; fault = p ∙ q }
     go more None p q =
         let there = more q in
         let number : n + (suc (length there.front) + 1) ≡ n + 1 + (length there.front + 1) = omega arith in
+        let inner : is_end is ≡ false = ap is_end there.is ∙ no_end there.front there.wrong there.rest in
         record {
           front = i ∷ there.front;
           wrong = there.wrong;
           rest = there.rest;
           is = ap (λ (js : List Instruction). i ∷ js) there.is;
-          right = (none_right side (n + 1) i p, there.right);
-          fault = ap (λ (m : ℕ). fault_at side m there.wrong) number ∙ there.fault;
+          right = (subst (λ b. IsRight side b i) inner (none_right side (is_end is) (n + 1) i p), there.right);
+          fault = ap (λ (m : ℕ). fault_at side (is_end there.rest) m there.wrong) number ∙ there.fault;
         }
 
-part_first : (side : Side) (n : ℕ) (front : List Instruction) (wrong : Instruction) (rest : List Instruction) (f : ScriptFault) → AllByRecursion (IsRight side) front
-    → fault_at side (n + (length front + 1)) wrong ≡ Some f → part_fault side n (front ++ (wrong ∷ rest)) ≡ Some f
+part_first : (side : Side) (n : ℕ) (front : List Instruction) (wrong : Instruction) (rest : List Instruction) (f : ScriptFault) → AllByRecursion (IsRight side false) front
+    → fault_at side (is_end rest) (n + (length front + 1)) wrong ≡ Some f → part_fault side n (front ++ (wrong ∷ rest)) ≡ Some f
 part_first side n [] wrong rest f h e = ap (λ (o : Option ScriptFault). first_fault o (part_fault side (n + 1) rest)) e
 part_first side n (i ∷ front) wrong rest f h e =
     let number : n + 1 + (length front + 1) ≡ n + (suc (length front) + 1) = omega arith in
-    ap (λ (o : Option ScriptFault). first_fault o (part_fault side (n + 1) (front ++ (wrong ∷ rest)))) (right_none side (n + 1) i h.0)
-    ∙ part_first side (n + 1) front wrong rest f h.1 (ap (λ (m : ℕ). fault_at side m wrong) number ∙ e)
+    let inner : is_end (front ++ (wrong ∷ rest)) ≡ false = no_end front wrong rest in
+    ap (λ (o : Option ScriptFault). first_fault o (part_fault side (n + 1) (front ++ (wrong ∷ rest)))) (ap (λ (b : Bool). fault_at side b (n + 1) i) inner ∙ right_none side false (n + 1) i h.0)
+    ∙ part_first side (n + 1) front wrong rest f h.1 (ap (λ (m : ℕ). fault_at side (is_end rest) m wrong) number ∙ e)
 
 first_part : (side : Side) (n : ℕ) (part : List Instruction) (f : ScriptFault) → IsFirstFault side n part f → part_fault side n part ≡ Some f
 first_part side n part f h = ap (part_fault side n) h.is ∙ part_first side n h.front h.wrong h.rest f h.right h.fault
+
+-- What is run on a side may stand there, whether it is the last or not.
+pub are_early : (is : List Instruction) → AreRight Early is → AllByRecursion (λ i. IsTrue (is_supported i && may_precede i)) is
+are_early [] h = tt
+are_early (i ∷ is) h = (h.0, are_early is h.1)
+
+follows_so : (is_last : Bool) (i : Instruction) → IsRight Late is_last i → IsTrue (is_supported i && may_follow i)
+follows_so is_last i h =
+    let parts = both (is_supported i) (may_stand Late is_last i) h in
+    both_true (is_supported i) (may_follow i) parts.0 (both (may_follow i) (is_last || not (is_restart i)) parts.1).0
+
+pub are_late : (is : List Instruction) → AreRight Late is → AllByRecursion (λ i. IsTrue (is_supported i && may_follow i)) is
+are_late [] h = tt
+are_late (i ∷ is) h = (follows_so (is_end is) i h.0, are_late is h.1)
 
 -- Points of no return.
 the_point : (i : Instruction) → is_point i ≡ true → i ≡ point_of_no_return
 the_point point_of_no_return e = refl
 the_point i e = absurd cc
 
-no_point : (side : Side) (i : Instruction) → IsRight side i → is_point i ≡ false
-no_point Early point_of_no_return h = absurd cc
-no_point Late point_of_no_return h = absurd cc
-no_point side i h = refl
+no_point : (side : Side) (is_last : Bool) (i : Instruction) → IsRight side is_last i → is_point i ≡ false
+no_point Early is_last point_of_no_return h = absurd cc
+no_point Late is_last point_of_no_return h = absurd cc
+no_point side is_last i h = refl
 
-pointless : (side : Side) (is : List Instruction) → AllByRecursion (IsRight side) is → points is ≡ 0
+pointless : (side : Side) (is : List Instruction) → AreRight side is → points is ≡ 0
 pointless side [] h = refl
-pointless side (i ∷ is) h = (λ j. (if no_point side i h.0 j then 1 else 0) + pointless side is h.1 j)
+pointless side (i ∷ is) h = (λ j. (if no_point side (is_end is) i h.0 j then 1 else 0) + pointless side is h.1 j)
 
 points-append : (is js : List Instruction) → points (is ++ js) ≡ points is + points js
 points-append [] js = let same : points js ≡ 0 + points js = omega arith in same
@@ -200,8 +225,8 @@ runnable script e = go (split_point script) refl e
     go (Some p) is f = split p is (is_some (split_point p.1)) f
 
 -- the fault of an instruction is one of two
-at_instruction : (side : Side) (n : ℕ) (i : Instruction) (f : ScriptFault) → fault_at side n i ≡ Some f → (f ≡ Misplaced n) ⊎ (f ≡ Unsupported n)
-at_instruction side n i f e = go (is_supported i) (may_stand side i) e
+at_instruction : (side : Side) (is_last : Bool) (n : ℕ) (i : Instruction) (f : ScriptFault) → fault_at side is_last n i ≡ Some f → (f ≡ Misplaced n) ⊎ (f ≡ Unsupported n)
+at_instruction side is_last n i f e = go (is_supported i) (may_stand side is_last i) e
   where
     go : (a b : Bool) → (if a then (if b then None else Some (Misplaced n)) else Some (Unsupported n)) ≡ Some f → (f ≡ Misplaced n) ⊎ (f ≡ Unsupported n)
     go true true q = absurd cc
@@ -219,11 +244,11 @@ fault_is script f e = go (split_point script) refl e
         → first_fault o (part_fault Late (length p.0 + 1) p.1) ≡ Some f → IsScriptFault script f
     on_sides p is one (Some g) early q =
         let first = from_part Early 0 p.0 f (early ∙ q) in
-        tells_wrong script f _ (record { before = p.0; after = p.1; is = (from_split script p is).0; one = one; first = inl first }) (at_instruction Early _ first.wrong f first.fault)
+        tells_wrong script f _ (record { before = p.0; after = p.1; is = (from_split script p is).0; one = one; first = inl first }) (at_instruction Early (is_end first.rest) _ first.wrong f first.fault)
     on_sides p is one None early q =
         let first = from_part Late (length p.0 + 1) p.1 f q in
         tells_wrong script f _ (record { before = p.0; after = p.1; is = (from_split script p is).0; one = one; first = inr (all_right Early 0 p.0 early, first) })
-        (at_instruction Late _ first.wrong f first.fault)
+        (at_instruction Late (is_end first.rest) _ first.wrong f first.fault)
 
     behind : (p : Halves) → split_point script ≡ Some p → (o : Option Halves) → split_point p.1 ≡ o → (if is_some o then Some TwoPoints else sides p) ≡ Some f → IsScriptFault script f
     behind p is (Some q) more g =
@@ -255,7 +280,7 @@ wrong script f h =
     late : points h.after ≡ 0
     late = omega (arith, count)
 
-    go : IsFirstFault Early 0 h.before f ⊎ (AllByRecursion (IsRight Early) h.before × IsFirstFault Late (length h.before + 1) h.after f) → sides (h.before, h.after) ≡ Some f
+    go : IsFirstFault Early 0 h.before f ⊎ (AreRight Early h.before × IsFirstFault Late (length h.before + 1) h.after f) → sides (h.before, h.after) ≡ Some f
     go (inl first) = ap (λ (o : Option ScriptFault). first_fault o (part_fault Late (length h.before + 1) h.after)) (first_part Early 0 h.before f first)
     go (inr (right, first)) = (λ j. first_fault (right_all Early 0 h.before right j) (first_part Late (length h.before + 1) h.after f first j))
 
@@ -282,22 +307,27 @@ tells_one script f is g = (λ same. fault_is script g (sym is ∙ ap Some same),
 pub tells_none : (script : List Instruction) → None ≡ script_fault script → (g : ScriptFault) → IsScriptFault script g → ⊥
 tells_none script is g h = let other = is_fault script g h in absurd cc
 
--- A script with one point, behind which all may stand that stands there, has no fault but instructions that can't be run.
-all_early : (is : List Instruction) → AllByRecursion (λ i. (is_supported i && may_precede i) ≡ true) is → AllByRecursion (IsRight Early) is
+-- Each of these may stand behind the point, whether it is run or not.
+abbrev pub MayFollow : List Instruction → Type 0
+MayFollow [] = Unit {0}
+MayFollow (i ∷ is) = (may_stand Late (is_end is) i ≡ true) × MayFollow is
+
+-- A script with one point, behind which each stands where it may, has no fault but instructions that can't be run.
+all_early : (is : List Instruction) → AllByRecursion (λ i. (is_supported i && may_precede i) ≡ true) is → AreRight Early is
 all_early [] h = tt
 all_early (i ∷ is) h = (h.0, all_early is h.1)
 
-follows : (i : Instruction) → may_follow i ≡ true → is_point i ≡ false
-follows point_of_no_return e = absurd cc
-follows i e = refl
+follows : (is_last : Bool) (i : Instruction) → may_stand Late is_last i ≡ true → is_point i ≡ false
+follows is_last point_of_no_return e = absurd cc
+follows is_last i e = refl
 
-no_points_behind : (is : List Instruction) → AllByRecursion (λ i. may_follow i ≡ true) is → points is ≡ 0
+no_points_behind : (is : List Instruction) → MayFollow is → points is ≡ 0
 no_points_behind [] h = refl
-no_points_behind (i ∷ is) h = (λ j. (if follows i h.0 j then 1 else 0) + no_points_behind is h.1 j)
+no_points_behind (i ∷ is) h = (λ j. (if follows (is_end is) i h.0 j then 1 else 0) + no_points_behind is h.1 j)
 
-late_unsupported : (n : ℕ) (is : List Instruction) (f : ScriptFault) → AllByRecursion (λ i. may_follow i ≡ true) is → part_fault Late n is ≡ Some f → (m : ℕ) × (f ≡ Unsupported m)
+late_unsupported : (n : ℕ) (is : List Instruction) (f : ScriptFault) → MayFollow is → part_fault Late n is ≡ Some f → (m : ℕ) × (f ≡ Unsupported m)
 late_unsupported n [] f h e = absurd cc
-late_unsupported n (i ∷ is) f h e = go (late_unsupported (n + 1) is f h.1) (is_supported i) (may_follow i) h.0 e
+late_unsupported n (i ∷ is) f h e = go (late_unsupported (n + 1) is f h.1) (is_supported i) (may_stand Late (is_end is) i) h.0 e
   where
     go : (part_fault Late (n + 1) is ≡ Some f → (m : ℕ) × (f ≡ Unsupported m)) → (a b : Bool) → b ≡ true
         → first_fault (if a then (if b then None else Some (Misplaced (n + 1))) else Some (Unsupported (n + 1))) (part_fault Late (n + 1) is) ≡ Some f
@@ -307,7 +337,7 @@ late_unsupported n (i ∷ is) f h e = go (late_unsupported (n + 1) is f h.1) (is
     go more false b p q = (n + 1, cc)
 
 pub only_unsupported : (script before after : List Instruction) → script ≡ before ++ (point_of_no_return ∷ after)
-    → AllByRecursion (λ i. (is_supported i && may_precede i) ≡ true) before → AllByRecursion (λ i. may_follow i ≡ true) after
+    → AllByRecursion (λ i. (is_supported i && may_precede i) ≡ true) before → MayFollow after
     → (f : ScriptFault) → IsScriptFault script f → (n : ℕ) × (f ≡ Unsupported n)
 only_unsupported script before after is early late f h =
     let right = all_early before early in

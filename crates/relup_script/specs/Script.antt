@@ -1,6 +1,6 @@
 -- What may stand where in a script, and why a script isn't run (OTP: appup(4); what stands before the point is this project's own).
-use Rattle.std.specs.Prelude.{◌≡◌, ◌⊎◌, ℕ, ◌+◌, ◌<◌, Bool, true, false, ◌&&◌, ◌||◌, IsTrue, List, [], ◌∷◌, ◌++◌, length, Option, None, Some, is_some, codes, if◌then◌else◌}
-use Rattle.std.specs.List.{AllByRecursion}
+use Rattle.std.specs.Prelude.{◌≡◌, ◌⊎◌, ℕ, ◌+◌, ◌<◌, Bool, true, false, ◌&&◌, ◌||◌, ◌==◌, not, IsTrue, List, [], ◌∷◌, ◌++◌, length, Option, None, Some, is_some, codes, if◌then◌else◌}
+use Rattle.std.specs.List.{AllByRecursion, list_any}
 use Rattle.std.specs.Option.{option_map}
 use Rattle.std.specs.Str.{bytes_eq}
 use Rattle.erl_term.specs.Value.{Values}
@@ -53,7 +53,6 @@ abbrev pub is_supported : Instruction → Bool
 is_supported (apply c) = is_error c || is_application c
 is_supported (sync_nodes vs) = false
 is_supported restart_new_emulator = false
-is_supported restart_emulator = false
 is_supported i = true
 
 -- what may stand before the point of no return
@@ -71,13 +70,32 @@ may_follow (load_object_code f) = false
 may_follow point_of_no_return = false
 may_follow i = true
 
-abbrev pub may_stand : Side → Instruction → Bool
-may_stand Early i = may_precede i
-may_stand Late i = may_follow i
+-- it asks for a restart of the runtime system
+abbrev pub is_restart : Instruction → Bool
+is_restart restart_emulator = true
+is_restart i = false
 
--- The instruction is run on this side of the point.
-abbrev pub IsRight : Side → Instruction → Type 0
-IsRight side i = IsTrue (is_supported i && may_stand side i)
+-- One of these does.
+abbrev pub restarts : List Instruction → Bool
+restarts = list_any is_restart
+
+-- A restart stands at the end of a script alone.
+abbrev pub may_stand : Side → Bool → Instruction → Bool
+may_stand Early is_last i = may_precede i
+may_stand Late is_last i = may_follow i && (is_last || not (is_restart i))
+
+-- The instruction is run on this side of the point, as the last one of the side or as another.
+abbrev pub IsRight : Side → Bool → Instruction → Type 0
+IsRight side is_last i = IsTrue (is_supported i && may_stand side is_last i)
+
+-- none stands behind an instruction with these behind it
+abbrev pub is_end : List Instruction → Bool
+is_end is = length is == 0
+
+-- Each of these instructions of a side is run there.
+abbrev pub AreRight : Side → List Instruction → Type 0
+AreRight side [] = Unit {0}
+AreRight side (i ∷ is) = IsRight side (is_end is) i × AreRight side is
 
 -- how many points of no return there are
 abbrev pub points : List Instruction → ℕ
@@ -89,13 +107,13 @@ pub record IsRunnable (script : List Instruction) : Type 0 where
   pub before : List Instruction
   pub after : List Instruction
   pub is : script ≡ before ++ (point_of_no_return ∷ after)
-  pub early : AllByRecursion (IsRight Early) before
-  pub late : AllByRecursion (IsRight Late) after
+  pub early : AreRight Early before
+  pub late : AreRight Late after
 
 -- what is wrong with an instruction that has this number
-abbrev pub fault_at : Side → ℕ → Instruction → Option ScriptFault
-fault_at side n i =
-    if is_supported i then (if may_stand side i then None else Some (Misplaced n))
+abbrev pub fault_at : Side → Bool → ℕ → Instruction → Option ScriptFault
+fault_at side is_last n i =
+    if is_supported i then (if may_stand side is_last i then None else Some (Misplaced n))
     else Some (Unsupported n)
 
 -- The first instruction at fault on this side, which begins behind so many instructions, has this fault.
@@ -104,8 +122,8 @@ pub record IsFirstFault (side : Side) (n : ℕ) (part : List Instruction) (f : S
   pub wrong : Instruction
   pub rest : List Instruction
   pub is : part ≡ front ++ (wrong ∷ rest)
-  pub right : AllByRecursion (IsRight side) front
-  pub fault : fault_at side (n + (length front + 1)) wrong ≡ Some f
+  pub right : AllByRecursion (IsRight side false) front
+  pub fault : fault_at side (is_end rest) (n + (length front + 1)) wrong ≡ Some f
 
 -- The script has one point of no return, and an instruction before it has this fault, or none and one behind it.
 pub record HasWrong (script : List Instruction) (f : ScriptFault) : Type 0 where
@@ -113,7 +131,7 @@ pub record HasWrong (script : List Instruction) (f : ScriptFault) : Type 0 where
   pub after : List Instruction
   pub is : script ≡ before ++ (point_of_no_return ∷ after)
   pub one : points script ≡ 1
-  pub first : IsFirstFault Early 0 before f ⊎ (AllByRecursion (IsRight Early) before × IsFirstFault Late (length before + 1) after f)
+  pub first : IsFirstFault Early 0 before f ⊎ (AreRight Early before × IsFirstFault Late (length before + 1) after f)
 
 -- The fault of a script: of several the first in the order of their kinds; of instructions the first one's.
 abbrev pub IsScriptFault : List Instruction → ScriptFault → Type 0
@@ -134,7 +152,7 @@ first_fault None o = o
 -- the first fault on a side, behind so many instructions
 abbrev pub part_fault : Side → ℕ → List Instruction → Option ScriptFault
 part_fault side n [] = None
-part_fault side n (i ∷ is) = first_fault (fault_at side (n + 1) i) (part_fault side (n + 1) is)
+part_fault side n (i ∷ is) = first_fault (fault_at side (is_end is) (n + 1) i) (part_fault side (n + 1) is)
 
 abbrev pub split_fault : Option (List Instruction × List Instruction) → Option ScriptFault
 split_fault None = Some NoPoint

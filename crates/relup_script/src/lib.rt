@@ -2,8 +2,8 @@
 //! release_handler(3)).
 //!
 //! [`check`] takes a script exactly where it has one point of no return and each instruction stands on a side of it where
-//! it is run, and else tells its fault (`runnable`, `fault`). [`find_script`] gives the script between two releases by its
-//! rule. Neither takes memory.
+//! it is run, a restart at its end alone, and else tells its fault (`runnable`, `fault`). [`restarts`] tells whether it asks
+//! for a restart. [`find_script`] gives the script between two releases by its rule. None of them takes memory.
 //!
 //! Trusted: the toolchain alone.
 #![tactic(auto)]
@@ -14,5 +14,5 @@ mod script;
 mod search;
 
 pub use fault::ScriptFault;
-pub use script::check;
+pub use script::{check, restarts};
 pub use search::{Found, NoMatchingRelup, find_script};

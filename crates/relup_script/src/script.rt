@@ -2,7 +2,7 @@
 ghost use Rattle.std.specs.Prelude.{◌≡◌, ◌+◌, ◌<◌, ◌^◌, ◌↔◌, length, IsOk, None, Ok, Err};
 ghost use Rattle.std.specs.Option.{option_map};
 ghost use Rattle.relup_instruction.specs.Instruction.{instruction_of, script_of};
-ghost use Rattle.relup_script.specs.Script.{is_point, is_supported, may_precede, may_follow, may_stand, fault_at, part_fault, split_point, script_fault, IsRunnable, IsScriptFault};
+ghost use Rattle.relup_script.specs.Script.{is_point, is_supported, may_precede, may_follow, is_restart, restarts, may_stand, fault_at, part_fault, split_point, script_fault, IsRunnable, IsScriptFault};
 
 use crate::ScriptFault;
 use crate::calls::{is_application, is_error};
@@ -15,7 +15,8 @@ pub(crate) enum Side {
     Late,
 }
 
-/// Whether a script can be run: it has one point of no return, and each of its instructions is run on its side of it.
+/// Whether a script can be run: it has one point of no return, each of its instructions is run on its side of it, and a restart
+/// is its last instruction.
 pub fn check(script: &[Instr]) -> Result<(), ScriptFault>
     ensures runnable { IsOk result ↔ IsRunnable (script_of script.now) }
 
@@ -26,6 +27,18 @@ pub fn check(script: &[Instr]) -> Result<(), ScriptFault>
         Some(fault) => Err(fault),
         None => Ok(()),
     }
+}
+
+/// Whether a script asks for a restart of the runtime system.
+pub fn restarts(script: &[Instr]) -> bool
+    ensures { result ≡ restarts (script_of script.now) }
+{
+    for instr in script {
+        if is_restart(instr) {
+            return true;
+        }
+    }
+    false
 }
 
 // The fault of a script.
@@ -63,21 +76,22 @@ fn part_fault(side: Side, before: usize, part: &[Instr]) -> Option<ScriptFault>
     ensures { result ≡ part_fault side before (script_of part.now) }
 {
     for (i, instr) in part.iter().enumerate() {
-        if let Some(fault) = fault_at(side, before + i + 1, instr) {
+        let is_last = part[i + 1..].is_empty();
+        if let Some(fault) = fault_at(side, is_last, before + i + 1, instr) {
             return Some(fault);
         }
     }
     None
 }
 
-// What is wrong with an instruction that has this number.
-fn fault_at(side: Side, number: usize, instr: &Instr) -> Option<ScriptFault>
-    ensures { result ≡ fault_at side number (instruction_of instr.now) }
+// What is wrong with an instruction that has this number, and is the last one of its side or another one.
+fn fault_at(side: Side, is_last: bool, number: usize, instr: &Instr) -> Option<ScriptFault>
+    ensures { result ≡ fault_at side is_last number (instruction_of instr.now) }
 {
     if !is_supported(instr) {
         return Some(ScriptFault::Unsupported(number));
     }
-    if may_stand(side, instr) {
+    if may_stand(side, is_last, instr) {
         None
     } else {
         Some(ScriptFault::Misplaced(number))
@@ -95,7 +109,7 @@ fn is_supported(instr: &Instr) -> bool
 {
     match instr {
         Instr::Apply(call) => is_error(call) || is_application(call),
-        Instr::SyncNodes(_) | Instr::RestartNewEmulator | Instr::RestartEmulator => false,
+        Instr::SyncNodes(_) | Instr::RestartNewEmulator => false,
         _ => true,
     }
 }
@@ -119,11 +133,17 @@ fn may_follow(instr: &Instr) -> bool
     !matches!(instr, Instr::LoadObjectCode(_) | Instr::PointOfNoReturn)
 }
 
-fn may_stand(side: Side, instr: &Instr) -> bool
-    ensures { result ≡ may_stand side (instruction_of instr.now) }
+fn is_restart(instr: &Instr) -> bool
+    ensures { result ≡ is_restart (instruction_of instr.now) }
+{
+    matches!(instr, Instr::RestartEmulator)
+}
+
+fn may_stand(side: Side, is_last: bool, instr: &Instr) -> bool
+    ensures { result ≡ may_stand side is_last (instruction_of instr.now) }
 {
     match side {
         Side::Early => may_precede(instr),
-        Side::Late => may_follow(instr),
+        Side::Late => may_follow(instr) && (is_last || !is_restart(instr)),
     }
 }

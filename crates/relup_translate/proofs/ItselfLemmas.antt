@@ -1,5 +1,5 @@
 -- From a release to itself nothing changes.
-use Rattle.std.proofs.Common.{◌≡◌, refl, ap, sym, ◌∙◌, ℕ, Bool, true, false, cond, List, [], ◌∷◌, ◌++◌, map, reverse, filter_map, find, Option, None, Some, is_some, Ok, if◌then◌else◌, bytes_eq}
+use Rattle.std.proofs.Common.{◌≡◌, refl, ap, ◌∙◌, ℕ, Bool, true, false, cond, List, [], ◌∷◌, ◌++◌, map, reverse, filter_map, find, Option, None, Some, is_some, if◌then◌else◌, bytes_eq}
 use Rattle.std.proofs.lemmas.Slice.Eq.{bytes_eq-Decides}
 use Rattle.std.proofs.lemmas.Map.Keys.{IsDistinct-head, IsDistinct-tail}
 use Rattle.std.specs.List.{AllByRecursion, IsDistinct, cons_option}
@@ -15,8 +15,8 @@ use Rattle.relup_row.specs.Release.{RelupAppForm, RelupReleaseForm, WayForm, app
 use Rattle.relup_row.specs.Script.{script}
 use Rattle.relup_translate.specs.Fault.{FaultForm}
 use Rattle.relup_translate.specs.Fault.FaultForm.{needs_new_emulator}
-use Rattle.relup_translate.specs.Translation.{first_fault, if_other, row_fault, between_versions, app_fault, way_fault, coming_row, changing_row, going_row, rows, way_script, unless_fault, relup_between, translation}
-use Rattle.relup_translate.specs.Laws.{app_names, idle, StaysItself}
+use Rattle.relup_translate.specs.Translation.{first_fault, if_other, row_fault, between_versions, app_fault, way_fault, coming_row, changing_row, going_row, rows, way_script, unless_fault}
+use Rattle.relup_translate.specs.Laws.{StaysItself}
 
 same_bytes : (xs : List ℕ) → bytes_eq xs xs ≡ true
 same_bytes xs = (bytes_eq-Decides xs xs).1 refl

@@ -1,30 +1,30 @@
 -- Where the instructions of a made script stand.
-use Rattle.std.proofs.Common.{◌≡◌, refl, ap, sym, subst, ◌∙◌, ℕ, zero, suc, ◌+◌, Bool, true, false, ◌&&◌, List, [], ◌∷◌, ◌++◌, length, map, reverse, filter, filter_map, flat_map, Option, None, Some, is_some, Result, Ok, Err, if◌then◌else◌, bytes_eq, arith}
+use Rattle.std.proofs.Common.{◌≡◌, refl, sym, subst, ℕ, Bool, true, false, not, ◌&&◌, ◌||◌, List, [], ◌∷◌, ◌++◌, map, reverse, filter, filter_map, flat_map, Option, None, Some, is_some, Result, Ok, Err, if◌then◌else◌, bytes_eq}
 use Rattle.std.proofs.lemmas.List.{append_assoc, reverse-append}
-use Rattle.std.specs.List.{AllByRecursion, cons_option}
+use Rattle.std.specs.List.{AllByRecursion, cons_option, list_any}
 use Rattle.std.specs.Option.{option_and_then}
 use Rattle.std.specs.Result.{result_ok}
 use Rattle.relup_instruction.specs.declared.instruction.Direction.{Direction}
 use Rattle.relup_instruction.specs.declared.instruction.Direction.TheVariants.{Up, Down}
 use Rattle.relup_instruction.specs.Instruction.{ChangeForm, Instruction}
-use Rattle.relup_instruction.specs.Instruction.Instruction.{load_object_code, point_of_no_return, suspend, load, code_change, resume, restart_new_emulator}
+use Rattle.relup_instruction.specs.Instruction.Instruction.{load_object_code, point_of_no_return, suspend, code_change, resume, restart_emulator}
 use Rattle.relup_file.specs.Relup.{EntryForm, RelupForm}
 use Rattle.rel_files.specs.declared.release.StartType.{StartType}
 use Rattle.rel_files.specs.declared.release.StartType.TheVariants.{Load, Unloaded}
-use Rattle.relup_script.specs.Script.{is_point, is_supported, may_precede, may_follow}
-use Rattle.relup_script.proofs.ScriptLemmas.{only_unsupported}
+use Rattle.relup_script.specs.Script.{is_point, is_restart, is_supported, may_precede, may_follow}
+use Rattle.relup_script.proofs.ScriptLemmas.{MayFollow, only_unsupported}
 use Rattle.appup_file.specs.Instruction.{AppupInstruction}
-use Rattle.appup_file.specs.Instruction.AppupInstruction.{update, update_supervisor, load_module, add_module, delete_module, add_application, remove_application, restart_application, low_level}
+use Rattle.appup_file.specs.Instruction.AppupInstruction.{add_module, delete_module, add_application, remove_application, restart_application, low_level}
 use Rattle.relup_block.specs.Order.{BlockItemForm}
 use Rattle.relup_block.specs.Block.{change, over, is_of_kind, loading, suspending, changing, resuming, updating, in_orders, block}
 use Rattle.relup_block.proofs.BlockLemmas.{in_two_orders}
 use Rattle.relup_row.specs.Release.{RelupAppForm, RelupReleaseForm, WayForm, way_between, app_named}
 use Rattle.relup_row.specs.Fetches.{MentionForm, fetches, fetching}
-use Rattle.relup_row.specs.Script.{load_plainly, remove_plainly, starting, coming, leaving, stopping, going, of_app, restarting, in_place, single, block_item, PartForm, put_item, put, parts, part_script, row_script, mentions, written_fetch, written_fetches, script}
+use Rattle.relup_row.specs.Script.{load_plainly, remove_plainly, starting, coming, stopping, going, of_app, in_place, single, block_item, PartForm, put_item, put, parts, part_script, row_script, mentions, written_fetch, written_fetches, asks_restart, restart_at_end, script}
 use Rattle.relup_row.specs.Script.PartForm.{a_block, a_single}
 use Rattle.relup_translate.specs.Fault.{FaultForm}
 use Rattle.relup_translate.specs.Fault.FaultForm.{needs_new_emulator}
-use Rattle.relup_translate.specs.Translation.{first_fault, instruction_fault, other_version, between_versions, row_fault, app_fault, way_fault, coming_row, changing_row, going_row, rows, way_script, entry, relup_between, translation}
+use Rattle.relup_translate.specs.Translation.{first_fault, instruction_fault, other_version, between_versions, row_fault, app_fault, way_fault, coming_row, changing_row, going_row, rows, entry}
 use Rattle.relup_translate.specs.Laws.{AreSound, HasOnlyUnsupported, StandsRight}
 use Rattle.relup_translate.proofs.OutcomeLemmas.{all_sound, sound_where_made}
 
@@ -64,14 +64,14 @@ module _ {A : Type 0} (P : A → Type 0) where
   of_reverse [] h = tt
   of_reverse (x ∷ xs) h = subst (AllByRecursion P) (sym (reverse-append (x ∷ []) xs)) (of_both (reverse xs) (x ∷ []) (of_reverse xs h.1) (h.0, tt))
 
--- Behind the point stand instructions that may follow it.
-abbrev MayFollow : Instruction → Type 0
-MayFollow i = may_follow i ≡ true
+-- Behind the point stand instructions that may follow it at any place.
+abbrev Follows : Instruction → Type 0
+Follows i = (may_follow i && not (is_restart i)) ≡ true
 
 abbrev AllFollow : List Instruction → Type 0
-AllFollow = AllByRecursion MayFollow
+AllFollow = AllByRecursion Follows
 
-follows_over : {A : Type 0} (f : List A → Instruction) → ((as' : List A) → MayFollow (f as')) → (as' : List A) → AllFollow (over f as')
+follows_over : {A : Type 0} (f : List A → Instruction) → ((as' : List A) → Follows (f as')) → (as' : List A) → AllFollow (over f as')
 follows_over f each [] = tt
 follows_over f each (a ∷ as') = (each (a ∷ as'), tt)
 
@@ -83,15 +83,15 @@ follows_changing : (d : Direction) (xs : List BlockItemForm) → AllFollow (chan
 follows_changing d xs = follows_over (λ (cs : List ChangeForm). code_change (record { mode = Some d; changes = cs })) (λ cs. refl) (filter_map change xs)
 
 follows_updating : (d : Direction) (xs : List BlockItemForm) → AllFollow (updating d xs)
-follows_updating Up xs = of_both MayFollow (loading xs) (changing Up xs) (follows_loading xs) (follows_changing Up xs)
+follows_updating Up xs = of_both Follows (loading xs) (changing Up xs) (follows_loading xs) (follows_changing Up xs)
 follows_updating Down xs =
-    of_both MayFollow (loading (filter (is_of_kind true) xs)) _ (follows_loading (filter (is_of_kind true) xs))
-    (of_both MayFollow (changing Down xs) (loading (filter (is_of_kind false) xs)) (follows_changing Down xs) (follows_loading (filter (is_of_kind false) xs)))
+    of_both Follows (loading (filter (is_of_kind true) xs)) _ (follows_loading (filter (is_of_kind true) xs))
+    (of_both Follows (changing Down xs) (loading (filter (is_of_kind false) xs)) (follows_changing Down xs) (follows_loading (filter (is_of_kind false) xs)))
 
 follows_in_orders : (d : Direction) (ss xs : List BlockItemForm) → AllFollow (in_orders d ss xs)
 follows_in_orders d ss xs =
-    of_both MayFollow (suspending ss) _ (follows_over suspend (λ ss'. refl) _)
-    (of_both MayFollow (updating d xs) (resuming ss) (follows_updating d xs) (follows_over resume (λ names. refl) _))
+    of_both Follows (suspending ss) _ (follows_over suspend (λ ss'. refl) _)
+    (of_both Follows (updating d xs) (resuming ss) (follows_updating d xs) (follows_over resume (λ names. refl) _))
 
 follows_block : (d : Direction) (xs : List BlockItemForm) → AllFollow (block d xs)
 follows_block d xs =
@@ -104,13 +104,13 @@ follows_starting Unloaded app = tt
 follows_starting start app = (refl, tt)
 
 follows_coming : (start : StartType) (a : RelupAppForm) → AllFollow (coming start a)
-follows_coming start a = of_both MayFollow (map load_plainly a.modules) _ (of_each MayFollow load_plainly (λ m. refl) a.modules) (follows_starting start a.name)
+follows_coming start a = of_both Follows (map load_plainly a.modules) _ (of_each Follows load_plainly (λ m. refl) a.modules) (follows_starting start a.name)
 
 follows_stopping : (a : RelupAppForm) → AllFollow (stopping a)
-follows_stopping a = (refl, of_both MayFollow (map remove_plainly a.modules) _ (of_each MayFollow remove_plainly (λ m. refl) a.modules) (refl, tt))
+follows_stopping a = (refl, of_both Follows (map remove_plainly a.modules) _ (of_each Follows remove_plainly (λ m. refl) a.modules) (refl, tt))
 
 follows_going : (a : RelupAppForm) → AllFollow (going a)
-follows_going a = of_both MayFollow (stopping a) _ (follows_stopping a) (refl, tt)
+follows_going a = of_both Follows (stopping a) _ (follows_stopping a) (refl, tt)
 
 follows_of_app : (f : RelupAppForm → List Instruction) → ((a : RelupAppForm) → AllFollow (f a)) → (o : Option RelupAppForm) → AllFollow (of_app f o)
 follows_of_app f each None = tt
@@ -126,6 +126,7 @@ IsPlain i = is_written_point i ≡ false
 
 follows_in_place : (i : Instruction) → is_point i ≡ false → AllFollow (in_place i)
 follows_in_place (load_object_code f) e = tt
+follows_in_place restart_emulator e = tt
 follows_in_place point_of_no_return e = absurd cc
 follows_in_place i e = (refl, tt)
 
@@ -135,7 +136,7 @@ follows_single w (delete_module d) e = (refl, (refl, tt))
 follows_single w (add_application a) e = follows_of_app _ (follows_coming a.start) _
 follows_single w (remove_application app) e = follows_of_app going follows_going _
 follows_single w (restart_application app) e =
-    of_both MayFollow (of_app stopping (app_named app w.left)) _ (follows_of_app stopping follows_stopping _)
+    of_both Follows (of_app stopping (app_named app w.left)) _ (follows_of_app stopping follows_stopping _)
     (follows_of_app (λ (a : RelupAppForm). coming a.start a) (λ a. follows_coming a.start a) (app_named app w.target))
 follows_single w (low_level i) e = follows_in_place i e
 follows_single w i e = tt
@@ -162,7 +163,21 @@ follows_part w (a_block xs) h = follows_block w.direction xs
 follows_part w (a_single i) h = follows_single w i h
 
 follows_row : (w : WayForm) (is : List AppupInstruction) → AllByRecursion IsPlain is → AllFollow (row_script w is)
-follows_row w is h = of_parts MayFollow PlainPart (part_script w) (follows_part w) (parts is) (plain_parts is h)
+follows_row w is h = of_parts Follows PlainPart (part_script w) (follows_part w) (parts is) (plain_parts is h)
+
+-- Behind them stands a restart, if any.
+follows_anywhere : (is_last : Bool) (i : Instruction) → Follows i → (may_follow i && (is_last || not (is_restart i))) ≡ true
+follows_anywhere is_last i h = go is_last (may_follow i) (not (is_restart i)) h
+  where
+    go : (l a b : Bool) → (a && b) ≡ true → (a && (l || b)) ≡ true
+    go true true b e = refl
+    go false true b e = e
+    go l false b e = absurd cc
+
+restart_follows : (is : List Instruction) (restarts : Bool) → AllFollow is → MayFollow (is ++ (if restarts then restart_emulator ∷ [] else []))
+restart_follows [] true h = (refl, tt)
+restart_follows [] false h = tt
+restart_follows (i ∷ is) restarts h = (follows_anywhere _ i h.0, restart_follows is restarts h.1)
 
 -- Before it stand fetches.
 abbrev MayPrecede : Instruction → Type 0
@@ -190,11 +205,13 @@ stands : (w : WayForm) (rs : List (List AppupInstruction)) → AllByRecursion (A
 stands w rs h =
     let fetched = fetching (flat_map (mentions w) rs) in
     let written = flat_map written_fetches rs in
-    only_unsupported (script w rs) (fetched ++ written) (flat_map (row_script w) rs)
-    (sym (append_assoc fetched written (point_of_no_return ∷ flat_map (row_script w) rs)))
+    let behind = flat_map (row_script w) rs ++ restart_at_end rs in
+    only_unsupported (script w rs) (fetched ++ written) behind
+    (sym (append_assoc fetched written (point_of_no_return ∷ behind)))
     (of_both MayPrecede fetched written (early_fetching (flat_map (mentions w) rs))
     (of_parts MayPrecede (λ is. Unit {0}) written_fetches early_row rs (trivially rs)))
-    (of_parts MayFollow (AllByRecursion IsPlain) (row_script w) (follows_row w) rs h)
+    (restart_follows (flat_map (row_script w) rs) (list_any (list_any asks_restart) rs)
+    (of_parts Follows (AllByRecursion IsPlain) (row_script w) (follows_row w) rs h))
 
 -- The rows of a way without a fault have no point themselves.
 plain_instruction : (w : WayForm) (b : RelupAppForm) (i : AppupInstruction) → instruction_fault w b i ≡ None → IsPlain i

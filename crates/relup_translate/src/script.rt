@@ -1,10 +1,10 @@
 //! The script of a way.
 ghost use Rattle.std.specs.Prelude.{◌≡◌, ◌++◌, IfOk, OnOk, map};
-ghost use Rattle.std.specs.List.{flat_map};
+ghost use Rattle.std.specs.List.{flat_map, list_any};
 ghost use Rattle.relup_instruction.specs.Instruction.{script_of};
 ghost use Rattle.relup_row.specs.Release.{way_of};
 ghost use Rattle.relup_row.specs.Fetches.{mention_of};
-ghost use Rattle.relup_row.specs.Script.{mentions, written_fetches, row_script, script};
+ghost use Rattle.relup_row.specs.Script.{mentions, written_fetches, row_script, asks_restart, restart_at_end, script};
 ghost use Rattle.relup_translate.specs.Translation.{way_script};
 ghost use Rattle.relup_block.specs.Memory.{Appends};
 ghost use Rattle.relup_translate.specs.Memory.{row_of_change, rows_of};
@@ -14,7 +14,7 @@ use relup_block::push_instr;
 use relup_instruction::Instr;
 use relup_row::{
     Mention, Way, push_added, push_app_modules, push_fetches, push_mentions, push_removed,
-    push_row, push_written_fetches,
+    push_row, push_written_fetches, row_asks_restart,
 };
 use std::alloc::{AllocError, Global};
 
@@ -108,7 +108,38 @@ fn push_changes(
     Ok(())
 }
 
-// The fetches, the point of no return, and all else.
+fn change_asks_restart(change: AppChange<'_>) -> bool
+    ensures { result ≡ list_any asks_restart (row_of_change change.entry) }
+{
+    match change {
+        AppChange::Changing(row) => row_asks_restart(row),
+        _ => false,
+    }
+}
+
+fn any_asks_restart(changes: &[AppChange<'_>]) -> bool
+    ensures { result ≡ list_any (list_any asks_restart) (rows_of changes.now) }
+{
+    for change in changes {
+        if change_asks_restart(*change) {
+            return true;
+        }
+    }
+    false
+}
+
+fn push_restart(changes: &[AppChange<'_>], out: &mut Vec<Instr>) -> Result<(), AllocError>
+    ensures { OnOk result
+        (Appends out.old.items out.new.items (restart_at_end (rows_of changes.now))) }
+{
+    if any_asks_restart(changes) {
+        push_instr(Instr::RestartEmulator, out)
+    } else {
+        Ok(())
+    }
+}
+
+// The fetches, the point of no return, all else, and a restart behind it.
 fn push_script(
     alloc: Global,
     way: Way<'_>,
@@ -122,7 +153,8 @@ fn push_script(
     push_fetches(alloc, &mentions, out)?;
     push_all_fetches(alloc, changes, out)?;
     push_instr(Instr::PointOfNoReturn, out)?;
-    push_changes(alloc, way, changes, out)
+    push_changes(alloc, way, changes, out)?;
+    push_restart(changes, out)
 }
 
 pub(crate) fn way_script(alloc: Global, way: Way<'_>) -> Result<Vec<Instr>, AllocError>

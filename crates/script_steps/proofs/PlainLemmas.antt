@@ -1,12 +1,12 @@
 -- Operations that don't fail, on the processes of one module after another.
-use Rattle.std.proofs.Common.{◌≡◌, ℕ, ◌<◌, ◌+◌, List, String, map, take, length, get_or, string_bytes, refl, sym, ap, subst, ◌∙◌, Ok, false, None}
+use Rattle.std.proofs.Common.{◌≡◌, ℕ, ◌<◌, ◌+◌, List, String, map, take, length, get_or, string_bytes, refl, sym, ap, subst, ◌∙◌, Ok, Bool, true, false, None}
 use Rattle.std.specs.declared.alloc.Global.{Global}
 use Rattle.proc_table.specs.declared.view.View.{View}
 use Rattle.held_processes.specs.Course.{Courses, Operation, Users, on_module}
 use Rattle.held_processes.specs.Following.{AllFollow, HeldSlots}
 use Rattle.held_processes.specs.Operations.{users_of, values_seen}
 use Rattle.relup_instruction.specs.Instruction.{Instruction}
-use Rattle.relup_instruction.specs.Instruction.Instruction.{purge}
+use Rattle.relup_instruction.specs.Instruction.Instruction.{purge, restart_emulator}
 use Rattle.sup_tree.specs.Tree.{App}
 use Rattle.script_steps.specs.declared.release.Plain.{Plain}
 use Rattle.script_steps.specs.declared.release.Plain.TheVariants.{Resume, Stop, Start}
@@ -52,8 +52,14 @@ plain_carried s past plain names a hs tree v w done follow = (
       }),
 )
 
--- nothing is done for old code
-pub nothing_purged : (s : Site) (past : Past) (i : Instruction) (names : List (List ℕ)) (a : ProgressForm) (tree : List App) (v : View) → i ≡ purge names → HasDone past a tree v
+-- Nothing is done here for old code, nor for a restart: it is behind the script's end.
+abbrev pub is_idle : Instruction → Bool
+is_idle (purge names) = true
+is_idle restart_emulator = true
+is_idle i = false
+
+pub nothing_done : (s : Site) (past : Past) (i : Instruction) (a : ProgressForm) (tree : List App) (v : View) → is_idle i ≡ true → HasDone past a tree v
     → CarriesOut {X = Unit {0}} s past false i (Ok tt) a tree v
-nothing_purged s past i names a tree v is done =
-    subst (λ (j : Instruction). CarriesOut {X = Unit {0}} s past false j (Ok tt) a tree v) (sym is) ((v, seen_in past a tree v done, refl), done)
+nothing_done s past (purge names) a tree v idle done = ((v, seen_in past a tree v done, refl), done)
+nothing_done s past restart_emulator a tree v idle done = ((v, seen_in past a tree v done, refl), done)
+nothing_done s past i a tree v idle done = absurd cc

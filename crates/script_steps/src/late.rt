@@ -52,6 +52,7 @@ impl Progress {
             }
             Instr::Remove(purging) => self.remove(rt, site, seat, tree, purging),
             Instr::Purge(_) => Ok(()),
+            Instr::RestartEmulator => Ok(()),
             Instr::Apply(call) => self.apply(rt, alloc, site, seat, tree, call),
             _ => unreachable!(),
         }

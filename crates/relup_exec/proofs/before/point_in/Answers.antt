@@ -5,6 +5,7 @@ use Rattle.relup_instruction.specs.Instruction.{Instruction, instruction_of, scr
 use Rattle.relup_instruction.specs.Instruction.Instruction.{point_of_no_return}
 use Rattle.script_steps.specs.Steps.{IsEarly}
 use Rattle.script_steps.proofs.RowLemmas.{all_push, more, parted}
+use Rattle.relup_script.proofs.ScriptLemmas.{are_early, are_late}
 use Rattle.relup_exec.proofs.RunLemmas.{is_the_point, late_behind, next_is_early, not_all_early}
 use Rattle.relup_exec.proofs.before.point_in.Goals as goal
 
@@ -21,7 +22,7 @@ returns-then-is_point c =
       rest = rest;
       is = is;
       early = c.loop-i.invariant;
-      late = late_behind c.requires.before c.requires.after front rest c.requires.early c.requires.late c.loop-i.invariant (sym c.requires.is ∙ is);
+      late = late_behind c.requires.before c.requires.after front rest (are_early c.requires.before c.requires.early) (are_late c.requires.after c.requires.late) c.loop-i.invariant (sym c.requires.is ∙ is);
       place_is = sym (length-map (take c.loop-i.i script) instruction_of ∙ length-take-le c.loop-i.i script (omega (arith, c.loop-i-test.true)));
     }
 

@@ -1,4 +1,4 @@
-use Rattle.std.proofs.Common.{◌++◌, List, map, string_bytes, option_to_list, refl, ap, ◌∙◌}
+use Rattle.std.proofs.Common.{◌++◌, map, string_bytes, option_to_list, refl, ap, ◌∙◌}
 use Rattle.std.specs.List.{filter_map}
 use Rattle.relup_row.specs.Release.{relup_release_of}
 use Rattle.relup_row.specs.Fetches.{mention, mention_of}
