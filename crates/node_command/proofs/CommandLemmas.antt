@@ -10,7 +10,7 @@ use Rattle.rel_list.specs.Event.{Event, is_barred, own_step, step}
 use Rattle.rel_list.specs.Event.Event.{made, unpacked, installed, restart_installed, made_permanent, removed, reboot_old, boot}
 use Rattle.rel_list.specs.Refusal.{own_refusal, refusal}
 use Rattle.rel_list.proofs.RefusalLaws.{refused_where_not_allowed}
-use Rattle.rel_list.proofs.Waiting.{own_of_step}
+use Rattle.rel_list.proofs.OwnRules.{own_of_step}
 use Rattle.rel_records.specs.Limits.{most_releases, is_small}
 use Rattle.rel_records.specs.Writing.{IsOfListed}
 use Rattle.node_command.specs.Taking.{list_refusal, refused_or, kept_short, commanded}

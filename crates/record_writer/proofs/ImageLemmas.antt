@@ -22,7 +22,7 @@ use Rattle.rel_list.specs.Event.Event.{made, removed, unpacked}
 use Rattle.rel_list.specs.Status.{is_current, status_word}
 use Rattle.rel_list.proofs.LibraryLaws.{libraries-recorded}
 use Rattle.rel_list.proofs.Orderly.{distinct-with_statuses}
-use Rattle.rel_list.proofs.Waiting.{never_made_again, own_of_step}
+use Rattle.rel_list.proofs.OwnRules.{never_made_again, own_of_step}
 use Rattle.rel_records.specs.Image.{recorded_row, image_of, image_record, image_value, imaged}
 use Rattle.rel_records.specs.Depth.{is_within}
 use Rattle.rel_records.specs.Limits.{has_one_permanent, is_small, most_releases}

@@ -28,7 +28,7 @@ use Rattle.rel_list.specs.Event.{Event, status_behind}
 use Rattle.rel_list.specs.Event.Event.{made, unpacked, installed, restart_installed, made_permanent, removed, reboot_old, boot}
 use Rattle.rel_list.specs.declared.fault.ListError.TheVariants as told
 use Rattle.rel_list.proofs.Orderly.{status_or}
-use Rattle.rel_list.proofs.Waiting.{own_of_refusal}
+use Rattle.rel_list.proofs.OwnRules.{own_of_refusal}
 use Rattle.rel_records.specs.Lists.{HaveVersions}
 use Rattle.rel_records.specs.Reading.{version_in, status_in, assignment_in, assignments_of, change_in, AreOfRelease, Brings, Says, Spells}
 use Rattle.rel_records.specs.Record.{Assignment, FileTerms, Record, relup_or_none, makes, adds, assigns, removes, library_terms, release_term, assignment_term, status_term, removed_term, term_of}

@@ -16,7 +16,7 @@ use Rattle.rel_list.specs.Event.Event.{made_permanent, reboot_old}
 use Rattle.rel_list.specs.Refusal.{refusal, listed_refusal}
 use Rattle.rel_records.specs.Lists.{HaveVersions}
 use Rattle.rel_records.specs.Writing.{IsOfListed}
-use Rattle.rel_list.proofs.Waiting.{own_of_step}
+use Rattle.rel_list.proofs.OwnRules.{own_of_step}
 use Rattle.rel_records.proofs.RecordPlaces.{chosen}
 use Rattle.rel_handler.specs.Commits.{MakesPermanent}
 use Rattle.rel_handler.specs.Refusals.{CommandRefused}

@@ -11,7 +11,7 @@ use Rattle.rel_list.specs.Event.Event.{made, unpacked, installed, restart_instal
 use Rattle.rel_list.specs.Change.{has_other_temporary, may_be_given}
 use Rattle.rel_list.specs.Keyed.{IsOrderly}
 use Rattle.rel_list.proofs.Orderly.{of_version, differs_back, first_differs, none_behind, none_at_all, at_most_once, exactly_once, distinct-with_statuses, one_more, as_many, no_more, just_as_many}
-use Rattle.rel_list.proofs.Waiting.{never_made_again, own_of_step}
+use Rattle.rel_list.proofs.OwnRules.{never_made_again, own_of_step}
 
 abbrev temporaries : Releases → ℕ
 temporaries es = length (of_status is_temporary es)

@@ -1,7 +1,7 @@
 mod Lookups
 pub mod LibraryLaws
 pub mod Orderly
-pub mod Waiting
+pub mod OwnRules
 pub mod EventLaws
 pub mod PermanentLaws
 pub mod BootLaws

@@ -10,7 +10,7 @@ use Rattle.rel_list.specs.Event.Event.{made, unpacked, installed, restart_instal
 use Rattle.rel_list.specs.Laws.{OneShotsComeFromRestarts, makes_one_shot}
 use Rattle.rel_list.proofs.BootLaws.{boot_leaves_no_one_shot, first_is_none, none_is_one_shot}
 use Rattle.rel_list.proofs.EventLaws.{allowed, allowed_else}
-use Rattle.rel_list.proofs.Waiting.{own_of_step}
+use Rattle.rel_list.proofs.OwnRules.{own_of_step}
 
 -- Where none becomes one that wasn't, a list without one stays so.
 pub none_more : (f : List ℕ → Status → Status) → ((vsn : List ℕ) (s : Status) → is_one_shot s ≡ false → is_one_shot (f vsn s) ≡ false) → (es : Releases)

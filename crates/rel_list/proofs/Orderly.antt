@@ -1,4 +1,4 @@
--- What events keep of a list: distinct versions, and at most one current release.
+-- What events keep of a list: distinct versions, and at most one release that is current or a one-shot.
 use Rattle.std.proofs.Common.{◌≡◌, ℕ, ◌≤◌, Bool, true, false, cond, List, [], ◌∷◌, length, filter, Option, Some, None, is_some, refl, sym, ap, ◌∙◌, true≢false, find, arith}
 use Rattle.std.specs.Option.{option_map}
 use Rattle.std.specs.Str.{bytes_eq}

@@ -11,7 +11,7 @@ use Rattle.rel_list.specs.Event.{Event, may_be_installed, may_be_removed, instal
 use Rattle.rel_list.specs.Event.Event.{made, unpacked, installed, restart_installed, made_permanent, removed, reboot_old, boot}
 use Rattle.rel_list.specs.Laws.{leaves_permanent, PermanentStays}
 use Rattle.rel_list.proofs.EventLaws.{permanent-installed, permanent-restarted, permanent-booted, permanent-recorded, kept_permanent, allowed, allowed_else}
-use Rattle.rel_list.proofs.Waiting.{own_of_step}
+use Rattle.rel_list.proofs.OwnRules.{own_of_step}
 
 -- the first release, or one behind it
 abbrev release_or : Bool → Entry → Option Entry → Option Release

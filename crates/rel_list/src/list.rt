@@ -72,7 +72,8 @@ impl ReleaseList {
     fn take(&mut self, alloc: Global, event: Event) -> Result<(), ListError>
         requires { own_refusal (event_of event) self.old ≡ None }
         ensures accepted { OnOk result (own_step (event_of event) self.old ≡ Some self.new) }
-        ensures refused { IfErr result (λ e. (e ≡ NoMemory) × IsTrue (brings_release (event_of event))) }
+        ensures refused { IfErr result
+            (λ e. (e ≡ NoMemory) × IsTrue (brings_release (event_of event))) }
         ensures unchanged { OnErr result (self.new ≡ self.old) }
     {
         match event {

@@ -17,7 +17,7 @@ use Rattle.rel_list.specs.Releases.{Bundle, Releases, Entry, differs, entry, fir
 use Rattle.rel_list.specs.Event.{list_assigned, may_be_removed, step, with_statuses, without}
 use Rattle.rel_list.specs.Event.Event.{made, removed, unpacked}
 use Rattle.rel_list.proofs.LibraryLaws.{is_like, libraries-push, none_differs, own_library}
-use Rattle.rel_list.proofs.Waiting.{never_made_again, own_of_step}
+use Rattle.rel_list.proofs.OwnRules.{never_made_again, own_of_step}
 use Rattle.rel_records.specs.Limits.{is_small, most_releases}
 use Rattle.rel_records.specs.Lists.{HaveLibraries, Makes, added_by, assign_all, brought_by, made_by, may_be_assigned}
 use Rattle.rel_records.specs.Record.{Assignment}

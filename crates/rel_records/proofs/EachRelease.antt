@@ -12,7 +12,7 @@ use Rattle.rel_list.specs.declared.status.Status.TheVariants.{Unpacked, Permanen
 use Rattle.rel_list.specs.Releases.{Bundle, Releases, Entry, entry, status_of}
 use Rattle.rel_list.specs.Event.{recorded, recorded_status, step, without, assigned_status, list_assigned, may_be_removed}
 use Rattle.rel_list.specs.Event.Event.{made, removed, unpacked}
-use Rattle.rel_list.proofs.Waiting.{never_made_again, own_of_step}
+use Rattle.rel_list.proofs.OwnRules.{never_made_again, own_of_step}
 use Rattle.rel_records.specs.Limits.{is_small, most_releases}
 use Rattle.rel_records.specs.Lists.{may_be_assigned, added_by, assign_all, brought_by, made_by, Makes}
 use Rattle.rel_records.specs.Record.{Assignment}

@@ -19,7 +19,7 @@ use Rattle.rel_list.specs.Event.Event.{made, unpacked, installed, restart_instal
 use Rattle.rel_list.proofs.EventLaws.{one_permanent-step, permanent-recorded}
 use Rattle.rel_list.proofs.BootLaws.{first_is_none, no_one_shot-booted}
 use Rattle.rel_list.proofs.OneShotLaws.{none-installed, none_recorded, one_shot-recorded}
-use Rattle.rel_list.proofs.Waiting.{never_made_again, own_of_step, step_of_own}
+use Rattle.rel_list.proofs.OwnRules.{never_made_again, own_of_step, step_of_own}
 use Rattle.rel_list.proofs.Orderly.{status_or, same_version, is_itself, differs_back, first_differs, none_behind, listed-with_statuses, unlisted-with_statuses, just_as_many}
 use Rattle.rel_records.specs.Limits.{has_one_permanent, is_small, most_releases}
 use Rattle.rel_records.specs.Record.{Assignment, Record, makes, adds, assigns, removes, images}

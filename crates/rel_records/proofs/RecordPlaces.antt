@@ -19,7 +19,7 @@ use Rattle.rel_list.specs.Event.Event.{made, removed, unpacked}
 use Rattle.rel_records.specs.Limits.{has_one_permanent, is_small, most_releases}
 use Rattle.rel_records.specs.Record.{Assignment, Record, makes, adds, assigns, removes, images}
 use Rattle.rel_records.specs.Lists.{may_be_assigned, added_by, assign_all, brought_by, completed, if_faultless, made_by, mismatch_in, taken_by, with_one_permanent, assigned, MakesFrom}
-use Rattle.rel_list.proofs.Waiting.{never_made_again, own_of_step}
+use Rattle.rel_list.proofs.OwnRules.{never_made_again, own_of_step}
 use Rattle.rel_records.proofs.InvariantLemmas.{IsOf, kept_behind}
 
 -- a choice that gives a value

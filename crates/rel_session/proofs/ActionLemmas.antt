@@ -10,7 +10,7 @@ use Rattle.node_command.specs.Files.{Brings, bundle_brought}
 use Rattle.node_command.specs.Place.{difference, files_refusal, has_room, own_refusal, refusal_with}
 use Rattle.node_command.specs.Taking.{commanded}
 use Rattle.node_command.proofs.CommandLemmas.{commanded_step}
-use Rattle.rel_list.proofs.Waiting.{own_of_step}
+use Rattle.rel_list.proofs.OwnRules.{own_of_step}
 use Rattle.rel_records.proofs.CompletionLemmas.{of_applications}
 use Rattle.node_listing.specs.Listing.{listing}
 use Rattle.node_processes.specs.Answers.{processes_line, modules_line, peek_line}

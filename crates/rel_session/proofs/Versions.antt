@@ -13,7 +13,7 @@ use Rattle.rel_list.specs.Event.{Event, is_barred, may_be_installed, may_be_made
 use Rattle.rel_list.specs.declared.status.Status.{Status}
 use Rattle.rel_list.specs.declared.status.Status.TheVariants.{Unpacked, Permanent}
 use Rattle.rel_list.specs.Event.Event.{made, unpacked, installed, restart_installed, made_permanent, removed, reboot_old, boot as booting}
-use Rattle.rel_list.proofs.Waiting.{own_of_step}
+use Rattle.rel_list.proofs.OwnRules.{own_of_step}
 use Rattle.rel_records.specs.Lists.{HaveVersions}
 use Rattle.rel_records.specs.Startable.{AreStartable}
 use Rattle.rel_records.proofs.CompletionLemmas.{of_applications}

@@ -63,7 +63,7 @@ impl<D: Disk> Store<D> {
         &self.records
     }
 
-    /// The format of the store: 1, or 2, which a store of an earlier version of this library doesn't have.
+    /// The format of the store: 1 or 2. A store that an earlier version of this library made is of format 1.
     pub fn format(&self) -> u8
         ensures { result ≡ format_in self.now }
     {
@@ -237,8 +237,9 @@ impl<D: Disk> Store<D> {
         self.must_reopen = false;
         Ok(())
     }
-    /// Makes the store one of format 2, and behind an `Ok` a crash leaves it one. The records and the start text stay as they are at
-    /// every moment. Takes no memory, and writes nothing where the store is one of format 2 already.
+
+    /// Makes the store one of format 2, and behind an `Ok` a crash leaves it one. The records and the start text stay as they
+    /// are at every moment. Takes no memory, and writes nothing where the store is one of format 2 already.
     ///
     /// Refusals: `MustReopen`, `Device`.
     pub fn to_format_2(&mut self) -> Result<(), StoreError>
@@ -246,7 +247,8 @@ impl<D: Disk> Store<D> {
         ensures sound { IsSoundStore D.seen D.may_leave self.new }
         ensures settled { OnOk result (IsSettled D.seen D.may_leave self.new) }
         ensures format { OnOk result (format_in self.new ≡ 2) }
-        ensures bytes { OnOk result (D.seen (disk_in self.new) ≡ with_format_2 (format_in self.old) (D.seen (disk_in self.old))) }
+        ensures bytes { OnOk result (D.seen (disk_in self.new)
+            ≡ with_format_2 (format_in self.old) (D.seen (disk_in self.old))) }
         ensures records { records_in self.new ≡ records_in self.old }
         ensures start { OnOk result (text_in D.seen self.new ≡ text_in D.seen self.old) }
         ensures base { base_in self.new ≡ base_in self.old }

@@ -1,7 +1,7 @@
 use Rattle.std.proofs.Common.{rules, ◌≡◌, None, false, refl}
 use Rattle.rel_list.specs.Event.{event_of, waits_for_boot}
 use Rattle.rel_list.specs.Refusal.{refusal}
-use Rattle.rel_list.proofs.Waiting.{own_of_refusal}
+use Rattle.rel_list.proofs.OwnRules.{own_of_refusal}
 use Rattle.rel_list.proofs.list.ReleaseList.accept.Goals as goal
 
 pub returns-in-Some-clause-unchanged : goal.returns-in-Some-clause-unchanged
