@@ -1,13 +1,13 @@
--- Which events lead to a list with a one-shot.
+-- Which events lead to a list with a one-shot, and what records tell of it.
 use Rattle.std.proofs.Common.{◌≡◌, ℕ, Bool, true, false, List, [], ◌∷◌, ◌++◌, Some, refl, sym, ◌∙◌, subst, true≢false, if◌then◌else◌}
 use Rattle.std.specs.Str.{bytes_eq}
 use Rattle.rel_list.specs.declared.status.Status.{Status}
 use Rattle.rel_list.specs.declared.status.Status.TheVariants.{Unpacked, Current, Old, Permanent, OneShot}
 use Rattle.rel_list.specs.Status.{is_one_shot}
 use Rattle.rel_list.specs.Releases.{Entry, Releases, entry, has_current, has_one_shot, status_of}
-use Rattle.rel_list.specs.Event.{Event, booted, booted_status, installed_status, is_barred, list_installed, list_made_permanent, may_be_installed, may_be_made_permanent, may_be_rebooted, may_be_removed, own_step, permanent_status, recorded, recorded_status, waits_for_boot, with_statuses, without}
+use Rattle.rel_list.specs.Event.{Event, booted, booted_status, installed_status, is_barred, list_installed, list_made_permanent, list_restarted, may_be_installed, may_be_made_permanent, may_be_rebooted, may_be_removed, own_step, permanent_status, recorded, recorded_status, restarted_status, waits_for_boot, with_statuses, without}
 use Rattle.rel_list.specs.Event.Event.{made, unpacked, installed, restart_installed, made_permanent, removed, reboot_old, boot}
-use Rattle.rel_list.specs.Laws.{OneShotsComeFromRestarts, makes_one_shot}
+use Rattle.rel_list.specs.Laws.{OneShotsComeFromRestarts, RestartsAreRecorded, makes_one_shot}
 use Rattle.rel_list.proofs.BootLaws.{boot_leaves_no_one_shot, first_is_none, none_is_one_shot}
 use Rattle.rel_list.proofs.EventLaws.{allowed, allowed_else}
 use Rattle.rel_list.proofs.OwnRules.{own_of_step}
@@ -73,6 +73,30 @@ none-own boot es next other free is = let same : booted es ≡ next = cc is in s
 
 pub one_shots_come_from_restarts : OneShotsComeFromRestarts
 one_shots_come_from_restarts e es next other is = let own = own_of_step e es next is in none-own e es next other own.0 own.1
+
+-- Behind an installation with a restart no release is current, so records tell the list as it is.
+none-current : (b : Bool) (s : Status) → recorded_status (restarted_status b s) ≡ restarted_status b s
+none-current true Unpacked = refl
+none-current true Current = refl
+none-current true Old = refl
+none-current true Permanent = refl
+none-current true OneShot = refl
+none-current false Unpacked = refl
+none-current false Current = refl
+none-current false Old = refl
+none-current false Permanent = refl
+none-current false OneShot = refl
+
+restarted_as_recorded : (v : List ℕ) (es : Releases) → recorded (list_restarted v es) ≡ list_restarted v es
+restarted_as_recorded v [] = refl
+restarted_as_recorded v (e ∷ es) =
+    let own = none-current (bytes_eq v e.release.vsn) e.status in
+    λ k. record e { status = own k } ∷ restarted_as_recorded v es k
+
+pub restarts_are_recorded : RestartsAreRecorded
+restarts_are_recorded v es next is =
+    let own = own_of_step (restart_installed v) es next is in
+    subst (λ l. recorded l ≡ l) (allowed (may_be_installed (has_current es) (status_of v es)) (list_restarted v es) next own.1).1 (restarted_as_recorded v es)
 
 -- Where a list has none, a boot makes of it what records tell of it.
 pub boots_as_recorded : (es : Releases) → has_one_shot es ≡ false → booted es ≡ recorded es

@@ -41,6 +41,10 @@ makes_one_shot e = false
 abbrev pub OneShotsComeFromRestarts : Type 0
 OneShotsComeFromRestarts = (e : Event) (es next : Releases) → makes_one_shot e ≡ false → step e es ≡ Some next → has_one_shot next ≡ false
 
+-- Behind an installation with a restart records tell the list as it is.
+abbrev pub RestartsAreRecorded : Type 0
+RestartsAreRecorded = (v : List ℕ) (es next : Releases) → step (restart_installed v) es ≡ Some next → recorded next ≡ next
+
 -- A boot leaves no one-shot: what it starts as one, the next boot doesn't.
 abbrev pub BootLeavesNoOneShot : Type 0
 BootLeavesNoOneShot = (es : Releases) → has_one_shot (booted es) ≡ false

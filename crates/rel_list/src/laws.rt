@@ -1,5 +1,5 @@
 //! Laws of the list and its events, whatever keeps them. Each function does nothing: its contract is the law.
-ghost use Rattle.rel_list.specs.Laws.{VersionsAreDistinct, AtMostOneIsTemporary, OneIsPermanent, PermanentStays, BootLeavesNoOneShot, OneShotsComeFromRestarts, SecondBootChangesNothing, BootChangesTemporaryOnes, InstallsAlikeBehindABoot, RefusedWhereNotAllowed, RecordedListsAreReached};
+ghost use Rattle.rel_list.specs.Laws.{VersionsAreDistinct, AtMostOneIsTemporary, OneIsPermanent, PermanentStays, BootLeavesNoOneShot, OneShotsComeFromRestarts, RestartsAreRecorded, SecondBootChangesNothing, BootChangesTemporaryOnes, InstallsAlikeBehindABoot, RefusedWhereNotAllowed, RecordedListsAreReached};
 
 /// No version stands twice in a list, whatever events made it.
 pub fn versions_are_distinct()
@@ -24,6 +24,11 @@ pub fn other_events_leave_the_permanent_release()
 /// Only an installation whose script ends with a restart leads to a list with a one-shot.
 pub fn only_a_restart_makes_a_one_shot()
     ensures { OneShotsComeFromRestarts }
+{}
+
+/// Behind an installation whose script ends with a restart, records tell the list as it is: no release is current then.
+pub fn a_restart_is_recorded_as_it_is()
+    ensures { RestartsAreRecorded }
 {}
 
 /// A boot leaves no one-shot: what it starts as one, the next boot doesn't.
