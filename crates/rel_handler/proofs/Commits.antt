@@ -48,7 +48,7 @@ use Rattle.node_command.specs.declared.error.HandlerError.{HandlerError}
 use Rattle.node_command.specs.declared.error.HandlerError.TheVariants.{Dead, Device, Exists, Full, NoMemory}
 use Rattle.rel_handler.specs.declared.handler.Handler.{Handler}
 use Rattle.node_command.proofs.CommandLemmas.{commanded_step, small_and_few}
-use Rattle.rel_handler.proofs.Images.{each_image, extent_so, image_at, no_boot_space, none_beside, same_extent, settled_so, stored_before, stored_after, started_by, started_by_text, while_committing, with_record}
+use Rattle.rel_handler.proofs.Images.{each_image, extent_so, image_at, same_extent, settled_so, stored_before, stored_after, started_by, started_by_text, while_committing, with_record}
 
 -- what holds of a call that didn't fail
 pub opened : {T E : Type 0} (r : Result T E) (P : Type 0) → false ≡ is_err r → OnOk r P → P
@@ -276,7 +276,7 @@ module _ {D : Type 0} (v : Ghosts D) (h : Handler D) (s : IsSound v.seen v.may_l
       same_but_memory = same_with h reserved same
 
   -- A record is appended behind a reservation.
-  module _ (alive : is_dead h ≡ false) (reserved : Store D) (same : store.IsSame h.store reserved) (e : Event) (next : Releases) (body : List ℕ) (told : IsRecordFor body e (list_in h)) (is : step e (list_in h) ≡ Some next) (other : makes_one_shot e ≡ false) where
+  module _ (alive : is_dead h ≡ false) (reserved : Store D) (same : store.IsSame h.store reserved) (e : Event) (next : Releases) (body : List ℕ) (told : IsRecordFor body e (list_in h)) (is : step e (list_in h) ≡ Some next) (room_then : HasBootSpace (extent_behind (extent_in h) (length body)) next) where
     pub reserved_works : store.has_failed reserved ≡ false
     reserved_works = same.failed ∙ (s.ready alive).store.works
 
@@ -292,7 +292,7 @@ module _ {D : Type 0} (v : Ghosts D) (h : Handler D) (s : IsSound v.seen v.may_l
       committing events after =
           subst (λ d. LeavesOnly v.moment v.left_since d (store.disk_in new) (IsStoredAs (uncertain events (extent_in h) e (length body)))) same.disk
           (weakened v.moment v.left_since (store.disk_in reserved) (store.disk_in new) _ (IsStoredAs (uncertain events (extent_in h) e (length body)))
-          (λ c either. while_committing e (list_in h) next (store.records_in h.store) body text events (s.ready alive).list told other is after (base_of (v.seen (disk_in h))) (extent_in h) (settled_so v.seen v.may_leave h.store (s.ready alive).store) (s.ready alive).room
+          (λ c either. while_committing e (list_in h) next (store.records_in h.store) body text events (s.ready alive).list told is after (base_of (v.seen (disk_in h))) (extent_in h) (settled_so v.seen v.may_leave h.store (s.ready alive).store) (s.ready alive).room room_then
           (v.seen (disk_in h)) (sym slot) (s.started alive (v.seen (disk_in h)) (reads (disk_in h))) c
           (subst (λ bodies. StandsEither bodies body text c) same.records either.0, base_there c (subst (λ d. LeavesOthers (IsInRecord (store.gate_in reserved) (length body)) (v.seen d) c) same.disk either.1)))
           (both v.moment v.left_since (store.disk_in reserved) (store.disk_in new) _ _ leaves kept))
@@ -305,29 +305,29 @@ module _ {D : Type 0} (v : Ghosts D) (h : Handler D) (s : IsSound v.seen v.may_l
       }
 
     -- It is there.
-    module _ (new : Store D) (settled : store.IsSettled v.seen v.may_leave new) (added : store.records_in new ≡ store.records_in reserved ++ body ∷ []) where
-      none_next : has_one_shot next ≡ false
-      none_next = one_shots_come_from_restarts e (list_in h) next other is
+    module _ (new : Store D) (settled : store.IsSettled v.seen v.may_leave new) (added : store.records_in new ≡ store.records_in reserved ++ body ∷ [])
+        (base : store.base_in new ≡ store.base_in reserved) (end : store.end_in new ≡ store.end_in reserved + (5 + length body)) where
+      reaches_behind : store_extent new ≡ extent_behind (extent_in h) (length body)
+      reaches_behind =
+          same_extent (store_extent new) (extent_behind (extent_in h) (length body)) (base ∙ same.base) (end ∙ ap (λ n. n + (5 + length body)) same.end)
+          (ap (λ bodies. length bodies) (added ∙ ap (λ bodies. bodies ++ body ∷ []) same.records) ∙ omega (arith, length-append (store.records_in h.store) (body ∷ [])))
 
       pub ready_next : IsReady v.seen v.may_leave (record { store = new; list = next; dead = true })
       ready_next = record {
         store = settled;
         list =
             subst (λ bodies. AreRecordsOf bodies next) (sym (added ∙ ap (λ bodies. bodies ++ body ∷ []) same.records))
-            (with_record e (list_in h) next (store.records_in h.store) body (s.ready alive).list told (none_beside next none_next) is);
-        room = no_boot_space (store_extent new) next none_next;
+            (with_record e (list_in h) next (store.records_in h.store) body (s.ready alive).list told is);
+        room = subst (λ x. HasBootSpace x next) (sym reaches_behind) room_then;
       }
 
-      pub is_appended : commanded e (list_in h) ≡ Ok next → HasSpace (extent_in h) (length body) → store.base_in new ≡ store.base_in reserved → store.end_in new ≡ store.end_in reserved + (5 + length body)
-          → IsAppended v e (length body) h (record { store = new; list = next; dead = true })
-      is_appended accepted fits base end = record {
+      pub is_appended : commanded e (list_in h) ≡ Ok next → HasSpace (extent_in h) (length body) → IsAppended v e (length body) h (record { store = new; list = next; dead = true })
+      is_appended accepted fits = record {
         worked = alive;
         accepted = accepted;
         acknowledged = λ c now. each_image v.seen v.may_leave new next settled ready_next.list ready_next.room c now;
         fits = fits;
-        reaches =
-            same_extent (store_extent new) (extent_behind (extent_in h) (length body)) (base ∙ same.base) (end ∙ ap (λ n. n + (5 + length body)) same.end)
-            (ap (λ bodies. length bodies) (added ∙ ap (λ bodies. bodies ++ body ∷ []) same.records) ∙ omega (arith, length-append (store.records_in h.store) (body ∷ [])));
+        reaches = reaches_behind;
       }
 
   -- A committed event, behind which the start slot is as it was.

@@ -7,9 +7,9 @@ use Rattle.rel_files.specs.Release.{Release}
 use Rattle.rel_list.specs.declared.status.Status.TheVariants.{Permanent}
 use Rattle.rel_list.specs.Releases.{Bundle, Releases, has_one_shot, permanent}
 use Rattle.rel_list.specs.Event.{Event, entry, booted, recorded, step, list_after}
-use Rattle.rel_list.specs.Event.Event.{made, boot}
+use Rattle.rel_list.specs.Event.Event.{made, restart_installed, boot}
 use Rattle.rel_list.specs.Laws.{makes_one_shot}
-use Rattle.rel_list.proofs.OneShotLaws.{one_shots_come_from_restarts}
+use Rattle.rel_list.proofs.OneShotLaws.{one_shots_come_from_restarts, restarts_are_recorded}
 use Rattle.rel_records.specs.Lists.{assigned, MakesFrom, Makes}
 use Rattle.rel_records.specs.Reading.{Spells}
 use Rattle.rel_records.specs.Writing.{record_of, IsWithinLimits}
@@ -27,7 +27,7 @@ use Rattle.rel_handler.specs.Commits.{IsRecordFor}
 use Rattle.rel_handler.specs.Events.{Known, doubted, IsPrefix, IsOfPrefix, IsNoneOrOfPrefix, compacted_or_same, uncertain, IsStoredAs}
 use Rattle.rel_handler.specs.Start.{started, start_text}
 use Rattle.rel_handler.specs.Compaction.{compacted}
-use Rattle.rel_handler.specs.Image.{AreRecordsOf, Extent, extent_behind, extent_of, HasBootSpace, IsImageOf, IsImageAt, IsStarted, start_slot, holds_a_store}
+use Rattle.rel_handler.specs.Image.{AreRecordsOf, Extent, extent_behind, extent_of, HasBootSpace, LeavesBootSpace, IsImageOf, IsImageAt, IsStarted, start_slot, holds_a_store}
 use Rattle.rel_handler.specs.State.{store_extent}
 use Rattle.start_record.specs.Text.{Versions, AreVersions, SpellsStart, start_text as text_of_start}
 use Rattle.start_record.proofs.StartMoments.{reads_back}
@@ -137,14 +137,19 @@ as_after events e es end c after next image =
     let all = list_after-push events e es end after next in
     record { events = events ++ e ∷ []; prefix = prefix_with events e end all; list = end; after = all; image_of = image }
 
+-- Beside a one-shot that an event made no release is current.
+pub alone_behind : (e : Event) (es next : Releases) → step e es ≡ Some next → has_one_shot next ≡ true → recorded next ≡ next
+alone_behind (restart_installed v) es next is one = restarts_are_recorded v es next is
+alone_behind e es next is one = absurd (true≢false (sym one ∙ one_shots_come_from_restarts e es next refl is))
+
 -- With the record of an event the store has the records of the list behind it.
-pub with_record : (e : Event) (es next : Releases) (bodies : List (List ℕ)) (body : List ℕ) → AreRecordsOf bodies es → IsRecordFor body e es → (has_one_shot next ≡ true → recorded next ≡ next) → step e es ≡ Some next
+pub with_record : (e : Event) (es next : Releases) (bodies : List (List ℕ)) (body : List ℕ) → AreRecordsOf bodies es → IsRecordFor body e es → step e es ≡ Some next
     → AreRecordsOf (bodies ++ body ∷ []) next
-with_record e es next bodies body are told alone is =
+with_record e es next bodies body are told is =
     let behind : assigned (record_of e es) (recorded es) ≡ Some (recorded next) = told.tells next is (sym (one-recorded es) ∙ are.makes.1) in
     record {
       makes = (makes-push [] bodies (recorded es) body (record_of e es) (recorded next) are.makes.0 told.spells behind, one_behind (record_of e es) (recorded es) (recorded next) behind);
-      alone = alone;
+      alone = alone_behind e es next is;
     }
 
 -- A record is being appended: the store has the records of the list from before it, or those of the one behind it.
@@ -161,18 +166,19 @@ either_image es next bodies body text are behind base x at room room_then c (inr
   stands.start,
 )
 
--- So it is while a command appends the record of its event, where that makes no release a one-shot.
-pub while_committing : (e : Event) (es next : Releases) (bodies : List (List ℕ)) (body text : List ℕ) (events : List Event)
-    → AreRecordsOf bodies es → IsRecordFor body e es → makes_one_shot e ≡ false → step e es ≡ Some next → list_after events ≡ Some es
-    → (base : ℕ) (x : Extent) → extent_with_records base bodies ≡ x → HasBootSpace x es → (old : List ℕ) → start_slot old ≡ text → IsStarted es old
-    → (c : List ℕ) → StandsEither bodies body text c × (base_of c ≡ base) → IsStoredAs (uncertain events x e (length body)) c
-while_committing e es next bodies body text events makes_it told other is after base x at room old slot started c either = go (either_image es next bodies body text makes_it behind base x at room (no_boot_space (extent_behind x (length body)) next none) c either)
-  where
-    none : has_one_shot next ≡ false
-    none = one_shots_come_from_restarts e es next other is
+-- An event that makes no release a one-shot leaves room for the next boot, which writes no record.
+pub leaves_boot_space : (e : Event) → makes_one_shot e ≡ false → (size : ℕ) (x : Extent) (es : Releases) → LeavesBootSpace e size x es
+leaves_boot_space e other size x es next is = no_boot_space (extent_behind x size) next (one_shots_come_from_restarts e es next other is)
 
+-- So it is while a command appends the record of its event.
+pub while_committing : (e : Event) (es next : Releases) (bodies : List (List ℕ)) (body text : List ℕ) (events : List Event)
+    → AreRecordsOf bodies es → IsRecordFor body e es → step e es ≡ Some next → list_after events ≡ Some es
+    → (base : ℕ) (x : Extent) → extent_with_records base bodies ≡ x → HasBootSpace x es → HasBootSpace (extent_behind x (length body)) next → (old : List ℕ) → start_slot old ≡ text → IsStarted es old
+    → (c : List ℕ) → StandsEither bodies body text c × (base_of c ≡ base) → IsStoredAs (uncertain events x e (length body)) c
+while_committing e es next bodies body text events makes_it told is after base x at room room_then old slot started c either = go (either_image es next bodies body text makes_it behind base x at room room_then c either)
+  where
     behind : AreRecordsOf (bodies ++ body ∷ []) next
-    behind = with_record e es next bodies body makes_it told (none_beside next none) is
+    behind = with_record e es next bodies body makes_it told is
 
     go : (IsImageAt c es x ⊎ IsImageAt c next (extent_behind x (length body))) × (start_slot c ≡ text) → IsStoredAs (uncertain events x e (length body)) c
     go (inl image, same) = stored_before events x e (length body) es c after image (started_by es es old c refl (same ∙ sym slot) started)

@@ -20,7 +20,7 @@ use Rattle.rel_handler.specs.State.{disk_in, extent_in, list_in, start_in, store
 use Rattle.rel_handler.specs.declared.handler.Handler.{Handler}
 use Rattle.rel_handler.proofs.BootLists.{booted_still, extent_of_none, extent_of_one}
 use Rattle.rel_handler.proofs.Commits.{image_now}
-use Rattle.rel_handler.proofs.Images.{either_image, no_boot_space, none_beside, same_extent, settled_so, with_record}
+use Rattle.rel_handler.proofs.Images.{either_image, no_boot_space, same_extent, settled_so, with_record}
 
 module _ {D : Type 0} (v : Ghosts D) (h : Handler D) (ready : IsReady v.seen v.may_leave h) where
   -- each image of its disk stands for its list
@@ -48,7 +48,7 @@ module _ {D : Type 0} (v : Ghosts D) (h : Handler D) (ready : IsReady v.seen v.m
     none = boot_leaves_no_one_shot (list_in h)
 
     are_next : AreRecordsOf (store.records_in h.store ++ body ∷ []) next
-    are_next = with_record boot (list_in h) next (store.records_in h.store) body ready.list told (none_beside next none) refl
+    are_next = with_record boot (list_in h) next (store.records_in h.store) body ready.list told refl
 
     far : extent_behind (extent_in h) (length body) ≡ booted_extent (extent_in h) (list_in h)
     far = ap (extent_behind (extent_in h)) long ∙ sym (extent_of_one (extent_in h) (list_in h) one)

@@ -3,7 +3,7 @@ use Rattle.std.specs.Prelude.{◌≡◌, ◌⊎◌, ℕ, ◌+◌, ◌≤◌, Boo
 use Rattle.node_command.specs.Taking.{change_size}
 use Rattle.rel_files.specs.Release.{Release}
 use Rattle.rel_list.specs.Releases.{Releases, has_one_shot, permanent}
-use Rattle.rel_list.specs.Event.{booted, recorded}
+use Rattle.rel_list.specs.Event.{Event, booted, recorded, step}
 use Rattle.rel_list.specs.Event.Event.{boot}
 use Rattle.rel_store.specs.Layout.{base_of, has_magic, text_of}
 use Rattle.rel_store.specs.Records.{end_of, records_of, records_or_none}
@@ -45,6 +45,11 @@ booted_extent x es = if has_one_shot es then extent_behind x (boot_size es) else
 -- Where the list has a one-shot, there is room for the record of the boot that takes it away.
 abbrev pub HasBootSpace : Extent → Releases → Type 0
 HasBootSpace x es = has_one_shot es ≡ true → HasSpace x (boot_size es)
+
+-- Behind the event's record, whose body has so many bytes, there is room for the next boot.
+abbrev pub LeavesBootSpace : Event → ℕ → Extent → Releases → Type 0
+LeavesBootSpace e size x es =
+    (next : Releases) → step e es ≡ Some next → HasBootSpace (extent_behind x size) next
 
 -- These bodies are the records of a list: they make it as records tell it. Beside a one-shot no release is current.
 pub record AreRecordsOf (bodies : List (List ℕ)) (es : Releases) : Type 0 where

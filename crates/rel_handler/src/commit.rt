@@ -5,7 +5,7 @@ ghost use Rattle.rel_list.specs.Laws.{leaves_permanent, makes_one_shot};
 ghost use Rattle.rel_list.specs.Refusal.{brings_release};
 ghost use Rattle.rel_records.specs.Writing.{IsOfListed};
 ghost use Rattle.rel_handler.specs.Commits.{Commits, IsAppended, IsDone, IsRecordFor};
-ghost use Rattle.rel_handler.specs.Image.{HasSpace};
+ghost use Rattle.rel_handler.specs.Image.{HasSpace, LeavesBootSpace};
 ghost use Rattle.rel_handler.specs.Refusals.{CommandRefused, HasNoRoom, IsAllowed};
 ghost use Rattle.rel_handler.specs.State.{extent_in, list_in, is_dead, start_in, store_extent, IsReady, IsSound};
 ghost use Rattle.node_command.specs.Taking.{change_size};
@@ -53,7 +53,8 @@ impl<D: Disk> Handler<D> {
         requires sound { IsSound D.seen D.may_leave self.old }
         requires allowed { IsAllowed (event_of event) self.old }
         requires told { IsRecordFor body.now (event_of event) (list_in self.old) }
-        requires other { makes_one_shot (event_of event) ≡ false }
+        requires behind { LeavesBootSpace (event_of event) (length body.now)
+            (extent_in self.old) (list_in self.old) }
         requires space { HasSpace (extent_in self.old) (length body.now) }
         requires room { HasRoom (length body.now) self.old.store }
         ensures commits { Commits D.Disk (event_of event) (length body.now) self.old self.new }

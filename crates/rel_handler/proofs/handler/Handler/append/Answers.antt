@@ -1,10 +1,16 @@
 use Rattle.std.proofs.Common.{length}
 use Rattle.rel_list.specs.Event.{event_of}
 use Rattle.rel_handler.specs.Refusals.{CommandRefused}
+use Rattle.rel_handler.specs.State.{list_in, store_extent}
 use Rattle.rel_handler.specs.declared.handler.Handler.{Handler}
 use Rattle.node_command.proofs.Refusals.{refuses_with}
 use Rattle.rel_handler.proofs.Commits.{rested, same_with, no_room}
+use Rattle.rel_handler.proofs.Images.{leaves_boot_space}
 use Rattle.rel_handler.proofs.handler.Handler.append.Goals as goal
+
+pub write-requires-clause-behind : goal.write-requires-clause-behind
+write-requires-clause-behind g c =
+    leaves_boot_space (event_of c.args.event) c.requires.other (length c.args.body.now) (store_extent c.make_room.new.store) (list_in c.args.self.now)
 
 -- there is no room
 pub returns-in_err-make_room-clause-commits : goal.returns-in_err-make_room-clause-commits

@@ -1,4 +1,6 @@
 use Rattle.std.proofs.Common.{◌≡◌, Ok, length, refl, sym, ap, subst, ◌∙◌}
+use Rattle.rel_list.specs.declared.event.Event.TheVariants.{Installed}
+use Rattle.rel_list.specs.Event.{event_of}
 use Rattle.rel_list.specs.Event.Event.{installed}
 use Rattle.rel_list.specs.Releases.{Releases}
 use Rattle.rel_store.specs.State.{records_in}
@@ -15,9 +17,10 @@ use Rattle.rel_handler.specs.Commits.{IsRecordFor}
 use Rattle.rel_handler.specs.Image.{HasSpace, start_slot}
 use Rattle.rel_handler.specs.Installing.{InstallRefused, install_size}
 use Rattle.rel_handler.specs.Refusals.{HasNoRoom}
-use Rattle.rel_handler.specs.State.{extent_in, list_in}
+use Rattle.rel_handler.specs.State.{extent_in, list_in, store_extent}
 use Rattle.rel_handler.proofs.Commits.{all_same, have_versions, none_behind, rested, same_with, unchanged}
 use Rattle.rel_handler.proofs.CompactionLemmas.{commits_alive, commits_compacting, fails_compacting, is_done_alive}
+use Rattle.rel_handler.proofs.Images.{leaves_boot_space}
 use Rattle.rel_handler.proofs.InstallLemmas.{device_failed, installation_is_commanded, no_room_for, no_upgrade, not_run, not_run_commits, script_allows, with_dead, written, written_committed}
 use Rattle.rel_handler.proofs.handler.Handler.install_release.Goals as goal
 
@@ -89,6 +92,10 @@ write-requires-clause-told g c =
     let es = list_in c.args.self.now in
     subst (λ t. IsRecordFor c.as_str-text.result.now (installed t) es) (sym c.in_ok-version.ensures.ok)
     (subst (λ b. IsRecordFor b (installed c.args.vsn.now) es) (sym c.as_str-text.ensures.value) c.in_ok-body.ensures.told)
+
+pub write-requires-clause-behind : goal.write-requires-clause-behind
+write-requires-clause-behind g c =
+    leaves_boot_space (event_of (Installed c.in_ok-version.version)) refl (length c.as_str-text.result.now) (store_extent c.make_room.new.store) (list_in c.args.self.now)
 
 -- the device failed behind the script
 pub returns-in_err-write-in-Ok-clause-commits : goal.returns-in_err-write-in-Ok-clause-commits
