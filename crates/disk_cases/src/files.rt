@@ -8,8 +8,8 @@ use text_cases::{Answer, number};
 /// Each path of a release names the release that its file has, and each path below `lib` is that of
 /// an application without modules. The path `missing` has no file, nor has the application `gone`.
 /// A release has a relup where its file stands in a folder `up`, as that of `B/up/r`: there is a
-/// script up from `A` and from `B`, and one down to `A`. The application `worker` has a worker at its
-/// top.
+/// script up from `A` and from `B`, and one down to `A`. So it has where it stands in a folder `re`:
+/// these scripts end with a restart. The application `worker` has a worker at its top.
 #[derive(Clone, Copy)]
 pub(crate) struct ReleaseFiles;
 
@@ -29,7 +29,7 @@ impl Files for ReleaseFiles {
 
 // Whether the path is that of a relup, and no release is in its folder that has one.
 fn lacks_relup(path: &str) -> bool {
-    path.ends_with("/relup") && !path.ends_with("/up/relup")
+    path.ends_with("/relup") && !path.ends_with("/up/relup") && !path.ends_with("/re/relup")
 }
 
 // The bytes of such a file.
@@ -64,16 +64,22 @@ fn push_file(path: &str, answer: &mut Answer) {
 
 // Appends that of the file of a release, or of its relup.
 fn push_of_release(path: &str, answer: &mut Answer) {
-    match path.strip_suffix("/up/relup") {
-        Some(vsn) => push_relup(vsn, answer),
-        None => push_rel(path, answer),
+    if let Some(vsn) = path.strip_suffix("/up/relup") {
+        push_relup(vsn, "[]", answer);
+    } else if let Some(vsn) = path.strip_suffix("/re/relup") {
+        push_relup(vsn, "[point_of_no_return,restart_emulator]", answer);
+    } else {
+        push_rel(path, answer);
     }
 }
 
-// Appends that of the relup of the release of this version.
-fn push_relup(vsn: &str, answer: &mut Answer) {
+// Appends that of the relup of the release of this version, with this text of its scripts.
+fn push_relup(vsn: &str, script: &str, answer: &mut Answer) {
     answer.push_after(r#"{""#, vsn);
-    answer.push(r#"",[{"A",[],[]},{"B",[],[]}],[{"A",[],[]}]}."#);
+    answer.push_after(r#"",[{"A",[],"#, script);
+    answer.push_after(r#"},{"B",[],"#, script);
+    answer.push_after(r#"}],[{"A",[],"#, script);
+    answer.push("}]}.");
 }
 
 // Appends that of the file of a release: of `A` with the application `app0`, of `A/65` with 65, of

@@ -1,7 +1,7 @@
 -- The release of a version, as it lies in memory, and what is wrong with its script.
 use Rattle.std.proofs.Common.{◌≡◌, ℕ, Bool, true, false, cond, find, List, [], ◌∷◌, map, Option, Some, None, string_bytes, refl, sym, ap, ◌∙◌}
 use Rattle.std.specs.Prelude.{if◌then◌else◌}
-use Rattle.std.specs.Option.{option_map, option_map_or, option_or}
+use Rattle.std.specs.Option.{option_map, option_map_or}
 use Rattle.std.specs.Str.{bytes_eq}
 use Rattle.rel_list.specs.declared.listed.ListedRelease.{ListedRelease}
 use Rattle.rel_list.specs.Keyed.{entry_of}
@@ -12,7 +12,7 @@ use Rattle.relup_script.specs.Search.{FoundForm}
 use Rattle.relup_script.proofs.ScriptLemmas.{runnable}
 use Rattle.node_upgrade.specs.Failure.{failure, fault_failure}
 use Rattle.node_upgrade.specs.Failure.Why.{new_emulator}
-use Rattle.node_upgrade.specs.Upgrade.{changes_emulator, libraries_at, restart_failure, script_failure, wrong_script}
+use Rattle.node_upgrade.specs.Upgrade.{changes_emulator, libraries_at, script_failure}
 
 abbrev first_at : List ℕ → List ListedRelease → Option ListedRelease
 first_at vsn ls = find (λ (l : ListedRelease). bytes_eq vsn (string_bytes l.release.vsn)) ls
@@ -35,16 +35,16 @@ found_libraries vsn ls es found same is =
 
 -- the emulator is the one that runs, and what is wrong with the script is told
 pub told_wrong : (vsn : List ℕ) (es : Releases) (f : FoundForm) (o : Option ScriptFault) → changes_emulator vsn es ≡ false → script_fault f.script ≡ o
-    → option_or (option_map fault_failure o) (restart_failure f.script) ≡ script_failure vsn es f
+    → option_map fault_failure o ≡ script_failure vsn es f
 told_wrong vsn es f o same is =
-    ap (λ p. option_or (option_map fault_failure p) (restart_failure f.script)) (sym is)
-    ∙ sym (ap (λ b. if b then Some (failure 0 new_emulator) else wrong_script f.script) same)
+    ap (λ p. option_map fault_failure p) (sym is)
+    ∙ sym (ap (λ b. if b then Some (failure 0 new_emulator) else option_map fault_failure (script_fault f.script)) same)
 
 -- A script that begins can be run.
 pub begins_runnable : (vsn : List ℕ) (es : Releases) (f : FoundForm) → script_failure vsn es f ≡ None → IsRunnable f.script
 begins_runnable vsn es f begins = runnable f.script (go (changes_emulator vsn es) (script_fault f.script) begins)
   where
-    go : (b : Bool) (o : Option ScriptFault) → (if b then Some (failure 0 new_emulator) else option_or (option_map fault_failure o) (restart_failure f.script)) ≡ None → o ≡ None
+    go : (b : Bool) (o : Option ScriptFault) → (if b then Some (failure 0 new_emulator) else option_map fault_failure o) ≡ None → o ≡ None
     go true o e = absurd cc
     go false None e = refl
     go false (Some fault) e = absurd cc

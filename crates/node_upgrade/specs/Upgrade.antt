@@ -1,13 +1,11 @@
 -- Which script an installation runs, where it runs, and why it isn't begun (OTP: release_handler:install_release/1).
-use Rattle.std.specs.Prelude.{◌≡◌, ℕ, List, [], length, not, find, Option, None, Some, Ok, Err, Bool, if◌then◌else◌}
-use Rattle.std.specs.Option.{option_map, option_map_or, option_or}
+use Rattle.std.specs.Prelude.{◌≡◌, ℕ, List, [], not, find, Option, None, Some, Ok, Err, Bool, if◌then◌else◌}
+use Rattle.std.specs.Option.{option_map, option_map_or}
 use Rattle.std.specs.Str.{bytes_eq}
 use Rattle.library.specs.Library.{Library}
 use Rattle.rel_files.specs.Release.{Release}
 use Rattle.rel_list.specs.Releases.{Entry, Releases, release_at, running}
-use Rattle.relup_instruction.specs.Instruction.{Instruction}
-use Rattle.relup_script.specs.declared.fault.ScriptFault.TheVariants.{Unsupported}
-use Rattle.relup_script.specs.Script.{IsRunnable, restarts, script_fault}
+use Rattle.relup_script.specs.Script.{IsRunnable, script_fault}
 use Rattle.relup_script.specs.Search.{FoundForm}
 use Rattle.node_command.specs.Installing.{installation}
 use Rattle.script_steps.specs.Script.{Site}
@@ -26,20 +24,10 @@ erts_of (Some r) = r.erts
 abbrev pub changes_emulator : List ℕ → Releases → Bool
 changes_emulator vsn es = not (bytes_eq (erts_of (release_at vsn es)) (erts_of (running es)))
 
--- Installations don't restart the runtime system yet: the restart at the end is refused.
-abbrev pub restart_failure : List Instruction → Option Failure
-restart_failure script =
-    if restarts script then Some (fault_failure (Unsupported (length script))) else None
-
--- what is wrong with a script, whatever release it leads to
-abbrev pub wrong_script : List Instruction → Option Failure
-wrong_script script =
-    option_or (option_map fault_failure (script_fault script)) (restart_failure script)
-
 -- why the script isn't begun
 abbrev pub script_failure : List ℕ → Releases → FoundForm → Option Failure
 script_failure vsn es f =
-    if changes_emulator vsn es then Some (failure 0 new_emulator) else wrong_script f.script
+    if changes_emulator vsn es then Some (failure 0 new_emulator) else option_map fault_failure (script_fault f.script)
 
 -- the libraries of the release of this version
 abbrev pub libraries_at : List ℕ → Releases → List Library

@@ -7,11 +7,10 @@ ghost use Rattle.library.specs.InMemory.{shared_of};
 ghost use Rattle.node_upgrade.specs.Failure.{failure_of};
 ghost use Rattle.node_upgrade.specs.InMemory.{upgrade_of};
 ghost use Rattle.node_upgrade.specs.Running.{IsInstalled, RunRefused, TellsRefusal, start_in, state};
-ghost use Rattle.node_upgrade.specs.Upgrade.{IsNoUpgrade, IsUpgrade, changes_emulator, erts_of, libraries_at, restart_failure, script_failure, site_for};
+ghost use Rattle.node_upgrade.specs.Upgrade.{IsNoUpgrade, IsUpgrade, changes_emulator, erts_of, libraries_at, script_failure, site_for};
 ghost use Rattle.rel_files.specs.Release.{release_of};
 ghost use Rattle.relup_exec.specs.Outcome.{IsFinished, Start};
-ghost use Rattle.relup_instruction.specs.Instruction.{script_of};
-ghost use Rattle.relup_script.specs.Script.{IsRunnable};
+ghost use Rattle.relup_script.specs.Script.{IsRunnable, restarts};
 ghost use Rattle.relup_script.specs.Search.{found_of};
 ghost use Rattle.script_steps.specs.InMemory.{cause_of};
 ghost use Rattle.sup_tree.specs.Loaded.{listed_in};
@@ -25,8 +24,7 @@ use proc_table::{HandlerSeat, Name, ProcTable};
 use rel_files::Rel;
 use rel_list::{ListedRelease, ReleaseList};
 use relup_exec::{Failed, Refused, Site, run_before};
-use relup_instruction::Instr;
-use relup_script::{Found, ScriptFault, check, restarts};
+use relup_script::{Found, check, restarts};
 use script_steps::Cause;
 use std::alloc::Global;
 use std::rc::Rc;
@@ -84,19 +82,8 @@ fn script_failure(list: &ReleaseList, vsn: &str, found: &Found<'_>) -> Option<Sc
         });
     }
     match check(found.script) {
-        Ok(()) => restart_failure(found.script),
+        Ok(()) => None,
         Err(fault) => Some(ScriptFailure::of_fault(fault)),
-    }
-}
-
-// Installations don't restart the runtime system yet.
-fn restart_failure(script: &[Instr]) -> Option<ScriptFailure>
-    ensures { option_map failure_of result ≡ restart_failure (script_of script.now) }
-{
-    if restarts(script) {
-        Some(ScriptFailure::of_fault(ScriptFault::Unsupported(script.len())))
-    } else {
-        None
     }
 }
 
@@ -136,6 +123,13 @@ fn listed_at<'a>(releases: &'a [ListedRelease], vsn: &str) -> Option<&'a ListedR
 }
 
 impl Upgrade<'_> {
+    /// Whether the script ends with a restart of the runtime system, so that a boot has to follow it.
+    pub fn restarts(&self) -> bool
+        ensures { result ≡ restarts (upgrade_of self.now).found.script }
+    {
+        restarts(self.found.script)
+    }
+
     /// Carries the script out on these processes. What is loaded is replaced at its end.
     pub fn run<R: Wait>(
         self,

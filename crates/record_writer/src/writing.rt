@@ -1,5 +1,5 @@
 // The bodies of the records that commands write.
-ghost use Rattle.std.specs.Prelude.{◌≡◌, map, pos, string_bytes, Option, None, IfOk, OnOk};
+ghost use Rattle.std.specs.Prelude.{◌≡◌, codes, map, pos, string_bytes, Option, None, IfOk, OnOk};
 ghost use Rattle.std.specs.Option.{option_map, ForSome};
 ghost use Rattle.erl_term.specs.OneTerm.{HasTerm};
 ghost use Rattle.erl_term.specs.Value.{members_of, value_of};
@@ -10,7 +10,8 @@ ghost use Rattle.rel_files.specs.Release.{Release};
 ghost use Rattle.relup_file.specs.Relup.{RelupForm};
 ghost use Rattle.library.specs.InMemory.{shared_of};
 ghost use Rattle.library.specs.Library.{library_term};
-ghost use Rattle.rel_list.specs.Event.{event_of};
+ghost use Rattle.rel_list.specs.Event.{event_of, list_restarted};
+ghost use Rattle.rel_list.specs.Event.Event.{boot};
 ghost use Rattle.rel_list.specs.Keyed.{entry_of};
 ghost use Rattle.rel_list.specs.Refusal.{refusal};
 ghost use Rattle.rel_records.specs.Lists.{HaveVersions};
@@ -93,6 +94,20 @@ pub fn change_body(alloc: Global, list: &ReleaseList, event: &Event) -> Result<S
     body_of(alloc, &term)
 }
 
+/// The body of the record of the boot behind an installation of this version by a script that ends with a restart.
+pub fn boot_body_behind_restart(
+    alloc: Global,
+    list: &ReleaseList,
+    vsn: &str,
+) -> Result<String, AllocError>
+    ensures { IfOk result (λ body. (files : FileTerms) → string_bytes body
+        ≡ body_of files (record_of boot (list_restarted vsn.now list.now))) }
+{
+    let statuses = boot_terms(alloc, list.releases(), vsn)?;
+    let term = status_term(alloc, statuses)?;
+    body_of(alloc, &term)
+}
+
 // The printed term and a dot.
 pub(crate) fn body_of(alloc: Global, term: &Term) -> Result<String, AllocError>
     ensures printed { IfOk result (λ body. string_bytes body ≡ printed (value_of term.now)) }
@@ -171,6 +186,14 @@ fn change_term(alloc: Global, releases: &[ListedRelease], event: &Event) -> Resu
         return pair_term(alloc, atom_term(alloc, "removed")?, vsn);
     }
     let statuses = assignment_terms(alloc, releases, event)?;
+    status_term(alloc, statuses)
+}
+
+// The term of a record of these statuses.
+fn status_term(alloc: Global, statuses: Vec<Term>) -> Result<Term, AllocError>
+    ensures { IfOk result (λ term. value_of term
+        ≡ pair_term (atom (codes "status")) (list_of (map value_of statuses.items))) }
+{
     pair_term(alloc, atom_term(alloc, "status")?, list_term(statuses))
 }
 
@@ -188,6 +211,21 @@ fn assignment_terms(
         let status = event.status_behind(listed.release.vsn.as_str(), listed.status);
         if status != listed.status {
             terms.push(assignment_term(alloc, listed, status.recorded())?)?;
+        }
+    }
+    Ok(terms)
+}
+
+// The statuses that a boot changes behind a restart for this version, in the order of the list.
+fn boot_terms(alloc: Global, releases: &[ListedRelease], vsn: &str) -> Result<Vec<Term>, AllocError>
+    ensures { IfOk result (λ terms. map value_of terms.items
+        ≡ map assignment_term (changes boot (list_restarted vsn.now (map entry_of releases.now)))) }
+{
+    let mut terms = Vec::new(alloc);
+    for listed in releases {
+        let status = listed.status.restarted(vsn == listed.release.vsn.as_str());
+        if status.booted() != status {
+            terms.push(assignment_term(alloc, listed, status.booted().recorded())?)?;
         }
     }
     Ok(terms)

@@ -48,7 +48,7 @@ use Rattle.node_command.specs.declared.error.HandlerError.{HandlerError}
 use Rattle.node_command.specs.declared.error.HandlerError.TheVariants.{Dead, Device, Exists, Full, NoMemory}
 use Rattle.rel_handler.specs.declared.handler.Handler.{Handler}
 use Rattle.node_command.proofs.CommandLemmas.{commanded_step, small_and_few}
-use Rattle.rel_handler.proofs.Images.{each_image, extent_so, image_at, same_extent, settled_so, stored_before, stored_after, started_by, started_by_text, while_committing, with_record}
+use Rattle.rel_handler.proofs.Images.{base_behind, each_image, extent_so, image_at, same_extent, settled_so, stored_before, stored_after, started_by, started_by_text, while_committing, with_record}
 
 -- what holds of a call that didn't fail
 pub opened : {T E : Type 0} (r : Result T E) (P : Type 0) → false ≡ is_err r → OnOk r P → P
@@ -280,12 +280,6 @@ module _ {D : Type 0} (v : Ghosts D) (h : Handler D) (s : IsSound v.seen v.may_l
     pub reserved_works : store.has_failed reserved ≡ false
     reserved_works = same.failed ∙ (s.ready alive).store.works
 
-    -- the records begin where they began
-    base_there : (c : List ℕ) → LeavesOthers (IsInRecord (store.gate_in reserved) (length body)) (v.seen (disk_in h)) c → base_of c ≡ base_of (v.seen (disk_in h))
-    base_there c leaves =
-        let same_gate : store.gate_in reserved ≡ store.gate_in h.store = omega (arith, same.end) in
-        stores.base_kept v.moment v.left_since v.seen v.may_leave h.store (s.ready alive).store (length body) c (subst (λ g. LeavesOthers (IsInRecord g (length body)) (v.seen (disk_in h)) c) same_gate leaves)
-
     module _ (reads : (d : D) → v.may_leave d (v.seen d)) (new : Store D) (text : List ℕ) (leaves : LeavesOnly v.moment v.left_since (store.disk_in reserved) (store.disk_in new) (StandsEither (store.records_in reserved) body text))
         (kept : LeavesOnly v.moment v.left_since (store.disk_in reserved) (store.disk_in new) (LeavesOthers (IsInRecord (store.gate_in reserved) (length body)) (v.seen (store.disk_in reserved)))) (slot : text ≡ start_in v.seen h) where
       committing : (events : Events) → list_after events ≡ Some (list_in h) → LeavesOnly v.moment v.left_since (disk_in h) (store.disk_in new) (IsStoredAs (uncertain events (extent_in h) e (length body)))
@@ -294,7 +288,7 @@ module _ {D : Type 0} (v : Ghosts D) (h : Handler D) (s : IsSound v.seen v.may_l
           (weakened v.moment v.left_since (store.disk_in reserved) (store.disk_in new) _ (IsStoredAs (uncertain events (extent_in h) e (length body)))
           (λ c either. while_committing e (list_in h) next (store.records_in h.store) body text events (s.ready alive).list told is after (base_of (v.seen (disk_in h))) (extent_in h) (settled_so v.seen v.may_leave h.store (s.ready alive).store) (s.ready alive).room room_then
           (v.seen (disk_in h)) (sym slot) (s.started alive (v.seen (disk_in h)) (reads (disk_in h))) c
-          (subst (λ bodies. StandsEither bodies body text c) same.records either.0, base_there c (subst (λ d. LeavesOthers (IsInRecord (store.gate_in reserved) (length body)) (v.seen d) c) same.disk either.1)))
+          (subst (λ bodies. StandsEither bodies body text c) same.records either.0, base_behind v h.store reserved (s.ready alive).store same (length body) c (subst (λ d. LeavesOthers (IsInRecord (store.gate_in reserved) (length body)) (v.seen d) c) same.disk either.1)))
           (both v.moment v.left_since (store.disk_in reserved) (store.disk_in new) _ _ leaves kept))
 
       pub commits : v.failures (store.disk_in reserved) ≤ v.failures (store.disk_in new) → Commits v e (length body) h (record { store = new; list = next; dead = true })

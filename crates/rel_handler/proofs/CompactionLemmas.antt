@@ -1,7 +1,7 @@
 -- A store that is compacted behind a commit.
 use Rattle.std.proofs.Common.{◌≡◌, ◌⊎◌, inl, inr, ⊎_elim, ℕ, ◌+◌, ◌≤◌, Bool, true, false, ◌&&◌, nat_le, List, [], ◌∷◌, length, Option, Some, Result, Ok, Err, true≢false, refl, sym, ap, ◌∙◌, subst, arith}
 use Rattle.std.proofs.lemmas.Bool.Decides.{nat_tests}
-use Rattle.std.specs.Prelude.{◌↔◌, if◌then◌else◌, IfErr, IsErrOf, OnOk}
+use Rattle.std.specs.Prelude.{◌↔◌, not, if◌then◌else◌, IfErr, IsErrOf, OnOk}
 use Rattle.rel_disk.specs.declared.disk.Disk.{Ghosts}
 use Rattle.rel_disk.specs.Moments.{LeavesOnly, HasFailed}
 use Rattle.rel_disk.proofs.Moments.{started, joined, weakened}
@@ -21,25 +21,34 @@ use Rattle.node_command.specs.declared.error.HandlerError.{HandlerError}
 use Rattle.node_command.specs.declared.error.HandlerError.TheVariants.{Device}
 use Rattle.node_command.proofs.CommandLemmas.{commanded_step}
 use Rattle.rel_handler.specs.Commits.{Commits, Compacts, IsAppended, IsCompacted, IsDone, IsOldOrCompacted}
-use Rattle.rel_handler.specs.Compaction.{compacted, extent_with, fits_image, is_long, with_image, MayReach}
+use Rattle.rel_handler.specs.Compaction.{compacted, extent_with, fits_image, is_long, may_be_compacted, with_image, MayReach}
 use Rattle.rel_handler.specs.Events.{Events, uncertain, IsStoredAs}
-use Rattle.rel_handler.specs.Image.{AreRecordsOf, Extent, extent_behind, extent_of, start_slot}
+use Rattle.rel_handler.specs.Image.{AreRecordsOf, Extent, extent_behind, extent_of, HasBootSpace, start_slot}
 use Rattle.rel_handler.specs.Refusals.{CommandRefused, told_compaction}
 use Rattle.rel_handler.specs.State.{disk_in, extent_in, list_in, is_dead, start_in, store_extent, HasStarted, IsReady, IsSound}
 use Rattle.rel_handler.specs.declared.handler.Handler.{Handler}
 use Rattle.rel_handler.proofs.Commits.{dead_is_sound, extent_kept, failed_behind, image_now, none_behind, revived, revived_is_sound, start_is_right}
 use Rattle.rel_handler.proofs.Images.{extent_by_end, extent_with_records, no_boot_space, same_extent, settled_so, started_by, stored_after}
 
--- a short store stays as it is
-pub short_stays : (x : Extent) (es : Releases) → is_long x ≡ false → compacted x es ≡ x
+-- a short store stays as it is, and so does that of a list with a one-shot
+pub short_stays : (x : Extent) (es : Releases) → may_be_compacted x es ≡ false → compacted x es ≡ x
 short_stays x es short = ap (λ (b : Bool). if b then with_image x (image_of (recorded es)) else x) short
 
--- a long one reaches as far as with this image, where it has this one or none
-pub long_reaches : (x : Extent) (es : Releases) (image : Option (List ℕ)) → is_long x ≡ true → image_of (recorded es) ≡ image → compacted x es ≡ with_image x image
-long_reaches x es image long is = ap (λ (b : Bool). if b then with_image x (image_of (recorded es)) else x) long ∙ ap (λ o. with_image x o) is
+-- one that may be compacted is long, and its list has no one-shot
+pub free_and_long : (x : Extent) (es : Releases) → may_be_compacted x es ≡ true → (has_one_shot es ≡ false) × (is_long x ≡ true)
+free_and_long x es may = go (has_one_shot es) (is_long x) may
+  where
+    go : (one long : Bool) → (not one && long) ≡ true → (one ≡ false) × (long ≡ true)
+    go false true may = (refl, refl)
+    go false false may = absurd cc
+    go true long may = absurd cc
 
-image_reaches : (x : Extent) (es : Releases) (image : List ℕ) → is_long x ≡ true → image_of (recorded es) ≡ Some image → fits_image x (length image) ≡ true → compacted x es ≡ extent_with x (length image)
-image_reaches x es image long is fits = long_reaches x es (Some image) long is ∙ ap (λ (b : Bool). if b then extent_with x (length image) else x) fits
+-- it reaches as far as with this image, where it has this one or none
+pub long_reaches : (x : Extent) (es : Releases) (image : Option (List ℕ)) → may_be_compacted x es ≡ true → image_of (recorded es) ≡ image → compacted x es ≡ with_image x image
+long_reaches x es image may is = ap (λ (b : Bool). if b then with_image x (image_of (recorded es)) else x) may ∙ ap (λ o. with_image x o) is
+
+image_reaches : (x : Extent) (es : Releases) (image : List ℕ) → may_be_compacted x es ≡ true → image_of (recorded es) ≡ Some image → fits_image x (length image) ≡ true → compacted x es ≡ extent_with x (length image)
+image_reaches x es image may is fits = long_reaches x es (Some image) may is ∙ ap (λ (b : Bool). if b then extent_with x (length image) else x) fits
 
 -- an image that doesn't fit by the test doesn't fit
 both_within : (a b c d : ℕ) → a ≤ b → c ≤ d → (nat_le a b && nat_le c d) ≡ false → ⊥
@@ -52,7 +61,7 @@ fits_not x n is (short, ends) = both_within n 16777216 (image_end x.base x.end n
 one_record : (place : ℕ) (body : List ℕ) → place + (6 + length body) ≡ (place + space (body ∷ [])) + 1
 one_record place body = omega arith
 
-module _ {D : Type 0} (v : Ghosts D) (h : Handler D) (ready : IsReady v.seen v.may_leave h) (free : has_one_shot (list_in h) ≡ false) where
+module _ {D : Type 0} (v : Ghosts D) (h : Handler D) (ready : IsReady v.seen v.may_leave h) where
   -- each image of its disk is that of the store that is there
   old_now : (c : List ℕ) → v.may_leave (disk_in h) c → IsOldOrCompacted v.seen h c
   old_now c now =
@@ -76,14 +85,20 @@ module _ {D : Type 0} (v : Ghosts D) (h : Handler D) (ready : IsReady v.seen v.m
       ready = record {
         store = sound.settled (same.failed ∙ ready.store.works);
         list = subst (λ bodies. AreRecordsOf bodies h.list) (sym same.records) ready.list;
-        room = no_boot_space (store_extent kept) (list_in h) free;
+        room = subst (λ x. HasBootSpace x (list_in h)) (sym (extent_kept h.store kept same)) ready.room;
       };
       start = ap (λ d. start_slot (v.seen d)) same.disk;
       reaches = subst (λ x. MayReach (extent_in h) (list_in h) x) (sym (extent_kept h.store kept same)) reaches;
     }
 
-  -- A long store is compacted to an image of its list.
-  module _ (image : List ℕ) (long : is_long (extent_in h) ≡ true) (is : image_of (recorded (list_in h)) ≡ Some image) (makes : Makes (image ∷ []) (recorded (list_in h))) (new : Store D) where
+  -- A store is compacted to an image of its list.
+  module _ (image : List ℕ) (may : may_be_compacted (extent_in h) (list_in h) ≡ true) (is : image_of (recorded (list_in h)) ≡ Some image) (makes : Makes (image ∷ []) (recorded (list_in h))) (new : Store D) where
+    free : has_one_shot (list_in h) ≡ false
+    free = (free_and_long (extent_in h) (list_in h) may).0
+
+    long : is_long (extent_in h) ≡ true
+    long = (free_and_long (extent_in h) (list_in h) may).1
+
     by_the_image : AreRecordsOf (image ∷ []) (list_in h)
     by_the_image = record { makes = makes; alone = ready.list.alone }
 
@@ -105,7 +120,7 @@ module _ {D : Type 0} (v : Ghosts D) (h : Handler D) (ready : IsReady v.seen v.m
           record { bodies = image ∷ []; store = stands.records; list = by_the_image; room = no_boot_space (extent_of c) (list_in h) free },
           inr (
               extent_by_end c (image ∷ []) place (image_end (store.base_in h.store) (store.end_in h.store) (length image)) stands.records ends (one_record place image)
-              ∙ far ∙ sym (image_reaches (extent_in h) (list_in h) image long is fits)
+              ∙ far ∙ sym (image_reaches (extent_in h) (list_in h) image may is fits)
               ),
           stands.start,
         )
@@ -151,7 +166,7 @@ module _ {D : Type 0} (v : Ghosts D) (h : Handler D) (ready : IsReady v.seen v.m
         go : (b : Bool) → fits_image (extent_in h) (length image) ≡ b → store_extent new ≡ compacted (extent_in h) (list_in h)
         go true fits =
             same_extent (store_extent new) (extent_with (extent_in h) (length image)) base end (ap (λ bodies. length bodies) records)
-            ∙ sym (image_reaches (extent_in h) (list_in h) image long is fits)
+            ∙ sym (image_reaches (extent_in h) (list_in h) image may is fits)
         go false unfit = let told = full.1 (ready.store.works, fits_not (extent_in h) (length image) unfit) in absurd cc
 
     pub done_so : (r : Result (Unit {0}) StoreError) → AnswersFull r → IfErr r Refuses → store.IsSoundStore v.seen v.may_leave new → OnOk r (store.IsSettled v.seen v.may_leave new)
@@ -187,18 +202,17 @@ pub refused_then : {T : Type 0} (r : Result T HandlerError) (failed : Type 0) (Q
 refused_then (Ok x) failed Q so device is = tt
 refused_then (Err e) failed Q so device is = so e device is
 
--- A command has committed its event, which makes no release a one-shot, and the start record is that of its list.
+-- A command has committed its event, and the start record is that of its list.
 pub record HasCommitted {D : Type 0} (v : Ghosts D) (e : Event) (size : ℕ) (h mid : Handler D) : Type 0 where
   pub commits : Commits v e size h mid
   pub appended : IsAppended v e size h mid
-  pub other : makes_one_shot e ≡ false
   pub right : HasStarted v.may_leave mid
 
 -- It has where the event leaves the permanent release.
 pub committed_change : {D : Type 0} (v : Ghosts D) (h : Handler D) → IsSound v.seen v.may_leave h → is_dead h ≡ false → (e : Event) (size : ℕ) (mid : Handler D) → Commits v e size h mid → IsAppended v e size h mid
-    → IsReady v.seen v.may_leave mid → start_in v.seen mid ≡ start_in v.seen h → ((d : D) → v.may_leave d (v.seen d)) → makes_one_shot e ≡ false → leaves_permanent e ≡ true → HasCommitted v e size h mid
-committed_change v h s alive e size mid commits appended ready stays reads other leaves =
-    record { commits = commits; appended = appended; other = other; right = start_is_right v h s alive e size mid commits appended ready stays reads leaves }
+    → IsReady v.seen v.may_leave mid → start_in v.seen mid ≡ start_in v.seen h → ((d : D) → v.may_leave d (v.seen d)) → leaves_permanent e ≡ true → HasCommitted v e size h mid
+committed_change v h s alive e size mid commits appended ready stays reads leaves =
+    record { commits = commits; appended = appended; right = start_is_right v h s alive e size mid commits appended ready stays reads leaves }
 
 -- Then it has the store compacted.
 module _ {D : Type 0} (v : Ghosts D) (h : Handler D) (e : Event) (size : ℕ) (mid : Handler D) (committed : HasCommitted v e size h mid) (reads : (d : D) → v.may_leave d (v.seen d)) (new : Handler D) (compacts : Compacts v mid new) where
@@ -229,11 +243,13 @@ module _ {D : Type 0} (v : Ghosts D) (h : Handler D) (e : Event) (size : ℕ) (m
     right_still c now =
         started_by (list_in mid) (list_in new) (v.seen (disk_in mid)) c (ap permanent compacts.list) (ap (λ l. start_slot l) (done.ready.store.durable c now) ∙ done.start) (committed.right (v.seen (disk_in mid)) (reads (disk_in mid)))
 
-    none_still : has_one_shot (list_in new) ≡ false
-    none_still = ap has_one_shot compacts.list ∙ none_behind v e size h mid committed.other committed.appended
+    -- The handler works again, where the event makes no release a one-shot.
+    module _ (other : makes_one_shot e ≡ false) where
+      none_still : has_one_shot (list_in new) ≡ false
+      none_still = ap has_one_shot compacts.list ∙ none_behind v e size h mid other committed.appended
 
-    pub commits_alive : Commits v e size h (revived new)
-    commits_alive = record { sound = revived_is_sound v new done.ready right_still none_still; any_moment = commits_compacting.any_moment; counted = commits_compacting.counted }
+      pub commits_alive : Commits v e size h (revived new)
+      commits_alive = record { sound = revived_is_sound v new done.ready right_still none_still; any_moment = commits_compacting.any_moment; counted = commits_compacting.counted }
 
     pub is_done : IsDone v e size h new
     is_done = record {
@@ -246,5 +262,5 @@ module _ {D : Type 0} (v : Ghosts D) (h : Handler D) (e : Event) (size : ℕ) (m
           (subst (λ x. MayReach x (list_in mid) (extent_in new)) committed.appended.reaches done.reaches);
     }
 
-    pub is_done_alive : IsDone v e size h (revived new)
-    is_done_alive = record { worked = is_done.worked; accepted = is_done.accepted; acknowledged = is_done.acknowledged; fits = is_done.fits; reaches = is_done.reaches }
+    pub is_done_with : (dead : Bool) → IsDone v e size h (record { store = new.store; list = new.list; dead = dead })
+    is_done_with dead = record { worked = is_done.worked; accepted = is_done.accepted; acknowledged = is_done.acknowledged; fits = is_done.fits; reaches = is_done.reaches }

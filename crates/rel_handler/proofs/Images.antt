@@ -21,8 +21,11 @@ use Rattle.rel_store.specs.Records.{records_of, StandsEither, space, records_or_
 use Rattle.rel_store.specs.Layout.{base_of, slot_with}
 use Rattle.rel_store.proofs.Scan.{space-push}
 use Rattle.rel_store.proofs.Whole.{sound}
-use Rattle.rel_store.specs.State.{records_in, IsSettled}
+use Rattle.rel_store.specs.Changed.{LeavesOthers, IsInRecord}
+use Rattle.rel_store.specs.State.{gate_in, records_in, IsSame, IsSettled}
+use Rattle.rel_store.proofs.Moments.{base_kept}
 use Rattle.rel_store.specs.declared.store.Store.{Store}
+use Rattle.rel_disk.specs.declared.disk.Disk.{Ghosts}
 use Rattle.rel_handler.specs.Commits.{IsRecordFor}
 use Rattle.rel_handler.specs.Events.{Known, doubted, IsPrefix, IsOfPrefix, IsNoneOrOfPrefix, compacted_or_same, uncertain, IsStoredAs}
 use Rattle.rel_handler.specs.Start.{started, start_text}
@@ -69,6 +72,12 @@ settled_so seen may_leave store s =
 
 pub settled_extent : {D : Type 0} (seen : D → List ℕ) (may_leave : D → List ℕ → Type 0) (store : Store D) → IsSettled seen may_leave store → extent_of (seen store.disk) ≡ store_extent store
 settled_extent seen may_leave store s = extent_so (seen store.disk) (records_in store) (base_of (seen store.disk)) s.records refl ∙ settled_so seen may_leave store s
+
+-- While a record is appended behind a reservation, the records begin where they began.
+pub base_behind : {D : Type 0} (v : Ghosts D) (s reserved : Store D) → IsSettled v.seen v.may_leave s → IsSame s reserved → (n : ℕ) (c : List ℕ) → LeavesOthers (IsInRecord (gate_in reserved) n) (v.seen s.disk) c → base_of c ≡ base_of (v.seen s.disk)
+base_behind v s reserved settled same n c leaves =
+    let same_gate : gate_in reserved ≡ gate_in s = omega (arith, same.end) in
+    base_kept v.moment v.left_since v.seen v.may_leave s settled n c (subst (λ g. LeavesOthers (IsInRecord g n) (v.seen s.disk) c) same_gate leaves)
 
 -- where no release is a one-shot, the next boot needs no room
 pub no_boot_space : (x : Extent) (es : Releases) → has_one_shot es ≡ false → HasBootSpace x es

@@ -1,21 +1,20 @@
 -- What an installation owes, wherever it ends.
-use Rattle.std.proofs.Common.{◌≡◌, inl, inr, ℕ, Bool, true, false, List, Option, Some, None, Result, Ok, Err, refl, sym, ap, subst, ◌∙◌}
-use Rattle.std.specs.Prelude.{IfOk, OnOk, String, string_bytes, length}
-use Rattle.std.specs.declared.alloc.Global.{Global}
+use Rattle.std.proofs.Common.{◌≡◌, inl, inr, ℕ, ◌+◌, Bool, true, false, List, Option, Some, None, Result, Ok, Err, refl, sym, ap, subst, ◌∙◌, arith}
 use Rattle.rel_disk.specs.declared.disk.Disk.{Ghosts}
-use Rattle.rel_disk.specs.Moments.{HasFailed}
 use Rattle.rel_list.specs.declared.fault.ListError.{ListError}
 use Rattle.rel_list.specs.declared.fault.ListError.TheVariants as of_list
-use Rattle.rel_list.specs.Event.{Event}
-use Rattle.rel_list.specs.Event.Event.{installed}
-use Rattle.rel_list.specs.Refusal.{refusal}
-use Rattle.rel_list.specs.Releases.{Releases}
-use Rattle.rel_records.specs.Reading.{Spells}
-use Rattle.rel_records.specs.Record.{FileTerms, body_of}
-use Rattle.rel_records.specs.Writing.{Tells, record_of}
+use Rattle.rel_list.specs.Event.{Event, list_restarted, may_be_installed}
+use Rattle.rel_list.specs.Event.Event.{installed, restart_installed}
+use Rattle.rel_list.specs.Laws.{leaves_permanent, makes_one_shot}
+use Rattle.rel_list.specs.Refusal.{brings_release, refusal}
+use Rattle.rel_list.specs.Releases.{Releases, has_current, status_of}
+use Rattle.rel_list.proofs.OwnRules.{own_of_step}
+use Rattle.rel_records.proofs.RecordPlaces.{chosen}
+use Rattle.rel_records.specs.Writing.{IsOfListed}
+use Rattle.relup_script.specs.Script.{restarts}
 use Rattle.relup_script.specs.Search.{FoundForm}
 use Rattle.node_command.specs.Installing.{installation, script_to, unless_listed_refusal}
-use Rattle.node_command.specs.Taking.{change_size, commanded, no_terms}
+use Rattle.node_command.specs.Taking.{change_size, commanded}
 use Rattle.node_command.specs.declared.error.HandlerError.{HandlerError}
 use Rattle.node_command.specs.declared.error.HandlerError.TheVariants.{Dead, Device, Full, NoMemory}
 use Rattle.node_command.proofs.CommandLemmas.{list_allows}
@@ -23,14 +22,16 @@ use Rattle.node_upgrade.specs.declared.error.InstallError.{InstallError}
 use Rattle.node_upgrade.specs.declared.error.InstallError.TheVariants.{Command, Refused, MustReboot}
 use Rattle.node_upgrade.specs.Running.{IsUntouched, NodeState, RunRefused}
 use Rattle.node_upgrade.specs.Upgrade.{IsNoUpgrade, IsUpgrade, UpgradeForm}
-use Rattle.rel_handler.specs.Image.{HasSpace}
-use Rattle.rel_handler.specs.Installing.{InstallRefused, install_size, must_boot}
-use Rattle.rel_handler.specs.Commits.{Commits, IsAppended, IsRecordFor}
-use Rattle.rel_handler.specs.Refusals.{CommandRefused, HasNoRoom}
-use Rattle.rel_handler.specs.State.{disk_in, extent_in, is_dead, list_in, start_in, IsReady, IsSame, IsSound}
+use Rattle.rel_handler.specs.Image.{boot_size, Extent, extent_behind, HasSpace, LeavesBootSpace}
+use Rattle.rel_handler.specs.Compaction.{MayReach}
+use Rattle.rel_handler.specs.Installing.{InstallRefused, ends_with_restart, install_event, install_room, install_size, installation_event, must_boot, needs_restart, room_behind}
+use Rattle.rel_handler.specs.Commits.{Commits, Compacts, IsCompacted, IsDone}
+use Rattle.rel_handler.specs.Refusals.{HasNoRoom}
+use Rattle.rel_handler.specs.State.{extent_in, is_dead, list_in, IsSame}
 use Rattle.rel_handler.specs.declared.handler.Handler.{Handler}
-use Rattle.rel_handler.proofs.Commits.{all_same, appended_behind, commits_behind, lost_commits, refused_behind, revived_is_sound, start_is_right}
-use Rattle.rel_handler.proofs.CompactionLemmas.{HasCommitted}
+use Rattle.rel_handler.proofs.Commits.{all_same, commits_behind, lost_commits, revived_is_sound}
+use Rattle.rel_handler.proofs.CompactionLemmas.{commits_alive, commits_compacting, HasCommitted}
+use Rattle.rel_handler.proofs.Images.{leaves_boot_space}
 
 -- An installation has these refusals.
 abbrev IsOfInstallation : HandlerError → Type 0
@@ -63,20 +64,57 @@ script_allows vsn es f is = go (refusal (installed vsn) es) is
     go None e = refl
     go (Some why) e = absurd cc
 
-pub installation_is_commanded : (vsn : List ℕ) (es : Releases) (f : FoundForm) → installation vsn es ≡ Ok f → (next : Releases) × (commanded (installed vsn) es ≡ Ok next)
-installation_is_commanded vsn es f is = list_allows (installed vsn) es tt (script_allows vsn es f is)
+-- Whether its script ends with a restart, its event is allowed where an installation is.
+event_allowed : (restarts : Bool) (vsn : List ℕ) (es : Releases) → refusal (installed vsn) es ≡ None → refusal (installation_event restarts vsn) es ≡ None
+event_allowed true vsn es allowed = allowed
+event_allowed false vsn es allowed = allowed
 
--- what is so of the body of its record, where the event has the version that was asked for
-pub body_sized : {E : Type 0} (r : Result (String Global) E) (text vsn : List ℕ) (es : Releases) → text ≡ vsn
-    → IfOk r (λ body. (files : FileTerms) → string_bytes body ≡ body_of files (record_of (installed text) es)) → IfOk r (λ body. length (string_bytes body) ≡ install_size vsn es)
-unfolding change_size
-body_sized (Ok body) text vsn es is body_is = ap length (body_is no_terms) ∙ ap (λ t. change_size (installed t) es) is
-body_sized (Err e) text vsn es is body_is = tt
+event_of_listed : (restarts : Bool) (vsn : List ℕ) → IsOfListed (installation_event restarts vsn)
+event_of_listed true vsn = tt
+event_of_listed false vsn = tt
 
-pub body_told : {E : Type 0} (r : Result (String Global) E) (text vsn : List ℕ) (es : Releases) → text ≡ vsn → IfOk r (λ body. Spells (string_bytes body) (record_of (installed text) es)) → OnOk r (Tells (installed text) es)
-    → IfOk r (λ body. IsRecordFor (string_bytes body) (installed vsn) es)
-body_told (Ok body) text vsn es is spells tells = subst (λ t. IsRecordFor (string_bytes body) (installed t) es) is (record { spells = spells; tells = tells })
-body_told (Err e) text vsn es is spells tells = tt
+pub event_stays : (restarts : Bool) (vsn : List ℕ) → leaves_permanent (installation_event restarts vsn) ≡ true
+event_stays true vsn = refl
+event_stays false vsn = refl
+
+pub event_brings_none : (restarts : Bool) (vsn : List ℕ) → brings_release (installation_event restarts vsn) ≡ false
+event_brings_none true vsn = refl
+event_brings_none false vsn = refl
+
+pub event_makes_one_shot : (restarts : Bool) (vsn : List ℕ) → makes_one_shot (installation_event restarts vsn) ≡ restarts
+event_makes_one_shot true vsn = refl
+event_makes_one_shot false vsn = refl
+
+pub installation_is_commanded : (restarts : Bool) (vsn : List ℕ) (es : Releases) (f : FoundForm) → installation vsn es ≡ Ok f → (next : Releases) × (commanded (installation_event restarts vsn) es ≡ Ok next)
+installation_is_commanded restarts vsn es f is = list_allows (installation_event restarts vsn) es (event_of_listed restarts vsn) (event_allowed restarts vsn es (script_allows vsn es f is))
+
+-- Where the bytes of its record's body and those behind it fit, there is room for the next boot.
+pub room_left : (restarts : Bool) (vsn : List ℕ) (es : Releases) (x : Extent) (size : ℕ) → HasSpace x (size + room_behind restarts vsn es) → LeavesBootSpace (installation_event restarts vsn) size x es
+room_left false vsn es x size fits = leaves_boot_space (installed vsn) refl size x es
+room_left true vsn es x size (short, ends) = λ next is one.
+    let (may, made) = chosen (may_be_installed (has_current es) (status_of vsn es)) (Some (list_restarted vsn es)) next (own_of_step (restart_installed vsn) es next is).1 in
+    let same : list_restarted vsn es ≡ next = cc in
+    subst (λ l. HasSpace (extent_behind x size) (boot_size l)) same (omega (arith, short), omega (arith, ends))
+
+pub room_for_body : (x : Extent) (size behind : ℕ) → HasSpace x (size + behind) → HasSpace x size
+room_for_body x size behind (short, ends) = (omega (arith, short), omega (arith, ends))
+
+-- What is appended behind a script is what its installation owes.
+module _ (vsn : List ℕ) (es : Releases) (f : FoundForm) (found : installation vsn es ≡ Ok f) (asks : Bool) (told : asks ≡ restarts f.script) where
+  told_so : asks ≡ needs_restart vsn es
+  told_so = told ∙ sym (ap ends_with_restart found)
+
+  pub event_told : (event : Event) → event ≡ installation_event asks vsn → event ≡ install_event vsn es
+  event_told event is = is ∙ ap (λ b. installation_event b vsn) told_so
+
+  pub size_told : (size : ℕ) → size ≡ change_size (installation_event asks vsn) es → size ≡ install_size vsn es
+  size_told size is = is ∙ ap (λ b. change_size (installation_event b vsn) es) told_so
+
+  pub room_told : (size room : ℕ) → size ≡ change_size (installation_event asks vsn) es → room ≡ room_behind asks vsn es → size + room ≡ install_room vsn es
+  room_told size room is room_is = ap (λ n. n + room) (size_told size is) ∙ ap (λ n. install_size vsn es + n) (room_is ∙ ap (λ b. room_behind b vsn es) told_so)
+
+  pub dead_told : (event : Event) → event ≡ installation_event asks vsn → makes_one_shot event ≡ needs_restart vsn es
+  dead_told event is = ap makes_one_shot is ∙ (event_makes_one_shot asks vsn ∙ told_so)
 
 module _ {D : Type 0} (failures : D → ℕ) (vsn : List ℕ) (h : Handler D) (alive : is_dead h ≡ false) where
   -- there is no script that may begin
@@ -94,13 +132,13 @@ module _ {D : Type 0} (failures : D → ℕ) (vsn : List ℕ) (h : Handler D) (a
 
   module _ (mid : Handler D) (same : IsSame h mid) (u : UpgradeForm) (is : IsUpgrade vsn (list_in h) u) where
     -- there is no room for its record
-    pub no_room_for : (n : NodeState) (why : HandlerError) → IsUntouched n n → HasNoRoom (extent_in h) (install_size vsn (list_in h)) why → InstallRefused failures vsn h mid n n (Command why)
+    pub no_room_for : (n : NodeState) (why : HandlerError) → IsUntouched n n → HasNoRoom (extent_in h) (install_room vsn (list_in h)) why → InstallRefused failures vsn h mid n n (Command why)
     no_room_for n Full untouched lacks = (alive, (u, is), lacks, (same, untouched))
     no_room_for n NoMemory untouched lacks = (alive, (same, untouched))
     no_room_for n why untouched lacks = absurd lacks
 
     -- it isn't carried out to its end
-    pub not_run : (old new : NodeState) (error : InstallError) → HasSpace (extent_in h) (install_size vsn (list_in h)) → RunRefused u old new error
+    pub not_run : (old new : NodeState) (error : InstallError) → HasSpace (extent_in h) (install_room vsn (list_in h)) → RunRefused u old new error
         → InstallRefused failures vsn h (record { store = mid.store; list = mid.list; dead = must_boot error }) old new error
     not_run old new (Command NoMemory) space r = (alive, (record { disk = same.disk; list = same.list; dead = sym alive; extent = same.extent }, r))
     not_run old new (Command why) space r = absurd r
@@ -115,23 +153,24 @@ pub not_run_commits : {D : Type 0} (v : Ghosts D) (e : Event) (size : ℕ) (h mi
 not_run_commits v e size h mid true alive c = lost_commits v e size h mid c
 not_run_commits v e size h mid false alive c = record { sound = revived_is_sound v mid (c.sound.ready alive) (c.sound.started alive) (c.sound.free alive); any_moment = c.any_moment; counted = c.counted }
 
--- Its event is written behind the script, by the version that was asked for.
-module _ {D : Type 0} (v : Ghosts D) (h mid w : Handler D) (same : IsSame h mid) (text vsn : List ℕ) (is : text ≡ vsn) (size size' : ℕ) (long : size ≡ size') where
-  pub written : Commits v (installed text) size mid w → Commits v (installed vsn) size' h w
-  written c = subst (λ t. Commits v (installed t) size' h w) is (subst (λ n. Commits v (installed text) n h w) long (commits_behind v h mid same (installed text) size w c))
+-- Its event is committed behind the script: it is that of the release that was asked for.
+module _ {D : Type 0} (v : Ghosts D) (h mid w : Handler D) (same : IsSame h mid) (e event : Event) (is : e ≡ event) (size size' : ℕ) (long : size ≡ size') where
+  pub committed : Commits v e size mid w → Commits v event size' h w
+  committed c = subst (λ f. Commits v f size' h w) is (subst (λ n. Commits v e n h w) long (commits_behind v h mid same e size w c))
 
-  is_written : IsAppended v (installed text) size mid w → IsAppended v (installed vsn) size' h w
-  is_written a = subst (λ t. IsAppended v (installed t) size' h w) is (subst (λ n. IsAppended v (installed text) n h w) long (appended_behind v h mid same (installed text) size w a))
+  pub done_behind : IsDone v e size mid w → IsDone v event size' h w
+  done_behind d =
+      subst (λ f. IsDone v f size' h w) is
+      (subst (λ n. IsDone v e n h w) long (record {
+        worked = sym same.dead ∙ d.worked;
+        accepted = ap (commanded e) (sym same.list) ∙ d.accepted;
+        acknowledged = d.acknowledged;
+        fits = subst (λ x. HasSpace x size) same.extent d.fits;
+        reaches = subst (λ x. MayReach (extent_behind x size) (list_in w) (extent_in w)) same.extent d.reaches;
+      }))
 
-  -- the device failed in it
-  pub device_failed : (why : HandlerError) → why ≡ Device → CommandRefused v.failures (installed text) size mid w why
-      → HasFailed (v.failures (disk_in h)) (v.failures (disk_in w)) × (is_dead w ≡ true)
-  device_failed why device refused =
-      let r = refused_behind v h mid same (installed text) size w Device (subst (CommandRefused v.failures (installed text) size mid w) device refused) in
-      (r.1, r.2)
-
-  -- it is committed
-  pub written_committed : IsSound v.seen v.may_leave mid → is_dead h ≡ false → ((d : D) → v.may_leave d (v.seen d)) → Commits v (installed text) size mid w → IsAppended v (installed text) size mid w → IsReady v.seen v.may_leave w
-      → start_in v.seen w ≡ start_in v.seen mid → HasCommitted v (installed vsn) size' h w
-  written_committed sound alive reads c a ready stays =
-      record { commits = written c; appended = is_written a; other = refl; right = start_is_right v mid sound (same.dead ∙ alive) (installed text) size w c a ready stays reads refl }
+-- Behind its commit the handler works again, or is dead where a release is a one-shot.
+pub commits_installation : {D : Type 0} (v : Ghosts D) (h : Handler D) (e : Event) (size : ℕ) (mid : Handler D) → HasCommitted v e size h mid → ((d : D) → v.may_leave d (v.seen d)) → (new : Handler D) → Compacts v mid new → IsCompacted v mid new
+    → (dead : Bool) → dead ≡ makes_one_shot e → Commits v e size h (with_dead new dead)
+commits_installation v h e size mid has reads new compacts done true is = lost_commits v e size h new (commits_compacting v h e size mid has reads new compacts)
+commits_installation v h e size mid has reads new compacts done false is = commits_alive v h e size mid has reads new compacts done (sym is)

@@ -13,4 +13,5 @@ pub mod CompactionLemmas
 pub mod ReleaseLemmas
 pub mod CreationLemmas
 pub mod PlaceLemmas
+pub mod FormatLemmas
 pub mod InstallLemmas

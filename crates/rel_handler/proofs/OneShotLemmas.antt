@@ -12,7 +12,6 @@ use Rattle.rel_store.specs.Layout.{base_of}
 use Rattle.rel_store.specs.Records.{StandsEither}
 use Rattle.rel_store.specs.State as store
 use Rattle.rel_store.specs.declared.store.Store.{Store}
-use Rattle.rel_store.proofs.Moments as stores
 use Rattle.rel_handler.specs.Booting.{IsBooted, IsOldOrTaken, Leaves}
 use Rattle.rel_handler.specs.Commits.{IsRecordFor}
 use Rattle.rel_handler.specs.Image.{AreRecordsOf, boot_size, booted_extent, extent_behind, HasSpace, IsImageAt, start_slot}
@@ -20,7 +19,7 @@ use Rattle.rel_handler.specs.State.{disk_in, extent_in, list_in, start_in, store
 use Rattle.rel_handler.specs.declared.handler.Handler.{Handler}
 use Rattle.rel_handler.proofs.BootLists.{booted_still, extent_of_none, extent_of_one}
 use Rattle.rel_handler.proofs.Commits.{image_now}
-use Rattle.rel_handler.proofs.Images.{either_image, no_boot_space, same_extent, settled_so, with_record}
+use Rattle.rel_handler.proofs.Images.{base_behind, either_image, no_boot_space, same_extent, settled_so, with_record}
 
 module _ {D : Type 0} (v : Ghosts D) (h : Handler D) (ready : IsReady v.seen v.may_leave h) where
   -- each image of its disk stands for its list
@@ -57,12 +56,6 @@ module _ {D : Type 0} (v : Ghosts D) (h : Handler D) (ready : IsReady v.seen v.m
     pub fits_reserved : store.Fits (store.end_in reserved) (length body)
     fits_reserved = subst (λ e. store.Fits e (length body)) (sym same.end) (subst (λ n. HasSpace (extent_in h) n) (sym long) (ready.room one))
 
-    -- the records begin where they began
-    base_there : (c : List ℕ) → LeavesOthers (IsInRecord (store.gate_in reserved) (length body)) (v.seen (disk_in h)) c → base_of c ≡ base_of (v.seen (disk_in h))
-    base_there c leaves =
-        let same_gate : store.gate_in reserved ≡ store.gate_in h.store = omega (arith, same.end) in
-        stores.base_kept v.moment v.left_since v.seen v.may_leave h.store ready.store (length body) c (subst (λ g. LeavesOthers (IsInRecord g (length body)) (v.seen (disk_in h)) c) same_gate leaves)
-
     taking : (text c : List ℕ) → text ≡ start_in v.seen h → StandsEither (store.records_in h.store) body text c × (base_of c ≡ base_of (v.seen (disk_in h))) → IsOldOrTaken v.seen h c
     taking text c slot either =
         let (image, at) = either_image (list_in h) next (store.records_in h.store) body text ready.list are_next (base_of (v.seen (disk_in h))) (extent_in h) (settled_so v.seen v.may_leave h.store ready.store) ready.room (no_boot_space (extent_behind (extent_in h) (length body)) next none) c either in
@@ -75,7 +68,7 @@ module _ {D : Type 0} (v : Ghosts D) (h : Handler D) (ready : IsReady v.seen v.m
       any_moment =
           subst (λ d. LeavesOnly v.moment v.left_since d (store.disk_in new) (IsOldOrTaken v.seen h)) same.disk
           (weakened v.moment v.left_since (store.disk_in reserved) (store.disk_in new) _ (IsOldOrTaken v.seen h)
-          (λ c either. taking text c slot (subst (λ bodies. StandsEither bodies body text c) same.records either.0, base_there c (subst (λ d. LeavesOthers (IsInRecord (store.gate_in reserved) (length body)) (v.seen d) c) same.disk either.1)))
+          (λ c either. taking text c slot (subst (λ bodies. StandsEither bodies body text c) same.records either.0, base_behind v h.store reserved ready.store same (length body) c (subst (λ d. LeavesOthers (IsInRecord (store.gate_in reserved) (length body)) (v.seen d) c) same.disk either.1)))
           (both v.moment v.left_since (store.disk_in reserved) (store.disk_in new) _ _ leaves kept));
       counted = subst (λ d. v.failures d ≤ v.failures (store.disk_in new)) same.disk counted;
     }

@@ -62,6 +62,14 @@ pub record Keeps {D : Type 0} (v : Ghosts D) (text : List ℕ) (old new : Handle
       (HasOldStartOr v.seen old (λ c. start_slot c ≡ slot_with text))
   pub counted : v.failures (disk_in old) ≤ v.failures (disk_in new)
 
+-- Whatever a change of the store's format answers: a crash at any moment of it leaves the list and the start slot.
+pub record Reformats {D : Type 0} (v : Ghosts D) (old new : Handler D) : Type 0 where
+  pub list : list_in new ≡ list_in old
+  pub extent : extent_in new ≡ extent_in old
+  pub any_moment : LeavesOnly v.moment v.left_since (disk_in old) (disk_in new)
+      (λ c. IsImageAt c (list_in old) (extent_in old) × (start_slot c ≡ start_in v.seen old))
+  pub counted : v.failures (disk_in old) ≤ v.failures (disk_in new)
+
 -- Nothing was written, and the handler has its list.
 pub record HasRead {D : Type 0} (v : Ghosts D) (old new : Handler D) : Type 0 where
   pub list : list_in new ≡ list_in old

@@ -1,24 +1,55 @@
 -- What an installation answers, and what it leaves of the node (OTP: release_handler:install_release/1).
-use Rattle.std.specs.Prelude.{◌≡◌, ◌⊎◌, ℕ, Bool, true, false, List, Err}
+use Rattle.std.specs.Prelude.{◌≡◌, ◌⊎◌, ℕ, ◌+◌, Bool, true, false, List, Result, Ok, Err}
 use Rattle.rel_disk.specs.Moments.{HasFailed}
 use Rattle.rel_list.specs.Releases.{Releases}
-use Rattle.rel_list.specs.Event.Event.{installed}
+use Rattle.rel_list.specs.Event.{Event, list_restarted}
+use Rattle.rel_list.specs.Event.Event.{installed, restart_installed}
 use Rattle.relup_exec.specs.Outcome.{IsFinished}
+use Rattle.relup_script.specs.Script.{restarts}
+use Rattle.relup_script.specs.Search.{FoundForm}
 use Rattle.node_command.specs.Installing.{installation}
 use Rattle.node_command.specs.Taking.{change_size}
+use Rattle.node_command.specs.declared.error.HandlerError.{HandlerError}
 use Rattle.node_command.specs.declared.error.HandlerError.TheVariants.{Dead, Device, Full, NoMemory}
 use Rattle.node_upgrade.specs.declared.error.InstallError.{InstallError}
 use Rattle.node_upgrade.specs.declared.error.InstallError.TheVariants.{Command, Refused, MustReboot}
 use Rattle.node_upgrade.specs.declared.upgrade.Installed.{Installed}
 use Rattle.node_upgrade.specs.Running.{NodeState, IsInstalled, IsUntouched, RunRefused, start_in}
 use Rattle.node_upgrade.specs.Upgrade.{IsNoUpgrade, IsUpgrade, UpgradeForm, site_for}
-use Rattle.rel_handler.specs.Image.{HasSpace}
+use Rattle.rel_handler.specs.Image.{boot_size, HasSpace}
 use Rattle.rel_handler.specs.State.{disk_in, extent_in, list_in, is_dead, IsSame}
 use Rattle.rel_handler.specs.declared.handler.Handler.{Handler}
 
+-- the event of an installation of this version, by whether its script ends with a restart
+abbrev pub installation_event : Bool → List ℕ → Event
+installation_event true vsn = restart_installed vsn
+installation_event false vsn = installed vsn
+
+-- its script ends with a restart, if there is one
+abbrev pub ends_with_restart : Result FoundForm HandlerError → Bool
+ends_with_restart (Ok f) = restarts f.script
+ends_with_restart (Err why) = false
+
+-- the installation of this version asks for a restart of the runtime system
+abbrev pub needs_restart : List ℕ → Releases → Bool
+needs_restart vsn es = ends_with_restart (installation vsn es)
+
+-- its event
+abbrev pub install_event : List ℕ → Releases → Event
+install_event vsn es = installation_event (needs_restart vsn es) vsn
+
 -- how many bytes the body of its record has
 abbrev pub install_size : List ℕ → Releases → ℕ
-install_size vsn es = change_size (installed vsn) es
+install_size vsn es = change_size (install_event vsn es) es
+
+-- how many bytes have to fit behind that body: those of the next boot's record, where there is a restart
+abbrev pub room_behind : Bool → List ℕ → Releases → ℕ
+room_behind true vsn es = 5 + boot_size (list_restarted vsn es)
+room_behind false vsn es = 0
+
+-- how many bytes have to fit in all
+abbrev pub install_room : List ℕ → Releases → ℕ
+install_room vsn es = install_size vsn es + room_behind (needs_restart vsn es) vsn es
 
 -- The script of this release was carried out to its end.
 abbrev pub IsInstalledBy : List ℕ → Releases → NodeState → Installed → NodeState → Type 0
@@ -42,7 +73,7 @@ NothingChanged h h' old new = IsSame h h' × IsUntouched old new
 
 -- There is a script that may begin, and its record has room.
 abbrev pub MayBegin : {D : Type 0} → List ℕ → Handler D → UpgradeForm → Type 0
-MayBegin vsn h u = IsUpgrade vsn (list_in h) u × HasSpace (extent_in h) (install_size vsn (list_in h))
+MayBegin vsn h u = IsUpgrade vsn (list_in h) u × HasSpace (extent_in h) (install_room vsn (list_in h))
 
 -- Why a release isn't installed, and what stands then. A script that fails behind its point of no return, and a device that fails
 -- behind the script, leave the handler dead; else nothing has changed.
@@ -50,7 +81,7 @@ abbrev pub InstallRefused : {D : Type 0} → (D → ℕ) → List ℕ → Handle
 InstallRefused failures vsn h h' old new (Command Dead) = (is_dead h ≡ true) × NothingChanged h h' old new
 InstallRefused failures vsn h h' old new (Command Full) =
     (is_dead h ≡ false) × ((u : UpgradeForm) × IsUpgrade vsn (list_in h) u)
-    × (HasSpace (extent_in h) (install_size vsn (list_in h)) → ⊥) × NothingChanged h h' old new
+    × (HasSpace (extent_in h) (install_room vsn (list_in h)) → ⊥) × NothingChanged h h' old new
 InstallRefused failures vsn h h' old new (Command NoMemory) = (is_dead h ≡ false) × NothingChanged h h' old new
 InstallRefused failures vsn h h' old new (Command Device) =
     (is_dead h ≡ false)

@@ -33,6 +33,10 @@ store_extent store =
 abbrev pub extent_in : {D : Type 0} → Handler D → Extent
 extent_in handler = store_extent handler.store
 
+-- the format of its store, 1 or 2
+abbrev pub format_in : {D : Type 0} → Handler D → ℕ
+format_in handler = of_store.format_in handler.store
+
 -- the start slot that counts, on its disk
 abbrev pub start_in : {D : Type 0} → (D → List ℕ) → Handler D → List ℕ
 start_in seen handler = of_store.text_in seen handler.store

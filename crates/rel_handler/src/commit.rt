@@ -1,5 +1,5 @@
 // An event and its record are committed.
-ghost use Rattle.std.specs.Prelude.{◌≡◌, true, false, length, IfErr, OnOk};
+ghost use Rattle.std.specs.Prelude.{◌≡◌, ◌+◌, true, false, length, IfErr, OnOk};
 ghost use Rattle.rel_list.specs.Event.{event_of};
 ghost use Rattle.rel_list.specs.Laws.{leaves_permanent, makes_one_shot};
 ghost use Rattle.rel_list.specs.Refusal.{brings_release};
@@ -7,7 +7,7 @@ ghost use Rattle.rel_records.specs.Writing.{IsOfListed};
 ghost use Rattle.rel_handler.specs.Commits.{Commits, IsAppended, IsDone, IsRecordFor};
 ghost use Rattle.rel_handler.specs.Image.{HasSpace, LeavesBootSpace};
 ghost use Rattle.rel_handler.specs.Refusals.{CommandRefused, HasNoRoom, IsAllowed};
-ghost use Rattle.rel_handler.specs.State.{extent_in, list_in, is_dead, start_in, store_extent, IsReady, IsSound};
+ghost use Rattle.rel_handler.specs.State.{extent_in, format_in, list_in, is_dead, start_in, store_extent, IsReady, IsSound};
 ghost use Rattle.node_command.specs.Taking.{change_size};
 ghost use Rattle.rel_store.specs.State.{HasRoom, IsSame as IsSameStore, IsSoundStore};
 
@@ -19,20 +19,21 @@ use rel_list::Event;
 use rel_store::Store;
 use std::alloc::Global;
 
-// Makes room for a record with a body of so many bytes. The store is as it was but for memory.
+// Makes room for a record with a body of so many bytes, where further bytes fit behind it. The store is as it was but for memory.
 pub(crate) fn make_room<D: Disk>(
     store: &mut Store<D>,
     alloc: Global,
     size: usize,
+    behind: usize,
 ) -> Result<(), HandlerError>
     requires { IsSoundStore D.seen D.may_leave store.old }
     ensures sound { IsSoundStore D.seen D.may_leave store.new }
     ensures kept { IsSameStore store.old store.new }
-    ensures space { OnOk result (HasSpace (store_extent store.old) size) }
+    ensures space { OnOk result (HasSpace (store_extent store.old) (size + behind)) }
     ensures room { OnOk result (HasRoom size store.new) }
-    ensures refused { IfErr result (HasNoRoom (store_extent store.old) size) }
+    ensures refused { IfErr result (HasNoRoom (store_extent store.old) (size + behind)) }
 {
-    if !store.fits(size) {
+    if !store.fits(size.saturating_add(behind)) {
         return Err(HandlerError::Full);
     }
     if store.reserve(alloc, size).is_err() {
@@ -63,6 +64,7 @@ impl<D: Disk> Handler<D> {
         ensures ready { OnOk result (IsReady D.seen D.may_leave self.new) }
         ensures dead { OnOk result (is_dead self.new ≡ true) }
         ensures start { OnOk result (start_in D.seen self.new ≡ start_in D.seen self.old) }
+        ensures format { format_in self.new ≡ format_in self.old }
         ensures refused { IfErr result (CommandRefused D.failures (event_of event)
             (length body.now) self.old self.new) }
         ensures device { brings_release (event_of event) ≡ false
@@ -98,7 +100,7 @@ impl<D: Disk> Handler<D> {
         ensures refused { IfErr result (CommandRefused D.failures (event_of event)
             (length body.now) self.old self.new) }
     {
-        make_room(&mut self.store, alloc, body.len())?;
+        make_room(&mut self.store, alloc, body.len(), 0)?;
         self.write(alloc, event, body)
     }
 

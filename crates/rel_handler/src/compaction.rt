@@ -2,13 +2,12 @@
 ghost use Rattle.std.specs.Prelude.{◌≡◌, [], ◌∷◌, true, false, Some, IfErr, OnOk};
 ghost use Rattle.rel_disk.specs.Moments.{HasFailed};
 ghost use Rattle.rel_list.specs.Event.{recorded};
-ghost use Rattle.rel_list.specs.Releases.{has_one_shot};
 ghost use Rattle.rel_records.specs.Image.{image_of};
 ghost use Rattle.rel_records.specs.Lists.{Makes};
 ghost use Rattle.rel_handler.specs.Commits.{Compacts, IsCompacted};
-ghost use Rattle.rel_handler.specs.Compaction.{is_long};
+ghost use Rattle.rel_handler.specs.Compaction.{is_long, may_be_compacted};
 ghost use Rattle.rel_handler.specs.Refusals.{told_compaction};
-ghost use Rattle.rel_handler.specs.State.{disk_in, extent_in, list_in, is_dead, IsReady};
+ghost use Rattle.rel_handler.specs.State.{disk_in, extent_in, format_in, list_in, is_dead, IsReady};
 
 use crate::Handler;
 use node_command::HandlerError;
@@ -26,15 +25,15 @@ impl<D: Disk> Handler<D> {
     // list with a one-shot is never compacted, so that the room for the next boot stays.
     pub(crate) fn compact(&mut self, alloc: Global) -> Result<(), HandlerError>
         requires ready { IsReady D.seen D.may_leave self.old }
-        requires free { has_one_shot (list_in self.old) ≡ false }
         requires dead { is_dead self.old ≡ true }
         ensures compacts { Compacts D.Disk self.old self.new }
         ensures done { OnOk result (IsCompacted D.Disk self.old self.new) }
+        ensures format { format_in self.new ≡ format_in self.old }
         ensures device { IfErr result (λ e. e ≡ HandlerError.Device) }
         ensures failed { IfErr result (λ _.
             HasFailed (D.failures (disk_in self.old)) (D.failures (disk_in self.new))) }
     {
-        if !self.is_long() {
+        if !self.may_be_compacted() {
             return Ok(());
         }
         match image_body(alloc, &self.list) {
@@ -44,6 +43,13 @@ impl<D: Disk> Handler<D> {
         }
     }
 
+    // Whether its store has many records, and its list no one-shot.
+    fn may_be_compacted(&self) -> bool
+        ensures { result ≡ may_be_compacted (extent_in self.now) (list_in self.now) }
+    {
+        self.list.one_shot().is_none() && self.is_long()
+    }
+
     // Whether its store has many records.
     fn is_long(&self) -> bool
         ensures { result ≡ is_long (extent_in self.now) }
@@ -51,16 +57,16 @@ impl<D: Disk> Handler<D> {
         self.store.records().len() >= MANY_RECORDS
     }
 
-    // Compacts a long store to this image of its list.
+    // Compacts the store to this image of its list.
     fn compact_to(&mut self, alloc: Global, image: &[u8]) -> Result<(), HandlerError>
         requires ready { IsReady D.seen D.may_leave self.old }
-        requires free { has_one_shot (list_in self.old) ≡ false }
         requires dead { is_dead self.old ≡ true }
-        requires long { is_long (extent_in self.old) ≡ true }
+        requires may { may_be_compacted (extent_in self.old) (list_in self.old) ≡ true }
         requires image { image_of (recorded (list_in self.old)) ≡ Some image.now }
         requires makes { Makes (image.now ∷ []) (recorded (list_in self.old)) }
         ensures compacts { Compacts D.Disk self.old self.new }
         ensures done { OnOk result (IsCompacted D.Disk self.old self.new) }
+        ensures format { format_in self.new ≡ format_in self.old }
         ensures device { IfErr result (λ e. e ≡ HandlerError.Device) }
         ensures failed { IfErr result (λ _.
             HasFailed (D.failures (disk_in self.old)) (D.failures (disk_in self.new))) }

@@ -21,7 +21,7 @@ use Rattle.node_command.proofs.ReleaseLemmas.{free_so, told_library}
 use Rattle.rel_list.specs.Releases.{Releases, differs, first_different, status_of}
 use Rattle.rel_list.specs.Event.{Event}
 use Rattle.rel_list.specs.Event.Event.{made, unpacked}
-use Rattle.rel_session.specs.AnswerLaws.{HasLinePath, HasModuleVersionsAt, HaveRecord, IsOfFiles}
+use Rattle.rel_session.specs.AnswerLaws.{HasLinePath, HasModuleVersionsAt, IsCompact, IsOfFiles, LeavesCompactStore}
 use Rattle.session_input.specs.Commands.{Command}
 use Rattle.session_input.specs.Commands.Command.{file, create, set_unpacked, check, install, permanent, remove, reboot_old, boot, start, releases, procs, modules, peek, call, flood, relup, quit, bad}
 use Rattle.rel_unpack.proofs.LineBrought.{IsLineBrought, good_brought}
@@ -91,9 +91,9 @@ one_action source one p q (relup new ups downs) x y kinds (found, there, is) (ag
 one_action source one p q quit x y kinds is also = absurd is
 one_action source one p q bad x y kinds is also = inl (is ∙ sym also)
 
--- A change of a node has a record.
+-- A change of a node has a record, and no restart.
 abbrev pub HasRecordOf : Action → Type 0
-HasRecordOf (changes_node c) = HaveRecord (c.event ∷ [])
+HasRecordOf (changes_node c) = (p : Place) → LeavesCompactStore (c.event ∷ []) p → IsCompact p
 HasRecordOf does = Unit {0}
 
 record_as : (x y : Action) → x ≡ y → HasRecordOf y → HasRecordOf x
@@ -105,7 +105,7 @@ record_of_creation (Ok b) = tt
 
 record_of_unpacking : (brought : Result Brought Refusal) → HasRecordOf (unpacking brought)
 record_of_unpacking (Err why) = tt
-record_of_unpacking (Ok b) = tt
+record_of_unpacking (Ok b) = λ p small. small tt
 
 record_of_telling : (found : Result (List ℕ) Refusal) → HasRecordOf (relup_telling found)
 record_of_telling (Err why) = tt
@@ -121,8 +121,8 @@ has_record source p (relup new ups downs) does (found, there, is) = record_as do
 has_record source p (file path f) does is = record_as does _ is tt
 has_record source p (check vsn) does is = record_as does _ is tt
 has_record source p (install vsn) does is = record_as does _ is tt
-has_record source p (permanent vsn) does is = record_as does _ is tt
-has_record source p (remove vsn) does is = record_as does _ is tt
+has_record source p (permanent vsn) does is = record_as does _ is (λ q small. small tt)
+has_record source p (remove vsn) does is = record_as does _ is (λ q small. small tt)
 has_record source p (reboot_old vsn) does is = record_as does _ is tt
 has_record source p boot does is = record_as does _ is tt
 has_record source p start does is = record_as does _ is tt

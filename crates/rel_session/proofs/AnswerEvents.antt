@@ -1,15 +1,16 @@
--- What an answer tells of its command: with the command, its file and the kind of place it determines the events.
-use Rattle.std.proofs.Common.{◌≡◌, ◌⊎◌, inl, inr, ℕ, Bool, true, false, List, [], ◌∷◌, Option, Some, None, Result, Ok, Err, refl, sym, ap, ◌∙◌, subst}
+-- What an answer tells of its command: with the command, its file, the kind of place and whether an installation ends with a restart
+-- it determines the events.
+use Rattle.std.proofs.Common.{◌≡◌, ◌⊎◌, inl, inr, ℕ, Bool, true, false, List, [], ◌∷◌, ◌++◌, Option, Some, None, Result, Ok, Err, refl, sym, ap, ◌∙◌, subst, append-nil}
 use Rattle.std.specs.Prelude.{if◌then◌else◌, ◌==◌, codes, take}
 use Rattle.std.specs.Str.{bytes_eq}
 use Rattle.rel_list.specs.Releases.{Releases}
 use Rattle.rel_list.specs.Event.{Event}
-use Rattle.rel_list.specs.Event.Event.{made, installed, reboot_old, boot as booting}
+use Rattle.rel_list.specs.Event.Event.{made, installed, restart_installed, reboot_old, boot as booting}
 use Rattle.rel_handler.specs.declared.error.BootError.{BootError}
 use Rattle.rel_handler.specs.declared.error.BootError.TheVariants as boot_error
 use Rattle.node_command.specs.declared.error.HandlerError.{HandlerError}
 use Rattle.node_command.specs.declared.error.HandlerError.TheVariants as handler_error
-use Rattle.rel_handler.specs.Events.{Events, Stored, certain}
+use Rattle.rel_handler.specs.Events.{Events, Stored, certain, uncertain}
 use Rattle.rel_handler.specs.Image.{Extent, holds_a_store}
 use Rattle.node_command.specs.Files.{bundle_brought, made_size}
 use Rattle.node_command.specs.Place.{own_refusal}
@@ -25,7 +26,9 @@ use Rattle.rel_unpack.specs.Refusal.Refusal.{missing_file, bad_file, vsn_mismatc
 use Rattle.rel_unpack.specs.Unpacking.{Brought}
 use Rattle.rel_unpack.specs.Source.{Source, GivesOne}
 use Rattle.node_processes.specs.Processes.{Processes}
-use Rattle.rel_session.specs.Node.{Place, Outcome, Reply, reply, nothing, done, failed_with, releases_after, behind}
+use Rattle.rel_session.specs.AnswerLaws.{have_restart}
+use Rattle.rel_session.specs.Installation.{installed_line, restarted}
+use Rattle.rel_session.specs.Node.{Place, Outcome, Reply, reply, failed, nothing, done, failed_with, releases_after, behind, with_text}
 use Rattle.rel_session.specs.Node.Place.{raw, closed, running, dead}
 use Rattle.rel_session.specs.Refusals.{refusal_of, refusal_for, refusal_line, boot_line}
 use Rattle.rel_session.specs.Refusals.Refusal.{device}
@@ -33,7 +36,14 @@ use Rattle.rel_session.specs.Transition
 use Rattle.rel_session.specs.Transition.Action.{answers, makes_node, changes_node, installs, reboots_node, boots_node, tells_start, calls}
 use Rattle.rel_session.proofs.ActionLemmas.{Kind, kind_of, AreTold, one_action}
 use Rattle.rel_session.proofs.ActionLemmas.Kind.{of_bytes, at_rest, runs, fails}
+use Rattle.rel_handler.specs.Installing.{install_size, installation_event}
+use Rattle.node_processes.specs.Scripts.{behind_run}
+use Rattle.node_upgrade.specs.Stale.{stale_modules}
+use Rattle.node_upgrade.specs.Upgrade.{libraries_at}
+use Rattle.rel_session.specs.Run.{events_of}
+use Rattle.rel_session.proofs.AnswerLines.{IsWhole, installed_whole, one_front}
 use Rattle.rel_session.proofs.InstallationLemmas.{each_reply}
+use Rattle.rel_session.proofs.InstallLines.{append_left, done_or_failed, restart_first, tells_ok}
 
 -- what an answer tells: that the command was done, that the device failed, within a boot or not, that a script failed behind its
 -- point of no return, or that nothing was done
@@ -75,7 +85,7 @@ changed runs c it_is_done = effect (done (c.event ∷ [])) runs
 changed runs c it_failed = effect (failed_with (Some c.event)) fails
 changed k c t = effect nothing k
 
--- An installation is done on a node that runs; a script that failed behind its point of no return leaves it dead.
+-- An installation without a restart is done on a node that runs; a script that failed behind its point of no return leaves it dead.
 abbrev installing : Kind → List ℕ → Report → Effect
 installing runs vsn it_is_done = effect (done (installed vsn ∷ [])) runs
 installing runs vsn it_failed = effect (failed_with (Some (installed vsn))) fails
@@ -223,26 +233,77 @@ boots (closed s) a is = boots_store at_rest s a refl is
 boots (running events extent ps) a is = boots_store runs (certain events extent) a refl is
 boots (dead s) a is = boots_store fails s a refl is
 
+-- the effect of a reply behind an event
+abbrev effect_behind : Event → Effect → Effect
+effect_behind e x =
+    effect (record { acknowledged = e ∷ x.outcome.acknowledged; in_doubt = x.outcome.in_doubt; failed = x.outcome.failed }) x.kind
+
+-- An installation has the effect that its answer tells: one with a restart that which the answer of the boot tells.
+data HasInstallEffect (k : Kind) (vsn : List ℕ) (a : Reply) : Type 0 where
+  without_restart : HasEffect (installing k vsn) a → have_restart (events_of a.outcome) ≡ false → HasInstallEffect k vsn a
+  with_restart : (line : List ℕ) (b : Reply) → IsWhole line → ((behind : List ℕ) → tells_ok (line ++ behind) ≡ true) → HasEffect (booted at_rest) b
+      → a ≡ with_text line (behind (restart_installed vsn) b) → HasInstallEffect k vsn a
+  restart_in_doubt : effect_of a ≡ effect (failed_with (Some (restart_installed vsn))) fails → a.answer ≡ refusal_line device → have_restart (events_of a.outcome) ≡ true
+      → HasInstallEffect k vsn a
+
+not_installed : (k : Kind) (vsn : List ℕ) (a b : Reply) → a ≡ b → HasEffect (installing k vsn) b → have_restart (events_of b.outcome) ≡ false → HasInstallEffect k vsn a
+not_installed k vsn a b is has none = subst (HasInstallEffect k vsn) (sym is) (without_restart has none)
+
+install_in_doubt : (vsn : List ℕ) (restarts : Bool) (s : Stored) → HasInstallEffect runs vsn (failed (Some (installation_event restarts vsn)) (dead s))
+install_in_doubt vsn false s = without_restart refl refl
+install_in_doubt vsn true s = restart_in_doubt refl refl refl
+
+restarts_with : (a b : Reply) (vsn line : List ℕ) → a ≡ with_text line (behind (restart_installed vsn) b) → have_restart (events_of a.outcome) ≡ true
+restarts_with a b vsn line is = ap (λ (r : Reply). have_restart (events_of r.outcome)) is ∙ restart_first vsn b.outcome.acknowledged b.outcome.in_doubt
+
+never : {A : Type 0} → false ≡ true → A
+never e = absurd cc
+
 -- Two replies with the same answer, from places of one kind.
 same_effect : (f : Report → Effect) (a b : Reply) → HasEffect f a → HasEffect f b → a.answer ≡ b.answer → effect_of a ≡ effect_of b
 same_effect f a b is also same = is ∙ ap (λ s. f (report_of s)) same ∙ sym also
+
+same_booted : (a b x y : Reply) (vsn line other : List ℕ) → a ≡ with_text line (behind (restart_installed vsn) x) → b ≡ with_text other (behind (restart_installed vsn) y) → effect_of x ≡ effect_of y → effect_of a ≡ effect_of b
+same_booted a b x y vsn line other is also same = ap effect_of is ∙ ap (effect_behind (restart_installed vsn)) same ∙ sym (ap effect_of also)
+
+-- So have two installations, both with a restart or both without.
+same_install : (k : Kind) (vsn : List ℕ) (a b : Reply) → HasInstallEffect k vsn a → HasInstallEffect k vsn b → have_restart (events_of a.outcome) ≡ have_restart (events_of b.outcome) → a.answer ≡ b.answer → effect_of a ≡ effect_of b
+same_install k vsn a b (without_restart has none) (without_restart has_too none_too) alike same = same_effect (installing k vsn) a b has has_too same
+same_install k vsn a b (with_restart line x whole ok has is) (with_restart other y whole_too ok_too has_too also) alike same =
+    let all : line ++ x.answer ≡ other ++ y.answer = sym (ap (λ (r : Reply). r.answer) is) ∙ same ∙ ap (λ (r : Reply). r.answer) also in
+    let lines = one_front line other whole whole_too x.answer y.answer all in
+    let answers_same = append_left other x.answer y.answer (ap (λ t. t ++ x.answer) (sym lines) ∙ all) in
+    same_booted a b x y vsn line other is also (same_effect (booted at_rest) x y has has_too answers_same)
+same_install k vsn a b (restart_in_doubt has told one) (restart_in_doubt has_too told_too one_too) alike same = has ∙ sym has_too
+same_install k vsn a b (with_restart line x whole ok has is) (restart_in_doubt has_too told_too one_too) alike same =
+    done_or_failed line x.answer [] ok (sym (ap (λ (r : Reply). r.answer) is) ∙ same ∙ told_too ∙ sym (append-nil (refusal_line device)))
+same_install k vsn a b (restart_in_doubt has told one) (with_restart line x whole ok has_too is) alike same =
+    done_or_failed line x.answer [] ok (sym (ap (λ (r : Reply). r.answer) is) ∙ sym same ∙ told ∙ sym (append-nil (refusal_line device)))
+same_install k vsn a b (without_restart has none) (with_restart line x whole ok has_too is) alike same = never (sym none ∙ alike ∙ restarts_with b x vsn line is)
+same_install k vsn a b (without_restart has none) (restart_in_doubt has_too told_too one_too) alike same = never (sym none ∙ alike ∙ one_too)
+same_install k vsn a b (with_restart line x whole ok has is) (without_restart has_too none_too) alike same = never (sym none_too ∙ sym alike ∙ restarts_with a x vsn line is)
+same_install k vsn a b (restart_in_doubt has told one) (without_restart has_too none_too) alike same = never (sym none_too ∙ sym alike ∙ one)
 
 -- one that does nothing
 idle : (a b x y : Reply) → a ≡ x → b ≡ y → effect_of x ≡ effect_of y → effect_of a ≡ effect_of b
 idle a b x y is also same = ap effect_of is ∙ same ∙ sym (ap effect_of also)
 
--- an action has the effect that its answer tells
+-- an action but an installation has the effect that its answer tells
 abbrev acted : Kind → Transition.Action → Report → Effect
 acted k (answers text) t = effect nothing k
 acted k (makes_node b) t = created k (bundle_brought b) t
 acted k (changes_node c) t = changed k c t
-acted k (installs vsn) t = installing k vsn t
+acted k (installs vsn) t = effect nothing k
 acted k (reboots_node vsn) t = rebooted k vsn t
 acted k boots_node t = booted k t
 acted k tells_start t = tells k t
 acted k (calls c) t = effect nothing k
 
-acts : (p : Place) (does : Transition.Action) (a : Reply) → Transition.Acts p does a → HasEffect (acted (kind_of p) does) a
+abbrev HasEffectOf : Kind → Transition.Action → Reply → Type 0
+HasEffectOf k (installs vsn) a = HasInstallEffect k vsn a
+HasEffectOf k does a = HasEffect (acted k does) a
+
+acts : (p : Place) (does : Transition.Action) (a : Reply) → Transition.Acts p does a → HasEffectOf (kind_of p) does a
 acts p (answers text) a is = effect_as (acted (kind_of p) (answers text)) a _ is refl
 acts p (makes_node found) a is = makes p found a is
 acts (running events extent ps) (changes_node c) a is = changes events extent ps c (releases_after events) (c.files (releases_after events)) (commanded c.event (releases_after events)) (plain_list c.event (releases_after events)) a is
@@ -250,18 +311,21 @@ acts (raw x) (changes_node c) a is = effect_as (changed of_bytes c) a _ is refl
 acts (closed s) (changes_node c) a is = effect_as (changed at_rest c) a _ is refl
 acts (dead s) (changes_node c) a is = effect_as (changed fails c) a _ is refl
 acts (running events extent ps) (installs vsn) a is =
-    each_reply (HasEffect (installing runs vsn)) events extent ps vsn (releases_after events) (record {
-      listed = λ why. sym (ap (installing runs vsn) (plain_listed why));
-      unmatched = refl;
-      not_run = λ f. refl;
-      over_full = refl;
-      broken = λ f. refl;
-      done_so = λ f r reach found comes. refl;
-      doubted_so = λ f found. refl;
+    each_reply (HasInstallEffect runs vsn) events extent ps vsn (releases_after events) (record {
+      listed = λ why. without_restart (sym (ap (installing runs vsn) (plain_listed why))) refl;
+      unmatched = without_restart refl refl;
+      not_run = λ f. without_restart refl refl;
+      over_full = without_restart refl refl;
+      broken = λ f. without_restart refl refl;
+      done_so = λ f r reach found comes. without_restart refl refl;
+      restarted_so = λ f r reach b found comes boot.
+          let stale = stale_modules (behind_run r).modules (libraries_at vsn (releases_after events)) in
+          with_restart (installed_line f stale) b (installed_whole f.other f.descr stale) (λ more. refl) (boots_store at_rest (restarted events reach vsn) b refl boot) refl;
+      doubted_so = λ f restarts found. install_in_doubt vsn restarts (uncertain events extent (installation_event restarts vsn) (install_size vsn (releases_after events)));
     }) a is
-acts (raw x) (installs vsn) a is = effect_as (installing of_bytes vsn) a _ is refl
-acts (closed s) (installs vsn) a is = effect_as (installing at_rest vsn) a _ is refl
-acts (dead s) (installs vsn) a is = effect_as (installing fails vsn) a _ is refl
+acts (raw x) (installs vsn) a is = not_installed of_bytes vsn a _ is refl refl
+acts (closed s) (installs vsn) a is = not_installed at_rest vsn a _ is refl refl
+acts (dead s) (installs vsn) a is = not_installed fails vsn a _ is refl refl
 acts (running events extent ps) (reboots_node vsn) a is = reboots events extent ps vsn (releases_after events) (commanded (reboot_old vsn) (releases_after events)) (plain_list (reboot_old vsn) (releases_after events)) a is
 acts (raw x) (reboots_node vsn) a is = effect_as (rebooted of_bytes vsn) a _ is refl
 acts (closed s) (reboots_node vsn) a is = effect_as (rebooted at_rest vsn) a _ is refl
@@ -277,12 +341,24 @@ acts (raw x) (calls c) a is = effect_as (acted of_bytes (calls c)) a _ is refl
 acts (closed s) (calls c) a is = effect_as (acted at_rest (calls c)) a _ is refl
 acts (dead s) (calls c) a is = effect_as (acted fails (calls c)) a _ is refl
 
-pub one_effect : (source : Source) → GivesOne source → (p q : Place) (c : Command) (a b : Reply) → kind_of p ≡ kind_of q → a.answer ≡ b.answer → Transition.Transition source p c a → Transition.Transition source q c b → effect_of a ≡ effect_of b
-one_effect source one p q c a b kinds same (x, comes, is) (y, comes_too, also) = go (one_action source one p q c x y kinds comes comes_too)
+-- Two replies to one action with the same answer, from places of one kind.
+same_effects : (k : Kind) (does : Transition.Action) (a b : Reply) → HasEffectOf k does a → HasEffectOf k does b → have_restart (events_of a.outcome) ≡ have_restart (events_of b.outcome) → a.answer ≡ b.answer → effect_of a ≡ effect_of b
+same_effects k (installs vsn) a b is also alike same = same_install k vsn a b is also alike same
+same_effects k (answers text) a b is also alike same = same_effect (acted k (answers text)) a b is also same
+same_effects k (makes_node found) a b is also alike same = same_effect (acted k (makes_node found)) a b is also same
+same_effects k (changes_node c) a b is also alike same = same_effect (acted k (changes_node c)) a b is also same
+same_effects k (reboots_node vsn) a b is also alike same = same_effect (acted k (reboots_node vsn)) a b is also same
+same_effects k boots_node a b is also alike same = same_effect (acted k boots_node) a b is also same
+same_effects k tells_start a b is also alike same = same_effect (acted k tells_start) a b is also same
+same_effects k (calls c) a b is also alike same = same_effect (acted k (calls c)) a b is also same
+
+pub one_effect : (source : Source) → GivesOne source → (p q : Place) (c : Command) (a b : Reply) → kind_of p ≡ kind_of q → have_restart (events_of a.outcome) ≡ have_restart (events_of b.outcome) → a.answer ≡ b.answer
+    → Transition.Transition source p c a → Transition.Transition source q c b → effect_of a ≡ effect_of b
+one_effect source one p q c a b kinds alike same (x, comes, is) (y, comes_too, also) = go (one_action source one p q c x y kinds comes comes_too)
   where
     go : (x ≡ y) ⊎ AreTold p q x y → effect_of a ≡ effect_of b
     go (inl one) =
-        same_effect (acted (kind_of p) x) a b (acts p x a is)
-        (subst (λ k. HasEffect (acted k x) b) (sym kinds) (subst (λ z. HasEffect (acted (kind_of q) z) b) (sym one) (acts q y b also))) same
+        same_effects (kind_of p) x a b (acts p x a is)
+        (subst (λ k. HasEffectOf k x b) (sym kinds) (subst (λ z. HasEffectOf (kind_of q) z b) (sym one) (acts q y b also))) alike same
     go (inr (says, here, here_too)) =
         idle a b _ _ (subst (λ z. Transition.Acts p z a) here is) (subst (λ z. Transition.Acts q z b) here_too also) (ap (effect nothing) kinds)

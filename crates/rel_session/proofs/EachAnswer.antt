@@ -1,9 +1,9 @@
 -- Each input has an answer in which neither the device fails nor memory is refused to a compaction.
 use Rattle.std.proofs.Common.{◌≡◌, ◌⊎◌, inl, inr, ℕ, Bool, true, false, List, [], ◌∷◌, ◌++◌, Option, None, Some, Result, Ok, Err, refl, sym, ap, ◌∙◌, subst}
 use Rattle.rel_list.specs.Releases.{Bundle}
-use Rattle.rel_list.specs.Releases.{Releases, has_one_shot}
+use Rattle.rel_list.specs.Releases.{Releases, has_current, has_one_shot}
 use Rattle.rel_list.specs.Event.{Event, list_after, booted, recorded}
-use Rattle.rel_list.specs.Event.Event.{made, installed, reboot_old as rebooting, boot as booting}
+use Rattle.rel_list.specs.Event.Event.{made, unpacked, installed, restart_installed, made_permanent, removed, reboot_old as rebooting, boot as booting}
 use Rattle.rel_list.specs.Event.{entry}
 use Rattle.rel_list.specs.declared.status.Status.TheVariants.{Permanent}
 use Rattle.rel_handler.specs.declared.error.BootError.{BootError}
@@ -32,7 +32,7 @@ use Rattle.rel_session.specs.Node.{Place, Reply, reply, nothing, releases_after,
 use Rattle.rel_session.specs.Node.Place.{raw, closed, running, dead}
 use Rattle.rel_session.specs.Refusals.{boot_line}
 use Rattle.rel_session.specs.Run.Ending.{ended, cut_off}
-use Rattle.rel_session.specs.AnswerLaws.{EachHasAnAnswer, HasAnswer, HasList, HaveRecord, IsCertain, IsCompact}
+use Rattle.rel_session.specs.AnswerLaws.{EachHasAnAnswer, HasAnswer, HasList, IsCertain, IsCompact, LeavesCompactStore, RunsOnce}
 use Rattle.rel_session.specs.Transition
 use Rattle.rel_session.specs.Transition.Action.{answers, makes_node, changes_node, installs, reboots_node, boots_node, tells_start, calls}
 use Rattle.node_command.proofs.CommandLemmas.{commanded_step}
@@ -41,14 +41,16 @@ use Rattle.node_upgrade.specs.Failure.{Failure}
 use Rattle.node_upgrade.specs.Upgrade.{script_failure}
 use Rattle.relup_exec.specs.Alone as script
 use Rattle.relup_script.specs.Search.{FoundForm}
-use Rattle.rel_session.specs.Installation.{Begins, Installs, Leads, upgrade_outcome}
-use Rattle.rel_handler.specs.Installing.{install_size}
+use Rattle.rel_session.specs.Installation.{Begins, Installs, IsInstalled, Leads, restarted_reply, upgrade_outcome}
+use Rattle.node_processes.specs.Scripts.{behind_run}
+use Rattle.script_steps.specs.Script.{Run}
+use Rattle.rel_handler.specs.Installing.{install_room, install_size, installation_event, needs_restart}
 use Rattle.rel_handler.proofs.InstallLemmas.{installation_is_commanded}
 use Rattle.rel_session.proofs.SourceLemmas.{gives_each}
 use Rattle.rel_session.proofs.ActionLemmas.{some_action}
 use Rattle.rel_session.proofs.Histories.{events_of_image}
-use Rattle.rel_session.proofs.ListLemmas.{list_after-push}
-use Rattle.rel_session.proofs.ExtentLemmas.{booted_reach, compacted_twice, none_rebooted}
+use Rattle.rel_session.proofs.ListLemmas.{current-booted, list_after-push}
+use Rattle.rel_session.proofs.ExtentLemmas.{booted_reach, compacted_twice, none_rebooted, releases-booted}
 use Rattle.rel_session.proofs.LoopLemmas.{replies_next}
 
 -- Where the device does not fail, the place behind a reply is one of these again.
@@ -64,9 +66,21 @@ pub record Has (P : Reply → Type 0) : Type 0 where
   pub is : P given
   pub works : given.outcome.failed ≡ false
   pub fair : IsFair given.after
-  pub compact : HaveRecord given.outcome.acknowledged → IsCompact given.after
+  pub compact : LeavesCompactStore given.outcome.acknowledged given.after
 
-fair_reply : (P : Reply → Type 0) (a : Reply) → P a → a.outcome.failed ≡ false → IsFair a.after → (HaveRecord a.outcome.acknowledged → IsCompact a.after) → Has P
+-- so it is where the store is as short, whatever the events
+leaves_compact : (events : Events) (p : Place) → IsCompact p → LeavesCompactStore events p
+leaves_compact [] p compact = λ r. compact
+leaves_compact (made b ∷ events) p compact = λ r. compact
+leaves_compact (unpacked b ∷ events) p compact = λ r. compact
+leaves_compact (installed v ∷ events) p compact = λ r. compact
+leaves_compact (restart_installed v ∷ events) p compact = inr compact
+leaves_compact (made_permanent v ∷ events) p compact = λ r. compact
+leaves_compact (removed v ∷ events) p compact = λ r. compact
+leaves_compact (rebooting v ∷ events) p compact = λ r. compact
+leaves_compact (booting ∷ events) p compact = λ r. compact
+
+fair_reply : (P : Reply → Type 0) (a : Reply) → P a → a.outcome.failed ≡ false → IsFair a.after → LeavesCompactStore a.outcome.acknowledged a.after → Has P
 fair_reply P a is works fair compact = record { given = a; is = is; works = works; fair = fair; compact = compact }
 
 -- an answer alone
@@ -106,7 +120,8 @@ changes events extent ps list c (Some why) after = told_reply _ _ _ refl (runs e
 changes events extent ps list c None after =
     let size = c.size (releases_after events) in
     commits events extent ps list c.event size (λ x a. a ≡ Transition.changed events x ps c (releases_after events)) after (λ grown then.
-    fair_reply _ _ refl refl (runs (events ++ c.event ∷ []) (reach events extent c.event size) ps grown then) (λ r. stays_compact events extent c.event size))
+    fair_reply _ (Transition.changed events (reach events extent c.event size) ps c (releases_after events)) refl refl (runs (events ++ c.event ∷ []) (reach events extent c.event size) ps grown then)
+    (leaves_compact (c.event ∷ []) (running (events ++ c.event ∷ []) (reach events extent c.event size) ps) (stays_compact events extent c.event size)))
 
 makes_with : (x : List ℕ) (p : Bundle) (size : ℕ) (why : Option Refusal) → Has (Transition.MakesWith x p size why)
 makes_with x p size (Some why) = told_reply _ _ _ refl (of_raw x)
@@ -148,15 +163,12 @@ boots laws p (rests events extent list after) = mapped (Transition.IsBooted even
 boots laws p (died events extent list after) = mapped (Transition.IsBooted events extent) (Transition.BootsStore (certain events extent)) (λ a is. inl (events, extent, inl (refl, refl), is)) (booted_there events extent list after)
 boots laws p (runs events extent ps list after) = mapped (Transition.IsBooted events extent) (Transition.BootsStore (certain events extent)) (λ a is. inl (events, extent, inl (refl, refl), is)) (booted_there events extent list after)
 
--- A boot behind a reboot writes no record, so the store stays as short.
-rebooted_compact : (events : Events) (extent : Extent) (size : ℕ) (vsn : List ℕ) (list : Releases) → list_after (events ++ rebooting vsn ∷ []) ≡ Some list
-    → IsCompact (running ((events ++ rebooting vsn ∷ []) ++ booting ∷ []) (booted_extent (reach events extent (rebooting vsn) size) list) (fresh (releases_after ((events ++ rebooting vsn ∷ []) ++ booting ∷ []))))
-rebooted_compact events extent size vsn list after =
-    let all = events ++ rebooting vsn ∷ [] in
-    let x = reach events extent (rebooting vsn) size in
-    let none = none_rebooted events vsn in
+-- A boot of a list without a one-shot writes no record, so the store stays as short.
+booted_compact : (events : Events) (x : Extent) (list : Releases) → has_one_shot (releases_after events) ≡ false → list_after events ≡ Some list → x ≡ compacted x (releases_after events)
+    → IsCompact (running (events ++ booting ∷ []) (booted_extent x list) (fresh (releases_after (events ++ booting ∷ []))))
+booted_compact events x list none after compact =
     let free : has_one_shot list ≡ false = ap (λ o. has_one_shot (list_or_none o)) (sym after) ∙ none in
-    subst (λ y. y ≡ compacted y (releases_after (all ++ booting ∷ []))) (sym (extent_of_none x list free)) (stays_compact events extent (rebooting vsn) size ∙ sym (booted_reach x all none))
+    subst (λ y. y ≡ compacted y (releases_after (events ++ booting ∷ []))) (sym (extent_of_none x list free)) (compact ∙ sym (booted_reach x events none))
 
 reboots : (events : Events) (extent : Extent) (ps : Processes) (list : Releases) (vsn : List ℕ) → list_after events ≡ Some list
     → Has (Transition.Reboots events extent ps vsn (releases_after events) (commanded (rebooting vsn) (releases_after events)))
@@ -167,7 +179,8 @@ reboots events extent ps list vsn after =
     commits events extent ps list e size _ after (λ grown then.
     let booted = booted_there (events ++ e ∷ []) x grown then in
     fair_reply _ (behind e booted.given) (booted.given, inl (events ++ e ∷ [], x, inl (refl, refl), booted.is), refl) booted.works booted.fair
-    (λ r. subst (λ (t : Reply). IsCompact t.after) (sym booted.is.2) (rebooted_compact events extent size vsn booted.is.0 booted.is.1)))
+    (λ r. subst (λ (t : Reply). IsCompact t.after) (sym booted.is.2)
+    (booted_compact (events ++ e ∷ []) x booted.is.0 (none_rebooted events vsn) booted.is.1 (stays_compact events extent e size))))
 
 rebooted : (p : Place) (vsn : List ℕ) → IsFair p → Has (Transition.Acts p (reboots_node vsn))
 rebooted p vsn (of_raw x) = told_reply _ _ _ refl (of_raw x)
@@ -181,28 +194,51 @@ changed p c (rests events extent list after) = told_reply _ _ _ refl (rests even
 changed p c (died events extent list after) = told_reply _ _ _ refl (died events extent list after)
 changed p c (runs events extent ps list after) = changes events extent ps list c (c.files (releases_after events)) after
 
+-- Behind an installation with a restart the node boots: it starts a one-shot, or the store is as short as it was.
+restart_compact : (events : Events) (x : Extent) → x ≡ compacted x (releases_after events) → (b : Reply) → Transition.IsBooted events x b → RunsOnce b.after ⊎ IsCompact b.after
+restart_compact events x compact b (list, after, is) = by_one_shot (has_one_shot (releases_after events)) refl
+  where
+    by_one_shot : (c : Bool) → has_one_shot (releases_after events) ≡ c → RunsOnce b.after ⊎ IsCompact b.after
+    by_one_shot true one = inl (subst (λ (t : Reply). RunsOnce t.after) (sym is) (ap has_current (releases-booted events) ∙ current-booted (releases_after events) ∙ one))
+    by_one_shot false none = inr (subst (λ (t : Reply). IsCompact t.after) (sym is) (booted_compact events x list none after compact))
+
 -- an installation
 installs_there : (events : Events) (extent : Extent) (ps : Processes) (list : Releases) (vsn : List ℕ) → list_after events ≡ Some list
     → Has (Installs events extent ps vsn (releases_after events) (installation vsn (releases_after events)))
 installs_there events extent ps list vsn after = by_found (installation vsn (releases_after events)) refl
   where
+    by_restart : (f : FoundForm) (r : Run) → installation vsn (releases_after events) ≡ Ok f → (size : ℕ) (restarts : Bool)
+        → Has (IsInstalled restarts events (reach events extent (installation_event restarts vsn) size) vsn (releases_after events) f (behind_run r))
+    by_restart f r found size restarts = go restarts (list_after-push events (installation_event restarts vsn) list allowed.0 after (commanded_step (installation_event restarts vsn) list allowed.0 allowed.1))
+      where
+        allowed : (next : Releases) × (commanded (installation_event restarts vsn) list ≡ Ok next)
+        allowed = installation_is_commanded restarts vsn list f (subst (λ l. installation vsn l ≡ Ok f) (ap list_or_none after) found)
+
+        go : (b : Bool) → list_after (events ++ installation_event b vsn ∷ []) ≡ Some allowed.0
+            → Has (IsInstalled b events (reach events extent (installation_event b vsn) size) vsn (releases_after events) f (behind_run r))
+        go false then = fair_reply _ _ refl refl (runs (events ++ installed vsn ∷ []) _ _ allowed.0 then) (λ r. stays_compact events extent (installed vsn) size)
+        go true then =
+            let e = restart_installed vsn in
+            let x = reach events extent e size in
+            let booted = booted_there (events ++ e ∷ []) x allowed.0 then in
+            fair_reply _ (restarted_reply vsn (releases_after events) f (behind_run r) booted.given) (booted.given, inl (events ++ e ∷ [], x, inl (refl, refl), booted.is), refl) booted.works booted.fair
+            (restart_compact (events ++ e ∷ []) x (stays_compact events extent e size) booted.given booted.is)
+
     by_outcome : (f : FoundForm) → installation vsn (releases_after events) ≡ Ok f → (o : script.Outcome) → Has (Leads events extent ps vsn (releases_after events) f o)
     by_outcome f found (script.Outcome.refuses n c) = told_reply _ _ _ refl (runs events extent ps list after)
     by_outcome f found (script.Outcome.breaks n c) = told_reply _ _ _ refl (died events extent list after)
     by_outcome f found (script.Outcome.ends r) =
-        let of_list : releases_after events ≡ list = ap list_or_none after in
-        let (grown, allowed) = installation_is_commanded vsn list f (subst (λ l. installation vsn l ≡ Ok f) of_list found) in
-        let then = list_after-push events (installed vsn) list grown after (commanded_step (installed vsn) list grown allowed) in
         let size = install_size vsn (releases_after events) in
-        fair_reply _ _ (inl (reach events extent (installed vsn) size, inl refl, refl)) refl (runs (events ++ installed vsn ∷ []) _ _ grown then) (λ r. stays_compact events extent (installed vsn) size)
+        let x = reach events extent (installation_event (needs_restart vsn (releases_after events)) vsn) size in
+        mapped _ (Leads events extent ps vsn (releases_after events) f (script.Outcome.ends r)) (λ a is. inl (x, inl refl, is)) (by_restart f r found size (needs_restart vsn (releases_after events)))
 
-    by_room : (f : FoundForm) → installation vsn (releases_after events) ≡ Ok f → HasSpace extent (install_size vsn (releases_after events)) ⊎ (HasSpace extent (install_size vsn (releases_after events)) → ⊥) → Has (Begins events extent ps vsn (releases_after events) f None)
+    by_room : (f : FoundForm) → installation vsn (releases_after events) ≡ Ok f → HasSpace extent (install_room vsn (releases_after events)) ⊎ (HasSpace extent (install_room vsn (releases_after events)) → ⊥) → Has (Begins events extent ps vsn (releases_after events) f None)
     by_room f found (inl fits) = mapped _ (Begins events extent ps vsn (releases_after events) f None) (λ a is. inl (fits, is)) (by_outcome f found (upgrade_outcome vsn (releases_after events) f ps))
     by_room f found (inr over_it) = told_reply _ _ _ (inr (over_it, refl)) (runs events extent ps list after)
 
     by_failure : (f : FoundForm) → installation vsn (releases_after events) ≡ Ok f → (o : Option Failure) → Has (Begins events extent ps vsn (releases_after events) f o)
     by_failure f found (Some why) = told_reply _ _ _ refl (runs events extent ps list after)
-    by_failure f found None = by_room f found (fits_or_not extent (install_size vsn (releases_after events)))
+    by_failure f found None = by_room f found (fits_or_not extent (install_room vsn (releases_after events)))
 
     by_found : (o : Result FoundForm HandlerError) → installation vsn (releases_after events) ≡ o → Has (Installs events extent ps vsn (releases_after events) o)
     by_found (Err why) found = told_reply _ _ _ refl (runs events extent ps list after)
@@ -237,7 +273,7 @@ acts laws p tells_start fair = told p fair
 acts laws p (calls c) fair = called_there p c fair
 
 -- A reply to the first command, and what follows it.
-one_more : (base : Source) (files : Files) (p : Place) (c : Command) (rest : Feed Command) (a : Reply) → Transition.Transition (source_of base files) p c a → a.outcome.failed ≡ false → (HaveRecord a.outcome.acknowledged → IsCompact a.after) → HasAnswer base (files_behind files c) a.after rest → HasAnswer base files p (next c rest)
+one_more : (base : Source) (files : Files) (p : Place) (c : Command) (rest : Feed Command) (a : Reply) → Transition.Transition (source_of base files) p c a → a.outcome.failed ≡ false → LeavesCompactStore a.outcome.acknowledged a.after → HasAnswer base (files_behind files c) a.after rest → HasAnswer base files p (next c rest)
 one_more base files p c rest a is works compact behind = record {
   ending = behind.ending;
   whole = behind.whole;

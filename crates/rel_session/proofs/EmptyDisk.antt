@@ -65,6 +65,7 @@ without_node b (inr of) = inr (record { bundle = of.bundle; acknowledged = of.ac
 
 stops : (does : Transition.Action) (a : Reply) → Transition.StopsWithin (raw []) does a → OnEmpty a
 stops does a (Transition.StopsWithin.without_its_boot alone) = let never = alone.here in absurd cc
+stops does a (Transition.StopsWithin.without_its_restart alone) = let never = alone.here in absurd cc
 stops does a (Transition.StopsWithin.without_its_node b is lost) = on_empty_as a _ lost (without_node b (acts does b is))
 
 left_on_empty : (source : Source) (p : Place) (c : Command) (a : Reply) → p ≡ raw [] → MayLeave source p c a → OnEmpty a

@@ -1,14 +1,15 @@
 -- How far a store reaches behind a commit, where memory is refused to no compaction.
 use Rattle.std.proofs.Common.{◌≡◌, inl, inr, ℕ, Bool, true, false, List, [], ◌∷◌, ◌++◌, length, Option, None, Some, refl, sym, ap, ◌∙◌, subst}
 use Rattle.std.specs.Option.{option_and_then}
-use Rattle.std.specs.Prelude.{if◌then◌else◌}
+use Rattle.std.specs.Prelude.{if◌then◌else◌, not, ◌&&◌}
 use Rattle.rel_list.specs.Releases.{Releases, has_one_shot}
 use Rattle.rel_list.specs.Event.{booted, list_after, recorded, step}
 use Rattle.rel_list.specs.Event.Event.{boot as booting, reboot_old as rebooting}
+use Rattle.rel_list.proofs.BootLaws.{boot_leaves_no_one_shot}
 use Rattle.rel_list.proofs.OneShotLaws.{boots_as_recorded, one_shots_come_from_restarts}
 use Rattle.rel_records.proofs.EventRecords.{recorded-twice}
 use Rattle.rel_records.specs.Image.{image_of}
-use Rattle.rel_handler.specs.Compaction.{compacted, extent_with, fits_image, is_long, MayReach, with_image}
+use Rattle.rel_handler.specs.Compaction.{compacted, extent_with, fits_image, is_long, may_be_compacted, MayReach, with_image}
 use Rattle.rel_handler.specs.Events.{Events, MayHave, certain}
 use Rattle.rel_handler.specs.Image.{Extent, extent_behind}
 use Rattle.rel_session.specs.Node.{list_or_none, releases_after}
@@ -19,20 +20,35 @@ pub one_reach : (x y : Extent) (es : Releases) → MayReach x es y → y ≡ com
 one_reach x y es (inl is) compact = is
 one_reach x y es (inr (long, same)) compact = compact ∙ ap (λ z. compacted z es) same
 
+-- A list with a one-shot is not compacted.
+beside_one_shot : (x : Extent) (es : Releases) → has_one_shot es ≡ true → compacted x es ≡ x
+beside_one_shot x es one = ap (λ b. if not b && is_long x then with_image x (image_of (recorded es)) else x) one
+
+-- so the store behind it reaches as far as it may
+pub reach_beside_one_shot : (x y : Extent) (es : Releases) → MayReach x es y → has_one_shot es ≡ true → y ≡ compacted x es
+reach_beside_one_shot x y es (inl is) one = is
+reach_beside_one_shot x y es (inr (long, same)) one = same ∙ sym (beside_one_shot x es one)
+
 -- how far a store may reach behind a commit, said of the events
 pub reach_at : (old extent new : Extent) (size : ℕ) (list after : Releases) → old ≡ extent → after ≡ list → MayReach (extent_behind old size) list new → MayReach (extent_behind extent size) after new
 reach_at old extent new size list after stop same reach = subst (λ x. MayReach (extent_behind x size) after new) stop (subst (λ l. MayReach (extent_behind old size) l new) (sym same) reach)
 
 -- A second compaction finds nothing to do.
 pub compacted_twice : (x : Extent) (es : Releases) → compacted x es ≡ compacted (compacted x es) es
-compacted_twice x es = by_length (is_long x) refl
+compacted_twice x es = by_length (may_be_compacted x es) refl
   where
+    and_false : (b : Bool) → (b && false) ≡ false
+    and_false true = refl
+    and_false false = refl
+
     -- what a compaction leaves as it is, or as short as this
     stays : compacted x es ≡ x → compacted x es ≡ compacted (compacted x es) es
     stays same = ap (λ y. compacted y es) (sym same)
 
     shrinks : (n : ℕ) → compacted x es ≡ extent_with x n → compacted x es ≡ compacted (compacted x es) es
-    shrinks n same = subst (λ y. y ≡ compacted y es) (sym same) refl
+    shrinks n same =
+        let short : may_be_compacted (extent_with x n) es ≡ false = and_false (not (has_one_shot es)) in
+        subst (λ y. y ≡ compacted y es) (sym same) (sym (ap (λ b. if b then with_image (extent_with x n) (image_of (recorded es)) else extent_with x n) short))
 
     by_fit : (body : List ℕ) → compacted x es ≡ with_image x (Some body) → (b : Bool) → fits_image x (length body) ≡ b → compacted x es ≡ compacted (compacted x es) es
     by_fit body is true fits = shrinks (length body) (is ∙ ap (λ b. if b then extent_with x (length body) else x) fits)
@@ -42,15 +58,18 @@ compacted_twice x es = by_length (is_long x) refl
     by_image is None none = stays (is ∙ ap (with_image x) none)
     by_image is (Some body) some = by_fit body (is ∙ ap (with_image x) some) (fits_image x (length body)) refl
 
-    by_length : (b : Bool) → is_long x ≡ b → compacted x es ≡ compacted (compacted x es) es
+    by_length : (b : Bool) → may_be_compacted x es ≡ b → compacted x es ≡ compacted (compacted x es) es
     by_length true long = by_image (ap (λ b. if b then with_image x (image_of (recorded es)) else x) long) (image_of (recorded es)) refl
     by_length false short = stays (ap (λ b. if b then with_image x (image_of (recorded es)) else x) short)
 
 -- The image of a list without a one-shot is that of the list behind a boot.
 compacted-booted : (x : Extent) (es : Releases) → has_one_shot es ≡ false → compacted x (booted es) ≡ compacted x es
-compacted-booted x es none = ap (λ l. if is_long x then with_image x (image_of l) else x) (ap recorded (boots_as_recorded es none) ∙ recorded-twice es)
+compacted-booted x es none =
+    let ones : has_one_shot (booted es) ≡ has_one_shot es = boot_leaves_no_one_shot es ∙ sym none in
+    let same : recorded (booted es) ≡ recorded es = ap recorded (boots_as_recorded es none) ∙ recorded-twice es in
+    (λ k. if not (ones k) && is_long x then with_image x (image_of (same k)) else x)
 
-releases-booted : (events : Events) → releases_after (events ++ booting ∷ []) ≡ booted (releases_after events)
+pub releases-booted : (events : Events) → releases_after (events ++ booting ∷ []) ≡ booted (releases_after events)
 releases-booted events = ap list_or_none (list_after-more events booting) ∙ go (list_after events)
   where
     go : (o : Option Releases) → list_or_none (option_and_then (step booting) o) ≡ booted (list_or_none o)

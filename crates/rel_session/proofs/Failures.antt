@@ -17,6 +17,11 @@ use Rattle.rel_unpack.specs.Unpacking.{Brought}
 use Rattle.rel_unpack.specs.Source.{Source}
 use Rattle.rel_session.specs.Files.{files_behind, source_of}
 use Rattle.node_processes.specs.Processes.{Processes}
+use Rattle.node_processes.specs.Scripts.{behind_run}
+use Rattle.node_upgrade.specs.Stale.{stale_modules}
+use Rattle.node_upgrade.specs.Upgrade.{libraries_at}
+use Rattle.relup_script.specs.Search.{FoundForm}
+use Rattle.rel_session.specs.Installation.{restarted, restarted_reply}
 use Rattle.rel_session.specs.Node.{Place, Reply, releases_after}
 use Rattle.rel_session.specs.Node.Place.{raw, closed, running, dead}
 use Rattle.rel_session.specs.Run.{Executes, MayLeave}
@@ -63,8 +68,16 @@ makes (dead s) found a is = plain a _ is (inl refl)
 
 boots_store : (s : Stored) (a : Reply) → Transition.BootsStore s a → IsPlain a
 boots_store s a (inl (events, extent, has, (list, after, is))) = plain a _ is (inl refl)
-boots_store s a (inr (inl is)) = plain a _ is (inr (refl, inr refl))
-boots_store s a (inr (inr (events, extent, has, is))) = plain a _ is (inr (refl, inr refl))
+boots_store s a (inr (inl is)) = plain a _ is (inr (refl, inr (inl refl)))
+boots_store s a (inr (inr (events, extent, has, is))) = plain a _ is (inr (refl, inr (inl refl)))
+
+-- a boot behind an installation
+restarts : (vsn : List ℕ) (list : Releases) (f : FoundForm) (ps : Processes) (s : Stored) (b : Reply) → Transition.BootsStore s b → IsPlain (restarted_reply vsn list f ps b)
+restarts vsn list f ps s b (inl (events, extent, has, (then, after, is))) = subst (λ (t : Reply). IsPlain (restarted_reply vsn list f ps t)) (sym is) (inl refl)
+restarts vsn list f ps s b (inr (inl is)) =
+    subst (λ (t : Reply). IsPlain (restarted_reply vsn list f ps t)) (sym is) (inr (refl, inr (inr (f.other, f.descr, stale_modules ps.modules (libraries_at vsn list), refl))))
+restarts vsn list f ps s b (inr (inr (events, extent, has, is))) =
+    subst (λ (t : Reply). IsPlain (restarted_reply vsn list f ps t)) (sym is) (inr (refl, inr (inr (f.other, f.descr, stale_modules ps.modules (libraries_at vsn list), refl))))
 
 reboots : (events : Events) (extent : Extent) (ps : Processes) (vsn : List ℕ) (l : Releases) (o : Result Releases HandlerError) (a : Reply) → Transition.Reboots events extent ps vsn l o a → IsPlain a
 reboots events extent ps vsn l o = commits events extent ps (rebooting vsn) _ o _ (λ x a (b, boot, is). plain a _ is (boots_store (Transition.rebooted events x vsn) b boot))
@@ -72,7 +85,7 @@ reboots events extent ps vsn l o = commits events extent ps (rebooting vsn) _ o 
 boots : (p : Place) (a : Reply) → Transition.Boots p a → IsPlain a
 boots (raw bytes) a (inl (events, list, extent, after, image, (list_then, after_then, is))) = plain a _ is (inl refl)
 boots (raw bytes) a (inr (inl (why, told, is))) = plain a _ is (inl refl)
-boots (raw bytes) a (inr (inr (torn, is))) = plain a _ is (inr (refl, inr refl))
+boots (raw bytes) a (inr (inr (torn, is))) = plain a _ is (inr (refl, inr (inl refl)))
 boots (closed s) a is = boots_store s a is
 boots (running events extent ps) a is = boots_store (certain events extent) a is
 boots (dead s) a is = boots_store s a is
@@ -92,7 +105,8 @@ acts (running events extent ps) (installs vsn) a is =
       over_full = inl refl;
       broken = λ f. inl refl;
       done_so = λ f r reach found comes. inl refl;
-      doubted_so = λ f found. inr (refl, inl refl);
+      restarted_so = λ f r reach b found comes boot. restarts vsn (releases_after events) f (behind_run r) (restarted events reach vsn) b boot;
+      doubted_so = λ f restart found. inr (refl, inl refl);
     }) a is
 acts (raw bytes) (installs vsn) a is = plain a _ is (inl refl)
 acts (closed s) (installs vsn) a is = plain a _ is (inl refl)
@@ -129,6 +143,7 @@ sure a (inr (failed, told)) works = let lost : true ≡ false = sym failed ∙ w
 
 stopped_sure : (p : Place) (does : Transition.Action) (a : Reply) → Transition.StopsWithin p does a → a.outcome.failed ≡ false → a.outcome.in_doubt ≡ None
 stopped_sure p does a (Transition.StopsWithin.without_its_boot alone) works = ap (λ (r : Reply). r.outcome.in_doubt) alone.is
+stopped_sure p does a (Transition.StopsWithin.without_its_restart alone) works = ap (λ (r : Reply). r.outcome.in_doubt) alone.is
 stopped_sure p does a (Transition.StopsWithin.without_its_node b is lost) works =
     ap (λ (r : Reply). r.outcome.in_doubt) lost ∙ sure b (acts p does b is) (ap (λ (r : Reply). r.outcome.failed) (sym lost) ∙ works)
 

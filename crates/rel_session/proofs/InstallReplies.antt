@@ -1,16 +1,18 @@
 -- What an installation replies, as the handler's clauses give it.
-use Rattle.std.proofs.Common.{◌≡◌, ◌≢◌, inl, inr, ℕ, true, false, List, [], ◌∷◌, ◌++◌, None, Some, Result, Ok, Err, refl, sym, ap, ◌∙◌, subst}
-use Rattle.std.specs.Prelude.{String, string_bytes, IfErr, IfOk, OnOk}
+use Rattle.std.proofs.Common.{◌≡◌, ◌≢◌, inl, inr, ℕ, Bool, true, false, List, [], ◌∷◌, ◌++◌, None, Some, Result, Ok, Err, refl, sym, ap, ◌∙◌, subst}
+use Rattle.std.specs.Prelude.{String, string_bytes, IfErr, IfOk, IsOk, IsOkAnd, MatchResult, OnOk, is_ok}
+use Rattle.std.specs.declared.alloc.AllocError.{AllocError}
 use Rattle.std.specs.declared.alloc.Global.{Global}
 use Rattle.erl_term.specs.Value.{value_of}
 use Rattle.rel_list.specs.Releases.{Releases}
 use Rattle.rel_list.specs.Event.{Event, list_after}
-use Rattle.rel_list.specs.Event.Event.{installed}
+use Rattle.rel_list.specs.Event.Event.{installed, restart_installed}
 use Rattle.held_processes.specs.Following.{HoldsNothing}
 use Rattle.relup_exec.specs.Alone.{Outcome, outcome}
 use Rattle.relup_exec.specs.Alone.Outcome.{ends, refuses, breaks}
 use Rattle.relup_exec.specs.Outcome.{IsFinished}
 use Rattle.script_steps.specs.Fault.Cause.{no_memory}
+use Rattle.script_steps.specs.Script.{Run}
 use Rattle.sup_tree.specs.Loaded.{listed_in}
 use Rattle.node_command.specs.Installing.{installation}
 use Rattle.node_command.specs.declared.error.HandlerError.{HandlerError}
@@ -26,41 +28,43 @@ use Rattle.node_upgrade.specs.declared.error.ScriptFailure.{ScriptFailure}
 use Rattle.node_upgrade.specs.declared.upgrade.Installed.{Installed}
 use Rattle.node_upgrade.specs.Failure.{Failure, failure, failure_of}
 use Rattle.node_upgrade.specs.Failure.Why.{fails}
-use Rattle.node_upgrade.specs.Running.{NodeState, state, start_in, RunRefused}
+use Rattle.node_upgrade.specs.Running.{start_in, RunRefused}
 use Rattle.node_upgrade.specs.Stale.{stale_modules}
-use Rattle.node_upgrade.specs.Upgrade.{IsNoUpgrade, IsUpgrade, UpgradeForm, libraries_at, site_for}
+use Rattle.node_upgrade.specs.Upgrade.{IsNoUpgrade, IsUpgrade, UpgradeForm, libraries_at, script_failure, site_for}
 use Rattle.rel_handler.specs.Commits.{Commits, IsDone}
 use Rattle.rel_handler.specs.Events.{Events, certain, uncertain, settled, IsStoredAs}
-use Rattle.rel_handler.specs.Image.{Extent, HasSpace}
-use Rattle.rel_handler.specs.Installing.{InstallRefused, IsInstalledBy, IsLost, MayBegin, NothingChanged, install_size}
-use Rattle.rel_handler.specs.State.{disk_in, list_in, is_dead, extent_in}
+use Rattle.rel_handler.specs.Image.{Extent, extent_behind, HasSpace}
+use Rattle.rel_handler.specs.Compaction.{MayReach}
+use Rattle.rel_handler.specs.Installing.{InstallRefused, IsInstalledBy, IsLost, MayBegin, NothingChanged, install_event, install_room, install_size, installation_event, needs_restart}
+use Rattle.rel_handler.specs.State.{disk_in, list_in, is_dead, extent_in, HasStarted}
 use Rattle.rel_session.specs.declared.booted_node.BootedNode.{BootedNode}
 use Rattle.rel_session.specs.declared.place.Place.TheVariants as memory
 use Rattle.rel_session.specs.Device.{Device, LeavesOnly, HasFailed}
-use Rattle.rel_session.specs.InMemory.{IsAt, Replied, Answers, NothingDone, TellsInstallation}
-use Rattle.rel_session.specs.Installation.{Begins, Installs, Leads, installed_reply, installed_text, upgrade_outcome}
-use Rattle.rel_session.specs.Node.{Place, Reply, refused, failed, releases_after, list_or_none}
+use Rattle.rel_session.specs.Booting.{Boots, BootsStore, store_behind}
+use Rattle.rel_session.specs.InMemory.{state_in, HasInstalled, IsAt, Replied, Answers, AnswersAction, NothingDone, TellsInstallation, TellsOrStops}
+use Rattle.rel_session.specs.Installation.{Begins, Installs, IsInstalled, Leads, installed_line, installed_reply, installed_text, restarted_reply, upgrade_outcome}
+use Rattle.rel_session.specs.Node.{Place, Reply, reply, done, refused, failed, behind, releases_after, list_or_none, with_text}
 use Rattle.rel_session.specs.Node.Place.{raw, closed, running, dead}
+use Rattle.rel_session.specs.declared.place.Place.{Place as PlaceInMemory}
 use Rattle.rel_session.specs.Refusals.{Refusal, refusal_of, refusal_line}
 use Rattle.rel_session.specs.Refusals.Refusal.{device, full, script_refused, must_reboot}
 use Rattle.rel_session.specs.Run.{Holds, IsReached}
 use Rattle.rel_session.specs.Transition
-use Rattle.rel_session.specs.Transition.Action.{installs}
+use Rattle.rel_session.specs.Transition.{StopsWithin}
+use Rattle.rel_session.specs.Transition.Action.{installs, boots_node}
+use Rattle.rel_session.specs.Transition.StopsWithin.{without_its_restart, without_its_node}
+use Rattle.rel_session.proofs.BootsBehind.{TellsBehind, boots_behind, ends_before_boot, reaches_there}
 use Rattle.rel_session.proofs.ExtentLemmas.{reach_at}
 use Rattle.rel_session.proofs.DeviceLemmas.{IsDevice, weakened, still}
 use Rattle.rel_session.proofs.ListLemmas.{list_after-push}
 use Rattle.rel_session.proofs.Prefixes.{reached_with}
-use Rattle.rel_session.proofs.Replies.{held, moments_of_nothing, stays, leaves_all, same_at, runs_at}
+use Rattle.rel_session.proofs.Replies.{held, moments_of_nothing, stays, leaves_all, never_stops, same_at, runs_at}
 
 never : {A : Type 0} → false ≡ true → A
 never e = absurd cc
 
--- what the handler sees of the processes of a node
-abbrev pub state_in : {D : Type 0} → BootedNode D → NodeState
-state_in n = state n.processes.seat.view n.processes.tree (listed_in n.processes.loaded)
-
 module _ {D : Type 0} (v : Device D) (laws : IsDevice v) (vsn : List ℕ) (n new : BootedNode D) (alive : is_dead n.handler ≡ false) (sound : AreSound n.processes)
-    (commits : Commits v (installed vsn) (install_size vsn (list_in n.handler)) n.handler new.handler) where
+    (commits : Commits v (install_event vsn (list_in n.handler)) (install_size vsn (list_in n.handler)) n.handler new.handler) where
   abbrev es : Releases
   es = list_in n.handler
 
@@ -68,13 +72,19 @@ module _ {D : Type 0} (v : Device D) (laws : IsDevice v) (vsn : List ℕ) (n new
   ps = processes_in n.processes
 
   abbrev e : Event
-  e = installed vsn
+  e = install_event vsn es
 
   abbrev size : ℕ
   size = install_size vsn es
 
+  abbrev room : ℕ
+  room = install_room vsn es
+
   abbrev Does : Place → Reply → Type 0
   Does p a = Transition.Acts p (installs vsn) a
+
+  abbrev Stops : Place → Reply → Type 0
+  Stops p a = StopsWithin p (installs vsn) a
 
   -- what is replied by the list, of these events
   right_for : (events : Events) (extent : Extent) (a : Reply) → list_after events ≡ Some es → Installs events extent ps vsn es (installation vsn es) a → Does (running events extent ps) a
@@ -119,7 +129,7 @@ module _ {D : Type 0} (v : Device D) (laws : IsDevice v) (vsn : List ℕ) (n new
   begins_so u is events extent a begins =
       subst (λ o. Installs events extent ps vsn es o a) (sym is.found) (subst (λ o. Begins events extent ps vsn es u.found o a) (sym is.begins) begins)
 
-  leads_so : (u : UpgradeForm) → IsUpgrade vsn es u → (events : Events) (extent : Extent) (a : Reply) (o : Outcome) → HasSpace extent size → upgrade_outcome vsn es u.found ps ≡ o → Leads events extent ps vsn es u.found o a
+  leads_so : (u : UpgradeForm) → IsUpgrade vsn es u → (events : Events) (extent : Extent) (a : Reply) (o : Outcome) → HasSpace extent room → upgrade_outcome vsn es u.found ps ≡ o → Leads events extent ps vsn es u.found o a
       → Installs events extent ps vsn es (installation vsn es) a
   leads_so u is events extent a o fits comes leads = begins_so u is events extent a (inl (fits, subst (λ w. Leads events extent ps vsn es u.found w a) (sym comes) leads))
 
@@ -127,32 +137,118 @@ module _ {D : Type 0} (v : Device D) (laws : IsDevice v) (vsn : List ℕ) (n new
   abbrev line_of : Installed → List ℕ
   line_of i = installed_text (string_bytes i.other) (value_of i.descr) i.stale.items
 
-  done_replies : (i : Installed) → is_dead new.handler ≡ false → IsDone v e size n.handler new.handler → IsInstalledBy vsn es (state_in n) i (state_in new) → Replies (line_of i)
-  done_replies i works is_done (u, is, by) = where_it_runs (RepliesAt (line_of i)) there
-    where
-      target_is : u.target ≡ libraries_at vsn es
-      target_is = ap (λ (w : UpgradeForm). w.target) is.is
+  module _ (i : Installed) (is_done : IsDone v e size n.handler new.handler) (fits : HasSpace (extent_in n.handler) room) (by_script : IsInstalledBy vsn es (state_in n) i (state_in new)) where
+    abbrev u : UpgradeForm
+    u = by_script.0
 
-      there : (events : Events) (extent : Extent) → IsAt v (memory.Made n) (running events extent ps) → RepliesAt (line_of i) (running events extent ps)
-      there events extent (here, living, after, stop, has) =
-          let (r, comes, behind) =
-          script_ends (site_for u ps.modules) n.processes.seat.view n.processes.tree ps.modules u.found.script (listed_in new.processes.loaded) new.processes.tree new.processes.seat.view sound.alone by.finished in
+    -- what came of its script
+    carried_out : (r : Run) × (upgrade_outcome vsn es u.found ps ≡ ends r) × (behind_run r ≡ processes_in new.processes)
+    carried_out =
+        let (r, comes, behind) =
+        script_ends (site_for u ps.modules) n.processes.seat.view n.processes.tree ps.modules u.found.script (listed_in new.processes.loaded) new.processes.tree new.processes.seat.view sound.alone by_script.2.finished in
+        (r, comes_to u by_script.1 (ends r) comes, behind)
+
+    abbrev r : Run
+    r = carried_out.0
+
+    -- the line that tells it
+    line_is : installed_line u.found (stale_modules (behind_run r).modules (libraries_at vsn es)) ≡ line_of i
+    line_is =
+        let target_is : u.target ≡ libraries_at vsn es = ap (λ (w : UpgradeForm). w.target) by_script.1.is in
+        let stale : stale_modules (behind_run r).modules (libraries_at vsn es) ≡ i.stale.items =
+        ap (λ (q : Processes). stale_modules q.modules (libraries_at vsn es)) carried_out.2 ∙ ap (stale_modules (listed_in new.processes.loaded)) (sym target_is) ∙ sym by_script.2.stale in
+        (λ j. installed_text (sym by_script.2.other j) (sym by_script.2.descr j) (stale j))
+
+    -- what is replied behind the commit
+    done_so : (events : Events) (extent : Extent) (a : Reply) → IsAt v (memory.Made n) (running events extent ps) → MayReach (extent_behind extent size) (releases_after (events ++ e ∷ [])) (extent_in new.handler)
+        → IsInstalled (needs_restart vsn es) events (extent_in new.handler) vsn es u.found (behind_run r) a → Does (running events extent ps) a
+    done_so events extent a at reach is =
+        right_for events extent a at.2 (leads_so u by_script.1 events extent a (ends r) (subst (λ m. HasSpace m room) at.3 fits) carried_out.1 (inl (extent_in new.handler, reach, is)))
+
+    -- The node works on.
+    done_replies : is_dead new.handler ≡ false → needs_restart vsn es ≡ false → Replies (line_of i)
+    done_replies works no_restart = where_it_runs (RepliesAt (line_of i)) there
+      where
+        e_is : e ≡ installed vsn
+        e_is = ap (λ b. installation_event b vsn) no_restart
+
+        there : (events : Events) (extent : Extent) → IsAt v (memory.Made n) (running events extent ps) → RepliesAt (line_of i) (running events extent ps)
+        there events extent at =
+            let x = extent_in new.handler in
+            let after : list_after (events ++ e ∷ []) ≡ Some (list_in new.handler) = list_after-push events e es (list_in new.handler) at.2 (commanded_step e es (list_in new.handler) is_done.accepted) in
+            let reach = reach_at (extent_in n.handler) extent x size (list_in new.handler) (releases_after (events ++ e ∷ [])) at.3 (ap list_or_none after) is_done.reaches in
+            let a = installed_reply events x vsn es u.found (behind_run r) in
+            let place = runs_at v laws new (events ++ installed vsn ∷ []) x (behind_run r) works (subst (λ f. list_after (events ++ f ∷ []) ≡ Some (list_in new.handler)) e_is after) refl is_done.acknowledged
+            (commits.sound.started works) (sym carried_out.2) in
+            record {
+              given = a;
+              right = (done_so events extent a at reach (subst (λ b. IsInstalled b events x vsn es u.found (behind_run r) a) (sym no_restart) refl), line_is);
+              at = place;
+              happens = record {
+                moments = subst (λ f. LeavesOnly v (disk_in n.handler) (disk_in new.handler) (IsReached (settled events) (f ∷ []))) e_is (moments_at events at.2);
+                holds = place.0;
+                cause = λ f. never f;
+                counted = commits.counted;
+              };
+            }
+
+    -- The node has to boot: its reply is that of the boot, behind that of the installation.
+    module _ (gone : is_dead new.handler ≡ true) (started : HasStarted v.may_leave new.handler) (restart : needs_restart vsn es ≡ true) where
+      restart_is : e ≡ restart_installed vsn
+      restart_is = ap (λ b. installation_event b vsn) restart
+
+      -- the processes are those of the node
+      here_so : (qs : Processes) (P : Processes → Type 0) → processes_in n.processes ≡ qs → P ps → P qs
+      here_so qs P has there = subst P has there
+
+      reaches : (events : Events) (extent : Extent) (qs : Processes) → IsAt v (memory.Made n) (running events extent qs) → MayReach (extent_behind extent size) (releases_after (events ++ e ∷ [])) (extent_in new.handler)
+      reaches = reaches_there v laws e size n new alive commits is_done gone started
+
+      right_then : (events : Events) (extent : Extent) (qs : Processes) → IsAt v (memory.Made n) (running events extent qs) → (b : Reply) → BootsStore (store_behind events e (extent_in new.handler)) b
+          → Does (running events extent qs) (with_text (line_of i) (behind e b))
+      right_then events extent qs (here, living, after, stop, has) b boot =
           let x = extent_in new.handler in
-          let grown = list_after-push events e es (list_in new.handler) after (commanded_step e es (list_in new.handler) is_done.accepted) in
-          let reach = reach_at (extent_in n.handler) extent x size (list_in new.handler) (releases_after (events ++ e ∷ [])) stop (ap list_or_none grown) is_done.reaches in
-          let a = installed_reply events x vsn es u.found (behind_run r) in
-          let place = runs_at v laws new (events ++ e ∷ []) x (behind_run r) works grown refl is_done.acknowledged (commits.sound.started works) (sym behind) in
-          let stale : stale_modules (behind_run r).modules (libraries_at vsn es) ≡ i.stale.items =
-          ap (λ (q : Processes). stale_modules q.modules (libraries_at vsn es)) behind ∙ ap (stale_modules (listed_in new.processes.loaded)) (sym target_is) ∙ sym by.stale in
-          record {
-            given = a;
-            right = (
-              right_for events extent a after (leads_so u is events extent a (ends r) (subst (λ m. HasSpace m size) stop is_done.fits) (comes_to u is (ends r) comes) (inl (x, reach, refl))),
-              (λ j. installed_text (sym by.other j) (sym by.descr j) (stale j)),
-            );
-            at = place;
-            happens = record { moments = moments_at events after; holds = place.0; cause = λ f. never f; counted = commits.counted };
-          }
+          let at : IsAt v (memory.Made n) (running events extent ps) = (here, living, after, stop, refl) in
+          let told : with_text (line_of i) (behind e b) ≡ restarted_reply vsn es u.found (behind_run r) b = (λ j. with_text (sym line_is j) (behind (restart_is j) b)) in
+          let is : IsInstalled true events x vsn es u.found (behind_run r) (with_text (line_of i) (behind e b)) = (b, subst (λ f. BootsStore (store_behind events f x) b) restart_is boot, told) in
+          here_so qs (λ q. Does (running events extent q) (with_text (line_of i) (behind e b))) has
+          (done_so events extent _ at (reaches events extent ps at) (subst (λ c. IsInstalled c events x vsn es u.found (behind_run r) (with_text (line_of i) (behind e b))) (sym restart) is))
+
+      -- Where there was no memory for the boot, or for the line before it, the installation alone is on the disk.
+      alone_then : (events : Events) (extent : Extent) (qs : Processes) → IsAt v (memory.Made n) (running events extent qs) → Stops (running events extent qs) (reply [] (done (e ∷ [])) (closed (store_behind events e (extent_in new.handler))))
+      alone_then events extent qs (here, living, after, stop, has) =
+          let x = extent_in new.handler in
+          let at : IsAt v (memory.Made n) (running events extent ps) = (here, living, after, stop, refl) in
+          let of_list : releases_after events ≡ es = ap list_or_none after in
+          here_so qs (λ q. Stops (running events extent q) (reply [] (done (e ∷ [])) (closed (store_behind events e x)))) has
+          (without_its_restart (record {
+            events = events;
+            extent = extent;
+            processes = ps;
+            vsn = vsn;
+            here = refl;
+            action = refl;
+            found = u.found;
+            is_found = subst (λ l. installation vsn l ≡ Ok u.found) (sym of_list) by_script.1.found;
+            begins = subst (λ l. script_failure vsn l u.found ≡ None) (sym of_list) by_script.1.begins;
+            run = r;
+            ends_so = subst (λ l. upgrade_outcome vsn l u.found ps ≡ ends r) (sym of_list) carried_out.1;
+            restarts = subst (λ l. needs_restart vsn l ≡ true) (sym of_list) restart;
+            fits = subst (λ l. HasSpace extent (install_room vsn l)) (sym of_list) (subst (λ m. HasSpace m room) stop fits);
+            reaches = x;
+            behind = subst (λ l. MayReach (extent_behind extent (install_size vsn l)) (releases_after (events ++ restart_installed vsn ∷ [])) x) (sym of_list)
+                (subst (λ f. MayReach (extent_behind extent size) (releases_after (events ++ f ∷ [])) x) restart_is (reaches events extent ps at));
+            is = ap (λ f. reply [] (done (f ∷ [])) (closed (store_behind events f x))) restart_is;
+          }))
+
+      -- the boot was done, or refused, or memory was refused to it
+      pub restarts_so : (final : PlaceInMemory D) (boot : Result (String Global) AllocError) (result : Result (String Global) HandlerError) → TellsBehind (line_of i) boot result
+          → TellsOrStops v Boots (λ p a. StopsWithin p boots_node a) boot (memory.Made new) final → AnswersAction v (installs vsn) result (memory.Made n) final
+      restarts_so = boots_behind v laws e size n new alive commits is_done gone started (line_of i) Does Stops right_then alone_then (λ p b is. without_its_node b is refl)
+
+      -- memory was refused to its own line
+      pub restarts_untold : AnswersAction v (installs vsn) (Err handler_error.NoMemory) (memory.Made n) (memory.Made new)
+      restarts_untold = ends_before_boot v laws e size n new alive commits is_done gone started (line_of i) Does Stops right_then alone_then (λ p b is. without_its_node b is refl)
 
   -- the script was carried out, and the device failed behind it
   device_replies : (u : UpgradeForm) → MayBegin vsn n.handler u → IsFinished (site_for u ps.modules) (start_in (state_in n)) u.found.script (listed_in new.processes.loaded) new.processes.tree new.processes.seat.view
@@ -169,7 +265,7 @@ module _ {D : Type 0} (v : Device D) (laws : IsDevice v) (vsn : List ℕ) (n new
           let holds : Holds v (dead s) (disk_in new.handler) = λ c now. leaves.each c (laws.counts_now (disk_in new.handler) (v.moment (disk_in n.handler)) c leaves.later now) in
           record {
             given = a;
-            right = (right_for events extent a after (leads_so u is events extent a (ends r) (subst (λ m. HasSpace m size) stop fits) (comes_to u is (ends r) comes) (inr refl)), refl);
+            right = (right_for events extent a after (leads_so u is events extent a (ends r) (subst (λ m. HasSpace m room) stop fits) (comes_to u is (ends r) comes) (inr refl)), refl);
             at = (holds, gone);
             happens = record { moments = moments_at events after; holds = holds; cause = λ f. cause; counted = commits.counted };
           }
@@ -193,7 +289,7 @@ module _ {D : Type 0} (v : Device D) (laws : IsDevice v) (vsn : List ℕ) (n new
           record {
             given = a;
             right = (
-              right_for events extent a after (leads_so u is events extent a (breaks f.instr c) (subst (λ m. HasSpace m size) stop fits) (comes_to u is (breaks f.instr c) comes) refl),
+              right_for events extent a after (leads_so u is events extent a (breaks f.instr c) (subst (λ m. HasSpace m room) stop fits) (comes_to u is (breaks f.instr c) comes) refl),
               ap (λ g. refusal_line (must_reboot g)) (sym told),
             );
             at = (holds, lost.dead);
@@ -232,8 +328,8 @@ module _ {D : Type 0} (v : Device D) (laws : IsDevice v) (vsn : List ℕ) (n new
     by_list : (why : HandlerError) → installation vsn es ≡ Err why → Answers v Does (Err why) (memory.Made n) (memory.Made new)
     by_list why found p at = inl (same_replies (refusal_of why) (λ events extent stop. subst (λ o. Installs events extent ps vsn es o (refused (refusal_of why) (running events extent ps))) (sym found) refl) p at)
 
-    full_replies : (u : UpgradeForm) → IsUpgrade vsn es u → (HasSpace (extent_in n.handler) size → ⊥) → Replies (refusal_line full)
-    full_replies u is over = same_replies full (λ events extent stop. begins_so u is events extent _ (inr (subst (λ m. HasSpace m size → ⊥) stop over, refl)))
+    full_replies : (u : UpgradeForm) → IsUpgrade vsn es u → (HasSpace (extent_in n.handler) room → ⊥) → Replies (refusal_line full)
+    full_replies u is over = same_replies full (λ events extent stop. begins_so u is events extent _ (inr (subst (λ m. HasSpace m room → ⊥) stop over, refl)))
 
     -- the script isn't run
     not_begun : (f : ScriptFailure) → IsNoUpgrade vsn es (install_error.Refused f) → Replies (refusal_line (script_refused (failure_of f)))
@@ -247,7 +343,7 @@ module _ {D : Type 0} (v : Device D) (laws : IsDevice v) (vsn : List ℕ) (n new
     turned_back f u (is, fits) (c, known, told, refused_so, untouched) =
         let comes = script_refuses (site_for u ps.modules) n.processes.seat.view n.processes.tree ps.modules u.found.script f.instr c new.processes.seat.view sound.alone known refused_so in
         same_replies (script_refused (failure_of f)) (λ events extent stop.
-        leads_so u is events extent _ (refuses f.instr c) (subst (λ m. HasSpace m size) stop fits) (comes_to u is (refuses f.instr c) comes)
+        leads_so u is events extent _ (refuses f.instr c) (subst (λ m. HasSpace m room) stop fits) (comes_to u is (refuses f.instr c) comes)
         (ap (λ g. refused (script_refused g) (running events extent ps)) told))
 
   -- what the handler refused
@@ -275,20 +371,63 @@ module _ {D : Type 0} (v : Device D) (laws : IsDevice v) (vsn : List ℕ) (n new
   script_refused_so f (living, inl none, same) = not_begun same f none
   script_refused_so f (living, inr (u, may, why), same) = turned_back same f u may why
 
-  -- So is what is told of it.
+  -- So is what is told of it, where the node has not to boot.
   pub answers_install : (done : Result Installed InstallError) (result : Result (String Global) HandlerError) → TellsInstallation done result → OnOk done (is_dead new.handler ≡ false)
-      → OnOk done (IsDone v e size n.handler new.handler) → IfOk done (λ i. IsInstalledBy vsn es (state_in n) i (state_in new))
-      → IfErr done (InstallRefused v.failures vsn n.handler new.handler (state_in n) (state_in new)) → Answers v Does result (memory.Made n) (memory.Made new)
-  answers_install (Ok i) (Ok text) told works is_done by refused_so = concludes (line_of i) (Ok text) told (done_replies i works is_done by)
-  answers_install (Ok i) (Err why) told works is_done by refused_so = concludes (line_of i) (Err why) told (done_replies i works is_done by)
-  answers_install (Err (install_error.Command why)) result told works is_done by refused_so =
+      → IfOk done (HasInstalled v vsn n new) → IfErr done (InstallRefused v.failures vsn n.handler new.handler (state_in n) (state_in new)) → Answers v Does result (memory.Made n) (memory.Made new)
+  answers_install (Ok i) (Ok text) told works of refused_so = concludes (line_of i) (Ok text) told (done_replies i of.is_done of.fits of.by_script works (sym of.restarts ∙ works))
+  answers_install (Ok i) (Err why) told works of refused_so = concludes (line_of i) (Err why) told (done_replies i of.is_done of.fits of.by_script works (sym of.restarts ∙ works))
+  answers_install (Err (install_error.Command why)) result told works of refused_so =
       subst (λ r. Answers v Does r (memory.Made n) (memory.Made new)) (sym told) (command_refused why refused_so)
-  answers_install (Err (install_error.Refused f)) (Ok text) told works is_done by refused_so = concludes (refusal_line (script_refused (failure_of f))) (Ok text) told (script_refused_so f refused_so)
-  answers_install (Err (install_error.Refused f)) (Err why) told works is_done by refused_so = concludes (refusal_line (script_refused (failure_of f))) (Err why) told (script_refused_so f refused_so)
-  answers_install (Err (install_error.MustReboot f)) (Ok text) (told, known) works is_done by (living, (u, may, why), lost) =
+  answers_install (Err (install_error.Refused f)) (Ok text) told works of refused_so = concludes (refusal_line (script_refused (failure_of f))) (Ok text) told (script_refused_so f refused_so)
+  answers_install (Err (install_error.Refused f)) (Err why) told works of refused_so = concludes (refusal_line (script_refused (failure_of f))) (Err why) told (script_refused_so f refused_so)
+  answers_install (Err (install_error.MustReboot f)) (Ok text) (told, known) works of (living, (u, may, why), lost) =
       concludes (refusal_line (must_reboot (failure_of f))) (Ok text) told (broken_replies f u may why known lost)
-  answers_install (Err (install_error.MustReboot f)) (Err why) told works is_done by (living, (u, may, so), lost) = λ p at. inr (told, inr (broken_silently lost p at))
+  answers_install (Err (install_error.MustReboot f)) (Err why) told works of (living, (u, may, so), lost) = λ p at. inr (told, inr (broken_silently lost p at))
 
-  -- The processes are sound behind it.
-  pub sound_behind : new.processes.table ≡ n.processes.table → new.processes.seat.table ≡ n.processes.seat.table → new.processes.seat.view.lent ≡ n.processes.seat.view.lent → HoldsNothing new.processes.seat.view → AreSound new.processes
-  sound_behind table seat lent free = record { table = seat ∙ sound.table ∙ sym table; alone = lent ∙ sound.alone; free = free }
+  -- Where it has, it boots behind the line that tells the installation.
+  pub answers_restart : (done : Result Installed InstallError) (line : String Global) → TellsInstallation done (Ok line) → IsOk done → is_dead new.handler ≡ true → IfOk done (HasInstalled v vsn n new)
+      → (final : PlaceInMemory D) (boot : Result (String Global) AllocError) (result : Result (String Global) HandlerError) → TellsBehind (string_bytes line) boot result
+      → TellsOrStops v Boots (λ p a. StopsWithin p boots_node a) boot (memory.Made new) final → AnswersAction v (installs vsn) result (memory.Made n) final
+  answers_restart (Ok i) line told ok gone of final boot result is booted =
+      restarts_so i of.is_done of.fits of.by_script gone of.started (sym of.restarts ∙ gone) final boot result (subst (λ l. TellsBehind l boot result) told is) booted
+  answers_restart (Err error) line told ok gone of final boot result is booted = never ok
+
+  -- Where memory is refused to that line, nothing is booted.
+  pub answers_untold : (done : Result Installed InstallError) (why : HandlerError) → TellsInstallation done (Err why) → IfOk done (HasInstalled v vsn n new)
+      → IfErr done (InstallRefused v.failures vsn n.handler new.handler (state_in n) (state_in new)) → AnswersAction v (installs vsn) (Err why) (memory.Made n) (memory.Made new)
+  answers_untold (Ok i) why told of refused_so = by_life (is_dead new.handler) refl
+    where
+      by_life : (b : Bool) → is_dead new.handler ≡ b → AnswersAction v (installs vsn) (Err why) (memory.Made n) (memory.Made new)
+      by_life true gone =
+          subst (λ w. AnswersAction v (installs vsn) (Err w) (memory.Made n) (memory.Made new)) (sym told) (restarts_untold i of.is_done of.fits of.by_script gone of.started (sym of.restarts ∙ gone))
+      by_life false works = never_stops v laws Does Stops (Err why) (memory.Made n) (memory.Made new) (answers_install (Ok i) (Err why) told works of refused_so)
+  answers_untold (Err error) why told of refused_so = never_stops v laws Does Stops (Err why) (memory.Made n) (memory.Made new) (answers_install (Err error) (Err why) told tt of refused_so)
+
+-- What is so anyway is so where it was done; and where it wasn't, nothing is owed.
+pub on_done : (done : Result Installed InstallError) (P : Type 0) → P → OnOk done P
+on_done (Ok i) P p = p
+on_done (Err error) P p = tt
+
+pub on_undone : (done : Result Installed InstallError) (P : Type 0) → is_ok done ≡ false → OnOk done P
+on_undone (Ok i) P undone = never (sym undone)
+on_undone (Err error) P undone = tt
+
+-- The answer is that of the boot behind the installation's own line.
+pub tells_appended : (line : List ℕ) (boot joined : Result (String Global) AllocError) (result : Result (String Global) HandlerError) → IfOk joined (λ text. IsOkAnd boot (λ b. string_bytes text ≡ line ++ string_bytes b))
+    → MatchResult joined (λ text. result ≡ Ok text) (λ _. result ≡ Err handler_error.NoMemory) → TellsBehind line boot result
+tells_appended line (Ok b) (Ok text) result told is = subst (TellsBehind line (Ok b)) (sym is) told
+tells_appended line (Err e) (Ok text) result told is = absurd told
+tells_appended line (Ok b) (Err e) result told is = subst (TellsBehind line (Ok b)) (sym is) refl
+tells_appended line (Err f) (Err e) result told is = subst (TellsBehind line (Err f)) (sym is) refl
+
+-- What an installation that was done is, as the handler's clauses tell it.
+pub has_installed : {D : Type 0} (v : Device D) (vsn : List ℕ) (n new : BootedNode D) (done : Result Installed InstallError) → OnOk done (is_dead new.handler ≡ needs_restart vsn (list_in n.handler))
+    → OnOk done (IsDone v (install_event vsn (list_in n.handler)) (install_size vsn (list_in n.handler)) n.handler new.handler) → OnOk done (HasSpace (extent_in n.handler) (install_room vsn (list_in n.handler)))
+    → OnOk done (HasStarted v.may_leave new.handler) → IfOk done (λ i. IsInstalledBy vsn (list_in n.handler) (state_in n) i (state_in new)) → IfOk done (HasInstalled v vsn n new)
+has_installed v vsn n new (Ok i) restarts is_done fits started by_script = record { restarts = restarts; is_done = is_done; fits = fits; started = started; by_script = by_script }
+has_installed v vsn n new (Err error) restarts is_done fits started by_script = tt
+
+-- The processes are sound behind it.
+pub sound_behind : {D : Type 0} (n new : BootedNode D) → AreSound n.processes → new.processes.table ≡ n.processes.table → new.processes.seat.table ≡ n.processes.seat.table → new.processes.seat.view.lent ≡ n.processes.seat.view.lent
+    → HoldsNothing new.processes.seat.view → AreSound new.processes
+sound_behind n new sound table seat lent free = record { table = seat ∙ sound.table ∙ sym table; alone = lent ∙ sound.alone; free = free }

@@ -1,5 +1,5 @@
 -- What a node replies to an installation, case by case.
-use Rattle.std.proofs.Common.{◌≡◌, inl, inr, ℕ, List, Option, None, Some, Ok, refl, sym, subst}
+use Rattle.std.proofs.Common.{◌≡◌, inl, inr, ℕ, Bool, true, false, List, Option, None, Some, Ok, refl, sym, subst}
 use Rattle.rel_list.specs.Releases.{Releases}
 use Rattle.rel_list.specs.Event.Event.{installed}
 use Rattle.rel_list.specs.Refusal.{refusal}
@@ -17,8 +17,9 @@ use Rattle.relup_exec.specs.Alone.{Outcome}
 use Rattle.relup_exec.specs.Alone.Outcome.{ends, refuses, breaks}
 use Rattle.relup_script.specs.Search.{FoundForm}
 use Rattle.script_steps.specs.Script.{Run}
-use Rattle.rel_session.specs.Installation.{Begins, Installs, Leads, installed_reply, upgrade_outcome}
-use Rattle.rel_handler.specs.Installing.{install_size}
+use Rattle.rel_session.specs.Booting.{BootsStore}
+use Rattle.rel_session.specs.Installation.{Begins, Installs, IsInstalled, Leads, installed_reply, restarted, restarted_reply, upgrade_outcome}
+use Rattle.rel_handler.specs.Installing.{install_size, installation_event, needs_restart}
 use Rattle.rel_session.specs.Node.{Reply, refused, failed}
 use Rattle.rel_session.specs.Node.Place.{running, dead}
 use Rattle.rel_session.specs.Refusals.{refusal_of}
@@ -33,16 +34,24 @@ module _ (K : Reply → Type 0) (events : Events) (extent : Extent) (ps : Proces
     pub over_full : K (refused full (running events extent ps))
     pub broken : (f : Failure) → K (refused (must_reboot f) (dead (certain events extent)))
     pub done_so : (f : FoundForm) (r : Run) (reach : Extent) → installation vsn list ≡ Ok f → upgrade_outcome vsn list f ps ≡ ends r → K (installed_reply events reach vsn list f (behind_run r))
-    pub doubted_so : (f : FoundForm) → installation vsn list ≡ Ok f → K (failed (Some (installed vsn)) (dead (uncertain events extent (installed vsn) (install_size vsn list))))
+    pub restarted_so : (f : FoundForm) (r : Run) (reach : Extent) (b : Reply) → installation vsn list ≡ Ok f → upgrade_outcome vsn list f ps ≡ ends r → BootsStore (restarted events reach vsn) b
+        → K (restarted_reply vsn list f (behind_run r) b)
+    pub doubted_so : (f : FoundForm) (restarts : Bool) → installation vsn list ≡ Ok f
+        → K (failed (Some (installation_event restarts vsn)) (dead (uncertain events extent (installation_event restarts vsn) (install_size vsn list))))
 
   so : (a b : Reply) → a ≡ b → K b → K a
   so a b is of = subst K (sym is) of
 
+  by_restart : OfEach → (f : FoundForm) → installation vsn list ≡ Ok f → (a : Reply) (r : Run) → upgrade_outcome vsn list f ps ≡ ends r → (x : Extent) (restarts : Bool)
+      → IsInstalled restarts events x vsn list f (behind_run r) a → K a
+  by_restart of f found a r comes x false is = so a _ is (of.done_so f r x found comes)
+  by_restart of f found a r comes x true (b, boot, is) = so a _ is (of.restarted_so f r x b found comes boot)
+
   by_outcome : OfEach → (f : FoundForm) → installation vsn list ≡ Ok f → (a : Reply) (o : Outcome) → upgrade_outcome vsn list f ps ≡ o → Leads events extent ps vsn list f o a → K a
   by_outcome of f found a (refuses n c) comes is = so a _ is (of.not_run (failure n (fails c)))
   by_outcome of f found a (breaks n c) comes is = so a _ is (of.broken (failure n (fails c)))
-  by_outcome of f found a (ends r) comes (inl (x, reach, is)) = so a _ is (of.done_so f r x found comes)
-  by_outcome of f found a (ends r) comes (inr is) = so a _ is (of.doubted_so f found)
+  by_outcome of f found a (ends r) comes (inl (x, reach, is)) = by_restart of f found a r comes x (needs_restart vsn list) is
+  by_outcome of f found a (ends r) comes (inr is) = so a _ is (of.doubted_so f (needs_restart vsn list) found)
 
   by_failure : OfEach → (f : FoundForm) → installation vsn list ≡ Ok f → (a : Reply) (o : Option Failure) → Begins events extent ps vsn list f o a → K a
   by_failure of f found a (Some why) is = so a _ is (of.not_run why)

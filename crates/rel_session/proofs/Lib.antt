@@ -5,6 +5,7 @@ pub mod ExtentLemmas
 pub mod Prefixes
 pub mod Replies
 pub mod CommitReplies
+pub mod BootsBehind
 pub mod InstallReplies
 pub mod CreationReplies
 pub mod UnpackingReplies
@@ -25,6 +26,7 @@ pub mod ProcessLines
 pub mod SourceLemmas
 pub mod ActionLemmas
 pub mod InstallationLemmas
+pub mod InstallLines
 pub mod OneAnswer
 pub mod EachAnswer
 pub mod AnswerEvents

@@ -1,8 +1,12 @@
--- Lists of releases behind one event more.
-use Rattle.std.proofs.Common.{◌≡◌, [], ◌∷◌, ◌++◌, Option, Some, None, refl, sym, ap, ◌∙◌}
-use Rattle.std.specs.Option.{option_and_then}
-use Rattle.rel_list.specs.Releases.{Releases}
-use Rattle.rel_list.specs.Event.{Event, step, list_from, list_after}
+-- Lists of releases behind one event more, and behind a boot.
+use Rattle.std.proofs.Common.{◌≡◌, Bool, true, false, [], ◌∷◌, ◌++◌, find, Option, Some, None, refl, sym, ap, ◌∙◌}
+use Rattle.std.specs.Prelude.{if◌then◌else◌, is_some}
+use Rattle.std.specs.Option.{option_and_then, option_map}
+use Rattle.rel_list.specs.Releases.{Entry, Releases, has_current, has_one_shot}
+use Rattle.rel_list.specs.Event.{Event, booted, booted_status, step, list_from, list_after}
+use Rattle.rel_list.specs.Status.{is_current, is_one_shot}
+use Rattle.rel_list.specs.declared.status.Status.{Status}
+use Rattle.rel_list.specs.declared.status.Status.TheVariants.{Unpacked, Current, Old, Permanent, OneShot}
 use Rattle.rel_handler.specs.Events.{Events}
 
 -- from whatever list
@@ -27,3 +31,23 @@ list_after-push events e mid end after next = list_after-more events e ∙ ap (o
 
 pub same_list : (events others : Events) (e : Event) → list_after events ≡ list_after others → list_after (events ++ e ∷ []) ≡ list_after (others ++ e ∷ [])
 same_list events others e is = list_after-more events e ∙ ap (option_and_then (step e)) is ∙ sym (list_after-more others e)
+
+becomes_current : (s : Status) → is_current (booted_status s) ≡ is_one_shot s
+becomes_current Unpacked = refl
+becomes_current Current = refl
+becomes_current Old = refl
+becomes_current Permanent = refl
+becomes_current OneShot = refl
+
+-- A release is current behind a boot where one was a one-shot before it.
+pub current-booted : (es : Releases) → has_current (booted es) ≡ has_one_shot es
+current-booted [] = refl
+current-booted (e ∷ es) = go (is_current (booted_status e.status)) (is_one_shot e.status) (becomes_current e.status) (current-booted es)
+  where
+    go : (a b : Bool) → a ≡ b → has_current (booted es) ≡ has_one_shot es
+        → is_some (option_map (λ (n : Entry). n.release) (if a then Some (record e { status = booted_status e.status }) else find (λ (n : Entry). is_current n.status) (booted es)))
+        ≡ is_some (option_map (λ (n : Entry). n.release) (if b then Some e else find (λ (n : Entry). is_one_shot n.status) es))
+    go true true same rest = refl
+    go false false same rest = rest
+    go true false same rest = absurd cc
+    go false true same rest = absurd cc

@@ -1,14 +1,14 @@
 -- Where neither the device fails nor memory is refused to a compaction, each command has one answer.
 use Rattle.std.proofs.Common.{◌≡◌, ◌≢◌, ◌⊎◌, inl, inr, ℕ, Bool, true, false, List, [], ◌∷◌, ◌++◌, Option, None, Some, Result, Ok, Err, refl, sym, ap, ◌∙◌, subst}
-use Rattle.rel_list.specs.Releases.{Releases, has_one_shot, running as running_release, permanent}
+use Rattle.rel_list.specs.Releases.{Releases, has_current, has_one_shot, running as running_release, permanent}
 use Rattle.rel_list.specs.Event.{list_after, booted}
 use Rattle.rel_list.specs.Event.{Event}
-use Rattle.rel_list.specs.Event.Event.{made, installed, reboot_old as rebooting, boot as booting}
+use Rattle.rel_list.specs.Event.Event.{made, installed, restart_installed, reboot_old as rebooting, boot as booting}
 use Rattle.rel_handler.specs.declared.error.BootError.{BootError}
 use Rattle.rel_handler.specs.declared.error.BootError.TheVariants as boot_error
 use Rattle.node_command.specs.declared.error.HandlerError.{HandlerError}
 use Rattle.rel_handler.specs.Events.{Events, Stored, MayHave, certain}
-use Rattle.rel_handler.specs.Compaction.{compacted}
+use Rattle.rel_handler.specs.Compaction.{compacted, MayReach}
 use Rattle.rel_handler.specs.Image.{Extent, booted_extent, extent_behind, first_extent, holds_a_store}
 use Rattle.rel_handler.proofs.BootLists.{extent_of_none}
 use Rattle.node_command.specs.Files.{bundle_brought, made_size}
@@ -28,28 +28,30 @@ use Rattle.node_processes.specs.Calls.{Calls, calls_line, left_by}
 use Rattle.node_processes.specs.Fresh.{fresh}
 use Rattle.node_processes.specs.Processes.{Processes}
 use Rattle.rel_session.specs.LawsBelow.{BootLaws}
-use Rattle.rel_session.specs.Node.{Place, Outcome, Reply, reply, releases_after, list_or_none, just_booted, done, behind}
+use Rattle.rel_session.specs.Node.{Place, Outcome, Reply, reply, releases_after, list_or_none, just_booted, done, behind, with_text}
 use Rattle.rel_session.specs.Node.Place.{raw, closed, running, dead}
 use Rattle.rel_session.specs.Refusals.{boot_line}
 use Rattle.rel_session.specs.Run.{Replies, Ending}
 use Rattle.rel_session.specs.Run.Ending.{ended, cut_off, early}
-use Rattle.rel_session.specs.AnswerLaws.{AreSame, HaveOneAnswer, HaveRecord, IsCertain, IsCompact, LeaveCompactStores}
+use Rattle.rel_session.specs.AnswerLaws.{AreSame, HaveOneAnswer, IsCertain, IsCompact, LeaveCompactStores, LeavesCompactStore, RunsOnce}
 use Rattle.rel_session.specs.RunLaws.{NoneFails}
 use Rattle.rel_session.specs.Transition
 use Rattle.rel_session.specs.Transition.Action.{answers, makes_node, changes_node, installs, reboots_node, boots_node, tells_start, calls}
 use Rattle.rel_session.proofs.AcknowledgedEvents.{next_answered, none_left}
 use Rattle.rel_session.proofs.SourceLemmas.{gives_one}
 use Rattle.rel_session.proofs.ActionLemmas.{AreTold, has_record, HasRecordOf, kind_of, one_action}
-use Rattle.rel_session.proofs.ExtentLemmas.{booted_reach, has_only, none_rebooted, one_reach}
+use Rattle.rel_session.proofs.ExtentLemmas.{booted_reach, has_only, none_rebooted, one_reach, reach_beside_one_shot, releases-booted}
 use Rattle.node_command.specs.Installing.{installation}
 use Rattle.node_processes.specs.Scripts.{behind_run}
 use Rattle.node_upgrade.specs.Failure.{Failure}
 use Rattle.node_upgrade.specs.Upgrade.{script_failure}
 use Rattle.relup_exec.specs.Alone as script
 use Rattle.relup_script.specs.Search.{FoundForm}
-use Rattle.rel_session.specs.Installation.{Begins, installed_reply, Installs, Leads, upgrade_outcome}
-use Rattle.rel_handler.specs.Installing.{install_size}
-use Rattle.rel_session.proofs.ListLemmas.{list_after-push, same_list}
+use Rattle.node_upgrade.specs.Stale.{stale_modules}
+use Rattle.node_upgrade.specs.Upgrade.{libraries_at}
+use Rattle.rel_session.specs.Installation.{Begins, installed_line, installed_reply, Installs, IsInstalled, Leads, restarted, restarted_reply, upgrade_outcome}
+use Rattle.rel_handler.specs.Installing.{install_size, installation_event, needs_restart}
+use Rattle.rel_session.proofs.ListLemmas.{current-booted, list_after-push, same_list}
 
 -- Two places that nothing tells apart: the events of a boot of bytes are any that have the list.
 data Alike : Place → Place → Type 0 where
@@ -89,9 +91,13 @@ Same a b = (a.answer ≡ b.answer) × (a.outcome ≡ b.outcome) × Alike a.after
 
 -- where an event was committed, memory was not refused to a compaction
 abbrev IsSmall : Reply → Type 0
-IsSmall a = HaveRecord a.outcome.acknowledged → IsCompact a.after
+IsSmall a = LeavesCompactStore a.outcome.acknowledged a.after
 
--- Replies in which the device does not fail, and no memory is refused to a compaction.
+-- Replies in which the device does not fail.
+abbrev Fine : Reply → Reply → Type 0
+Fine a b = (a.outcome.failed ≡ false) × (b.outcome.failed ≡ false)
+
+-- And no memory is refused to a compaction.
 abbrev Both : Reply → Reply → Type 0
 Both a b = (a.outcome.failed ≡ false) × (b.outcome.failed ≡ false) × IsSmall a × IsSmall b
 
@@ -127,12 +133,12 @@ module _ (a b : Reply) (both : Both a b) where
   commits events others extent ps qs e size (Ok list) P Q same small small_too one alike (inr (over_it, is)) (inl (fits, also)) = absurd (over_it fits)
   commits events others extent ps qs e size (Ok list) P Q same small small_too one alike (inr (over_it, is)) (inr (over_too, also)) = as_these a b _ _ is also (refl, refl, alike)
 
-  changes : (events others : Events) (extent : Extent) (ps qs : Processes) (c : Transition.Change) (l : Releases) (f : Option Refusal) (o : Result Releases HandlerError) → HaveRecord (c.event ∷ []) → list_after events ≡ list_after others → ps ≡ qs
+  changes : (events others : Events) (extent : Extent) (ps qs : Processes) (c : Transition.Change) (l : Releases) (f : Option Refusal) (o : Result Releases HandlerError) → HasRecordOf (changes_node c) → list_after events ≡ list_after others → ps ≡ qs
       → Transition.Changes events extent ps c l f o a → Transition.Changes others extent qs c l f o b → Same a b
   changes events others extent ps qs c l (Some why) o has same one is also = as_these a b _ _ is also (refl, refl, same_lists events others extent ps qs same one)
   changes events others extent ps qs c l None o has same one is also =
       commits events others extent ps qs c.event (c.size l) o (λ x r. r ≡ Transition.changed events x ps c l) (λ x r. r ≡ Transition.changed others x qs c l) same
-      (λ x is. small_as a _ is both.2 has) (λ x is. small_as b _ is both.3 has)
+      (λ x is. has (Transition.changed events x ps c l).after (small_as a _ is both.2)) (λ x is. has (Transition.changed others x qs c l).after (small_as b _ is both.3))
       (λ x is also. as_these a b _ _ is also (refl, refl, same_lists (events ++ c.event ∷ []) (others ++ c.event ∷ []) x ps qs (same_list events others c.event same) one))
       (same_lists events others extent ps qs same one) is also
 
@@ -159,6 +165,7 @@ module _ (a b : Reply) (both : Both a b) where
   makes p q found (same_dead events others extent same) is also = as_these a b _ _ is also (refl, refl, same_dead events others extent same)
   makes p q found (same_lists events others extent ps qs same one) is also = as_these a b _ _ is also (refl, refl, same_lists events others extent ps qs same one)
 
+module _ (a b : Reply) (both : Fine a b) where
   -- boots of the same list
   booted_same : (events others : Events) (extent : Extent) → ((l m : Releases) → list_after events ≡ Some l → list_after others ≡ Some m → (booted l ≡ booted m) × (booted_extent extent l ≡ booted_extent extent m))
       → Transition.IsBooted events extent a → Transition.IsBooted others extent b → Same a b
@@ -227,14 +234,38 @@ module _ (a b : Reply) (both : Both a b) where
 behind_same : (e : Event) (x y : Reply) → Same x y → Same (behind e x) (behind e y)
 behind_same e x y (told, outcomes, then) = (told, ap (λ (o : Outcome). (behind e (record { answer = []; outcome = o; after = x.after })).outcome) outcomes, then)
 
+-- and behind a line
+with_text_same : (line : List ℕ) (x y : Reply) → Same x y → Same (with_text line x) (with_text line y)
+with_text_same line x y (told, outcomes, then) = (ap (λ t. line ++ t) told, outcomes, then)
+
+-- A store that boots to one as short as a compaction leaves it, where the list has no one-shot, was as short before.
+rests : (events : Events) (x : Extent) (r : Reply) → has_one_shot (releases_after events) ≡ false → r.outcome.failed ≡ false → IsCompact r.after → Transition.BootsStore (certain events x) r → x ≡ compacted x (releases_after events)
+rests events x r free fine small (inl (es, n, has, (list, after, told))) =
+    let only = has_only events es x n has in
+    let none : has_one_shot (releases_after es) ≡ false = subst (λ l. has_one_shot (releases_after l) ≡ false) (sym only.0) free in
+    let plain : has_one_shot list ≡ false = ap (λ o. has_one_shot (list_or_none o)) (sym after) ∙ none in
+    let compact : n ≡ compacted n (releases_after (es ++ booting ∷ [])) =
+    subst (λ y. y ≡ compacted y (releases_after (es ++ booting ∷ []))) (extent_of_none n list plain) (subst (λ (t : Reply). IsCompact t.after) told small) in
+    subst (λ l. x ≡ compacted x (releases_after l)) only.0 (subst (λ y. y ≡ compacted y (releases_after es)) only.1 (compact ∙ booted_reach n es none))
+rests events x r free fine small (inr fails) = boot_failure r _ fails fine
+
+-- Behind a boot that starts no one-shot none is current.
+none_runs_once : (events : Events) (x : Extent) (r : Reply) → has_one_shot (releases_after events) ≡ false → r.outcome.failed ≡ false → Transition.BootsStore (certain events x) r → RunsOnce r.after → ⊥
+none_runs_once events x r free fine (inl (es, n, has, (list, after, told))) once =
+    let only = has_only events es x n has in
+    let none : has_one_shot (releases_after es) ≡ false = subst (λ l. has_one_shot (releases_after l) ≡ false) (sym only.0) free in
+    let here : has_current (releases_after (es ++ booting ∷ [])) ≡ true = subst (λ (t : Reply). RunsOnce t.after) told once in
+    let lost : true ≡ false = sym here ∙ ap has_current (releases-booted es) ∙ current-booted (releases_after es) ∙ none in cc
+none_runs_once events x r free fine (inr fails) once = boot_failure r _ fails fine
+
 module _ (a b : Reply) (both : Both a b) where
   reboots : (events others : Events) (extent : Extent) (ps qs : Processes) (vsn : List ℕ) (l : Releases) (o : Result Releases HandlerError) → list_after events ≡ list_after others → ps ≡ qs
       → Transition.Reboots events extent ps vsn l o a → Transition.Reboots others extent qs vsn l o b → Same a b
   reboots events others extent ps qs vsn l o same one =
       let e = rebooting vsn in
-      commits a b both events others extent ps qs e _ o (Rebooted events) (Rebooted others) same (λ x r. rests events x a both.0 both.2 r) (λ x r. rests others x b both.1 both.3 r)
+      commits a b both events others extent ps qs e _ o (Rebooted events) (Rebooted others) same (λ x r. rests_so events x a both.0 both.2 r) (λ x r. rests_so others x b both.1 both.3 r)
       (λ z (x, boot, is) (y, boot_too, also).
-      as_these a b _ _ is also (behind_same e x y (boots_store x y (works a x is both.0, works b y also both.1, (λ r. small_as a _ is both.2 tt), λ r. small_as b _ also both.3 tt) (events ++ e ∷ []) (others ++ e ∷ []) z (same_list events others e same) boot boot_too))) (same_lists events others extent ps qs same one)
+      as_these a b _ _ is also (behind_same e x y (boots_store x y (works a x is both.0, works b y also both.1) (events ++ e ∷ []) (others ++ e ∷ []) z (same_list events others e same) boot boot_too))) (same_lists events others extent ps qs same one)
     where
       works : (r x : Reply) → r ≡ behind (rebooting vsn) x → r.outcome.failed ≡ false → x.outcome.failed ≡ false
       works r x is fine = ap (λ (s : Reply). s.outcome.failed) (sym is) ∙ fine
@@ -242,17 +273,10 @@ module _ (a b : Reply) (both : Both a b) where
       Rebooted : Events → Extent → Reply → Type 0
       Rebooted events x r = (b : Reply) × Transition.BootsStore (Transition.rebooted events x vsn) b × (r ≡ behind (rebooting vsn) b)
 
-      rests : (events : Events) (x : Extent) (r : Reply) → r.outcome.failed ≡ false → IsSmall r → Rebooted events x r → x ≡ compacted x (releases_after (events ++ rebooting vsn ∷ []))
-      rests events x r fine small (s, inl (es, n, has, (list, after, told)), is) =
-          let only = has_only (events ++ rebooting vsn ∷ []) es x n has in
-          let none : has_one_shot (releases_after es) ≡ false = subst (λ l. has_one_shot (releases_after l) ≡ false) (sym only.0) (none_rebooted events vsn) in
-          let free : has_one_shot list ≡ false = ap (λ o. has_one_shot (list_or_none o)) (sym after) ∙ none in
-          let compact : n ≡ compacted n (releases_after (es ++ booting ∷ [])) =
-          subst (λ y. y ≡ compacted y (releases_after (es ++ booting ∷ []))) (extent_of_none n list free) (subst (λ (t : Reply). IsCompact t.after) told (small_as r _ is small tt)) in
-          subst (λ l. x ≡ compacted x (releases_after l)) only.0 (subst (λ y. y ≡ compacted y (releases_after es)) only.1 (compact ∙ booted_reach n es none))
-      rests events x r fine small (s, inr fails, is) = boot_failure s _ fails (works r s is fine)
+      rests_so : (events : Events) (x : Extent) (r : Reply) → r.outcome.failed ≡ false → IsSmall r → Rebooted events x r → x ≡ compacted x (releases_after (events ++ rebooting vsn ∷ []))
+      rests_so events x r fine small (s, boot, is) = rests (events ++ rebooting vsn ∷ []) x s (none_rebooted events vsn) (works r s is fine) (small_as r _ is small tt) boot
 
-  changed : (p q : Place) (c : Transition.Change) → HaveRecord (c.event ∷ []) → Alike p q → Transition.Acts p (changes_node c) a → Transition.Acts q (changes_node c) b → Same a b
+  changed : (p q : Place) (c : Transition.Change) → HasRecordOf (changes_node c) → Alike p q → Transition.Acts p (changes_node c) a → Transition.Acts q (changes_node c) b → Same a b
   changed p q c has (same_bytes x) is also = as_these a b _ _ is also (refl, refl, same_bytes x)
   changed p q c has (same_store events extent) is also = as_these a b _ _ is also (refl, refl, same_store events extent)
   changed p q c has (same_dead events others extent same) is also = as_these a b _ _ is also (refl, refl, same_dead events others extent same)
@@ -268,19 +292,56 @@ module _ (a b : Reply) (both : Both a b) where
       let then : releases_after others ≡ releases_after events = ap list_or_none (sym same) in
       reboots events others extent ps qs vsn (releases_after events) (commanded (rebooting vsn) (releases_after events)) same one is (subst (λ l. Transition.Reboots others extent qs vsn l (commanded (rebooting vsn) l) b) then also)
 
+  -- how far the store reaches behind an installation with a restart, by the boot behind it
+  restarted_reach : (r s : Reply) (events : Events) (base x : Extent) (vsn : List ℕ) (l : Releases) (f : FoundForm) (ps : Processes) → r.outcome.failed ≡ false → IsSmall r → MayReach base (releases_after (events ++ restart_installed vsn ∷ [])) x
+      → Transition.BootsStore (restarted events x vsn) s → r ≡ restarted_reply vsn l f ps s → x ≡ compacted base (releases_after (events ++ restart_installed vsn ∷ []))
+  restarted_reach r s events base x vsn l f ps fine small reach boot is = by_one_shot (has_one_shot (releases_after all)) refl
+    where
+      all : Events
+      all = events ++ restart_installed vsn ∷ []
+
+      works : s.outcome.failed ≡ false
+      works = ap (λ (t : Reply). t.outcome.failed) (sym is) ∙ fine
+
+      by_store : has_one_shot (releases_after all) ≡ false → RunsOnce s.after ⊎ IsCompact s.after → x ≡ compacted base (releases_after all)
+      by_store none (inl once) = absurd (none_runs_once all x s none works boot once)
+      by_store none (inr compact) = one_reach base x (releases_after all) reach (rests all x s none works compact boot)
+
+      by_one_shot : (b : Bool) → has_one_shot (releases_after all) ≡ b → x ≡ compacted base (releases_after all)
+      by_one_shot true one = reach_beside_one_shot base x (releases_after all) reach one
+      by_one_shot false none = by_store none (small_as r _ is small)
+
+  -- an installation that was committed
+  installed_same : (events others : Events) (base x y : Extent) (vsn : List ℕ) (l : Releases) (f : FoundForm) (ps : Processes) (restarts : Bool) → list_after events ≡ list_after others
+      → MayReach base (releases_after (events ++ installation_event restarts vsn ∷ [])) x → MayReach base (releases_after (others ++ installation_event restarts vsn ∷ [])) y
+      → IsInstalled restarts events x vsn l f ps a → IsInstalled restarts others y vsn l f ps b → Same a b
+  installed_same events others base x y vsn l f ps false same reach reach_too is also =
+      let e = installed vsn in
+      let lists : releases_after (others ++ e ∷ []) ≡ releases_after (events ++ e ∷ []) = ap list_or_none (sym (same_list events others e same)) in
+      let here = one_reach base x (releases_after (events ++ e ∷ [])) reach (small_as a _ is both.2 tt) in
+      let there = one_reach base y (releases_after (others ++ e ∷ [])) reach_too (small_as b _ also both.3 tt) in
+      let both_reach : y ≡ x = there ∙ (ap (compacted base) lists ∙ sym here) in
+      as_these a b _ _ is (subst (λ z. b ≡ installed_reply others z vsn l f ps) both_reach also)
+      (refl, refl, same_lists (events ++ e ∷ []) (others ++ e ∷ []) x ps ps (same_list events others e same) refl)
+  installed_same events others base x y vsn l f ps true same reach reach_too (s, boot, is) (t, boot_too, also) =
+      let e = restart_installed vsn in
+      let lists : releases_after (others ++ e ∷ []) ≡ releases_after (events ++ e ∷ []) = ap list_or_none (sym (same_list events others e same)) in
+      let here = restarted_reach a s events base x vsn l f ps both.0 both.2 reach boot is in
+      let there = restarted_reach b t others base y vsn l f ps both.1 both.3 reach_too boot_too also in
+      let both_reach : y ≡ x = there ∙ (ap (compacted base) lists ∙ sym here) in
+      let line = installed_line f (stale_modules ps.modules (libraries_at vsn l)) in
+      let fine : s.outcome.failed ≡ false = ap (λ (r : Reply). r.outcome.failed) (sym is) ∙ both.0 in
+      let fine_too : t.outcome.failed ≡ false = ap (λ (r : Reply). r.outcome.failed) (sym also) ∙ both.1 in
+      as_these a b _ _ is also (with_text_same line (behind e s) (behind e t) (behind_same e s t
+      (boots_store s t (fine, fine_too) (events ++ e ∷ []) (others ++ e ∷ []) x (same_list events others e same) boot (subst (λ z. Transition.BootsStore (restarted others z vsn) t) both_reach boot_too))))
+
   -- an installation
   leads : (events others : Events) (extent : Extent) (ps qs : Processes) (vsn : List ℕ) (l : Releases) (f : FoundForm) (o : script.Outcome) → list_after events ≡ list_after others → ps ≡ qs
       → Leads events extent ps vsn l f o a → Leads others extent qs vsn l f o b → Same a b
   leads events others extent ps qs vsn l f (script.Outcome.refuses n c) same one is also = as_these a b _ _ is also (refl, refl, same_lists events others extent ps qs same one)
   leads events others extent ps qs vsn l f (script.Outcome.breaks n c) same one is also = as_these a b _ _ is also (refl, refl, same_dead events others extent same)
   leads events others extent ps qs vsn l f (script.Outcome.ends r) same one (inl (x, reach, is)) (inl (y, reach_too, also)) =
-      let behind_it = extent_behind extent (install_size vsn l) in
-      let lists : releases_after (others ++ installed vsn ∷ []) ≡ releases_after (events ++ installed vsn ∷ []) = ap list_or_none (sym (same_list events others (installed vsn) same)) in
-      let here = one_reach behind_it x (releases_after (events ++ installed vsn ∷ [])) reach (small_as a _ is both.2 tt) in
-      let there = one_reach behind_it y (releases_after (others ++ installed vsn ∷ [])) reach_too (small_as b _ also both.3 tt) in
-      let both_reach : y ≡ x = there ∙ (ap (compacted behind_it) lists ∙ sym here) in
-      as_these a b _ _ is (subst (λ z. b ≡ installed_reply others z vsn l f (behind_run r)) both_reach also)
-      (refl, refl, same_lists (events ++ installed vsn ∷ []) (others ++ installed vsn ∷ []) x (behind_run r) (behind_run r) (same_list events others (installed vsn) same) refl)
+      installed_same events others (extent_behind extent (install_size vsn l)) x y vsn l f (behind_run r) (needs_restart vsn l) same reach reach_too is also
   leads events others extent ps qs vsn l f (script.Outcome.ends r) same one (inl is) (inr also) = failure b _ also refl both.1
   leads events others extent ps qs vsn l f (script.Outcome.ends r) same one (inr is) other = failure a _ is refl both.0
 
@@ -328,7 +389,7 @@ module _ (a b : Reply) (both : Both a b) where
   acts laws p q (changes_node c) has alike is also = changed p q c has alike is also
   acts laws p q (installs vsn) has alike is also = installed_alike p q vsn alike is also
   acts laws p q (reboots_node vsn) has alike is also = rebooted p q vsn alike is also
-  acts laws p q boots_node has alike is also = boots a b both laws p q alike is also
+  acts laws p q boots_node has alike is also = boots a b (both.0, both.1) laws p q alike is also
   acts laws p q tells_start has alike is also = told p q alike is also
   acts laws p q (calls c) has alike is also = called_alike p q c alike is also
 

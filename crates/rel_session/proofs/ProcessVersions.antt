@@ -5,7 +5,7 @@ use Rattle.library.specs.Library.{IsLibrary}
 use Rattle.rel_list.specs.Releases.{Bundle, Releases}
 use Rattle.rel_list.specs.Event.{Event, booted, list_after, entry}
 use Rattle.rel_list.specs.declared.status.Status.TheVariants.{Permanent}
-use Rattle.rel_list.specs.Event.Event.{reboot_old as rebooting, boot as booting}
+use Rattle.rel_list.specs.Event.Event.{restart_installed, reboot_old as rebooting, boot as booting}
 use Rattle.rel_records.proofs.CompletionLemmas.{of_applications}
 use Rattle.rel_handler.specs.Events.{Events, Stored, certain}
 use Rattle.rel_handler.specs.Image.{Extent, holds_a_store}
@@ -23,6 +23,7 @@ use Rattle.node_processes.specs.Processes.{Processes}
 use Rattle.session_input.specs.Commands.{Command}
 use Rattle.session_input.specs.Commands.Command.{file, create, set_unpacked, check, install, permanent, remove, reboot_old, boot, start, releases, procs, modules, peek, call, flood, relup, quit, bad}
 use Rattle.rel_session.specs.AnswerLaws.{AreOfFiles, HasVersionsAt, HasModuleVersionsAt}
+use Rattle.rel_session.specs.Installation.{restarted}
 use Rattle.rel_session.specs.Node.{Place, Reply, releases_after, list_or_none}
 use Rattle.rel_session.specs.Node.Place.{raw, closed, running, dead}
 use Rattle.rel_session.specs.Transition
@@ -170,7 +171,9 @@ acts (running events extent ps) (installs vsn) of all versions a is =
       broken = λ f. tt;
       done_so = λ f r reach found comes.
           script_versions (site_for (upgrade_to vsn list f) ps.modules) ps f.script r (libraries_of list (listed_versions events all)) refl versions comes;
-      doubted_so = λ f found. tt;
+      restarted_so = λ f r reach b found comes boot.
+          boots_store (restarted events reach vsn) (certain_versions (events ++ restart_installed vsn ∷ []) reach (list_versions events (restart_installed vsn) tt all)) b boot;
+      doubted_so = λ f restart found. tt;
     }) a is
 acts (raw x) (installs vsn) of all versions a is = versions_as a _ is tt
 acts (closed s) (installs vsn) of all versions a is = versions_as a _ is tt

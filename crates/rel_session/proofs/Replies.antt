@@ -450,7 +450,7 @@ module _ {D : Type 0} (v : Device D) (laws : IsDevice v) where
   idle_sets source path (running events extent ps) idle = absurd (idle events extent ps refl)
   idle_sets source path (dead s) idle = (Transition.refuses dead_node, refl, refl)
 
-  -- and so are a change, a reboot and `start`
+  -- and so are a change, a reboot, an installation and `start`
   idle_changes : (c : Transition.Change) (p : Place) → ((events : Events) (extent : Extent) (ps : Processes) → p ≡ running events extent ps → ⊥) → Transition.Acts p (changes_node c) (refused dead_node p)
   idle_changes c (raw bytes) idle = refl
   idle_changes c (closed s) idle = refl
@@ -463,7 +463,7 @@ module _ {D : Type 0} (v : Device D) (laws : IsDevice v) where
   idle_reboots vsn (running events extent ps) idle = absurd (idle events extent ps refl)
   idle_reboots vsn (dead s) idle = refl
 
-  idle_installs : (vsn : List ℕ) (p : Place) → ((events : Events) (extent : Extent) (ps : Processes) → p ≡ running events extent ps → ⊥) → Transition.Acts p (installs vsn) (refused dead_node p)
+  pub idle_installs : (vsn : List ℕ) (p : Place) → ((events : Events) (extent : Extent) (ps : Processes) → p ≡ running events extent ps → ⊥) → Transition.Acts p (installs vsn) (refused dead_node p)
   idle_installs vsn (raw bytes) idle = refl
   idle_installs vsn (closed s) idle = refl
   idle_installs vsn (running events extent ps) idle = absurd (idle events extent ps refl)
@@ -494,7 +494,6 @@ module _ {D : Type 0} (v : Device D) (laws : IsDevice v) where
   pub idle_needs : (source : Source) (c : Command) → NeedsNode c → (p : Place) → ((events : Events) (extent : Extent) (ps : Processes) → p ≡ running events extent ps → ⊥) → Transition.Transition source p c (refused dead_node p)
   idle_needs source (set_unpacked path) needs p idle = idle_sets source path p idle
   idle_needs source (check vsn) needs p idle = (answers (Transition.told (λ list ps. Transition.check_line vsn list) p), refl, idle_told (λ list ps. Transition.check_line vsn list) p idle)
-  idle_needs source (install vsn) needs p idle = (installs vsn, refl, idle_installs vsn p idle)
   idle_needs source (permanent vsn) needs p idle = (changes_node (Transition.permanence vsn), refl, idle_changes (Transition.permanence vsn) p idle)
   idle_needs source (remove vsn) needs p idle = (changes_node (Transition.removal vsn), refl, idle_changes (Transition.removal vsn) p idle)
   idle_needs source start needs p idle = (tells_start, refl, idle_tells p idle)
@@ -505,6 +504,7 @@ module _ {D : Type 0} (v : Device D) (laws : IsDevice v) where
   idle_needs source (flood app id input times) needs p idle = (calls (often app id input times), refl, idle_calls (often app id input times) p idle)
   idle_needs source (file path f) needs p idle = absurd needs
   idle_needs source (create path) needs p idle = absurd needs
+  idle_needs source (install vsn) needs p idle = absurd needs
   idle_needs source (reboot_old vsn) needs p idle = absurd needs
   idle_needs source boot needs p idle = absurd needs
   idle_needs source releases needs p idle = absurd needs

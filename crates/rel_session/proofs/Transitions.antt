@@ -2,7 +2,7 @@
 use Rattle.std.proofs.Common.{◌≡◌, ◌≢◌, ◌⊎◌, inl, inr, ⊎_elim, ℕ, Bool, true, false, List, [], ◌∷◌, ◌++◌, Option, None, Some, Result, Ok, Err, refl, sym, ap, ◌∙◌, subst, append-nil, append_assoc}
 use Rattle.rel_list.specs.Releases.{Releases}
 use Rattle.rel_list.specs.Event.{Event}
-use Rattle.rel_list.specs.Event.Event.{reboot_old as rebooting, boot as booting}
+use Rattle.rel_list.specs.Event.Event.{restart_installed, reboot_old as rebooting, boot as booting}
 use Rattle.node_command.specs.declared.error.HandlerError.{HandlerError}
 use Rattle.rel_handler.specs.Events.{Events, Stored, MayHave, certain, uncertain_boot}
 use Rattle.rel_handler.specs.Image.{Extent, holds_a_store}
@@ -15,7 +15,12 @@ use Rattle.rel_unpack.specs.Refusal.{Refusal}
 use Rattle.rel_unpack.specs.Unpacking.{Brought}
 use Rattle.rel_unpack.specs.Source.{Source}
 use Rattle.node_processes.specs.Processes.{Processes}
-use Rattle.rel_session.specs.Node.{Place, at_rest, Reply, reply, nothing, releases_after, behind}
+use Rattle.node_processes.specs.Scripts.{behind_run}
+use Rattle.node_upgrade.specs.Stale.{stale_modules}
+use Rattle.node_upgrade.specs.Upgrade.{libraries_at}
+use Rattle.relup_script.specs.Search.{FoundForm}
+use Rattle.rel_session.specs.Installation.{installed_line, restarted, restarted_reply}
+use Rattle.rel_session.specs.Node.{Place, at_rest, Reply, reply, nothing, releases_after, behind, with_text}
 use Rattle.rel_session.specs.Node.Place.{raw, closed, running, dead}
 use Rattle.rel_session.specs.Run.{MayLeave}
 use Rattle.rel_session.specs.RunLaws.{MayBe, acknowledged_at, IsKnown, Finds, Keeps}
@@ -115,6 +120,17 @@ reboots events extent ps vsn l o =
     let s = Transition.rebooted events x vsn in
     keeps_as (running events extent ps) a _ is (keeps_behind events extent ps x (rebooting vsn) b (boots_store (closed s) s b (may_have s) (inl refl) boot)))
 
+-- a reply keeps them too whose answer stands behind a text
+keeps_text : (p : Place) (text : List ℕ) (a : Reply) → Keeps p a → Keeps p (with_text text a)
+keeps_text p text a keeps = record { found = keeps.found; finds = keeps.finds; are = keeps.are; known = keeps.known }
+
+restarts : (events : Events) (extent : Extent) (ps : Processes) (x : Extent) (vsn : List ℕ) (l : Releases) (f : FoundForm) (qs : Processes) (b : Reply) → Transition.BootsStore (restarted events x vsn) b
+    → Keeps (running events extent ps) (restarted_reply vsn l f qs b)
+restarts events extent ps x vsn l f qs b boot =
+    let s = restarted events x vsn in
+    keeps_text (running events extent ps) (installed_line f (stale_modules qs.modules (libraries_at vsn l))) (behind (restart_installed vsn) b)
+    (keeps_behind events extent ps x (restart_installed vsn) b (boots_store (closed s) s b (may_have s) (inl refl) boot))
+
 boots : (p : Place) (a : Reply) → Transition.Boots p a → Keeps p a
 boots (raw bytes) a (inl (events, list, extent, after, image, is)) = booted (raw bytes) events extent a (inr (list, after, image.image_of)) is
 boots (raw bytes) a (inr (inl (why, told, is))) = still_as (raw bytes) _ a is
@@ -139,7 +155,8 @@ acts (running events extent ps) (installs vsn) a is =
       over_full = still_as here _ _ refl;
       broken = λ f. keeps_known here _ events refl (sym (append-nil events)) tt;
       done_so = λ f r reach found comes. keeps_known here _ events refl refl tt;
-      doubted_so = λ f found. keeps_known here _ events refl (sym (append-nil events)) tt;
+      restarted_so = λ f r reach b found comes boot. restarts events extent ps reach vsn (releases_after events) f (behind_run r) b boot;
+      doubted_so = λ f restart found. keeps_known here _ events refl (sym (append-nil events)) tt;
     }) a is
 acts (raw bytes) (installs vsn) a is = still_as (raw bytes) _ a is
 acts (closed s) (installs vsn) a is = still_as (closed s) _ a is
@@ -186,6 +203,9 @@ keeps_without_node p b keeps = record {
 
 stops : (p : Place) (does : Transition.Action) (a : Reply) → Transition.StopsWithin p does a → Keeps p a
 stops p does a (Transition.StopsWithin.without_its_boot alone) =
+    let here = running alone.events alone.extent alone.processes in
+    subst (λ q. Keeps q a) (sym alone.here) (keeps_as here a _ alone.is (keeps_known here _ alone.events refl refl tt))
+stops p does a (Transition.StopsWithin.without_its_restart alone) =
     let here = running alone.events alone.extent alone.processes in
     subst (λ q. Keeps q a) (sym alone.here) (keeps_as here a _ alone.is (keeps_known here _ alone.events refl refl tt))
 stops p does a (Transition.StopsWithin.without_its_node b is lost) = keeps_as p a _ lost (keeps_without_node p b (acts p does b is))

@@ -33,10 +33,10 @@ use Rattle.session_input.specs.Commands.{Command}
 use Rattle.rel_unpack.specs.Refusal.{Refusal}
 use Rattle.rel_unpack.specs.Unpacking.{Brought}
 use Rattle.rel_unpack.specs.Source.{Source}
-use Rattle.rel_session.specs.Node.{Place, Reply, releases_after, list_or_none}
+use Rattle.rel_session.specs.Node.{Place, Reply, refused, failed, releases_after, list_or_none}
 use Rattle.rel_session.specs.Node.Place.{raw, closed, running, dead}
 use Rattle.rel_session.specs.Refusals.{refusal_of, refusal_for, refusal_line}
-use Rattle.rel_session.specs.Refusals.Refusal.{device, bad_status, script_refused, must_reboot}
+use Rattle.rel_session.specs.Refusals.Refusal.{device, bad_status, script_refused, must_reboot, dead as no_node}
 use Rattle.rel_session.specs.AnswerLaws.{HasLinePath, IsOfFiles, AreOfFiles, HasVersionsAt, HasModuleVersionsAt}
 use Rattle.rel_session.specs.Transition
 use Rattle.rel_session.specs.Transition.Action.{answers, makes_node, changes_node, installs, reboots_node, boots_node, tells_start, calls}
@@ -48,7 +48,11 @@ use Rattle.rel_session.proofs.AnswerLines.{IsWhole, ok_whole, done_whole, instal
 use Rattle.node_processes.specs.Scripts.{behind_run}
 use Rattle.node_upgrade.specs.Stale.{stale_modules}
 use Rattle.node_upgrade.specs.Upgrade.{libraries_at}
-use Rattle.rel_handler.specs.Installing.{install_size}
+use Rattle.relup_script.specs.Search.{FoundForm}
+use Rattle.rel_handler.specs.Installing.{install_size, installation_event}
+use Rattle.rel_session.specs.Installation.{installed_line, restarted, restarted_reply}
+use Rattle.rel_session.proofs.InstallLines.{InstallLines, restart_first}
+use Rattle.rel_session.proofs.InstallLines.InstallLines.{one_line, two_lines, doubt_line}
 use Rattle.rel_session.proofs.InstallationLemmas.{each_reply}
 
 more_versions : (es : Releases) (e : Entry) → AreOfFiles es → IsOfFiles (bundle_in e) → AreOfFiles (es ++ e ∷ [])
@@ -262,7 +266,34 @@ listed_versions events all = go (list_after events) all
     go None each = tt
     go (Some l) each = each l refl
 
-acts : (p : Place) (does : Transition.Action) → IsGoodAction does → HasVersionsAt p → (a : Reply) → Transition.Acts p does a → IsGood a
+-- what an answer to an action is: an installation's may have two lines
+abbrev pub LinesOf : Transition.Action → Reply → Type 0
+LinesOf (installs vsn) a = InstallLines a
+LinesOf does a = IsWhole a.answer
+
+-- a reply to an installation
+abbrev IsGoodInstall : Reply → Type 0
+IsGoodInstall a = InstallLines a × HasVersionsAt a.after
+
+not_installed : (p : Place) → HasVersionsAt p → (a : Reply) → a ≡ refused no_node p → IsGoodInstall a
+not_installed p all a is = subst IsGoodInstall (sym is) (one_line (λ behind. refl) refl, all)
+
+-- one whose event is in doubt
+install_in_doubt : (events : Events) (extent : Extent) (vsn : List ℕ) (size : ℕ) (restarts : Bool) → OfList events
+    → IsGoodInstall (failed (Some (installation_event restarts vsn)) (dead (uncertain events extent (installation_event restarts vsn) size)))
+install_in_doubt events extent vsn size false all = (one_line device_line refl, uncertain_versions events extent (installed vsn) size tt all)
+install_in_doubt events extent vsn size true all = (doubt_line refl refl, uncertain_versions events extent (restart_installed vsn) size tt all)
+
+-- one with a restart
+install_restarts : (events : Events) (extent : Extent) (vsn : List ℕ) (list : Releases) (f : FoundForm) (ps : Processes) (b : Reply) → OfList events → Transition.BootsStore (restarted events extent vsn) b
+    → IsGoodInstall (restarted_reply vsn list f ps b)
+install_restarts events extent vsn list f ps b all boot =
+    let e = restart_installed vsn in
+    let stale = stale_modules ps.modules (libraries_at vsn list) in
+    let (whole, versions) = boots_store (restarted events extent vsn) (certain_versions (events ++ e ∷ []) extent (list_versions events e tt all)) b boot in
+    (two_lines (installed_line f stale) b.answer (installed_whole f.other f.descr stale) whole (λ behind. refl) refl (restart_first vsn b.outcome.acknowledged b.outcome.in_doubt), versions)
+
+acts : (p : Place) (does : Transition.Action) → IsGoodAction does → HasVersionsAt p → (a : Reply) → Transition.Acts p does a → LinesOf does a × HasVersionsAt a.after
 acts p (answers text) good all a is = good_as a _ is (good, all)
 acts p (makes_node found) good all a is = makes p found good all a is
 acts (running events extent ps) (changes_node c) good all a is = changes events extent ps c (releases_after events) (c.files (releases_after events)) (commanded c.event (releases_after events)) (of_command c.event (releases_after events)) (good.0 (releases_after events)) (good.1 (releases_after events)) (good.2 (releases_after events)) all a is
@@ -271,18 +302,20 @@ acts (closed s) (changes_node c) good all a is = good_as a _ is ((λ behind. ref
 acts (dead s) (changes_node c) good all a is = good_as a _ is ((λ behind. refl), all)
 acts (running events extent ps) (installs vsn) good all a is =
     let e = installed vsn in
-    each_reply IsGood events extent ps vsn (releases_after events) (record {
-      listed = λ why. (listed_whole why, all);
-      unmatched = ((λ behind. refl), all);
-      not_run = λ f. (refusal_whole (script_refused f) tt, all);
-      over_full = ((λ behind. refl), all);
-      broken = λ f. (refusal_whole (must_reboot f) tt, certain_versions events extent all);
-      done_so = λ f r reach found comes. (installed_whole f.other f.descr (stale_modules (behind_run r).modules (libraries_at vsn (releases_after events))), list_versions events e tt all);
-      doubted_so = λ f found. (device_line, uncertain_versions events extent e (install_size vsn (releases_after events)) tt all);
+    each_reply IsGoodInstall events extent ps vsn (releases_after events) (record {
+      listed = λ why. (one_line (listed_whole why) refl, all);
+      unmatched = (one_line (λ behind. refl) refl, all);
+      not_run = λ f. (one_line (refusal_whole (script_refused f) tt) refl, all);
+      over_full = (one_line (λ behind. refl) refl, all);
+      broken = λ f. (one_line (refusal_whole (must_reboot f) tt) refl, certain_versions events extent all);
+      done_so = λ f r reach found comes.
+          (one_line (installed_whole f.other f.descr (stale_modules (behind_run r).modules (libraries_at vsn (releases_after events)))) refl, list_versions events e tt all);
+      restarted_so = λ f r reach b found comes boot. install_restarts events reach vsn (releases_after events) f (behind_run r) b all boot;
+      doubted_so = λ f restarts found. install_in_doubt events extent vsn (install_size vsn (releases_after events)) restarts all;
     }) a is
-acts (raw x) (installs vsn) good all a is = good_as a _ is ((λ behind. refl), all)
-acts (closed s) (installs vsn) good all a is = good_as a _ is ((λ behind. refl), all)
-acts (dead s) (installs vsn) good all a is = good_as a _ is ((λ behind. refl), all)
+acts (raw x) (installs vsn) good all a is = not_installed (raw x) all a is
+acts (closed s) (installs vsn) good all a is = not_installed (closed s) all a is
+acts (dead s) (installs vsn) good all a is = not_installed (dead s) all a is
 acts (running events extent ps) (reboots_node vsn) good all a is = reboots events extent ps vsn (releases_after events) (commanded (reboot_old vsn) (releases_after events)) (of_command (reboot_old vsn) (releases_after events)) all a is
 acts (raw x) (reboots_node vsn) good all a is = good_as a _ is ((λ behind. refl), all)
 acts (closed s) (reboots_node vsn) good all a is = good_as a _ is ((λ behind. refl), all)
@@ -298,5 +331,7 @@ acts (raw x) (calls c) good all a is = good_as a _ is ((λ behind. refl), all)
 acts (closed s) (calls c) good all a is = good_as a _ is ((λ behind. refl), all)
 acts (dead s) (calls c) good all a is = good_as a _ is ((λ behind. refl), all)
 
-pub each_good : (source : Source) (p : Place) (c : Command) → HasLinePath c → HasVersionsAt p → HasModuleVersionsAt p → (a : Reply) → Transition.Transition source p c a → IsGood a
-each_good source p c line all tells a (does, comes, is) = acts p does (good_action source p c does line tells comes) all a is
+-- So is each reply to what a command comes to.
+pub each_good : (source : Source) (p : Place) (c : Command) (does : Transition.Action) → HasLinePath c → HasVersionsAt p → HasModuleVersionsAt p → Transition.ComesTo source p c does → (a : Reply)
+    → Transition.Acts p does a → LinesOf does a × HasVersionsAt a.after
+each_good source p c does line all tells comes a is = acts p does (good_action source p c does line tells comes) all a is

@@ -1,12 +1,13 @@
 -- What is so of the answers of whole sessions.
-use Rattle.std.specs.Prelude.{◌≡◌, ◌≢◌, ◌⊎◌, true, ℕ, List, [], ◌∷◌, None, Some}
+use Rattle.std.specs.Prelude.{◌≡◌, ◌≢◌, ◌⊎◌, Bool, true, false, ℕ, List, [], ◌∷◌, ◌++◌, None, Some}
 use Rattle.std.specs.List.{AllByRecursion}
 use Rattle.erl_term.specs.Lines.{is_one_line}
+use Rattle.erl_term.specs.Value.{Value}
 use Rattle.rel_files.specs.File.{HasVersions}
 use Rattle.library.specs.Library.{IsLibrary}
-use Rattle.rel_list.specs.Releases.{Bundle, Entry, Releases, bundle_in}
+use Rattle.rel_list.specs.Releases.{Bundle, Entry, Releases, bundle_in, has_current}
 use Rattle.rel_list.specs.Event.{Event, list_after}
-use Rattle.rel_list.specs.Event.Event.{boot as booting}
+use Rattle.rel_list.specs.Event.Event.{restart_installed, boot as booting}
 use Rattle.node_processes.specs.ModuleVersions.{HaveModuleVersions}
 use Rattle.rel_handler.specs.Compaction.{compacted}
 use Rattle.rel_handler.specs.declared.error.BootError.TheVariants as boot_error
@@ -19,11 +20,12 @@ use Rattle.session_input.specs.Feed.{Feed}
 use Rattle.session_input.specs.Feed.Feed.{next}
 use Rattle.rel_unpack.specs.Source.{Source, GivesOne, GivesEach}
 use Rattle.rel_session.specs.Files.{Files}
+use Rattle.rel_session.specs.Installation.{installed_text}
 use Rattle.rel_session.specs.Node.{Place, Reply, releases_after}
 use Rattle.rel_session.specs.Node.Place.{raw, closed, running, dead}
 use Rattle.rel_session.specs.Refusals.{boot_line, refusal_line}
 use Rattle.rel_session.specs.Refusals.Refusal.{device}
-use Rattle.rel_session.specs.Run.{Starts, Holds, Executes, Replies, Ending, answers_of, commands_in, IsRun}
+use Rattle.rel_session.specs.Run.{Starts, Holds, Executes, Replies, Ending, answers_of, commands_in, events_of, IsRun}
 use Rattle.rel_session.specs.Run.Ending.{early}
 use Rattle.rel_session.specs.RunLaws.{MayBe, NoneFails}
 use Rattle.rel_session.specs.Transition.{Transition}
@@ -40,9 +42,16 @@ FailsOnlyWithTheDevice {D} v base =
     → Replies base files p commands ending replies → Executes v p replies old new → (HasFailed v old new → ⊥)
     → NoneFails replies × NoneInDoubt replies
 
+-- that the device failed in the boot behind an installation, whose own line stands before that
+abbrev pub TellsBootFailureBehind : List ℕ → Type 0
+TellsBootFailureBehind answer =
+    (other : List ℕ) × (descr : Value) × (stale : List (List ℕ))
+    × (answer ≡ installed_text other descr stale ++ boot_line boot_error.Device)
+
 -- that the device failed, in a command or in a boot
 abbrev pub TellsFailure : List ℕ → Type 0
-TellsFailure answer = (answer ≡ refusal_line device) ⊎ (answer ≡ boot_line boot_error.Device)
+TellsFailure answer =
+    (answer ≡ refusal_line device) ⊎ ((answer ≡ boot_line boot_error.Device) ⊎ TellsBootFailureBehind answer)
 
 -- The answer of a reply with an event in doubt tells that the device failed.
 abbrev pub TellsDoubt : Source → Type 0
@@ -69,10 +78,20 @@ HaveRecord [] = ⊥
 HaveRecord (booting ∷ events) = HaveRecord events
 HaveRecord (e ∷ events) = Unit {0}
 
--- Each command that committed an event left such a store: memory was refused to no compaction.
+-- a boot has started a one-shot there, for which the store wasn't compacted
+abbrev pub RunsOnce : Place → Type 0
+RunsOnce (running events extent ps) = has_current (releases_after events) ≡ true
+RunsOnce p = ⊥
+
+-- Where these events were committed, such a store was left; behind a restart, unless its boot has started a one-shot.
+abbrev pub LeavesCompactStore : Events → Place → Type 0
+LeavesCompactStore (restart_installed v ∷ events) p = RunsOnce p ⊎ IsCompact p
+LeavesCompactStore events p = HaveRecord events → IsCompact p
+
+-- So each command did: memory was refused to no compaction.
 abbrev pub LeaveCompactStores : List Reply → Type 0
 LeaveCompactStores [] = Unit {0}
-LeaveCompactStores (a ∷ more) = (HaveRecord a.outcome.acknowledged → IsCompact a.after) × LeaveCompactStores more
+LeaveCompactStores (a ∷ more) = LeavesCompactStore a.outcome.acknowledged a.after × LeaveCompactStores more
 
 -- the same answers, and the same events, acknowledged and in doubt
 abbrev pub AreSame : List Reply → List Reply → Type 0
@@ -153,12 +172,26 @@ abbrev pub HasModuleVersionsAt : Place → Type 0
 HasModuleVersionsAt (running events extent ps) = HaveModuleVersions ps
 HasModuleVersionsAt p = Unit {0}
 
--- A text tells one run, where a read of a file has one answer: two over the same commands, whether the device fails or
--- not, which write the same have the same answers and the same events, acknowledged and in doubt, command by command.
+-- one of these events is an installation that ends with a restart
+abbrev pub have_restart : Events → Bool
+have_restart [] = false
+have_restart (restart_installed v ∷ events) = true
+have_restart (e ∷ events) = have_restart events
+
+-- The same of these commands, one after another, installed with a restart, those whose event is in doubt too.
+abbrev pub RestartAlike : List Reply → List Reply → Type 0
+RestartAlike (a ∷ first) (b ∷ second) = (have_restart (events_of a.outcome) ≡ have_restart (events_of b.outcome)) × RestartAlike first second
+RestartAlike first second = Unit {0}
+
+-- A text tells one run, where a read of a file has one answer and it is known which installations end with a restart: two over
+-- the same commands, whether the device fails or not, which write the same have the same answers and the same events,
+-- acknowledged and in doubt, command by command. It has to be known: an installation with a restart answers the line of one
+-- without, and then a second line, which might be that of the next command; and a failure in its commit is told as that of one
+-- without.
 abbrev pub TellsOneRun : Source → Type 0
 TellsOneRun base =
     GivesOne base → (files : Files) (p : Place) (commands : Feed Command) (a b : Ending) (first second : List Reply)
-    → HasVersionsAt p → HasModuleVersionsAt p → HaveLinePaths commands → a ≢ early → b ≢ early
+    → HasVersionsAt p → HasModuleVersionsAt p → HaveLinePaths commands → a ≢ early → b ≢ early → RestartAlike first second
     → Replies base files p commands a first → Replies base files p commands b second → answers_of first ≡ answers_of second
     → (a ≡ b) × AreSame first second
 

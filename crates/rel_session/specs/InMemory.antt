@@ -6,7 +6,11 @@ use Rattle.rel_unpack.specs.Source.{Source}
 use Rattle.rel_list.specs.Releases.{Releases, running as running_release}
 use Rattle.rel_list.specs.Event.{list_after}
 use Rattle.rel_handler.specs.declared.handler.Handler.{Handler}
-use Rattle.rel_handler.specs.State.{disk_in, extent_in, list_in, is_dead, IsSound}
+use Rattle.rel_handler.specs.Commits.{IsDone}
+use Rattle.rel_handler.specs.Image.{HasSpace}
+use Rattle.rel_handler.specs.Installing.{install_event, install_room, install_size, needs_restart, IsInstalledBy}
+use Rattle.rel_handler.specs.State.{disk_in, extent_in, list_in, is_dead, HasStarted, IsSound}
+use Rattle.sup_tree.specs.Loaded.{listed_in}
 use Rattle.session_input.specs.declared.error.SessionError.{SessionError}
 use Rattle.node_processes.specs.Fresh.{fresh}
 use Rattle.node_processes.specs.InMemory.{processes_in, AreSound}
@@ -17,7 +21,7 @@ use Rattle.rel_session.specs.declared.place.Place.TheVariants as memory
 use Rattle.node_command.specs.declared.error.HandlerError.{HandlerError}
 use Rattle.node_command.specs.declared.error.HandlerError.TheVariants as handler_error
 use Rattle.session_input.specs.Commands.{Command}
-use Rattle.session_input.specs.Commands.Command.{set_unpacked, check, install, permanent, remove, start, procs, modules, peek, call, flood, quit}
+use Rattle.session_input.specs.Commands.Command.{set_unpacked, check, permanent, remove, start, procs, modules, peek, call, flood, quit}
 use Rattle.session_input.specs.declared.command.Command.{Command as CommandInMemory}
 use Rattle.session_input.specs.declared.command.Command.TheVariants as asked
 use Rattle.session_input.specs.declared.given.GivenFile.{GivenFile}
@@ -30,6 +34,7 @@ use Rattle.node_upgrade.specs.declared.error.InstallError.{InstallError}
 use Rattle.node_upgrade.specs.declared.error.InstallError.TheVariants as install_error
 use Rattle.node_upgrade.specs.declared.upgrade.Installed.{Installed}
 use Rattle.node_upgrade.specs.Failure.{failure_of}
+use Rattle.node_upgrade.specs.Running.{NodeState, state}
 use Rattle.node_upgrade.specs.Failure.Why.{fails}
 use Rattle.script_steps.specs.Fault.Cause.{no_memory}
 use Rattle.rel_session.specs.Installation.{installed_text}
@@ -146,16 +151,27 @@ IsStarted h (Ok text) (memory.Made node) =
 IsStarted h (Err e) (memory.Idle disk) = disk ≡ disk_in h
 IsStarted h line place = ⊥
 
+-- what a handler sees of the processes of a node
+abbrev pub state_in : {D : Type 0} → BootedNode D → NodeState
+state_in n = state n.processes.seat.view n.processes.tree (listed_in n.processes.loaded)
+
+-- A node has installed the release of this version, and the handler is dead where the script ended with a restart.
+pub record HasInstalled {D : Type 0} (v : Device D) (vsn : List ℕ) (old new : BootedNode D) (i : Installed) : Type 0 where
+  pub restarts : is_dead new.handler ≡ needs_restart vsn (list_in old.handler)
+  pub is_done : IsDone v (install_event vsn (list_in old.handler)) (install_size vsn (list_in old.handler)) old.handler new.handler
+  pub fits : HasSpace (extent_in old.handler) (install_room vsn (list_in old.handler))
+  pub started : HasStarted v.may_leave new.handler
+  pub by_script : IsInstalledBy vsn (list_in old.handler) (state_in old) i (state_in new)
+
 -- what is asked of the node: all but to keep a file and to end the session
 abbrev pub AsksNode : CommandInMemory → Type 0
 AsksNode command =
     ((path : String Global) (given : GivenFile) → command ≢ asked.File path given) × (command ≢ asked.Quit)
 
--- what is done by a node that runs alone, but for a reboot
+-- what is done by a node that runs alone, but for what may boot it
 abbrev pub NeedsNode : Command → Type 0
 NeedsNode (set_unpacked path) = Unit {0}
 NeedsNode (check vsn) = Unit {0}
-NeedsNode (install vsn) = Unit {0}
 NeedsNode (permanent vsn) = Unit {0}
 NeedsNode (remove vsn) = Unit {0}
 NeedsNode start = Unit {0}

@@ -1,11 +1,11 @@
 -- What a node that runs replies to an installation (OTP: release_handler:install_release/1).
-use Rattle.std.specs.Prelude.{◌≡◌, ◌⊎◌, ℕ, List, [], ◌∷◌, ◌++◌, map, codes, Option, None, Some, Result, Ok, Err}
+use Rattle.std.specs.Prelude.{◌≡◌, ◌⊎◌, ℕ, Bool, true, false, List, [], ◌∷◌, ◌++◌, map, codes, Option, None, Some, Result, Ok, Err}
 use Rattle.erl_term.specs.Printing.{text_of}
 use Rattle.erl_term.specs.Value.{Value, values_of}
 use Rattle.erl_term.specs.Value.Value.{atom, list as list_value}
 use Rattle.rel_list.specs.Releases.{Releases}
-use Rattle.rel_list.specs.Event.Event.{installed}
-use Rattle.rel_handler.specs.Installing.{install_size}
+use Rattle.rel_list.specs.Event.Event.{installed, restart_installed}
+use Rattle.rel_handler.specs.Installing.{install_event, install_room, install_size, needs_restart}
 use Rattle.node_command.specs.declared.error.HandlerError.{HandlerError}
 use Rattle.node_listing.specs.Listing.{text_value}
 use Rattle.node_processes.specs.Processes.{Processes}
@@ -14,14 +14,15 @@ use Rattle.node_upgrade.specs.Failure.{Failure, failure}
 use Rattle.node_upgrade.specs.Failure.Why.{fails}
 use Rattle.node_upgrade.specs.Stale.{stale_modules}
 use Rattle.node_upgrade.specs.Upgrade.{libraries_at, script_failure, site_for, upgrade_to}
-use Rattle.rel_handler.specs.Events.{Events, certain, uncertain}
+use Rattle.rel_handler.specs.Events.{Events, Stored, certain, uncertain}
 use Rattle.rel_handler.specs.Compaction.{MayReach}
 use Rattle.rel_handler.specs.Image.{Extent, extent_behind, HasSpace}
 use Rattle.relup_exec.specs.Alone as script
 use Rattle.relup_exec.specs.Alone.{outcome}
 use Rattle.relup_exec.specs.Alone.Outcome.{ends, refuses, breaks}
 use Rattle.relup_script.specs.Search.{FoundForm}
-use Rattle.rel_session.specs.Node.{Reply, releases_after, reply, refused, failed, done}
+use Rattle.rel_session.specs.Booting.{BootsStore, store_behind}
+use Rattle.rel_session.specs.Node.{Reply, releases_after, reply, refused, failed, done, behind, with_text}
 use Rattle.rel_session.specs.Node.Place.{running, dead}
 use Rattle.rel_session.specs.Refusals.{refusal_of}
 use Rattle.rel_session.specs.Refusals.Refusal.{full, script_refused, must_reboot}
@@ -51,22 +52,40 @@ installed_reply events extent vsn list f ps =
     reply (installed_line f (stale_modules ps.modules (libraries_at vsn list))) (done (installed vsn ∷ []))
     (running (events ++ installed vsn ∷ []) extent ps)
 
+-- the store of a node with these events behind an installation of this version that ends with a restart
+abbrev pub restarted : Events → Extent → List ℕ → Stored
+restarted events extent vsn = store_behind events (restart_installed vsn) extent
+
+-- Behind one that ends with a restart the node boots: the answer of the boot stands behind that of the installation.
+abbrev pub restarted_reply : List ℕ → Releases → FoundForm → Processes → Reply → Reply
+restarted_reply vsn list f ps b =
+    with_text (installed_line f (stale_modules ps.modules (libraries_at vsn list))) (behind (restart_installed vsn) b)
+
+-- What is replied behind the commit, by whether there is a restart: the store reaches so far then, and these are the processes
+-- behind the script.
+abbrev pub IsInstalled : Bool → Events → Extent → List ℕ → Releases → FoundForm → Processes → Reply → Type 0
+IsInstalled false events extent vsn list f ps a = a ≡ installed_reply events extent vsn list f ps
+IsInstalled true events extent vsn list f ps a =
+    (b : Reply) × BootsStore (restarted events extent vsn) b × (a ≡ restarted_reply vsn list f ps b)
+
 -- A script that fails before its point of no return changes nothing. One that fails behind it leaves the node dead, without an
 -- event. Behind one that was carried out the event is committed, or the device fails.
 abbrev pub Leads : Events → Extent → Processes → List ℕ → Releases → FoundForm → script.Outcome → Reply → Type 0
 Leads events extent ps vsn list f (refuses n c) a = a ≡ refused (script_refused (failure n (fails c))) (running events extent ps)
 Leads events extent ps vsn list f (breaks n c) a = a ≡ refused (must_reboot (failure n (fails c))) (dead (certain events extent))
 Leads events extent ps vsn list f (ends r) a =
-    ((x : Extent) × MayReach (extent_behind extent (install_size vsn list)) (releases_after (events ++ installed vsn ∷ [])) x
-    × (a ≡ installed_reply events x vsn list f (behind_run r)))
-    ⊎ (a ≡ failed (Some (installed vsn)) (dead (uncertain events extent (installed vsn) (install_size vsn list))))
+    let e = install_event vsn list in
+    ((x : Extent) × MayReach (extent_behind extent (install_size vsn list)) (releases_after (events ++ e ∷ [])) x
+    × IsInstalled (needs_restart vsn list) events x vsn list f (behind_run r) a)
+    ⊎ (a ≡ failed (Some e) (dead (uncertain events extent e (install_size vsn list))))
 
--- A script that isn't run is refused; one that may begin does, where the record of its event fits.
+-- A script that isn't run is refused; one that may begin does, where the record of its event fits, and with a restart that of
+-- the next boot behind it.
 abbrev pub Begins : Events → Extent → Processes → List ℕ → Releases → FoundForm → Option Failure → Reply → Type 0
 Begins events extent ps vsn list f (Some why) a = a ≡ refused (script_refused why) (running events extent ps)
 Begins events extent ps vsn list f None a =
-    (HasSpace extent (install_size vsn list) × Leads events extent ps vsn list f (upgrade_outcome vsn list f ps) a)
-    ⊎ ((HasSpace extent (install_size vsn list) → ⊥) × (a ≡ refused full (running events extent ps)))
+    (HasSpace extent (install_room vsn list) × Leads events extent ps vsn list f (upgrade_outcome vsn list f ps) a)
+    ⊎ ((HasSpace extent (install_room vsn list) → ⊥) × (a ≡ refused full (running events extent ps)))
 
 -- The list or the relups refuse the installation, or there is a script for it.
 abbrev pub Installs : Events → Extent → Processes → List ℕ → Releases → Result FoundForm HandlerError → Reply → Type 0

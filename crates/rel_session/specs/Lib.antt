@@ -7,6 +7,7 @@ pub mod Node
 pub mod Refusals
 pub mod Run
 pub mod RunLaws
+pub mod Booting
 pub mod Installation
 pub mod Transition
 pub mod Output

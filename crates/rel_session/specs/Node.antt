@@ -1,5 +1,5 @@
 -- Where the disk of a node stands, and what a command's reply says.
-use Rattle.std.specs.Prelude.{ℕ, Bool, true, false, List, [], ◌∷◌, Option, None, Some}
+use Rattle.std.specs.Prelude.{ℕ, Bool, true, false, List, [], ◌∷◌, ◌++◌, Option, None, Some}
 use Rattle.rel_list.specs.Releases.{Releases}
 use Rattle.rel_list.specs.Event.{Event, list_after}
 use Rattle.rel_handler.specs.Events.{Events, Stored, certain}
@@ -73,6 +73,10 @@ behind e a =
       failed = a.outcome.failed;
     } in
     reply a.answer outcome a.after
+
+-- the reply whose answer stands behind this text
+abbrev pub with_text : List ℕ → Reply → Reply
+with_text text a = reply (text ++ a.answer) a.outcome a.after
 
 -- a refusal: nothing was done
 abbrev pub refused : Refusal → Place → Reply

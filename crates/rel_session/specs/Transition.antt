@@ -2,17 +2,15 @@
 use Rattle.std.specs.Prelude.{◌≡◌, ◌⊎◌, ℕ, Bool, true, false, List, [], ◌∷◌, ◌++◌, codes, Option, None, Some, Result, Ok, Err}
 use Rattle.erl_term.specs.Printing.{text_of}
 use Rattle.rel_files.specs.Release.{Release}
-use Rattle.rel_list.specs.Releases.{Bundle, Releases, running as running_release, permanent as permanent_release}
-use Rattle.rel_list.specs.Event.{Event, booted, list_after}
-use Rattle.rel_list.specs.Event.Event.{made, unpacked, made_permanent, removed, reboot_old as rebooting, boot as booting}
-use Rattle.rel_handler.specs.declared.error.BootError.{BootError}
-use Rattle.rel_handler.specs.declared.error.BootError.TheVariants as boot_error
+use Rattle.rel_list.specs.Releases.{Bundle, Releases, permanent as permanent_release}
+use Rattle.rel_list.specs.Event.{Event}
+use Rattle.rel_list.specs.Event.Event.{made, unpacked, restart_installed, made_permanent, removed, reboot_old as rebooting, boot as booting}
 use Rattle.node_command.specs.declared.error.HandlerError.{HandlerError}
 use Rattle.node_command.specs.Files.{bundle_brought, made_size, unpacked_size, Brings}
-use Rattle.rel_handler.specs.Events.{Events, Stored, MayHave, certain, uncertain, uncertain_boot}
+use Rattle.rel_handler.specs.Events.{Events, Stored, certain, uncertain}
 use Rattle.rel_handler.specs.Compaction.{MayReach}
-use Rattle.rel_handler.specs.Image.{Extent, booted_extent, extent_behind, first_extent, HasSpace, holds_a_store, IsImageAt}
-use Rattle.rel_handler.specs.Refusals.{IsBootRefusal}
+use Rattle.rel_handler.specs.Image.{Extent, extent_behind, first_extent, HasSpace, holds_a_store}
+use Rattle.rel_handler.specs.Installing.{install_room, install_size, needs_restart}
 use Rattle.node_command.specs.Installing.{installation}
 use Rattle.node_command.specs.Taking.{commanded, change_size}
 use Rattle.node_command.specs.Place.{files_refusal, own_refusal}
@@ -22,6 +20,9 @@ use Rattle.rel_unpack.specs.Source.{Source}
 use Rattle.rel_unpack.specs.Unpacking.{Brought}
 use Rattle.session_input.specs.Commands.{Command}
 use Rattle.relup_command.specs.Answer.{AnswerAt}
+use Rattle.node_upgrade.specs.Upgrade.{script_failure}
+use Rattle.script_steps.specs.Script.{Run}
+use Rattle.relup_exec.specs.Alone.Outcome.{ends}
 use Rattle.relup_script.specs.Search.{FoundForm}
 use Rattle.session_input.specs.Commands.Command.{file, create, set_unpacked, check, install, permanent, remove, reboot_old, boot, start, releases, procs, modules, peek, call, flood, relup, quit, bad}
 use Rattle.node_listing.specs.Listing.{listing, text_value}
@@ -29,14 +30,13 @@ use Rattle.node_processes.specs.Answers.{processes_line, modules_line, peek_line
 use Rattle.node_processes.specs.Calls.{Calls, calls_line, left_by}
 use Rattle.node_processes.specs.Calls.Calls.{once, often}
 use Rattle.node_processes.specs.Processes.{Processes}
-use Rattle.rel_session.specs.Node.{Place, releases_after, just_booted, at_rest, Reply, reply, refused, failed, nothing, done, failed_with, behind}
+pub use Rattle.rel_session.specs.Booting.{ok_line, IsBooted, boot_failed, BootsBytes, FailsOnStore, BootsStore, Boots}
+use Rattle.rel_session.specs.Booting.{store_behind}
+use Rattle.rel_session.specs.Node.{Place, releases_after, just_booted, at_rest, Reply, reply, refused, failed, nothing, done, behind}
 use Rattle.rel_session.specs.Node.Place.{raw, closed, running, dead}
-use Rattle.rel_session.specs.Installation.{Installs}
-use Rattle.rel_session.specs.Refusals.{Refusal, refusal_of, refusal_line, refusal_for, boot_line}
+use Rattle.rel_session.specs.Installation.{Installs, restarted, upgrade_outcome}
+use Rattle.rel_session.specs.Refusals.{Refusal, refusal_of, refusal_line, refusal_for}
 use Rattle.rel_session.specs.Refusals.Refusal.{full, exists, dead as dead_node}
-
-abbrev pub ok_line : List ℕ → List ℕ
-ok_line vsn = codes "ok " ++ (vsn ++ codes "\n")
 
 -- that a command was done, with these details
 abbrev pub done_line : List ℕ → List ℕ
@@ -205,45 +205,9 @@ MakesNode (raw bytes) b a =
 MakesNode (closed s) b a = (a ≡ refused exists (closed s)) ⊎ (a ≡ failed (Some (made (bundle_brought b))) (closed s))
 MakesNode p b a = a ≡ refused exists p
 
--- A boot of a store with these events is done, and a one-shot taken away. The answer names the version of the release that runs.
-abbrev pub IsBooted : Events → Extent → Reply → Type 0
-IsBooted events extent a =
-    (list : Releases) × (list_after events ≡ Some list)
-    × (a ≡ reply (ok_line (version_of (running_release (booted list)))) (done (booting ∷ []))
-    (just_booted (events ++ booting ∷ []) (booted_extent extent list)))
-
--- a boot in which the device failed, so that its event is in doubt
-abbrev pub boot_failed : Place → Reply
-boot_failed p = reply (boot_line boot_error.Device) (failed_with (Some booting)) p
-
--- A boot of a disk with these bytes: they stand for the list of some events, or are refused, or the device failed.
-abbrev pub BootsBytes : List ℕ → Reply → Type 0
-BootsBytes bytes a =
-    ((events : Events) × (list : Releases) × (extent : Extent) × (list_after events ≡ Some list) × IsImageAt bytes list extent
-    × IsBooted events extent a)
-    ⊎ (((why : BootError) × IsBootRefusal bytes why × (a ≡ reply (boot_line why) nothing (raw bytes)))
-    ⊎ ((torn : List ℕ) × (a ≡ boot_failed (raw torn))))
-
--- The device failed in the boot of a store, before it had settled which events the store has, or behind that.
-abbrev pub FailsOnStore : Stored → Reply → Type 0
-FailsOnStore s a =
-    (a ≡ boot_failed (closed s))
-    ⊎ ((events : Events) × (extent : Extent) × MayHave s events extent × (a ≡ boot_failed (closed (uncertain_boot events extent))))
-
--- A boot of a store: it has the acknowledged events, with the one in doubt or without.
-abbrev pub BootsStore : Stored → Reply → Type 0
-BootsStore s a =
-    ((events : Events) × (extent : Extent) × MayHave s events extent × IsBooted events extent a) ⊎ FailsOnStore s a
-
-abbrev pub Boots : Place → Reply → Type 0
-Boots (raw bytes) a = BootsBytes bytes a
-Boots (closed s) a = BootsStore s a
-Boots (running events extent ps) a = BootsStore (certain events extent) a
-Boots (dead s) a = BootsStore s a
-
 -- the store of a node with these events behind a reboot to the release of this version, which reaches so far
 abbrev pub rebooted : Events → Extent → List ℕ → Stored
-rebooted events extent vsn = certain (events ++ rebooting vsn ∷ []) extent
+rebooted events extent vsn = store_behind events (rebooting vsn) extent
 
 -- This list takes a reboot to an old release, or refuses it. Behind the commit the node boots, and that is the answer.
 abbrev pub Reboots : Events → Extent → Processes → List ℕ → Releases → Result Releases HandlerError → Reply → Type 0
@@ -302,14 +266,36 @@ pub record IsRebootAlone (p : Place) (does : Action) (a : Reply) : Type 0 where
       (releases_after (events ++ rebooting vsn ∷ [])) reaches
   pub is : a ≡ reply [] (done (rebooting vsn ∷ [])) (closed (rebooted events reaches vsn))
 
+-- A release was installed by a script that ends with a restart, and there was no memory for the line that tells it or for the
+-- boot behind it: the installation is on the disk, and acknowledged.
+pub record IsRestartAlone (p : Place) (does : Action) (a : Reply) : Type 0 where
+  pub events : Events
+  pub extent : Extent
+  pub processes : Processes
+  pub vsn : List ℕ
+  pub here : p ≡ running events extent processes
+  pub action : does ≡ installs vsn
+  pub found : FoundForm
+  pub is_found : installation vsn (releases_after events) ≡ Ok found
+  pub begins : script_failure vsn (releases_after events) found ≡ None
+  pub run : Run
+  pub ends_so : upgrade_outcome vsn (releases_after events) found processes ≡ ends run
+  pub restarts : needs_restart vsn (releases_after events) ≡ true
+  pub fits : HasSpace extent (install_room vsn (releases_after events))
+  pub reaches : Extent
+  pub behind : MayReach (extent_behind extent (install_size vsn (releases_after events)))
+      (releases_after (events ++ restart_installed vsn ∷ [])) reaches
+  pub is : a ≡ reply [] (done (restart_installed vsn ∷ [])) (closed (restarted events reaches vsn))
+
 -- what is left of a reply whose node is lost: all that it acknowledges is on the disk, but nothing is answered
 abbrev pub without_node : Reply → Reply
 without_node a = reply [] a.outcome (at_rest a.after)
 
--- What stands in place of the reply where memory was refused behind what an action has written: a reboot had none for its
--- boot, or a node had none for its processes or its answer.
+-- What stands in place of the reply where memory was refused behind what an action has written: a reboot had none for its boot, a
+-- restart none for its boot or the line before it, or a node had none for its processes or its answer.
 pub data StopsWithin (p : Place) (does : Action) (a : Reply) : Type 0 where
   without_its_boot : IsRebootAlone p does a → StopsWithin p does a
+  without_its_restart : IsRestartAlone p does a → StopsWithin p does a
   without_its_node : (b : Reply) → Acts p does b → a ≡ without_node b → StopsWithin p does a
 
 -- So a command is stopped within, and the session ends.

@@ -10,7 +10,6 @@ ghost use Rattle.rel_session.specs.declared.place.Place.TheVariants.{Made};
 use crate::booted_node::BootedNode;
 use crate::change::{make_permanent, remove, set_unpacked};
 use crate::check::check_install;
-use crate::install::install;
 use crate::place::{Place, answer_of};
 use crate::processes::{call, flood, list_modules, list_processes, peek};
 use crate::start::start;
@@ -41,6 +40,7 @@ impl<D: Disk> Place<D> {
     {
         match command {
             Command::Create(path) => self.create(rt, alloc, files, path.as_str()),
+            Command::Install(vsn) => self.install(rt, alloc, vsn.as_str()),
             Command::RebootOld(vsn) => self.reboot_old(rt, alloc, vsn.as_str()),
             Command::Boot => {
                 let (place, line) = self.boot(rt, alloc);
@@ -57,7 +57,6 @@ impl<D: Disk> Place<D> {
             ),
             Command::SetUnpacked(_)
             | Command::Check(_)
-            | Command::Install(_)
             | Command::Permanent(_)
             | Command::Remove(_)
             | Command::Start
@@ -136,7 +135,6 @@ fn done_by<D: Disk, R: Threads + Wait + Sync, F: Files>(
     match command {
         Command::SetUnpacked(path) => set_unpacked(alloc, node, files, path.as_str()),
         Command::Check(vsn) => check_install(alloc, node, vsn.as_str()),
-        Command::Install(vsn) => install(rt, alloc, node, vsn.as_str()),
         Command::Permanent(vsn) => make_permanent(alloc, node, vsn.as_str()),
         Command::Remove(vsn) => remove(alloc, node, vsn.as_str()),
         Command::Start => start(alloc, node),
@@ -149,6 +147,7 @@ fn done_by<D: Disk, R: Threads + Wait + Sync, F: Files>(
         }
         Command::File(_, _)
         | Command::Create(_)
+        | Command::Install(_)
         | Command::RebootOld(_)
         | Command::Boot
         | Command::Releases

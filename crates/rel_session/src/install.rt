@@ -1,21 +1,21 @@
 //! Installs a release.
-ghost use Rattle.std.specs.Prelude.{◌≡◌, false, map, string_bytes, IfOk, IsErr};
+ghost use Rattle.std.specs.Prelude.{◌≡◌, ◌++◌, map, string_bytes, IfErr, IfOk, IsErr, IsOkAnd};
 ghost use Rattle.erl_term.specs.Value.{value_of};
 ghost use Rattle.erl_term.specs.Value.Value.{atom};
 ghost use Rattle.node_upgrade.specs.Failure.{failure_of};
 ghost use Rattle.node_upgrade.specs.Failure.Why.{fails};
-ghost use Rattle.rel_handler.specs.State.{is_dead};
-ghost use Rattle.rel_session.specs.InMemory.{IsSoundNode, Answers, TellsInstallation};
+ghost use Rattle.rel_handler.specs.Commits.{Commits};
+ghost use Rattle.rel_handler.specs.Installing.{install_event, install_size, InstallRefused};
+ghost use Rattle.rel_handler.specs.State.{list_in};
+ghost use Rattle.rel_session.specs.InMemory.{state_in, AnswersAction, HasInstalled, IsSoundNode, IsSoundPlace, TellsInstallation};
 ghost use Rattle.rel_session.specs.Installation.{installed_text, names_value};
 ghost use Rattle.rel_session.specs.Refusals.{refusal_line};
 ghost use Rattle.rel_session.specs.Refusals.Refusal.{must_reboot, script_refused};
-ghost use Rattle.rel_session.specs.Transition.{Acts};
 ghost use Rattle.rel_session.specs.Transition.Action.{installs};
-ghost use Rattle.rel_session.specs.declared.place.Place.TheVariants.{Made};
 ghost use Rattle.script_steps.specs.Fault.Cause.{no_memory};
 
 use crate::booted_node::BootedNode;
-use crate::place::answer_of;
+use crate::place::{Place, answer_of};
 use erl_term::{Term, print};
 use node_command::HandlerError;
 use node_listing::text_term;
@@ -26,21 +26,57 @@ use script_steps::Cause;
 use std::alloc::{AllocError, Global};
 use std::sync::Wait;
 
-/// Installs the release of this version by its script. The answer tells the version and the description of the script's entry,
-/// and the stale modules.
-pub(crate) fn install<D: Disk, R: Wait>(
+impl<D: Disk> Place<D> {
+    /// Installs the release of this version by its script. The answer tells the version and the description of the script's entry,
+    /// and the stale modules. Behind a script that ends with a restart the node boots, and the answer of the boot follows.
+    pub fn install<R: Wait>(
+        self,
+        rt: &R,
+        alloc: Global,
+        vsn: &str,
+    ) -> (Place<D>, Result<String, HandlerError>)
+        requires { IsSoundPlace D.seen D.may_leave self }
+        ensures sound { IsSoundPlace D.seen D.may_leave result.0 }
+        ensures installed { AnswersAction D.Disk (installs vsn.now) result.1 self result.0 }
+    {
+        let mut node = match self {
+            Place::Idle(disk) => return (Place::Idle(disk), Err(HandlerError::Dead)),
+            Place::Made(node) => node,
+        };
+        if node.handler.is_dead() {
+            return (Place::Made(node), Err(HandlerError::Dead));
+        }
+        let done = install_release(rt, alloc, &mut node, vsn);
+        let restarts = done.is_ok() && node.handler.is_dead();
+        match told(alloc, done) {
+            Ok(line) => {
+                if !restarts {
+                    return (Place::Made(node), Ok(line));
+                }
+                let (place, answer) = Place::Made(node).boot(rt, alloc);
+                (place, answer_of(append_answer(line, answer)))
+            }
+            Err(why) => (Place::Made(node), Err(why)),
+        }
+    }
+}
+
+/// Has the node install the release of this version.
+fn install_release<D: Disk, R: Wait>(
     rt: &R,
     alloc: Global,
     node: &mut BootedNode<D>,
     vsn: &str,
-) -> Result<String, HandlerError>
+) -> Result<Installed, InstallError>
     requires sound { IsSoundNode D.seen D.may_leave node.old }
-    requires works { is_dead node.old.handler ≡ false }
     ensures sound { IsSoundNode D.seen D.may_leave node.new }
-    ensures installed { Answers D.Disk (λ p a. Acts p (installs vsn.now) a)
-        result (Made node.old) (Made node.new) }
+    ensures commits { Commits D.Disk (install_event vsn.now (list_in node.old.handler))
+        (install_size vsn.now (list_in node.old.handler)) node.old.handler node.new.handler }
+    ensures installed { IfOk result (HasInstalled D.Disk vsn.now node.old node.new) }
+    ensures refused { IfErr result (InstallRefused D.failures vsn.now node.old.handler
+        node.new.handler (state_in node.old) (state_in node.new)) }
 {
-    let done = node.handler.install_release(
+    node.handler.install_release(
         rt,
         alloc,
         &node.processes.table,
@@ -48,8 +84,18 @@ pub(crate) fn install<D: Disk, R: Wait>(
         &mut node.processes.tree,
         &mut node.processes.loaded,
         vsn,
-    );
-    told(alloc, done)
+    )
+}
+
+/// This line, and the answer behind it.
+fn append_answer(line: String, answer: Result<String, AllocError>) -> Result<String, AllocError>
+    ensures { IfOk result (λ text. IsOkAnd answer (λ b.
+        string_bytes text ≡ string_bytes line ++ string_bytes b)) }
+{
+    let answer = answer?;
+    let mut text = line;
+    text.push_str(answer.as_str())?;
+    Ok(text)
 }
 
 /// What an installation answers.

@@ -57,7 +57,9 @@ pub fn an_empty_disk_begins_with_a_making<D: Disk, F: Files>()
 {}
 
 /// Two runs of the same commands from one place that have written the same text have the same events, acknowledged and
-/// in doubt, command by command. So a text tells which they are, whether the device failed or not.
+/// in doubt, command by command, where the same installations end with a restart. So a text tells which they are, whether the
+/// device failed or not. What ends with a restart has to be known, since its answer has a line more, which may be that of the
+/// next command.
 pub fn a_text_tells_one_run<D: Disk, F: Files>()
     ensures one { (files : F) → TellsOneRun (F.gives files) }
 

@@ -1,9 +1,10 @@
 //! A session of a node: the commands of an input are followed on a disk, and their answers are written.
 //!
 //! The contract of [`session`] is one statement, `IsSession`: the session is a run of transitions over the commands of
-//! its input. Five files tell it, in this order:
+//! its input. Six files tell it, in this order:
 //! - specs/Node: where a disk stands, with the processes of a node that runs, and what a reply is: an answer, the events
 //!   that it acknowledges, at most one event in doubt, and where the disk stands then;
+//! - specs/Booting: what a boot replies;
 //! - specs/Installation: what an installation replies, by what comes of its script;
 //! - specs/Transition: the replies to each command, from each place;
 //! - specs/Run: how replies lead a disk from place to place, and what a crash leaves at each moment: the list of a prefix
@@ -16,8 +17,10 @@
 //! is written once its command was read.
 //!
 //! The processes of a node are those of `node_processes`: a boot starts them, a command lists, peeks at or calls them, and an
-//! installation upgrades them by its script; other changes of the releases leave them as they are. Where memory is refused to
-//! them, the session ends without an answer, and what the command has committed is on the disk.
+//! installation upgrades them by its script; other changes of the releases leave them as they are. Behind an installation whose
+//! script ends with a restart the node boots at once, and the answer has two lines: its own, and that of the boot. Where memory
+//! is refused to the processes, or to a boot behind a commit, the session ends without an answer, and what the command has
+//! committed is on the disk.
 //!
 //! The functions of [`laws`] say what follows for whole runs. docs/ARCHITECTURE.md tells what a further command takes.
 //!

@@ -6,7 +6,7 @@ use Rattle.rel_disk.specs.Damage.{overwritten, Within}
 use Rattle.rel_disk.specs.Moments.{Elapses, LeavesOnly}
 use Rattle.rel_disk.proofs.Moments.{started, goes_on, joined, weakened}
 use Rattle.std.proofs.lemmas.Grind.{same_number_lists}
-use Rattle.rel_store.specs.Changed.{LeavesOthers, IsInRecord, IsInOtherSlot}
+use Rattle.rel_store.specs.Changed.{LeavesOthers, IsFormat, IsInRecord, IsInOtherSlot}
 use Rattle.rel_store.specs.Layout.{part, selected, slot_with, base_slot, base_of}
 use Rattle.rel_store.proofs.Whole.{base-same, selected-le, selected-ge}
 use Rattle.rel_store.specs.Moments.{IsTornFrom, IsTornInSteps}
@@ -42,9 +42,9 @@ module _ {D : Type 0} (moment : D → ℕ) (left_since : D → ℕ → List ℕ 
           let few : k < 288 = omega (arith, lt, long_new) in
           get_or-take 288 c k 0 few ∙ leaves.kept k (omega (arith, few, low, within)) (λ own. absurd (omega (arith, own.0, few, low))) ∙ sym (get_or-take 288 (seen store.disk) k 0 few)
 
-  -- and so have bytes in which a new start text may have changed its own
-  pub base_kept_by_start : (c : List ℕ) → LeavesOthers (IsInOtherSlot (seen store.disk)) (seen store.disk) c → base_of c ≡ base_of (seen store.disk)
-  base_kept_by_start c leaves =
+  -- and so have bytes in which a call may have changed its own below the base slots, but not their selector
+  base_kept_above : (is_own : ℕ → Type 0) → ((i : ℕ) → is_own i → (i ≡ 10) ⊎ (272 ≤ i) → ⊥) → (c : List ℕ) → LeavesOthers is_own (seen store.disk) c → base_of c ≡ base_of (seen store.disk)
+  base_kept_above is_own own_below c leaves =
       ap (λ s. from_be_bytes w64 (part (selected s 272 280) 8 c)) (kept_at 10 (omega arith) (λ own. own_below 10 own (inl refl)))
       ∙ ap (from_be_bytes w64) (same_number_lists (part base 8 c) (part base 8 old) (long_part c (omega (arith, leaves.long, long_old)) ∙ sym (long_part old long_old)) each)
     where
@@ -60,7 +60,7 @@ module _ {D : Type 0} (moment : D → ℕ) (left_since : D → ℕ → List ℕ 
           let within = gate_within (records_in store) (text_in seen store) old store.gate stands_now s.end in
           omega (arith, low, within)
 
-      kept_at : (i : ℕ) → i < 288 → (IsInOtherSlot old i → ⊥) → slice_index c i ≡ slice_index old i
+      kept_at : (i : ℕ) → i < 288 → (is_own i → ⊥) → slice_index c i ≡ slice_index old i
       kept_at i low free = leaves.kept i (omega (arith, low, long_old)) free
 
       high : 272 ≤ base
@@ -68,13 +68,6 @@ module _ {D : Type 0} (moment : D → ℕ) (left_since : D → ℕ → List ℕ 
 
       low : base ≤ 280
       low = selected-le (slice_index old 10) 272 280 280 (omega arith) (omega arith)
-
-      -- what a start text changes lies below the base slots, and isn't their selector
-      own_below : (i : ℕ) → IsInOtherSlot old i → (i ≡ 10) ⊎ (272 ≤ i) → ⊥
-      own_below i (inl nine) (inl ten) = omega arith
-      own_below i (inl nine) (inr high) = omega arith
-      own_below i (inr (from, to)) (inl ten) = omega (arith, from, to, selected-ge (slice_index old 9) 144 16 16 (omega arith) (omega arith))
-      own_below i (inr (from, to)) (inr high) = omega (arith, from, to, selected-le (slice_index old 9) 144 16 144 (omega arith) (omega arith))
 
       long_part : (bytes : List ℕ) → 288 < length bytes → length (part base 8 bytes) ≡ 8
       long_part bytes long = length-take-le 8 (drop base bytes) (omega (arith, length-drop base bytes, long, low))
@@ -85,6 +78,24 @@ module _ {D : Type 0} (moment : D → ℕ) (left_since : D → ℕ → List ℕ 
           get_or-take 8 (drop base c) k 0 few ∙ get_or-drop base c k 0
           ∙ kept_at (base + k) (omega (arith, low, few)) (λ own. own_below (base + k) own (inr (omega (arith, high))))
           ∙ sym (get_or-take 8 (drop base old) k 0 few ∙ get_or-drop base old k 0)
+
+  -- as a new start text does
+  pub base_kept_by_start : (c : List ℕ) → LeavesOthers (IsInOtherSlot (seen store.disk)) (seen store.disk) c → base_of c ≡ base_of (seen store.disk)
+  base_kept_by_start = base_kept_above (IsInOtherSlot (seen store.disk)) own_below
+    where
+      own_below : (i : ℕ) → IsInOtherSlot (seen store.disk) i → (i ≡ 10) ⊎ (272 ≤ i) → ⊥
+      own_below i (inl nine) (inl ten) = omega arith
+      own_below i (inl nine) (inr high) = omega arith
+      own_below i (inr (from, to)) (inl ten) = omega (arith, from, to, selected-ge (slice_index (seen store.disk) 9) 144 16 16 (omega arith) (omega arith))
+      own_below i (inr (from, to)) (inr high) = omega (arith, from, to, selected-le (slice_index (seen store.disk) 9) 144 16 144 (omega arith) (omega arith))
+
+  -- and a change of format
+  pub base_kept_by_format : (c : List ℕ) → LeavesOthers IsFormat (seen store.disk) c → base_of c ≡ base_of (seen store.disk)
+  base_kept_by_format = base_kept_above IsFormat own_below
+    where
+      own_below : (i : ℕ) → IsFormat i → (i ≡ 10) ⊎ (272 ≤ i) → ⊥
+      own_below i eleven (inl ten) = omega (arith, eleven, ten)
+      own_below i eleven (inr high) = omega (arith, eleven, high)
 
   -- each image of its disk now is a store that stands
   pub each_now : (c : List ℕ) → may_leave store.disk c → Stands (records_in store) (text_in seen store) c

@@ -1,5 +1,5 @@
 //! What a session has acknowledged.
-use crate::runs::{BOOT, CAPACITY, LOG, Session, run};
+use crate::runs::{BOOT, CAPACITY, LOG, REST, Session, run};
 use rel_disk::MemDisk;
 use std::alloc::{AllocError, Global};
 use std::sync::Wait;
@@ -10,6 +10,8 @@ use std::thread::Threads;
 pub(crate) struct Expected {
     written: Vec<String>,
     told: Vec<String>,
+    // what a boot tells that comes in place of the one behind a restart: none where the command has none
+    within: Vec<String>,
 }
 
 impl Expected {
@@ -20,15 +22,23 @@ impl Expected {
     ) -> Result<Expected, AllocError> {
         let mut written = Vec::new(alloc);
         let mut told = Vec::new(alloc);
+        let mut within = Vec::new(alloc);
         for count in 0..=session.commands.len() {
             let disk = MemDisk::new(alloc, CAPACITY, LOG)?;
             let lines = session.lines(alloc, count)?;
             let (disk, text) = run(rt, alloc, disk, lines.as_str())?;
             let (_, boot) = run(rt, alloc, disk, BOOT)?;
+            let before = written.last().map_or("", |text: &String| text.as_str());
+            let line = boot_line(text.as_str(), before);
+            within.push(told_within(rt, alloc, lines, text.as_str(), line)?)?;
             written.push(text)?;
             told.push(boot)?;
         }
-        Ok(Expected { written, told })
+        Ok(Expected {
+            written,
+            told,
+            within,
+        })
     }
 
     /// How many commands a session had answered that has written this, before an answer was another one.
@@ -47,9 +57,16 @@ impl Expected {
         self.written.get(answered).map_or("", |text| text.as_str())
     }
 
-    /// Whether a boot may tell this behind so many answers: what it tells behind these commands, or behind one more.
+    /// Whether a boot may tell this behind so many answers: what it tells behind these commands, or behind one more, or within that.
     pub(crate) fn explains(&self, answered: usize, boot: &str) -> bool {
-        self.tells(answered, boot) || self.tells(answered.saturating_add(1), boot)
+        let next = answered.saturating_add(1);
+        self.tells(answered, boot) || self.tells(next, boot) || self.tells_within(next, boot)
+    }
+
+    fn tells_within(&self, count: usize, boot: &str) -> bool {
+        self.within
+            .get(count)
+            .is_some_and(|within| !within.is_empty() && within.as_str() == boot)
     }
 
     fn tells(&self, count: usize, boot: &str) -> bool {
@@ -57,4 +74,37 @@ impl Expected {
             .get(count)
             .is_some_and(|told| told.as_str() == boot)
     }
+}
+
+// The line of the boot with which the last command of this text ended, behind a line of its own; none where it has one line.
+fn boot_line<'a>(text: &'a str, before: &str) -> &'a str {
+    let answer = text.strip_prefix(before).unwrap_or("");
+    match answer.split_once('\n') {
+        Some((_, rest)) if rest.starts_with("ok ") && rest.lines().count() == 1 => rest,
+        _ => "",
+    }
+}
+
+// What a boot tells that comes in place of this one: its line, and what stands behind it.
+fn told_within<H: Threads + Wait + Sync>(
+    rt: &H,
+    alloc: Global,
+    lines: String,
+    text: &str,
+    line: &str,
+) -> Result<String, AllocError> {
+    let mut told = String::from_str(alloc, line)?;
+    if line.is_empty() {
+        return Ok(told);
+    }
+    let mut lines = lines;
+    lines.push_str(REST)?;
+    let (_, all) = run(
+        rt,
+        alloc,
+        MemDisk::new(alloc, CAPACITY, LOG)?,
+        lines.as_str(),
+    )?;
+    told.push_str(all.strip_prefix(text).unwrap_or(""))?;
+    Ok(told)
 }

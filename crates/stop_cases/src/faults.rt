@@ -83,7 +83,11 @@ fn is_explained<H: Threads + Wait + Sync>(
 // Whether the first of these commands is answered Device, and each behind it Dead up to a boot.
 fn is_device_then_dead(text: &str, commands: &[String]) -> bool {
     let mut lines = text.lines();
-    let first = lines.next().unwrap_or("");
+    let mut first = lines.next().unwrap_or("");
+    if is_installed(first, commands) {
+        // its boot is answered behind it
+        first = lines.next().unwrap_or("");
+    }
     if first != "error handler 16 Device" && first != "error boot 3 Device" {
         return false;
     }
@@ -96,4 +100,10 @@ fn is_device_then_dead(text: &str, commands: &[String]) -> bool {
         }
     }
     lines.next().is_none()
+}
+
+// Whether the first of these commands is an installation, and this tells that it is done.
+fn is_installed(line: &str, commands: &[String]) -> bool {
+    let installs = |command: &String| command.starts_with("install ");
+    line.starts_with("ok ") && commands.first().is_some_and(installs)
 }

@@ -17,6 +17,9 @@ pub(crate) const LOG: usize = 4 * CAPACITY;
 /// What is asked behind a session: a boot, the releases and the start record.
 pub(crate) const BOOT: &str = "boot\nreleases\nstart\n";
 
+/// So behind the boot.
+pub(crate) const REST: &str = "releases\nstart\n";
+
 /// The lines of a session.
 #[derive(Drop)]
 pub(crate) struct Session {

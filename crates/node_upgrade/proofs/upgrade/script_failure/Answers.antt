@@ -7,7 +7,7 @@ use Rattle.node_upgrade.proofs.upgrade.script_failure.Goals as goal
 pub returns-in-Ok : goal.returns-in-Ok
 returns-in-Ok c =
     let f = found_of c.args.found.now in
-    c.restart_failure.ensures ∙ told_wrong c.args.vsn.now c.args.list.now f None (sym c.changes_emulator.ensures ∙ c.if-changes_emulator.false) (is_runnable f.script (c.in-Ok.ensures.runnable.0 refl))
+    told_wrong c.args.vsn.now c.args.list.now f None (sym c.changes_emulator.ensures ∙ c.if-changes_emulator.false) (is_runnable f.script (c.in-Ok.ensures.runnable.0 refl))
 
 pub returns-in-Err : goal.returns-in-Err
 returns-in-Err c =

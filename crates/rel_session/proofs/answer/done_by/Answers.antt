@@ -1,10 +1,10 @@
 use Rattle.std.proofs.Common.{rules, refl, sym, ap, ◌∙◌}
 use Rattle.session_input.specs.Commands.{command_of}
-use Rattle.session_input.specs.Commands.Command.{set_unpacked, check, install, permanent, remove, start, procs, modules, peek, call, flood}
+use Rattle.session_input.specs.Commands.Command.{set_unpacked, check, permanent, remove, start, procs, modules, peek, call, flood}
 use Rattle.node_processes.specs.Answers.{processes_line, modules_line, peek_line}
 use Rattle.node_processes.specs.Calls.Calls.{once, often}
 use Rattle.rel_session.specs.Transition.{check_line, permanence, removal}
-use Rattle.rel_session.specs.Transition.Action.{changes_node, installs, tells_start, calls}
+use Rattle.rel_session.specs.Transition.Action.{changes_node, tells_start, calls}
 use Rattle.rel_session.specs.declared.place.Place.TheVariants as memory
 use Rattle.rel_session.proofs.DeviceLemmas.{IsDevice}
 use Rattle.rel_session.proofs.Replies.{changes_dead, idle_needs}
@@ -26,11 +26,6 @@ returns-in-Check-clause-answered g c =
     let vsn = c.as_str-in-Check.result.now in
     tells_node g.D.Disk (memory.Made c.args.node.now) (memory.Made c.check_install.new.node) (g.F.Files.gives c.args.files.now) (command_of c.args.command.now) (check vsn) c.check_install.result
     (ap command_of c.in-Check.is ∙ ap (λ s. check s) (sym c.as_str-in-Check.ensures.value)) (λ list ps. check_line vsn list) (λ p. refl) c.check_install.ensures.told
-
-pub returns-in-Install-clause-answered : goal.returns-in-Install-clause-answered
-returns-in-Install-clause-answered g c =
-    answers_action g.D.Disk (memory.Made c.args.node.now) (memory.Made c.install.new.node) (g.F.Files.gives c.args.files.now) (command_of c.args.command.now) (install c.as_str-in-Install.result.now) c.install.result
-    (ap command_of c.in-Install.is ∙ ap (λ s. install s) (sym c.as_str-in-Install.ensures.value)) (installs c.as_str-in-Install.result.now) (λ p. refl) c.install.ensures.installed
 
 pub returns-in-Permanent-clause-answered : goal.returns-in-Permanent-clause-answered
 returns-in-Permanent-clause-answered g c =

@@ -1,7 +1,7 @@
-use Rattle.std.proofs.Common.{length}
+use Rattle.std.proofs.Common.{◌≡◌, ◌+◌, length, subst, arith}
 use Rattle.rel_list.specs.Event.{event_of}
-use Rattle.rel_handler.specs.Refusals.{CommandRefused}
-use Rattle.rel_handler.specs.State.{list_in, store_extent}
+use Rattle.rel_handler.specs.Refusals.{CommandRefused, HasNoRoom}
+use Rattle.rel_handler.specs.State.{extent_in, list_in, store_extent}
 use Rattle.rel_handler.specs.declared.handler.Handler.{Handler}
 use Rattle.node_command.proofs.Refusals.{refuses_with}
 use Rattle.rel_handler.proofs.Commits.{rested, same_with, no_room}
@@ -24,5 +24,7 @@ returns-in_err-make_room-clause-refused g c =
     let size = length c.args.body.now in
     let why = c.in_err-make_room.field-0.0 in
     let mid : Handler _ = record { store = c.make_room.new.store; list = h.list; dead = h.dead } in
+    let still : size + 0 ≡ size = omega arith in
     refuses_with (CommandRefused g.D.Disk.failures e size h mid) c.from_residual.result why c.from_residual.ensures
-    (no_room g.D.Disk.failures e size h mid why c.requires.allowed (same_with h c.make_room.new.store c.make_room.ensures.kept) c.in_err-make_room.ensures.refused)
+    (no_room g.D.Disk.failures e size h mid why c.requires.allowed (same_with h c.make_room.new.store c.make_room.ensures.kept)
+    (subst (λ n. HasNoRoom (extent_in h) n why) still c.in_err-make_room.ensures.refused))

@@ -1,16 +1,11 @@
-use Rattle.std.proofs.Common.{◌∙◌}
+use Rattle.std.proofs.Common.{false, ◌∙◌}
 use Rattle.rel_list.specs.Event.{event_of}
 use Rattle.node_command.specs.Taking.{change_size}
 use Rattle.node_command.proofs.Refusals.{refuses_with}
 use Rattle.rel_handler.specs.Refusals.{CommandRefused}
 use Rattle.rel_handler.specs.State.{list_in}
-use Rattle.rel_handler.proofs.Commits.{none_behind}
-use Rattle.rel_handler.proofs.CompactionLemmas.{commits_alive, commits_compacting, committed_change, fails_compacting, is_done_alive}
+use Rattle.rel_handler.proofs.CompactionLemmas.{commits_alive, commits_compacting, committed_change, fails_compacting, is_done_with}
 use Rattle.rel_handler.proofs.handler.Handler.change.Goals as goal
-
--- it made no release a one-shot
-pub compact-requires-clause-free : goal.compact-requires-clause-free
-compact-requires-clause-free g c = none_behind g.D.Disk (event_of c.args.event) _ c.args.self.now c.append_change.new.self c.requires.other c.in_ok-append_change.ensures.appended
 
 -- the device failed behind the commit
 pub returns-in_err-compact-clause-commits : goal.returns-in_err-compact-clause-commits
@@ -18,7 +13,7 @@ returns-in_err-compact-clause-commits g c =
     let h = c.args.self.now in
     let e = event_of c.args.event in
     let a = c.in_ok-append_change.ensures in
-    let committed = committed_change g.D.Disk h c.requires.sound c.requires.works e _ c.append_change.new.self a.commits a.appended a.ready a.start g.met.D.Disk.reads_an_image c.requires.other c.requires.stays in
+    let committed = committed_change g.D.Disk h c.requires.sound c.requires.works e _ c.append_change.new.self a.commits a.appended a.ready a.start g.met.D.Disk.reads_an_image c.requires.stays in
     commits_compacting g.D.Disk h e _ c.append_change.new.self committed g.met.D.Disk.reads_an_image c.compact.new.self c.compact.ensures.compacts
 
 pub returns-in_err-compact-clause-refused : goal.returns-in_err-compact-clause-refused
@@ -26,7 +21,7 @@ returns-in_err-compact-clause-refused g c =
     let h = c.args.self.now in
     let e = event_of c.args.event in
     let a = c.in_ok-append_change.ensures in
-    let committed = committed_change g.D.Disk h c.requires.sound c.requires.works e _ c.append_change.new.self a.commits a.appended a.ready a.start g.met.D.Disk.reads_an_image c.requires.other c.requires.stays in
+    let committed = committed_change g.D.Disk h c.requires.sound c.requires.works e _ c.append_change.new.self a.commits a.appended a.ready a.start g.met.D.Disk.reads_an_image c.requires.stays in
     let why = c.in_err-compact.field-0.0 in
     refuses_with (CommandRefused g.D.Disk.failures e (change_size e (list_in h)) h c.compact.new.self) c.from_residual-in_err-compact.result why c.from_residual-in_err-compact.ensures
     (fails_compacting g.D.Disk h e _ c.append_change.new.self committed g.met.D.Disk.reads_an_image c.compact.new.self c.compact.ensures.compacts why c.in_err-compact.ensures.device c.in_err-compact.ensures.failed)
@@ -37,16 +32,16 @@ returns-clause-commits g c =
     let h = c.args.self.now in
     let e = event_of c.args.event in
     let a = c.in_ok-append_change.ensures in
-    let committed = committed_change g.D.Disk h c.requires.sound c.requires.works e _ c.append_change.new.self a.commits a.appended a.ready a.start g.met.D.Disk.reads_an_image c.requires.other c.requires.stays in
-    commits_alive g.D.Disk h e _ c.append_change.new.self committed g.met.D.Disk.reads_an_image c.compact.new.self c.compact.ensures.compacts c.in_ok-compact.ensures.done
+    let committed = committed_change g.D.Disk h c.requires.sound c.requires.works e _ c.append_change.new.self a.commits a.appended a.ready a.start g.met.D.Disk.reads_an_image c.requires.stays in
+    commits_alive g.D.Disk h e _ c.append_change.new.self committed g.met.D.Disk.reads_an_image c.compact.new.self c.compact.ensures.compacts c.in_ok-compact.ensures.done c.requires.other
 
 pub returns-clause-done : goal.returns-clause-done
 returns-clause-done g c =
     let h = c.args.self.now in
     let e = event_of c.args.event in
     let a = c.in_ok-append_change.ensures in
-    let committed = committed_change g.D.Disk h c.requires.sound c.requires.works e _ c.append_change.new.self a.commits a.appended a.ready a.start g.met.D.Disk.reads_an_image c.requires.other c.requires.stays in
-    is_done_alive g.D.Disk h e _ c.append_change.new.self committed g.met.D.Disk.reads_an_image c.compact.new.self c.compact.ensures.compacts c.in_ok-compact.ensures.done
+    let committed = committed_change g.D.Disk h c.requires.sound c.requires.works e _ c.append_change.new.self a.commits a.appended a.ready a.start g.met.D.Disk.reads_an_image c.requires.stays in
+    is_done_with g.D.Disk h e _ c.append_change.new.self committed g.met.D.Disk.reads_an_image c.compact.new.self c.compact.ensures.compacts c.in_ok-compact.ensures.done false
 
 pub returns-clause-start : goal.returns-clause-start
 returns-clause-start g c = c.in_ok-compact.ensures.done.start ∙ c.in_ok-append_change.ensures.start

@@ -1,12 +1,12 @@
-use Rattle.std.proofs.Common.{refl, inl, ap, subst}
+use Rattle.std.proofs.Common.{false, refl, inl, ap, subst}
 use Rattle.rel_list.specs.Event.Event.{made_permanent}
 use Rattle.rel_handler.specs.Commits.{Commits}
 use Rattle.rel_handler.specs.State.{list_in}
 use Rattle.node_command.specs.Taking.{change_size}
 use Rattle.rel_handler.specs.Refusals.{CommandRefused}
 use Rattle.node_command.specs.declared.error.HandlerError.TheVariants.{NoMemory}
-use Rattle.rel_handler.proofs.Commits.{all_same, none_behind, unchanged}
-use Rattle.rel_handler.proofs.CompactionLemmas.{commits_alive, commits_compacting, fails_compacting, is_done_alive, HasCommitted}
+use Rattle.rel_handler.proofs.Commits.{all_same, unchanged}
+use Rattle.rel_handler.proofs.CompactionLemmas.{commits_alive, commits_compacting, fails_compacting, is_done_with, HasCommitted}
 use Rattle.node_command.proofs.Refusals.{refuses_with}
 use Rattle.rel_handler.proofs.handler.Handler.make_permanent.Goals as goal
 
@@ -49,7 +49,7 @@ returns-in_err-compact-clause-commits g c =
     let mid = c.move_permanent.new.self in
     let moved = c.in_ok-move_permanent.ensures in
     let e = made_permanent c.args.vsn.now in
-    let committed = subst (λ vsn. HasCommitted g.D.Disk (made_permanent vsn) (change_size (made_permanent vsn) (list_in h)) h mid) c.in_ok-from_str.ensures.ok (record { commits = moved.commits; appended = moved.appended; other = refl; right = moved.started }) in
+    let committed = subst (λ vsn. HasCommitted g.D.Disk (made_permanent vsn) (change_size (made_permanent vsn) (list_in h)) h mid) c.in_ok-from_str.ensures.ok (record { commits = moved.commits; appended = moved.appended; right = moved.started }) in
     commits_compacting g.D.Disk h e _ mid committed g.met.D.Disk.reads_an_image c.compact.new.self c.compact.ensures.compacts
 
 pub returns-in_err-compact-clause-refused : goal.returns-in_err-compact-clause-refused
@@ -58,7 +58,7 @@ returns-in_err-compact-clause-refused g c =
     let mid = c.move_permanent.new.self in
     let moved = c.in_ok-move_permanent.ensures in
     let e = made_permanent c.args.vsn.now in
-    let committed = subst (λ vsn. HasCommitted g.D.Disk (made_permanent vsn) (change_size (made_permanent vsn) (list_in h)) h mid) c.in_ok-from_str.ensures.ok (record { commits = moved.commits; appended = moved.appended; other = refl; right = moved.started }) in
+    let committed = subst (λ vsn. HasCommitted g.D.Disk (made_permanent vsn) (change_size (made_permanent vsn) (list_in h)) h mid) c.in_ok-from_str.ensures.ok (record { commits = moved.commits; appended = moved.appended; right = moved.started }) in
     let why = c.in_err-compact.field-0.0 in
     refuses_with (CommandRefused g.D.Disk.failures e (change_size e (list_in h)) h c.compact.new.self) c.from_residual-in_err-compact.result why c.from_residual-in_err-compact.ensures
     (fails_compacting g.D.Disk h e _ mid committed g.met.D.Disk.reads_an_image c.compact.new.self c.compact.ensures.compacts why c.in_err-compact.ensures.device c.in_err-compact.ensures.failed)
@@ -69,17 +69,13 @@ returns-clause-commits g c =
     let h = c.args.self.now in
     let mid = c.move_permanent.new.self in
     let moved = c.in_ok-move_permanent.ensures in
-    let committed = subst (λ vsn. HasCommitted g.D.Disk (made_permanent vsn) (change_size (made_permanent vsn) (list_in h)) h mid) c.in_ok-from_str.ensures.ok (record { commits = moved.commits; appended = moved.appended; other = refl; right = moved.started }) in
-    commits_alive g.D.Disk h (made_permanent c.args.vsn.now) _ mid committed g.met.D.Disk.reads_an_image c.compact.new.self c.compact.ensures.compacts c.in_ok-compact.ensures.done
+    let committed = subst (λ vsn. HasCommitted g.D.Disk (made_permanent vsn) (change_size (made_permanent vsn) (list_in h)) h mid) c.in_ok-from_str.ensures.ok (record { commits = moved.commits; appended = moved.appended; right = moved.started }) in
+    commits_alive g.D.Disk h (made_permanent c.args.vsn.now) _ mid committed g.met.D.Disk.reads_an_image c.compact.new.self c.compact.ensures.compacts c.in_ok-compact.ensures.done refl
 
 pub returns-clause-done : goal.returns-clause-done
 returns-clause-done g c =
     let h = c.args.self.now in
     let mid = c.move_permanent.new.self in
     let moved = c.in_ok-move_permanent.ensures in
-    let committed = subst (λ vsn. HasCommitted g.D.Disk (made_permanent vsn) (change_size (made_permanent vsn) (list_in h)) h mid) c.in_ok-from_str.ensures.ok (record { commits = moved.commits; appended = moved.appended; other = refl; right = moved.started }) in
-    is_done_alive g.D.Disk h (made_permanent c.args.vsn.now) _ mid committed g.met.D.Disk.reads_an_image c.compact.new.self c.compact.ensures.compacts c.in_ok-compact.ensures.done
-
--- no release is a one-shot then
-pub compact-requires-clause-free : goal.compact-requires-clause-free
-compact-requires-clause-free g c = none_behind g.D.Disk (made_permanent _) _ c.args.self.now c.move_permanent.new.self refl c.in_ok-move_permanent.ensures.appended
+    let committed = subst (λ vsn. HasCommitted g.D.Disk (made_permanent vsn) (change_size (made_permanent vsn) (list_in h)) h mid) c.in_ok-from_str.ensures.ok (record { commits = moved.commits; appended = moved.appended; right = moved.started }) in
+    is_done_with g.D.Disk h (made_permanent c.args.vsn.now) _ mid committed g.met.D.Disk.reads_an_image c.compact.new.self c.compact.ensures.compacts c.in_ok-compact.ensures.done false

@@ -1,11 +1,11 @@
-use Rattle.std.proofs.Common.{refl, inr, ap, subst}
+use Rattle.std.proofs.Common.{inr, ap, subst}
 use Rattle.rel_list.specs.Event.Event.{reboot_old}
 use Rattle.rel_handler.specs.Commits.{Commits}
 use Rattle.rel_handler.specs.Refusals.{CommandRefused}
 use Rattle.rel_handler.specs.State.{list_in}
 use Rattle.node_command.specs.Taking.{change_size}
 use Rattle.node_command.specs.declared.error.HandlerError.TheVariants.{NoMemory}
-use Rattle.rel_handler.proofs.Commits.{all_same, none_behind, unchanged}
+use Rattle.rel_handler.proofs.Commits.{all_same, unchanged}
 use Rattle.rel_handler.proofs.CompactionLemmas.{commits_compacting, done_then, fails_compacting, is_done, refused_then, right_still, HasCommitted}
 use Rattle.node_command.proofs.Refusals.{refuses_with}
 use Rattle.rel_handler.proofs.handler.Handler.reboot_old_release.Goals as goal
@@ -47,7 +47,7 @@ returns-clause-commits g c =
     let h = c.args.self.now in
     let mid = c.move_permanent.new.self in
     let moved = c.in_ok-move_permanent.ensures in
-    let committed = subst (λ vsn. HasCommitted g.D.Disk (reboot_old vsn) (change_size (reboot_old vsn) (list_in h)) h mid) c.in_ok-from_str.ensures.ok (record { commits = moved.commits; appended = moved.appended; other = refl; right = moved.started }) in
+    let committed = subst (λ vsn. HasCommitted g.D.Disk (reboot_old vsn) (change_size (reboot_old vsn) (list_in h)) h mid) c.in_ok-from_str.ensures.ok (record { commits = moved.commits; appended = moved.appended; right = moved.started }) in
     commits_compacting g.D.Disk h (reboot_old c.args.vsn.now) _ mid committed g.met.D.Disk.reads_an_image c.compact.new.self c.compact.ensures.compacts
 
 pub returns-clause-done : goal.returns-clause-done
@@ -55,7 +55,7 @@ returns-clause-done g c =
     let h = c.args.self.now in
     let mid = c.move_permanent.new.self in
     let moved = c.in_ok-move_permanent.ensures in
-    let committed = subst (λ vsn. HasCommitted g.D.Disk (reboot_old vsn) (change_size (reboot_old vsn) (list_in h)) h mid) c.in_ok-from_str.ensures.ok (record { commits = moved.commits; appended = moved.appended; other = refl; right = moved.started }) in
+    let committed = subst (λ vsn. HasCommitted g.D.Disk (reboot_old vsn) (change_size (reboot_old vsn) (list_in h)) h mid) c.in_ok-from_str.ensures.ok (record { commits = moved.commits; appended = moved.appended; right = moved.started }) in
     done_then c.compact.result _ _ (is_done g.D.Disk h (reboot_old c.args.vsn.now) _ mid committed g.met.D.Disk.reads_an_image c.compact.new.self c.compact.ensures.compacts) c.compact.ensures.done
 
 pub returns-clause-started : goal.returns-clause-started
@@ -63,7 +63,7 @@ returns-clause-started g c =
     let h = c.args.self.now in
     let mid = c.move_permanent.new.self in
     let moved = c.in_ok-move_permanent.ensures in
-    let committed = subst (λ vsn. HasCommitted g.D.Disk (reboot_old vsn) (change_size (reboot_old vsn) (list_in h)) h mid) c.in_ok-from_str.ensures.ok (record { commits = moved.commits; appended = moved.appended; other = refl; right = moved.started }) in
+    let committed = subst (λ vsn. HasCommitted g.D.Disk (reboot_old vsn) (change_size (reboot_old vsn) (list_in h)) h mid) c.in_ok-from_str.ensures.ok (record { commits = moved.commits; appended = moved.appended; right = moved.started }) in
     done_then c.compact.result _ _ (right_still g.D.Disk h (reboot_old c.args.vsn.now) _ mid committed g.met.D.Disk.reads_an_image c.compact.new.self c.compact.ensures.compacts) c.compact.ensures.done
 
 pub returns-clause-refused : goal.returns-clause-refused
@@ -71,9 +71,5 @@ returns-clause-refused g c =
     let h = c.args.self.now in
     let mid = c.move_permanent.new.self in
     let moved = c.in_ok-move_permanent.ensures in
-    let committed = subst (λ vsn. HasCommitted g.D.Disk (reboot_old vsn) (change_size (reboot_old vsn) (list_in h)) h mid) c.in_ok-from_str.ensures.ok (record { commits = moved.commits; appended = moved.appended; other = refl; right = moved.started }) in
+    let committed = subst (λ vsn. HasCommitted g.D.Disk (reboot_old vsn) (change_size (reboot_old vsn) (list_in h)) h mid) c.in_ok-from_str.ensures.ok (record { commits = moved.commits; appended = moved.appended; right = moved.started }) in
     refused_then c.compact.result _ _ (λ why device failed. fails_compacting g.D.Disk h (reboot_old c.args.vsn.now) _ mid committed g.met.D.Disk.reads_an_image c.compact.new.self c.compact.ensures.compacts why device failed) c.compact.ensures.device c.compact.ensures.failed
-
--- no release is a one-shot then
-pub compact-requires-clause-free : goal.compact-requires-clause-free
-compact-requires-clause-free g c = none_behind g.D.Disk (reboot_old _) _ c.args.self.now c.move_permanent.new.self refl c.in_ok-move_permanent.ensures.appended

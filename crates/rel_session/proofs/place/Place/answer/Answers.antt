@@ -1,8 +1,8 @@
 use Rattle.std.proofs.Common.{refl, sym, ap, ◌∙◌, map, string_bytes, codes, rules}
 use Rattle.session_input.specs.Commands.{command_of}
-use Rattle.session_input.specs.Commands.Command.{create, reboot_old, boot, releases, relup, bad}
+use Rattle.session_input.specs.Commands.Command.{create, install, reboot_old, boot, releases, relup, bad}
 use Rattle.rel_session.specs.Transition.{Boots, StopsWithin, Transition, listed}
-use Rattle.rel_session.specs.Transition.Action.{answers, reboots_node, boots_node}
+use Rattle.rel_session.specs.Transition.Action.{answers, installs, reboots_node, boots_node}
 use Rattle.rel_session.proofs.DeviceLemmas.{IsDevice}
 use Rattle.rel_session.proofs.Replies.{answers_or_stops}
 use Rattle.rel_session.proofs.ReplyTexts.{answers_command, stops_command, stops_action, never_stopped, answers_still}
@@ -12,6 +12,12 @@ pub returns-in-Create-clause-answered : goal.returns-in-Create-clause-answered
 returns-in-Create-clause-answered g c =
     stops_command g.D.Disk c.args.self c.create.result.0 (g.F.Files.gives c.args.files.now) (command_of c.args.command.now) (create c.as_str.result.now) c.create.result.1
     (ap command_of c.in-Create.is ∙ ap (λ s. create s) (sym c.as_str.ensures.value)) c.create.ensures.created
+
+pub returns-in-Install-clause-answered : goal.returns-in-Install-clause-answered
+returns-in-Install-clause-answered g c =
+    let vsn = c.as_str-in-Install.result.now in
+    stops_action g.D.Disk c.args.self c.install.result.0 (g.F.Files.gives c.args.files.now) (command_of c.args.command.now) (install vsn) c.install.result.1
+    (ap command_of c.in-Install.is ∙ ap (λ s. install s) (sym c.as_str-in-Install.ensures.value)) (installs vsn) (λ p. refl) c.install.ensures.installed
 
 pub returns-in-RebootOld-clause-answered : goal.returns-in-RebootOld-clause-answered
 returns-in-RebootOld-clause-answered g c =
