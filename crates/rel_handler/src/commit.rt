@@ -19,7 +19,7 @@ use rel_list::Event;
 use rel_store::Store;
 use std::alloc::Global;
 
-// Makes room for a record with a body of so many bytes, where further bytes fit behind it. The store is as it was but for memory.
+// Makes room for a record with a body of so many bytes, where so many more fit behind it. The store is as it was but for memory.
 pub(crate) fn make_room<D: Disk>(
     store: &mut Store<D>,
     alloc: Global,

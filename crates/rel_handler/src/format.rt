@@ -10,7 +10,8 @@ use node_command::HandlerError;
 use rel_disk::Disk;
 
 impl<D: Disk> Handler<D> {
-    // Makes the store one of format 2, in which alone a release may be a one-shot. Where the device fails in it, the handler is dead.
+    // Makes the store one of format 2, in which alone a release is written as a one-shot. Where the device fails in it, the
+    // handler is dead.
     pub(crate) fn allow_one_shots(&mut self) -> Result<(), HandlerError>
         requires { IsReady D.seen D.may_leave self.old }
         ensures reformats { Reformats D.Disk self.old self.new }

@@ -31,9 +31,9 @@ impl<D: Disk> Handler<D> {
     /// out first, then the event is committed, and then a long store is compacted; at `Ok` the event is acknowledged (`done`). It
     /// waits for processes that clients have.
     ///
-    /// Where the script ends with a restart of the runtime system, the release isn't current but starts at the next boot, once:
-    /// the handler is dead until then (`dead`). The store becomes one of format 2 (`format`), is not compacted, and has room for the
-    /// record of that boot (`room`).
+    /// Where the script ends with a restart of the runtime system, the release becomes a one-shot, which the next boot starts, once;
+    /// a permanent one stays permanent. The handler is dead until that boot (`dead`). The store becomes one of format 2 (`format`),
+    /// has room for the record of the boot (`room`), and is compacted only where there is no one-shot.
     ///
     /// Refusals, in this order: `Dead`, `NoSuchRelease`, `AlreadyInstalled`, `NoMatchingRelup`; `Refused` for a script that isn't
     /// run; `Full`; `Refused` for an instruction before the point of no return. Nothing has changed then. `MustReboot` for one
@@ -96,8 +96,8 @@ impl<D: Disk> Handler<D> {
         }
     }
 
-    // Commits an installation behind its script, for whose record there is room, and then compacts a long store. Behind a restart
-    // the handler is dead.
+    // Commits an installation behind its script, for whose record there is room, and then compacts a long store, unless there is a
+    // one-shot. Behind a restart the handler is dead.
     fn commit_installation(
         &mut self,
         alloc: Global,
@@ -133,7 +133,7 @@ impl<D: Disk> Handler<D> {
         Ok(())
     }
 
-    // Has the list take an installation, and then the store its record. A store that gets a one-shot is one of format 2.
+    // Has the list take an installation, and then the store its record. One with a restart makes the store one of format 2 first.
     fn write_installation(
         &mut self,
         alloc: Global,

@@ -20,8 +20,9 @@
 //! An installation finds its script and makes room for its record first. Then the script runs (`node_upgrade`), and behind it
 //! the event is committed (`IsInstalledBy`). What is refused before the script's point of no return has changed nothing, of the
 //! handler and of the processes (`NothingChanged`). A script that fails behind it leaves the handler dead, its list and its disk
-//! as they were (`IsLost`). Behind a script that ends with a restart the handler is dead too, and its list has a one-shot: the next
-//! boot starts that, and there was room for its record beside that of the installation (`install_room`).
+//! as they were (`IsLost`). Behind a script that ends with a restart the handler is dead too. The release is a one-shot
+//! then, unless it is the permanent one: the next boot starts it, and has room for its record, which was asked for together with
+//! that of the installation (`install_room`).
 //!
 //! Behind its commit a command compacts the store, where that has 64 records or more: one record stands for the whole list then
 //! (`compacted`). Where memory is refused to it, or the list has no such record that fits, the store stays as it was, and the
@@ -34,8 +35,8 @@
 //!
 //! A boot has a one-shot as the current release, and has taken it away from the disk by a record of its own before it is `Ok`
 //! (`only`, `acknowledged`): no later boot starts it. A store for which a list with a one-shot stands has room for that record
-//! (`HasBootSpace`). A list with a one-shot is never compacted (`may_be_compacted`), and its store was made one of format 2 before
-//! (`Reformats`).
+//! (`HasBootSpace`). A list with a one-shot is never compacted (`may_be_compacted`), and a store in which a handler writes one
+//! is of format 2 (`format`).
 //!
 //! The law `a_disk_boots_or_is_refused` says of all bytes that they stand for one list or a boot refuses them, never both.
 //!

@@ -32,7 +32,7 @@ use Rattle.rel_session.specs.Node.{Place, Reply, reply, nothing, releases_after,
 use Rattle.rel_session.specs.Node.Place.{raw, closed, running, dead}
 use Rattle.rel_session.specs.Refusals.{boot_line}
 use Rattle.rel_session.specs.Run.Ending.{ended, cut_off}
-use Rattle.rel_session.specs.AnswerLaws.{EachHasAnAnswer, HasAnswer, HasList, IsCertain, IsCompact, LeavesCompactStore, RunsOnce}
+use Rattle.rel_session.specs.AnswerLaws.{EachHasAnAnswer, HasAnswer, HasList, IsCertain, IsCompact, LeavesCompactStore, RunsOneShot}
 use Rattle.rel_session.specs.Transition
 use Rattle.rel_session.specs.Transition.Action.{answers, makes_node, changes_node, installs, reboots_node, boots_node, tells_start, calls}
 use Rattle.node_command.proofs.CommandLemmas.{commanded_step}
@@ -41,7 +41,7 @@ use Rattle.node_upgrade.specs.Failure.{Failure}
 use Rattle.node_upgrade.specs.Upgrade.{script_failure}
 use Rattle.relup_exec.specs.Alone as script
 use Rattle.relup_script.specs.Search.{FoundForm}
-use Rattle.rel_session.specs.Installation.{Begins, Installs, IsInstalled, Leads, restarted_reply, upgrade_outcome}
+use Rattle.rel_session.specs.Installation.{Begins, Installs, IsInstallationReply, Leads, restarted_reply, upgrade_outcome}
 use Rattle.node_processes.specs.Scripts.{behind_run}
 use Rattle.script_steps.specs.Script.{Run}
 use Rattle.rel_handler.specs.Installing.{install_room, install_size, installation_event, needs_restart}
@@ -195,11 +195,11 @@ changed p c (died events extent list after) = told_reply _ _ _ refl (died events
 changed p c (runs events extent ps list after) = changes events extent ps list c (c.files (releases_after events)) after
 
 -- Behind an installation with a restart the node boots: it starts a one-shot, or the store is as short as it was.
-restart_compact : (events : Events) (x : Extent) → x ≡ compacted x (releases_after events) → (b : Reply) → Transition.IsBooted events x b → RunsOnce b.after ⊎ IsCompact b.after
+restart_compact : (events : Events) (x : Extent) → x ≡ compacted x (releases_after events) → (b : Reply) → Transition.IsBooted events x b → RunsOneShot b.after ⊎ IsCompact b.after
 restart_compact events x compact b (list, after, is) = by_one_shot (has_one_shot (releases_after events)) refl
   where
-    by_one_shot : (c : Bool) → has_one_shot (releases_after events) ≡ c → RunsOnce b.after ⊎ IsCompact b.after
-    by_one_shot true one = inl (subst (λ (t : Reply). RunsOnce t.after) (sym is) (ap has_current (releases-booted events) ∙ current-booted (releases_after events) ∙ one))
+    by_one_shot : (c : Bool) → has_one_shot (releases_after events) ≡ c → RunsOneShot b.after ⊎ IsCompact b.after
+    by_one_shot true one = inl (subst (λ (t : Reply). RunsOneShot t.after) (sym is) (ap has_current (releases-booted events) ∙ current-booted (releases_after events) ∙ one))
     by_one_shot false none = inr (subst (λ (t : Reply). IsCompact t.after) (sym is) (booted_compact events x list none after compact))
 
 -- an installation
@@ -208,14 +208,14 @@ installs_there : (events : Events) (extent : Extent) (ps : Processes) (list : Re
 installs_there events extent ps list vsn after = by_found (installation vsn (releases_after events)) refl
   where
     by_restart : (f : FoundForm) (r : Run) → installation vsn (releases_after events) ≡ Ok f → (size : ℕ) (restarts : Bool)
-        → Has (IsInstalled restarts events (reach events extent (installation_event restarts vsn) size) vsn (releases_after events) f (behind_run r))
+        → Has (IsInstallationReply restarts events (reach events extent (installation_event restarts vsn) size) vsn (releases_after events) f (behind_run r))
     by_restart f r found size restarts = go restarts (list_after-push events (installation_event restarts vsn) list allowed.0 after (commanded_step (installation_event restarts vsn) list allowed.0 allowed.1))
       where
         allowed : (next : Releases) × (commanded (installation_event restarts vsn) list ≡ Ok next)
         allowed = installation_is_commanded restarts vsn list f (subst (λ l. installation vsn l ≡ Ok f) (ap list_or_none after) found)
 
         go : (b : Bool) → list_after (events ++ installation_event b vsn ∷ []) ≡ Some allowed.0
-            → Has (IsInstalled b events (reach events extent (installation_event b vsn) size) vsn (releases_after events) f (behind_run r))
+            → Has (IsInstallationReply b events (reach events extent (installation_event b vsn) size) vsn (releases_after events) f (behind_run r))
         go false then = fair_reply _ _ refl refl (runs (events ++ installed vsn ∷ []) _ _ allowed.0 then) (λ r. stays_compact events extent (installed vsn) size)
         go true then =
             let e = restart_installed vsn in

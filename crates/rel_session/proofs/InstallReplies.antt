@@ -42,7 +42,7 @@ use Rattle.rel_session.specs.declared.place.Place.TheVariants as memory
 use Rattle.rel_session.specs.Device.{Device, LeavesOnly, HasFailed}
 use Rattle.rel_session.specs.Booting.{Boots, BootsStore, store_behind}
 use Rattle.rel_session.specs.InMemory.{state_in, HasInstalled, IsAt, Replied, Answers, AnswersAction, NothingDone, TellsInstallation, TellsOrStops}
-use Rattle.rel_session.specs.Installation.{Begins, Installs, IsInstalled, Leads, installed_line, installed_reply, installed_text, restarted_reply, upgrade_outcome}
+use Rattle.rel_session.specs.Installation.{Begins, Installs, IsInstallationReply, Leads, installed_line, installed_reply, installed_text, restarted_reply, upgrade_outcome}
 use Rattle.rel_session.specs.Node.{Place, Reply, reply, done, refused, failed, behind, releases_after, list_or_none, with_text}
 use Rattle.rel_session.specs.Node.Place.{raw, closed, running, dead}
 use Rattle.rel_session.specs.declared.place.Place.{Place as PlaceInMemory}
@@ -161,7 +161,7 @@ module _ {D : Type 0} (v : Device D) (laws : IsDevice v) (vsn : List ℕ) (n new
 
     -- what is replied behind the commit
     done_so : (events : Events) (extent : Extent) (a : Reply) → IsAt v (memory.Made n) (running events extent ps) → MayReach (extent_behind extent size) (releases_after (events ++ e ∷ [])) (extent_in new.handler)
-        → IsInstalled (needs_restart vsn es) events (extent_in new.handler) vsn es u.found (behind_run r) a → Does (running events extent ps) a
+        → IsInstallationReply (needs_restart vsn es) events (extent_in new.handler) vsn es u.found (behind_run r) a → Does (running events extent ps) a
     done_so events extent a at reach is =
         right_for events extent a at.2 (leads_so u by_script.1 events extent a (ends r) (subst (λ m. HasSpace m room) at.3 fits) carried_out.1 (inl (extent_in new.handler, reach, is)))
 
@@ -182,7 +182,7 @@ module _ {D : Type 0} (v : Device D) (laws : IsDevice v) (vsn : List ℕ) (n new
             (commits.sound.started works) (sym carried_out.2) in
             record {
               given = a;
-              right = (done_so events extent a at reach (subst (λ b. IsInstalled b events x vsn es u.found (behind_run r) a) (sym no_restart) refl), line_is);
+              right = (done_so events extent a at reach (subst (λ b. IsInstallationReply b events x vsn es u.found (behind_run r) a) (sym no_restart) refl), line_is);
               at = place;
               happens = record {
                 moments = subst (λ f. LeavesOnly v (disk_in n.handler) (disk_in new.handler) (IsReached (settled events) (f ∷ []))) e_is (moments_at events at.2);
@@ -210,9 +210,9 @@ module _ {D : Type 0} (v : Device D) (laws : IsDevice v) (vsn : List ℕ) (n new
           let x = extent_in new.handler in
           let at : IsAt v (memory.Made n) (running events extent ps) = (here, living, after, stop, refl) in
           let told : with_text (line_of i) (behind e b) ≡ restarted_reply vsn es u.found (behind_run r) b = (λ j. with_text (sym line_is j) (behind (restart_is j) b)) in
-          let is : IsInstalled true events x vsn es u.found (behind_run r) (with_text (line_of i) (behind e b)) = (b, subst (λ f. BootsStore (store_behind events f x) b) restart_is boot, told) in
+          let is : IsInstallationReply true events x vsn es u.found (behind_run r) (with_text (line_of i) (behind e b)) = (b, subst (λ f. BootsStore (store_behind events f x) b) restart_is boot, told) in
           here_so qs (λ q. Does (running events extent q) (with_text (line_of i) (behind e b))) has
-          (done_so events extent _ at (reaches events extent ps at) (subst (λ c. IsInstalled c events x vsn es u.found (behind_run r) (with_text (line_of i) (behind e b))) (sym restart) is))
+          (done_so events extent _ at (reaches events extent ps at) (subst (λ c. IsInstallationReply c events x vsn es u.found (behind_run r) (with_text (line_of i) (behind e b))) (sym restart) is))
 
       -- Where there was no memory for the boot, or for the line before it, the installation alone is on the disk.
       alone_then : (events : Events) (extent : Extent) (qs : Processes) → IsAt v (memory.Made n) (running events extent qs) → Stops (running events extent qs) (reply [] (done (e ∷ [])) (closed (store_behind events e (extent_in new.handler))))

@@ -18,7 +18,7 @@ use Rattle.relup_exec.specs.Alone.Outcome.{ends, refuses, breaks}
 use Rattle.relup_script.specs.Search.{FoundForm}
 use Rattle.script_steps.specs.Script.{Run}
 use Rattle.rel_session.specs.Booting.{BootsStore}
-use Rattle.rel_session.specs.Installation.{Begins, Installs, IsInstalled, Leads, installed_reply, restarted, restarted_reply, upgrade_outcome}
+use Rattle.rel_session.specs.Installation.{Begins, Installs, IsInstallationReply, Leads, installed_reply, restarted, restarted_reply, upgrade_outcome}
 use Rattle.rel_handler.specs.Installing.{install_size, installation_event, needs_restart}
 use Rattle.rel_session.specs.Node.{Reply, refused, failed}
 use Rattle.rel_session.specs.Node.Place.{running, dead}
@@ -43,7 +43,7 @@ module _ (K : Reply → Type 0) (events : Events) (extent : Extent) (ps : Proces
   so a b is of = subst K (sym is) of
 
   by_restart : OfEach → (f : FoundForm) → installation vsn list ≡ Ok f → (a : Reply) (r : Run) → upgrade_outcome vsn list f ps ≡ ends r → (x : Extent) (restarts : Bool)
-      → IsInstalled restarts events x vsn list f (behind_run r) a → K a
+      → IsInstallationReply restarts events x vsn list f (behind_run r) a → K a
   by_restart of f found a r comes x false is = so a _ is (of.done_so f r x found comes)
   by_restart of f found a r comes x true (b, boot, is) = so a _ is (of.restarted_so f r x b found comes boot)
 

@@ -33,7 +33,7 @@ use Rattle.rel_session.specs.Node.Place.{raw, closed, running, dead}
 use Rattle.rel_session.specs.Refusals.{boot_line}
 use Rattle.rel_session.specs.Run.{Replies, Ending}
 use Rattle.rel_session.specs.Run.Ending.{ended, cut_off, early}
-use Rattle.rel_session.specs.AnswerLaws.{AreSame, HaveOneAnswer, IsCertain, IsCompact, LeaveCompactStores, LeavesCompactStore, RunsOnce}
+use Rattle.rel_session.specs.AnswerLaws.{AreSame, HaveOneAnswer, IsCertain, IsCompact, LeaveCompactStores, LeavesCompactStore, RunsOneShot}
 use Rattle.rel_session.specs.RunLaws.{NoneFails}
 use Rattle.rel_session.specs.Transition
 use Rattle.rel_session.specs.Transition.Action.{answers, makes_node, changes_node, installs, reboots_node, boots_node, tells_start, calls}
@@ -49,7 +49,7 @@ use Rattle.relup_exec.specs.Alone as script
 use Rattle.relup_script.specs.Search.{FoundForm}
 use Rattle.node_upgrade.specs.Stale.{stale_modules}
 use Rattle.node_upgrade.specs.Upgrade.{libraries_at}
-use Rattle.rel_session.specs.Installation.{Begins, installed_line, installed_reply, Installs, IsInstalled, Leads, restarted, restarted_reply, upgrade_outcome}
+use Rattle.rel_session.specs.Installation.{Begins, installed_line, installed_reply, Installs, IsInstallationReply, Leads, restarted, restarted_reply, upgrade_outcome}
 use Rattle.rel_handler.specs.Installing.{install_size, installation_event, needs_restart}
 use Rattle.rel_session.proofs.ListLemmas.{current-booted, list_after-push, same_list}
 
@@ -250,11 +250,11 @@ rests events x r free fine small (inl (es, n, has, (list, after, told))) =
 rests events x r free fine small (inr fails) = boot_failure r _ fails fine
 
 -- Behind a boot that starts no one-shot none is current.
-none_runs_once : (events : Events) (x : Extent) (r : Reply) → has_one_shot (releases_after events) ≡ false → r.outcome.failed ≡ false → Transition.BootsStore (certain events x) r → RunsOnce r.after → ⊥
+none_runs_once : (events : Events) (x : Extent) (r : Reply) → has_one_shot (releases_after events) ≡ false → r.outcome.failed ≡ false → Transition.BootsStore (certain events x) r → RunsOneShot r.after → ⊥
 none_runs_once events x r free fine (inl (es, n, has, (list, after, told))) once =
     let only = has_only events es x n has in
     let none : has_one_shot (releases_after es) ≡ false = subst (λ l. has_one_shot (releases_after l) ≡ false) (sym only.0) free in
-    let here : has_current (releases_after (es ++ booting ∷ [])) ≡ true = subst (λ (t : Reply). RunsOnce t.after) told once in
+    let here : has_current (releases_after (es ++ booting ∷ [])) ≡ true = subst (λ (t : Reply). RunsOneShot t.after) told once in
     let lost : true ≡ false = sym here ∙ ap has_current (releases-booted es) ∙ current-booted (releases_after es) ∙ none in cc
 none_runs_once events x r free fine (inr fails) once = boot_failure r _ fails fine
 
@@ -303,7 +303,7 @@ module _ (a b : Reply) (both : Both a b) where
       works : s.outcome.failed ≡ false
       works = ap (λ (t : Reply). t.outcome.failed) (sym is) ∙ fine
 
-      by_store : has_one_shot (releases_after all) ≡ false → RunsOnce s.after ⊎ IsCompact s.after → x ≡ compacted base (releases_after all)
+      by_store : has_one_shot (releases_after all) ≡ false → RunsOneShot s.after ⊎ IsCompact s.after → x ≡ compacted base (releases_after all)
       by_store none (inl once) = absurd (none_runs_once all x s none works boot once)
       by_store none (inr compact) = one_reach base x (releases_after all) reach (rests all x s none works compact boot)
 
@@ -314,7 +314,7 @@ module _ (a b : Reply) (both : Both a b) where
   -- an installation that was committed
   installed_same : (events others : Events) (base x y : Extent) (vsn : List ℕ) (l : Releases) (f : FoundForm) (ps : Processes) (restarts : Bool) → list_after events ≡ list_after others
       → MayReach base (releases_after (events ++ installation_event restarts vsn ∷ [])) x → MayReach base (releases_after (others ++ installation_event restarts vsn ∷ [])) y
-      → IsInstalled restarts events x vsn l f ps a → IsInstalled restarts others y vsn l f ps b → Same a b
+      → IsInstallationReply restarts events x vsn l f ps a → IsInstallationReply restarts others y vsn l f ps b → Same a b
   installed_same events others base x y vsn l f ps false same reach reach_too is also =
       let e = installed vsn in
       let lists : releases_after (others ++ e ∷ []) ≡ releases_after (events ++ e ∷ []) = ap list_or_none (sym (same_list events others e same)) in

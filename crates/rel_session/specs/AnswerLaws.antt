@@ -79,13 +79,13 @@ HaveRecord (booting ∷ events) = HaveRecord events
 HaveRecord (e ∷ events) = Unit {0}
 
 -- a boot has started a one-shot there, for which the store wasn't compacted
-abbrev pub RunsOnce : Place → Type 0
-RunsOnce (running events extent ps) = has_current (releases_after events) ≡ true
-RunsOnce p = ⊥
+abbrev pub RunsOneShot : Place → Type 0
+RunsOneShot (running events extent ps) = has_current (releases_after events) ≡ true
+RunsOneShot p = ⊥
 
 -- Where these events were committed, such a store was left; behind a restart, unless its boot has started a one-shot.
 abbrev pub LeavesCompactStore : Events → Place → Type 0
-LeavesCompactStore (restart_installed v ∷ events) p = RunsOnce p ⊎ IsCompact p
+LeavesCompactStore (restart_installed v ∷ events) p = RunsOneShot p ⊎ IsCompact p
 LeavesCompactStore events p = HaveRecord events → IsCompact p
 
 -- So each command did: memory was refused to no compaction.

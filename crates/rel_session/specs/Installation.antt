@@ -63,9 +63,9 @@ restarted_reply vsn list f ps b =
 
 -- What is replied behind the commit, by whether there is a restart: the store reaches so far then, and these are the processes
 -- behind the script.
-abbrev pub IsInstalled : Bool → Events → Extent → List ℕ → Releases → FoundForm → Processes → Reply → Type 0
-IsInstalled false events extent vsn list f ps a = a ≡ installed_reply events extent vsn list f ps
-IsInstalled true events extent vsn list f ps a =
+abbrev pub IsInstallationReply : Bool → Events → Extent → List ℕ → Releases → FoundForm → Processes → Reply → Type 0
+IsInstallationReply false events extent vsn list f ps a = a ≡ installed_reply events extent vsn list f ps
+IsInstallationReply true events extent vsn list f ps a =
     (b : Reply) × BootsStore (restarted events extent vsn) b × (a ≡ restarted_reply vsn list f ps b)
 
 -- A script that fails before its point of no return changes nothing. One that fails behind it leaves the node dead, without an
@@ -76,7 +76,7 @@ Leads events extent ps vsn list f (breaks n c) a = a ≡ refused (must_reboot (f
 Leads events extent ps vsn list f (ends r) a =
     let e = install_event vsn list in
     ((x : Extent) × MayReach (extent_behind extent (install_size vsn list)) (releases_after (events ++ e ∷ [])) x
-    × IsInstalled (needs_restart vsn list) events x vsn list f (behind_run r) a)
+    × IsInstallationReply (needs_restart vsn list) events x vsn list f (behind_run r) a)
     ⊎ (a ≡ failed (Some e) (dead (uncertain events extent e (install_size vsn list))))
 
 -- A script that isn't run is refused; one that may begin does, where the record of its event fits, and with a restart that of

@@ -1,5 +1,6 @@
 //! The program `stop_cases`: sessions whose disk stops or fails at each of its calls in turn, a case a line. [`answer`] has the
-//! modes. What a boot finds then has to be what the session had acknowledged, or that and the command in which it was cut off.
+//! modes. What a boot finds then has to be what the session had acknowledged, or that and the command in which it was cut off,
+//! of which an installation with a restart may lack its boot.
 #![tactic(auto)]
 
 mod answers;
