@@ -11,9 +11,9 @@ use Rattle.relup_instruction.specs.Form.{one, timeout_term}
 use Rattle.relup_instruction.specs.declared.instruction.Timeout.TheVariants.{Default}
 use Rattle.relup_instruction.specs.Parts.{one_in, modules_in, over_modules, single_in, tagged_in, instruction_in}
 use Rattle.appup_file.specs.Instruction.{ChangeForm, UpdateForm, AppupInstruction}
-use Rattle.appup_file.specs.Instruction.AppupInstruction.{update, update_supervisor, load_module, add_module, delete_module, add_application, low_level}
-use Rattle.appup_file.specs.Form.{update_members, dynamic, brutal, nothing, full_change, full_update, full_load, full_dependent, full_added, full_members, in_full}
-use Rattle.appup_file.specs.Parts.{change_in, plain, with_dep_mods, update_in, load_in, dependent_in, added_in, app_in, named_in, headed_in, or_low_level, appup_instruction_in}
+use Rattle.appup_file.specs.Instruction.AppupInstruction.{update, load_module, add_module, delete_module, add_application, low_level}
+use Rattle.appup_file.specs.Form.{update_members, dynamic, brutal, nothing, full_change, full_update, supervisor_members, full_load, full_dependent, full_added, full_members, in_full}
+use Rattle.appup_file.specs.Parts.{change_in, of_supervisor, plain, with_dep_mods, update_in, load_in, dependent_in, added_in, app_in, named_in, headed_in, or_low_level, appup_instruction_in}
 
 abbrev changed : List ℕ → ChangeForm → UpdateForm
 changed name c = record (plain name) { change = c }
@@ -26,12 +26,15 @@ alone name (Some c) = refl
 atom_alone : (name s : List ℕ) → update_in name (one (atom s)) ≡ update_in name (full_change (atom s))
 atom_alone name s = go (bytes_eq s (codes "supervisor")) refl
   where
+    in_full_by : Bool → Option AppupInstruction
+    in_full_by b = update_in name (if b then supervisor_members else update_members dynamic (timeout_term Default) (atom s) brutal brutal nothing)
+
+    read : {b : Bool} → bytes_eq s (codes "supervisor") ≡ b → update_in name (one (atom s)) ≡ option_map update (if b then Some (of_supervisor (plain name)) else option_map (changed name) (change_in (atom s)))
+    read is = ap (λ (b : Bool). option_map update (if b then Some (of_supervisor (plain name)) else option_map (changed name) (change_in (atom s)))) is
+
     go : (b : Bool) → bytes_eq s (codes "supervisor") ≡ b → update_in name (one (atom s)) ≡ update_in name (full_change (atom s))
-    go true is = ap (λ (b : Bool). update_in name (if b then one (atom s) else update_members dynamic (timeout_term Default) (atom s) brutal brutal nothing)) (sym is)
-    go false is =
-        ap (λ (b : Bool). if b then Some (update_supervisor name) else option_map update (option_map (changed name) (change_in (atom s)))) is
-        ∙ (ap (option_map update) (alone name (change_in (atom s)))
-        ∙ ap (λ (b : Bool). update_in name (if b then one (atom s) else update_members dynamic (timeout_term Default) (atom s) brutal brutal nothing)) (sym is))
+    go true is = read is ∙ ap in_full_by (sym is)
+    go false is = read is ∙ ap (option_map update) (alone name (change_in (atom s))) ∙ ap in_full_by (sym is)
 
 pub update_defaults : (name : List ℕ) (vs : Values) → update_in name vs ≡ update_in name (full_update vs)
 update_defaults name (value (atom s) no_values) = atom_alone name s

@@ -24,7 +24,7 @@ use Rattle.appup_file.specs.declared.instruction.ModType.{ModType}
 use Rattle.appup_file.specs.declared.instruction.ModType.TheVariants.{Static, Dynamic}
 use Rattle.appup_file.specs.Instruction.{ChangeForm, UpdateForm, LoadForm, DependentForm, AddedForm, AppupInstruction}
 use Rattle.appup_file.specs.Instruction.ChangeForm.{soft, advanced}
-use Rattle.appup_file.specs.Instruction.AppupInstruction.{update, update_supervisor, load_module, add_module, delete_module, add_application, remove_application, restart_application, low_level}
+use Rattle.appup_file.specs.Instruction.AppupInstruction.{update, load_module, add_module, delete_module, add_application, remove_application, restart_application, low_level}
 use Rattle.appup_file.specs.Form.{change_term, mod_type_word, purge_members, update_members, named, full_term, in_full, IsAppupInstruction}
 use Rattle.appup_file.specs.Parts.{change_in, mod_type_in, plain, with_dep_mods, with_post, with_ending, with_purges, with_timed, with_typed, purged_load, app_in, named_in, headed_in, high_level_in, or_low_level, appup_instruction_in}
 use Rattle.appup_file.proofs.Defaults.{silent}
@@ -113,7 +113,6 @@ full (update u) h =
     named_read (codes "update") u.name
     (update_members (atom (mod_type_word u.mod_type)) (timeout_term u.timeout) (change_term u.change) (atom (purge_word u.pre)) (atom (purge_word u.post)) (atoms_term u.dep_mods))
     (update u) h.0 (ap (option_map update) (full_update_in u h.1 h.2))
-full (update_supervisor name) h = named_read (codes "update") name (one (atom (codes "supervisor"))) (update_supervisor name) h refl
 full (load_module l) h =
     named_read (codes "load_module") l.name (purge_members (atom (purge_word l.pre)) (atom (purge_word l.post)) (atoms_term l.dep_mods)) (load_module l) h.0
     (ap (option_map load_module) (full_load_in l h.1))

@@ -1,15 +1,10 @@
 -- Rows of as many terms as no instruction has, and of none.
-use Rattle.std.proofs.Common.{◌≡◌, ◌<◌, ◌≤◌, ℕ, false, List, [], ◌∷◌, length, None, Some, refl, arith}
+use Rattle.std.proofs.Common.{◌≡◌, ◌<◌, ◌≤◌, ℕ, List, [], ◌∷◌, length, None, Some, refl, arith}
 use Rattle.erl_term.specs.declared.term.Term.{Term}
 use Rattle.erl_term.specs.Value.{members_of}
 use Rattle.rel_files.specs.declared.release.StartType.TheVariants.{Permanent}
 use Rattle.appup_file.specs.Instruction.{UpdateForm}
-use Rattle.appup_file.specs.Parts.{update_row, is_supervisor, dep_mods_in, load_in, start_in}
-
-pub no_supervisor : (row : List Term) → 2 ≤ length row → false ≡ is_supervisor (members_of row)
-no_supervisor [] h = absurd (omega arith)
-no_supervisor (t ∷ []) h = absurd (omega arith)
-no_supervisor (t ∷ u ∷ row) h = refl
+use Rattle.appup_file.specs.Parts.{update_row, dep_mods_in, load_in, start_in}
 
 pub no_dep_mods : (row : List Term) → 2 ≤ length row → None ≡ dep_mods_in (members_of row)
 no_dep_mods [] h = absurd (omega arith)

@@ -25,8 +25,8 @@ use Rattle.appup_file.specs.declared.instruction.ModType.{ModType}
 use Rattle.appup_file.specs.declared.instruction.ModType.TheVariants.{Static, Dynamic}
 use Rattle.appup_file.specs.Instruction.{ChangeForm, UpdateForm, LoadForm, DependentForm, AddedForm, AppupInstruction}
 use Rattle.appup_file.specs.Instruction.ChangeForm.{soft, advanced}
-use Rattle.appup_file.specs.Instruction.AppupInstruction.{update, update_supervisor, load_module, add_module, delete_module, add_application, remove_application, restart_application, low_level}
-use Rattle.appup_file.specs.Form.{change_term, mod_type_word, purge_members, update_members, named, full_term, dynamic, brutal, nothing, full_change, full_update, full_load, full_dependent, full_added, full_members, in_full, IsAppupInstruction, Spells}
+use Rattle.appup_file.specs.Instruction.AppupInstruction.{update, load_module, add_module, delete_module, add_application, remove_application, restart_application, low_level}
+use Rattle.appup_file.specs.Form.{change_term, mod_type_word, purge_members, update_members, named, full_term, supervisor_members, dynamic, static, brutal, nothing, full_change, full_update, full_load, full_dependent, full_added, full_members, in_full, IsAppupInstruction, Spells}
 use Rattle.appup_file.specs.Parts.{advanced_in, change_in, mod_type_of, mod_type_in, plain, with_change, with_dep_mods, with_pre, with_post, with_timeout, with_mod_type, with_ending, with_purges, with_timed, with_typed, update_in, purged_load, load_in, dependent_in, start_in, added_in, app_in, named_in, headed_in, high_level_in, or_low_level, appup_instruction_in}
 use Rattle.appup_file.proofs.Defaults.{update_defaults}
 use Rattle.appup_file.proofs.FullTerms.{loaded, depending, added, low_in_full}
@@ -108,19 +108,15 @@ of_atom name s i h e = go (bytes_eq s (codes "supervisor")) refl
     six : Values
     six = update_members dynamic (timeout_term Default) (atom s) brutal brutal nothing
 
+    -- what is written in full is read as the atom is
+    told : (vs : Values) → vs ≡ full_change (atom s) → (update_in name vs ≡ Some i → IsNamed (codes "update") name vs i) → IsNamed (codes "update") name (full_change (atom s)) i
+    told vs is from =
+        subst (λ (ws : Values). IsNamed (codes "update") name ws i) is
+        (from (ap (update_in name) is ∙ (sym (update_defaults name (one (atom s))) ∙ e)))
+
     go : (b : Bool) → bytes_eq s (codes "supervisor") ≡ b → IsNamed (codes "update") name (full_change (atom s)) i
-    go true is =
-        let P : Values → Type 0 = λ vs. IsNamed (codes "update") name vs i in
-        let some : Some (update_supervisor name) ≡ Some i = sym (ap (λ (b : Bool). if b then Some (update_supervisor name) else option_map update (with_change (atom s) (plain name))) is) ∙ e in
-        let same : update_supervisor name ≡ i = cc in
-        let one_is : one (atom (codes "supervisor")) ≡ full_change (atom s) =
-        ap (λ (w : List ℕ). one (atom w)) (sym ((bytes_eq-Decides s (codes "supervisor")).0 is)) ∙ ap (λ (b : Bool). if b then one (atom s) else six) (sym is) in
-        subst P one_is (subst (IsNamed (codes "update") name (one (atom (codes "supervisor")))) same (refl, h))
-    go false is =
-        let P : Values → Type 0 = λ vs. IsNamed (codes "update") name vs i in
-        let six_is : six ≡ full_change (atom s) = ap (λ (b : Bool). if b then one (atom s) else six) (sym is) in
-        let read : update_in name six ≡ Some i = ap (update_in name) six_is ∙ (sym (update_defaults name (one (atom s))) ∙ e) in
-        subst P six_is (of_typed name dynamic (timeout_term Default) (atom s) brutal brutal nothing i h read)
+    go true is = told supervisor_members (ap (λ (b : Bool). if b then supervisor_members else six) (sym is)) (of_typed name static (timeout_term Default) (change_term (advanced nothing)) brutal brutal nothing i h)
+    go false is = told six (ap (λ (b : Bool). if b then supervisor_members else six) (sym is)) (of_typed name dynamic (timeout_term Default) (atom s) brutal brutal nothing i h)
 
 from_update : (name : List ℕ) (vs : Values) (i : AppupInstruction) → IsName name → update_in name vs ≡ Some i → IsNamed (codes "update") name (full_update vs) i
 from_update name no_values i h e = of_typed name dynamic (timeout_term Default) (change_term soft) brutal brutal nothing i h e

@@ -18,7 +18,7 @@ use Rattle.appup_file.specs.declared.instruction.ModType.{ModType}
 use Rattle.appup_file.specs.declared.instruction.ModType.TheVariants.{Static, Dynamic}
 use Rattle.appup_file.specs.Instruction.{ChangeForm, AppupInstruction, VersionForm, AppupEntryForm, AppupForm}
 use Rattle.appup_file.specs.Instruction.ChangeForm.{soft, advanced}
-use Rattle.appup_file.specs.Instruction.AppupInstruction.{update, update_supervisor, load_module, add_module, delete_module, add_application, remove_application, restart_application, low_level}
+use Rattle.appup_file.specs.Instruction.AppupInstruction.{update, load_module, add_module, delete_module, add_application, remove_application, restart_application, low_level}
 use Rattle.appup_file.specs.Instruction.VersionForm.{text, pattern}
 
 -- soft or {advanced, Extra}
@@ -46,7 +46,6 @@ named word name vs = command word (value (atom name) vs)
 abbrev pub full_term : AppupInstruction → Value
 full_term (update u) = named (codes "update") u.name
     (update_members (atom (mod_type_word u.mod_type)) (timeout_term u.timeout) (change_term u.change) (atom (purge_word u.pre)) (atom (purge_word u.post)) (atoms_term u.dep_mods))
-full_term (update_supervisor name) = named (codes "update") name (one (atom (codes "supervisor")))
 full_term (load_module l) = named (codes "load_module") l.name (purge_members (atom (purge_word l.pre)) (atom (purge_word l.post)) (atoms_term l.dep_mods))
 full_term (add_module d) = named (codes "add_module") d.name (one (atoms_term d.dep_mods))
 full_term (delete_module d) = named (codes "delete_module") d.name (one (atoms_term d.dep_mods))
@@ -59,16 +58,23 @@ full_term (low_level i) = relup.instruction_term i
 abbrev pub dynamic : Value
 dynamic = atom (mod_type_word Dynamic)
 
+abbrev pub static : Value
+static = atom (mod_type_word Static)
+
 abbrev pub brutal : Value
 brutal = atom (purge_word Brutal)
 
 abbrev pub nothing : Value
 nothing = list no_values
 
+-- what the word `supervisor` stands for behind a module (OTP: appup(4))
+abbrev pub supervisor_members : Values
+supervisor_members = update_members static (timeout_term Default) (change_term (advanced nothing)) brutal brutal nothing
+
 -- a change that is written alone behind a module
 abbrev pub full_change : Value → Values
 full_change (list vs) = update_members dynamic (timeout_term Default) (change_term soft) brutal brutal (list vs)
-full_change c = if is_word (codes "supervisor") c then one c else update_members dynamic (timeout_term Default) c brutal brutal nothing
+full_change c = if is_word (codes "supervisor") c then supervisor_members else update_members dynamic (timeout_term Default) c brutal brutal nothing
 
 -- what stands behind the module of an update, with the defaults of what is left out
 abbrev pub full_update : Values → Values
@@ -112,7 +118,6 @@ in_full v = v
 -- its names are names, and its timeouts are not below 0
 abbrev pub IsAppupInstruction : AppupInstruction → Type 0
 IsAppupInstruction (update u) = IsName u.name × IsTimeout (Some u.timeout) × AllByRecursion IsName u.dep_mods
-IsAppupInstruction (update_supervisor name) = IsName name
 IsAppupInstruction (load_module l) = IsName l.name × AllByRecursion IsName l.dep_mods
 IsAppupInstruction (add_module d) = IsName d.name × AllByRecursion IsName d.dep_mods
 IsAppupInstruction (delete_module d) = IsName d.name × AllByRecursion IsName d.dep_mods

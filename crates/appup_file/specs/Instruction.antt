@@ -51,7 +51,6 @@ pub record AddedForm : Type 0 where
 -- an instruction of an appup (OTP: appup(4))
 pub data AppupInstruction : Type 0 where
   update : UpdateForm → AppupInstruction
-  update_supervisor : List ℕ → AppupInstruction
   load_module : LoadForm → AppupInstruction
   add_module : DependentForm → AppupInstruction
   delete_module : DependentForm → AppupInstruction
@@ -100,7 +99,6 @@ added_of a = record { name = string_bytes a.name; start = a.start }
 
 abbrev pub appup_instruction_of : AppupInstr → AppupInstruction
 appup_instruction_of (instr.Update u) = update (update_of u)
-appup_instruction_of (instr.UpdateSupervisor s) = update_supervisor (string_bytes s)
 appup_instruction_of (instr.LoadModule l) = load_module (load_of l)
 appup_instruction_of (instr.AddModule d) = add_module (dependent_of d)
 appup_instruction_of (instr.DeleteModule d) = delete_module (dependent_of d)

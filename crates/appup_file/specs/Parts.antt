@@ -1,5 +1,5 @@
 -- What is read of the terms of an appup.
-use Rattle.std.specs.Prelude.{ℕ, Bool, false, List, [], Option, None, Some, codes, if◌then◌else◌}
+use Rattle.std.specs.Prelude.{ℕ, List, [], Option, None, Some, codes, if◌then◌else◌}
 use Rattle.std.specs.Option.{option_map, option_and_then}
 use Rattle.std.specs.Str.{bytes_eq}
 use Rattle.erl_term.specs.Value.{Value, Values}
@@ -17,7 +17,7 @@ use Rattle.appup_file.specs.declared.instruction.ModType.{ModType}
 use Rattle.appup_file.specs.declared.instruction.ModType.TheVariants.{Static, Dynamic}
 use Rattle.appup_file.specs.Instruction.{ChangeForm, UpdateForm, LoadForm, DependentForm, AddedForm, AppupInstruction, VersionForm, AppupEntryForm, AppupForm}
 use Rattle.appup_file.specs.Instruction.ChangeForm.{soft, advanced}
-use Rattle.appup_file.specs.Instruction.AppupInstruction.{update, update_supervisor, load_module, add_module, delete_module, add_application, remove_application, restart_application, low_level}
+use Rattle.appup_file.specs.Instruction.AppupInstruction.{update, load_module, add_module, delete_module, add_application, remove_application, restart_application, low_level}
 use Rattle.appup_file.specs.Instruction.VersionForm.{text, pattern}
 
 -- {advanced, Extra}
@@ -60,10 +60,14 @@ with_timeout v u = option_map (λ t. record u { timeout = t }) (timeout_in v)
 abbrev pub with_mod_type : Value → UpdateForm → Option UpdateForm
 with_mod_type v u = option_map (λ k. record u { mod_type = k }) (mod_type_in v)
 
--- a change or DepMods
+-- what the word `supervisor` stands for: the code is static, and the supervisor is asked for its children again
+abbrev pub of_supervisor : UpdateForm → UpdateForm
+of_supervisor u = record u { mod_type = Static; change = advanced (list no_values) }
+
+-- a change, the word `supervisor` or DepMods
 abbrev pub with_last : Value → UpdateForm → Option UpdateForm
 with_last (list vs) u = with_dep_mods (list vs) u
-with_last v u = with_change v u
+with_last v u = if is_word (codes "supervisor") v then Some (of_supervisor u) else with_change v u
 
 -- a change and DepMods
 abbrev pub with_ending : Value → Value → UpdateForm → Option UpdateForm
@@ -91,15 +95,8 @@ update_row (value t (value c (value p (value q (value d no_values))))) u = with_
 update_row (value k (value t (value c (value p (value q (value d no_values)))))) u = with_typed k t c p q d u
 update_row vs u = None
 
--- the one word `supervisor`
-abbrev pub is_supervisor : Values → Bool
-is_supervisor (value v no_values) = is_word (codes "supervisor") v
-is_supervisor vs = false
-
 abbrev pub update_in : List ℕ → Values → Option AppupInstruction
-update_in name vs =
-    if is_supervisor vs then Some (update_supervisor name)
-    else option_map update (update_row vs (plain name))
+update_in name vs = option_map update (update_row vs (plain name))
 
 -- DepMods, none where they are not written
 abbrev pub dep_mods_in : Values → Option (List (List ℕ))

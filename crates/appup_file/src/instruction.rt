@@ -81,8 +81,6 @@ pub struct AddedApp {
 /// An instruction of an appup.
 pub enum AppupInstr {
     Update(Update),
-    /// `{update, Mod, supervisor}`.
-    UpdateSupervisor(String),
     LoadModule(ModuleLoad),
     AddModule(Dependent),
     DeleteModule(Dependent),
@@ -101,9 +99,7 @@ impl Drop for AppupInstr {
             AppupInstr::LoadModule(_load) => {}
             AppupInstr::AddModule(_module) | AppupInstr::DeleteModule(_module) => {}
             AppupInstr::AddApplication(_app) => {}
-            AppupInstr::UpdateSupervisor(_name)
-            | AppupInstr::RemoveApplication(_name)
-            | AppupInstr::RestartApplication(_name) => {}
+            AppupInstr::RemoveApplication(_name) | AppupInstr::RestartApplication(_name) => {}
             AppupInstr::LowLevel(_instr) => {}
         }
     }

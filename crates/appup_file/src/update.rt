@@ -3,7 +3,7 @@ ghost use Rattle.std.specs.Prelude.{◌≡◌, IfOk};
 ghost use Rattle.std.specs.Option.{option_map};
 ghost use Rattle.erl_term.specs.Value.{members_of, value_of};
 ghost use Rattle.appup_file.specs.Instruction.{change_of, update_of, appup_instruction_of};
-ghost use Rattle.appup_file.specs.Parts.{advanced_in, change_in, mod_type_of, mod_type_in, plain, with_change, with_dep_mods, with_pre, with_post, with_timeout, with_mod_type, with_last, with_ending, with_purges, with_timed, with_typed, update_row, is_supervisor, update_in};
+ghost use Rattle.appup_file.specs.Parts.{advanced_in, change_in, mod_type_of, mod_type_in, plain, with_change, with_dep_mods, with_pre, with_post, with_timeout, with_mod_type, with_last, with_ending, with_purges, with_timed, with_typed, of_supervisor, update_row, update_in};
 
 use crate::{AppupInstr, ModType, StateChange, Update};
 use erl_term::Term;
@@ -126,13 +126,23 @@ impl Update {
         Some(self)
     }
 
-    // A change, or the modules on which it depends.
+    // What the word `supervisor` stands for: the code is static, and the supervisor is asked for its children again.
+    fn of_supervisor(mut self, alloc: Global) -> Update
+        ensures { update_of result ≡ of_supervisor (update_of self) }
+    {
+        self.mod_type = ModType::Static;
+        self.change = StateChange::Advanced(Term::List(Vec::new(alloc)));
+        self
+    }
+
+    // A change, the word `supervisor`, or the modules on which it depends.
     fn with_last(self, alloc: Global, term: &Term) -> Result<Option<Update>, AllocError>
         ensures { IfOk result (λ o.
             option_map update_of o ≡ with_last (value_of term.now) (update_of self)) }
     {
         match term {
             Term::List(_) => self.with_dep_mods(alloc, term),
+            _ if is_word(term, "supervisor") => Ok(Some(self.of_supervisor(alloc))),
             _ => self.with_change(term),
         }
     }
@@ -234,16 +244,6 @@ impl Update {
     }
 }
 
-// Whether it is the one word `supervisor`.
-fn is_supervisor(row: &[Term]) -> bool
-    ensures { result ≡ is_supervisor (members_of row.now) }
-{
-    match row {
-        [only] => is_word(only, "supervisor"),
-        _ => false,
-    }
-}
-
 // An update of a module, with what is written behind it.
 pub(crate) fn update_in(
     alloc: Global,
@@ -253,9 +253,6 @@ pub(crate) fn update_in(
     ensures { IfOk result (λ o.
         option_map appup_instruction_of o ≡ update_in name.now (members_of row.now)) }
 {
-    if is_supervisor(row) {
-        return Ok(Some(AppupInstr::UpdateSupervisor(String::from_str(alloc, name)?)));
-    }
     let update = Update::plain(alloc, name)?;
     Ok(update.with_row(alloc, row)?.map(AppupInstr::Update))
 }

@@ -48,7 +48,8 @@ fn push_of_text(alloc: Global, mode: &str, text: &str, answer: &mut Answer) {
     match mode {
         "events" => lists::push_followed(alloc, false, text, answer),
         "readers" => lists::push_followed(alloc, true, text, answer),
-        "bodies" => records::push_behind(alloc, text, "", answer),
+        "bodies" => records::push_behind(alloc, 2, text, "", answer),
+        "bodies_1" => records::push_behind(alloc, 1, text, "", answer),
         "written" => records::push_written(alloc, text, answer),
         "kept" => kept::push_kept(alloc, text, answer),
         "differs" => libraries::push_difference(alloc, text, answer),

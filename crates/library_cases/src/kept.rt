@@ -21,7 +21,7 @@ pub(crate) fn push_kept(alloc: Global, text: &str, answer: &mut Answer) {
     for line in text.split('\n') {
         push_brought(alloc, line, &mut bodies, answer);
     }
-    match read_list(alloc, bodies.as_slice()) {
+    match read_list(alloc, 2, bodies.as_slice()) {
         Ok(list) => push_relups(alloc, &list, answer),
         Err(error) => answer.push_shown(&error),
     }
@@ -44,7 +44,7 @@ fn body_behind(alloc: Global, bodies: &[Vec<u8>], rel: &str, relup: &str) -> Opt
     if bodies.is_empty() {
         made_body(alloc, term, &[], relup).ok()
     } else {
-        let list = read_list(alloc, bodies).ok()?;
+        let list = read_list(alloc, 2, bodies).ok()?;
         unpacked_body(alloc, &list, term, &[], relup).ok()
     }
 }

@@ -9,14 +9,20 @@ use rel_records::read_list;
 use std::alloc::{AllocError, Global};
 use text_cases::Answer;
 
-/// The list that these bodies make, each on a line of its own, or which one is bad. Where the words are those of an event, the
-/// body of the record that it writes behind this list.
-pub(crate) fn push_behind(alloc: Global, bodies: &str, words: &str, answer: &mut Answer) {
+/// The list that these bodies of a store of this format make, each on a line of its own, or which one is bad. Where the words are
+/// those of an event, the body of the record that it writes behind this list.
+pub(crate) fn push_behind(
+    alloc: Global,
+    format: u8,
+    bodies: &str,
+    words: &str,
+    answer: &mut Answer,
+) {
     let mut lines = Vec::new(alloc);
     for line in bodies.split('\n') {
         answer.note(push_line(alloc, line, &mut lines));
     }
-    push_behind_lines(alloc, lines.as_slice(), words, answer);
+    push_behind_lines(alloc, format, lines.as_slice(), words, answer);
 }
 
 // Adds the bytes of a line.
@@ -28,9 +34,15 @@ pub(crate) fn push_line(
     Ok(lines.push(Vec::from_slice(alloc, line.as_bytes())?)?)
 }
 
-fn push_behind_lines(alloc: Global, bodies: &[Vec<u8>], words: &str, answer: &mut Answer) {
+fn push_behind_lines(
+    alloc: Global,
+    format: u8,
+    bodies: &[Vec<u8>],
+    words: &str,
+    answer: &mut Answer,
+) {
     records_make_versions();
-    match read_list(alloc, bodies) {
+    match read_list(alloc, format, bodies) {
         Ok(list) => push_behind_list(alloc, &list, words, answer),
         Err(error) => answer.push_shown(&error),
     }
@@ -48,7 +60,7 @@ fn push_behind_list(alloc: Global, list: &ReleaseList, words: &str, answer: &mut
 /// The body of the record that the event on the first line writes behind the list that the other lines make.
 pub(crate) fn push_written(alloc: Global, text: &str, answer: &mut Answer) {
     match text.split_once('\n') {
-        Some((words, bodies)) => push_behind(alloc, bodies, words, answer),
+        Some((words, bodies)) => push_behind(alloc, 2, bodies, words, answer),
         None => answer.push("no list"),
     }
 }

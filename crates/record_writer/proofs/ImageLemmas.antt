@@ -23,10 +23,10 @@ use Rattle.rel_list.specs.Status.{is_current, status_word}
 use Rattle.rel_list.proofs.LibraryLaws.{libraries-recorded}
 use Rattle.rel_list.proofs.Orderly.{distinct-with_statuses}
 use Rattle.rel_list.proofs.OwnRules.{never_made_again, own_of_step}
-use Rattle.rel_records.specs.Image.{recorded_row, image_of, image_record, image_value, imaged}
+use Rattle.rel_records.specs.Image.{MakesAsImage, recorded_row, image_of, image_record, image_value, imaged}
 use Rattle.rel_records.specs.Depth.{is_within}
 use Rattle.rel_records.specs.Limits.{has_one_permanent, is_small, most_releases}
-use Rattle.rel_records.specs.Lists.{IsMade, Makes, added_by, assign_all, assigned, brought_by, made_by, may_be_assigned, with_one_permanent}
+use Rattle.rel_records.specs.Lists.{IsMadeByRecords, Makes, added_by, assign_all, assigned, brought_by, made_by, may_be_assigned, with_one_permanent}
 use Rattle.rel_records.specs.Reading.{AreImaged, SaysImage, SaysImaged}
 use Rattle.rel_records.specs.Record.{Assignment, image_term, imaged_term, library_terms, printed, relup_or_none}
 use Rattle.rel_records.specs.ReleaseTerm.{file_term}
@@ -35,6 +35,7 @@ use Rattle.record_writer.proofs.DepthLemmas.{within_so}
 use Rattle.rel_records.proofs.EachRelease.{each_made}
 use Rattle.rel_records.proofs.EventRecords.{below, never_current}
 use Rattle.record_writer.proofs.FileTermLemmas.{file_term_says, relup_term_stands}
+use Rattle.rel_records.proofs.FormatLemmas.{stands_so}
 use Rattle.rel_records.proofs.MadeLemmas.{AreSaid, kept_made}
 use Rattle.rel_records.proofs.OrderlyLemmas.{orderly_made}
 use Rattle.rel_records.proofs.RecordLaws.{as_recorded}
@@ -58,7 +59,7 @@ brought_said es r ls o p s all small said libraries of = record {
   said = subst (AreSaid p.release) of.relup (subst (λ (q : Release). AreSaid q o) of.release said);
 }
 
-can_be_said : (bodies : List (List ℕ)) (es : Releases) → Makes bodies es → AllByRecursion CanBeSaid es
+can_be_said : (format : ℕ) (bodies : List (List ℕ)) (es : Releases) → Makes format bodies es → AllByRecursion CanBeSaid es
 can_be_said = each_made CanBeSaid still_said brought_said
 
 -- A list has no more releases than a node may have.
@@ -103,7 +104,7 @@ left_short v es next is short =
     let same : without v es ≡ next = cc gone in
     subst IsShort same (omega (arith, short, length-without v es))
 
-short_made : (bodies : List (List ℕ)) (es : Releases) → Makes bodies es → IsShort es
+short_made : (format : ℕ) (bodies : List (List ℕ)) (es : Releases) → Makes format bodies es → IsShort es
 short_made = kept_made IsShort first_short further_short statuses_short left_short (omega arith)
 
 -- the parts of what holds of each
@@ -118,17 +119,17 @@ settled_recorded (e ∷ es) same = (
   settled_recorded es (rest_recorded e es same),
 )
 
-restorable : (bodies : List (List ℕ)) (es : Releases) → Makes bodies es → HasDistinctVersions es → IsRestorable es
-restorable bodies es makes_it distinct =
-    let (startable, agree) = make_agreeing bodies es makes_it in
+restorable : (format : ℕ) (bodies : List (List ℕ)) (es : Releases) → Makes format bodies es → HasDistinctVersions es → IsRestorable es
+restorable format bodies es makes_it distinct =
+    let (startable, agree) = make_agreeing format bodies es makes_it in
     record {
       startable = startable;
-      small = each_small es (can_be_said bodies es makes_it);
-      settled = settled_recorded es (as_recorded bodies es makes_it);
+      small = each_small es (can_be_said format bodies es makes_it);
+      settled = settled_recorded es (as_recorded format bodies es makes_it);
       distinct = distinct;
       agree = agree;
-      few = short_made bodies es makes_it;
-      one_temporary = (orderly_made bodies es makes_it).one_temporary;
+      few = short_made format bodies es makes_it;
+      one_temporary = (orderly_made format bodies es makes_it).one_temporary;
     }
 
 -- The term of the image says it.
@@ -164,16 +165,25 @@ each-once P [] all = tt
 each-once P (l ∷ ls) all = (all.0, each-filter P _ (each_once ls) (each-once P ls all.1))
 
 -- The image makes the list.
-image_makes : (bodies : List (List ℕ)) (es : Releases) → Makes bodies es → HasDistinctVersions es → (body : List ℕ) → HasTerm 72 body (image_value es) → Makes (body ∷ []) es
-image_makes bodies es makes_it distinct body has = ((image_record es, es, record { term = image_value es; text = has; says = says }, taken es (restorable bodies es makes_it distinct) makes_it.1, refl), makes_it.1)
+image_makes : (format : ℕ) (bodies : List (List ℕ)) (es : Releases) → Makes format bodies es → HasDistinctVersions es → (body : List ℕ) → HasTerm 72 body (image_value es) → MakesAsImage es body
+image_makes format bodies es makes_it distinct body has in_format may = (
+  (
+    image_record es,
+    es,
+    record { term = image_value es; text = has; says = says },
+    stands_so in_format (image_record es) [] es may (taken es (restorable format bodies es makes_it distinct) makes_it.1),
+    refl,
+  ),
+  makes_it.1,
+)
   where
     says : SaysImage (image_value es) (map imaged es) (libraries_of es)
     says = record {
       rows = values_of (map imaged_term (map imaged es));
       libs = library_terms (libraries_of es);
       is = refl;
-      releases = terms_say es (can_be_said bodies es makes_it) (settled_recorded es (as_recorded bodies es makes_it));
-      libraries = terms_of_libraries (libraries_of es) (each-once IsLibrary (libraries_named es) (startable_libraries es (make_agreeing bodies es makes_it).0));
+      releases = terms_say es (can_be_said format bodies es makes_it) (settled_recorded es (as_recorded format bodies es makes_it));
+      libraries = terms_of_libraries (libraries_of es) (each-once IsLibrary (libraries_named es) (startable_libraries es (make_agreeing format bodies es makes_it).0));
     }
 
     taken : (es : Releases) → IsRestorable es → has_one_permanent es ≡ true → assigned (image_record es) [] ≡ Some es
@@ -192,10 +202,10 @@ image_value_so es v rows libs is releases libraries =
     is ∙ (λ j. image_term (values_of (releases j)) (values_of ((libraries ∙ ap (λ (ls : List Library). map library_term (each_once ls)) (sym (libraries-recorded es))) j)))
 
 -- What is read back as that term makes the list.
-pub written_makes : (es : Releases) → IsMade (recorded es) → HasDistinctVersions es → (v : Value) → v ≡ image_value (recorded es) → is_within 72 v ≡ true
-    → (body : List ℕ) → (IsWithin 72 v → HasTerm 72 body v) → Makes (body ∷ []) (recorded es)
-written_makes es (bodies, makes_it) distinct v is within body back =
-    image_makes bodies (recorded es) makes_it (distinct-with_statuses (λ vsn s. recorded_status s) es distinct) body (subst (HasTerm 72 body) is (back (within_so v 72 within)))
+pub written_makes : (es : Releases) → IsMadeByRecords (recorded es) → HasDistinctVersions es → (v : Value) → v ≡ image_value (recorded es) → is_within 72 v ≡ true
+    → (body : List ℕ) → (IsWithin 72 v → HasTerm 72 body v) → MakesAsImage (recorded es) body
+written_makes es (format, bodies, makes_it) distinct v is within body back =
+    image_makes format bodies (recorded es) makes_it (distinct-with_statuses (λ vsn s. recorded_status s) es distinct) body (subst (HasTerm 72 body) is (back (within_so v 72 within)))
 
 -- Its body, where it can be read back.
 pub image_there : (es : Releases) (v : Value) (body : List ℕ) → v ≡ image_value es → is_within 72 v ≡ true → body ≡ printed v → Some body ≡ image_of es

@@ -1,5 +1,5 @@
 // The image of a list: the one record that makes it.
-ghost use Rattle.std.specs.Prelude.{◌≡◌, [], ◌∷◌, map, string_bytes, IfOk};
+ghost use Rattle.std.specs.Prelude.{◌≡◌, map, string_bytes, IfOk};
 ghost use Rattle.std.specs.Option.{option_map, ForSome};
 ghost use Rattle.erl_term.specs.Value.{members_of, value_of};
 ghost use Rattle.library.specs.Library.{library_term};
@@ -8,8 +8,8 @@ ghost use Rattle.rel_list.specs.Keyed.{entry_of};
 ghost use Rattle.rel_list.specs.Releases.{libraries_of};
 ghost use Rattle.relup_file.specs.Form.{relup_term};
 ghost use Rattle.relup_file.specs.Relup.{relup_of};
-ghost use Rattle.rel_records.specs.Image.{recorded_row, image_of, imaged};
-ghost use Rattle.rel_records.specs.Lists.{IsMade, Makes};
+ghost use Rattle.rel_records.specs.Image.{MakesAsImage, recorded_row, image_of, imaged};
+ghost use Rattle.rel_records.specs.Lists.{IsMadeByRecords};
 ghost use Rattle.rel_records.specs.Record.{image_term, imaged_term, relup_or_none};
 
 use crate::depth::can_be_read_back;
@@ -24,12 +24,12 @@ use std::alloc::{AllocError, Global};
 /// The body of the image of this list: a record that makes it alone, as records tell it. Nothing where that couldn't be
 /// read back: a relup may hold a term that is too deep.
 pub fn image_body(alloc: Global, list: &ReleaseList) -> Result<Option<String>, AllocError>
-    requires made { IsMade (recorded list.now) }
+    requires made { IsMadeByRecords (recorded list.now) }
     ensures body { IfOk result (λ o. option_map string_bytes o ≡ image_of (recorded list.now)) }
 
-    // It makes the list, whatever bodies made that before.
+    // It makes the list, whatever bodies made that before, in a store of each format that may have it.
     ensures makes { IfOk result (λ o. ForSome o
-        (λ body. Makes (string_bytes body ∷ []) (recorded list.now))) }
+        (λ body. MakesAsImage (recorded list.now) (string_bytes body))) }
 {
     let rows = row_terms(alloc, list.releases())?;
     let libs = library_terms(alloc, list)?;

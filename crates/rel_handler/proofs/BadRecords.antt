@@ -7,7 +7,7 @@ use Rattle.rel_records.specs.Lists.{Makes, IsBadRecord}
 use Rattle.rel_records.proofs.ListLemmas.{makes_not_bad}
 use Rattle.rel_records.proofs.RecordLaws.{make_or_bad}
 use Rattle.rel_store.specs.Records.{records_of, records_from, onto, is_whole, told_length, told_body}
-use Rattle.rel_store.specs.Layout.{has_magic, base_of, base_slot}
+use Rattle.rel_store.specs.Layout.{has_magic, base_of, base_slot, format_of}
 use Rattle.rel_store.specs.declared.error.StoreError.{StoreError}
 use Rattle.rel_store.specs.declared.error.StoreError.TheVariants as store
 use Rattle.rel_handler.specs.declared.error.BootError.{BootError}
@@ -52,15 +52,15 @@ BootsOrNot bytes = ((es : Releases) × IsImageOf bytes es × (recorded es ≡ es
 pub image_or_refused : (bytes : List ℕ) → BootsOrNot bytes
 image_or_refused bytes = by_records (records_of bytes) refl (of_bytes bytes)
   where
-    by_list : (bodies : List (List ℕ)) → records_of bytes ≡ Ok bodies → ((es : Releases) × Makes bodies es × (recorded es ≡ es)) ⊎ ((i : ℕ) × IsBadRecord bodies i) → BootsOrNot bytes
+    by_list : (bodies : List (List ℕ)) → records_of bytes ≡ Ok bodies → ((es : Releases) × Makes (format_of bytes) bodies es × (recorded es ≡ es)) ⊎ ((i : ℕ) × IsBadRecord (format_of bytes) bodies i) → BootsOrNot bytes
     by_list bodies read (inl (es, is, still)) = elim (boots_or_not (extent_of bytes) es) [
-      | inl room ↦ inl (es, record { bodies = bodies; store = read; list = made_again bodies bodies es refl is; room = room }, still)
+      | inl room ↦ inl (es, record { bodies = bodies; store = read; list = made_again (format_of bytes) bodies es is; room = room }, still)
       | inr over_it ↦ inr (boot.BadRecord (length bodies), (bodies, read, inr (es, is, over_it, refl)))
     ]
     by_list bodies read (inr (i, is_bad)) = inr (boot.BadRecord i, (bodies, read, inl is_bad))
 
     by_records : (r : Result (List (List ℕ)) StoreError) → records_of bytes ≡ r → IsOfBytes r → BootsOrNot bytes
-    by_records (Ok bodies) read is = by_list bodies read (make_or_bad bodies)
+    by_records (Ok bodies) read is = by_list bodies read (make_or_bad (format_of bytes) bodies)
     by_records (Err store.NotAStore) read is = inr (boot.NotAStore, read)
     by_records (Err (store.Damaged at)) read is = inr (boot.Damaged at, read)
     by_records (Err e) read is = absurd is
@@ -75,7 +75,7 @@ no_image_refused bytes es boot.NotAStore image refused = cc (refused, image.stor
 no_image_refused bytes es (boot.Damaged at) image refused = cc (refused, image.store)
 no_image_refused bytes es (boot.BadRecord i) image (bodies, read, inl is_bad) =
     let same : image.bodies ≡ bodies = cc (read, image.store) in
-    makes_not_bad bodies (recorded es) i (subst (λ bs. Makes bs (recorded es)) same image.list.makes) is_bad
+    makes_not_bad (format_of bytes) bodies (recorded es) i (subst (λ bs. Makes (format_of bytes) bs (recorded es)) same image.list.makes) is_bad
 no_image_refused bytes es (boot.BadRecord i) image (bodies, read, inr (fs, makes, over_it, is)) =
     let same : fs ≡ recorded es = recorded_image bytes bodies fs es read makes image in
     over_it (subst (HasBootSpace (extent_of bytes)) (sym same) (space_recorded (extent_of bytes) es image.list.alone image.room))

@@ -10,6 +10,7 @@ use Rattle.rel_list.specs.Event.Event.{boot}
 use Rattle.rel_list.proofs.OneShotLaws.{none_recorded}
 use Rattle.rel_list.proofs.PermanentLaws.{permanent-of_booted, permanent-of_recorded}
 use Rattle.rel_records.specs.Lists.{Makes}
+use Rattle.rel_store.specs.Layout.{format_of}
 use Rattle.rel_store.specs.State as store
 use Rattle.rel_store.specs.Records.{records_of}
 use Rattle.rel_handler.specs.Booting.{IsOpened, IsBootOf, IsBooted, IsOldOrBooted, Leaves, RecordRefused}
@@ -25,20 +26,24 @@ use Rattle.rel_handler.specs.declared.error.BootError.{BootError}
 use Rattle.rel_handler.specs.declared.error.BootError.TheVariants as boot_error
 use Rattle.rel_handler.proofs.BootLists.{booted_recorded, extent_recorded, space_of_recorded, space_recorded}
 use Rattle.rel_handler.proofs.Boots.{IsLack}
-use Rattle.rel_handler.proofs.Images.{settled_extent, started_by}
+use Rattle.rel_handler.proofs.Images.{in_same_format, settled_extent, started_by}
 use Rattle.rel_handler.proofs.Lists.{list_after-push}
 
 -- A handler was read from a disk: it reaches as far as what a read gave.
 pub extent_there : {D : Type 0} (v : Ghosts D) (disk : D) (h : Handler D) → IsOpened v disk h → extent_in h ≡ extent_of (v.seen disk)
 extent_there v disk h opened = sym (ap (λ bytes. extent_of bytes) (sym opened.only_read.same) ∙ settled_extent v.seen v.may_leave h.store opened.read.store)
 
+-- and its store is of the format that these bytes tell
+format_there : {D : Type 0} (v : Ghosts D) (disk : D) (h : Handler D) → IsOpened v disk h → format_of (v.seen disk) ≡ h.store.format
+format_there v disk h opened = ap (λ bytes. format_of bytes) (sym opened.only_read.same) ∙ sym opened.read.store.format
+
 -- There is room for its boot.
 module _ {D : Type 0} (v : Ghosts D) (disk : D) (h : Handler D) (opened : IsOpened v disk h) (room : HasBootSpace (extent_in h) (list_in h)) where
   far : extent_in h ≡ extent_of (v.seen disk)
   far = extent_there v disk h opened
 
-  are_records : AreRecordsOf (store.records_in h.store) (list_in h)
-  are_records = record { makes = subst (Makes (store.records_in h.store)) (sym opened.read.as_recorded) opened.read.makes; alone = λ one. opened.read.as_recorded }
+  are_records : AreRecordsOf h.store.format (store.records_in h.store) (list_in h)
+  are_records = record { makes = subst (Makes h.store.format (store.records_in h.store)) (sym opened.read.as_recorded) opened.read.makes; alone = λ one. opened.read.as_recorded }
 
   pub ready_now : IsReady v.seen v.may_leave h
   ready_now = record { store = opened.read.store; list = are_records; room = room }
@@ -48,7 +53,7 @@ module _ {D : Type 0} (v : Ghosts D) (disk : D) (h : Handler D) (opened : IsOpen
   image_there = record {
     bodies = store.records_in h.store;
     store = ap records_of (sym opened.only_read.same) ∙ opened.read.store.records;
-    list = are_records;
+    list = in_same_format (v.seen disk) h.store.format (store.records_in h.store) (list_in h) (format_there v disk h opened) are_records;
     room = subst (λ x. HasBootSpace x (list_in h)) far room;
   }
 
@@ -116,7 +121,7 @@ record_refused v disk now h opened boot_error.NoMemory refused = tt
 record_refused v disk now h opened (boot_error.BadRecord i) refused = (
   store.records_in h.store,
   ap records_of (sym opened.only_read.same) ∙ opened.read.store.records,
-  inr (list_in h, opened.read.makes, (λ space. refused.0 (subst (λ x. HasBootSpace x (list_in h)) (sym (extent_there v disk h opened)) space)), refused.1),
+  inr (list_in h, subst (λ f. Makes f (store.records_in h.store) (list_in h)) (sym (format_there v disk h opened)) opened.read.makes, (λ space. refused.0 (subst (λ x. HasBootSpace x (list_in h)) (sym (extent_there v disk h opened)) space)), refused.1),
 )
 record_refused v disk now h opened boot_error.NotAStore refused = absurd refused
 record_refused v disk now h opened (boot_error.Damaged at) refused = absurd refused
@@ -127,7 +132,7 @@ pub image_alike : (c : List ℕ) (es fs : Releases) → recorded es ≡ recorded
 image_alike c es fs same alone image = record {
   bodies = image.bodies;
   store = image.store;
-  list = record { makes = subst (Makes image.bodies) same image.list.makes; alone = alone };
+  list = record { makes = subst (Makes (format_of c) image.bodies) same image.list.makes; alone = alone };
   room = space_of_recorded (extent_of c) es fs alone same (space_recorded (extent_of c) es image.list.alone image.room);
 }
 

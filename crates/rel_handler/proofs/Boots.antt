@@ -18,6 +18,7 @@ use Rattle.rel_records.specs.declared.fault.RecordsError.{RecordsError}
 use Rattle.rel_records.specs.declared.fault.RecordsError.TheVariants as fault
 use Rattle.rel_records.proofs.ListLemmas.{makes_not_bad}
 use Rattle.rel_records.proofs.RecordLaws.{as_recorded}
+use Rattle.rel_store.specs.Layout.{format_of}
 use Rattle.rel_store.specs.Contents.{HasOnlyRead, IsSyncedAt}
 use Rattle.rel_store.specs.Creation.{IsNoneOrNew, IsBegunAt, IsUnwritten, Creates, CreationRefused}
 use Rattle.rel_store.specs.Moments.{IsTornFrom}
@@ -37,19 +38,23 @@ use Rattle.rel_handler.specs.declared.error.BootError.TheVariants as boot
 use Rattle.rel_handler.proofs.Images.{first_record, no_boot_space, while_creating}
 
 -- A list that was read from the records of a store: no release of it is current.
-pub made_again : (bodies records : List (List ℕ)) (es : Releases) → bodies ≡ records → Makes bodies es → AreRecordsOf records es
-made_again bodies records es same makes_it =
-    let still = as_recorded bodies es makes_it in
-    subst (λ rs. AreRecordsOf rs es) same (record { makes = subst (Makes bodies) (sym still) makes_it; alone = λ one. still })
+pub made_again : (format : ℕ) (bodies : List (List ℕ)) (es : Releases) → Makes format bodies es → AreRecordsOf format bodies es
+made_again format bodies es makes_it =
+    let still = as_recorded format bodies es makes_it in
+    record { makes = subst (Makes format bodies) (sym still) makes_it; alone = λ one. still }
 
 -- a handler of such a list
-pub sound_so : {D : Type 0} (seen : D → List ℕ) (may_leave : D → List ℕ → Type 0) (of : Store D) (es : Releases) → store.IsSettled seen may_leave of → AreRecordsOf (store.records_in of) es
+pub sound_so : {D : Type 0} (seen : D → List ℕ) (may_leave : D → List ℕ → Type 0) (of : Store D) (es : Releases) → store.IsSettled seen may_leave of → AreRecordsOf of.format (store.records_in of) es
     → has_one_shot es ≡ false → ((c : List ℕ) → may_leave of.disk c → IsStarted es c) → IsSound seen may_leave (record { store = of; list = es; dead = false })
 sound_so seen may_leave of es settled makes_it none started = record {
   ready = λ alive. record { store = settled; list = makes_it; room = no_boot_space (store_extent of) es none };
   started = λ alive. started;
   free = λ alive. none;
 }
+
+-- the list is made by the records that were read
+pub makes_so : (told format : ℕ) (bodies records : List (List ℕ)) (es : Releases) → told ≡ format → bodies ≡ records → Makes told bodies es → Makes format records es
+makes_so told format bodies records es of same makes_it = subst (λ f. Makes f records es) of (subst (λ bs. Makes told bs es) same makes_it)
 
 -- the records that were read are those of the bytes
 pub read_so : (c : List ℕ) (bodies records : List (List ℕ)) → bodies ≡ records → records_of c ≡ Ok records → records_of c ≡ Ok bodies
@@ -69,13 +74,17 @@ settles_so seen may_leave moment left_since old new at s = record { until = s.un
 abbrev pub IsLack : BootError → Type 0
 IsLack e = (e ≡ boot.Device) ⊎ (e ≡ boot.NoMemory)
 
+-- why no list was read from records: one is bad, or memory was refused
+abbrev pub IsBadOrLack : ℕ → List (List ℕ) → RecordsError → Type 0
+IsBadOrLack format bodies e = (e ≡ fault.NoMemory) ⊎ ((i : ℕ) × (e ≡ fault.BadRecord i) × IsBadRecord format bodies i)
+
 -- bytes that stand for a list have no bad record
 pub only_memory : (c : List ℕ) (bodies records : List (List ℕ)) (es : Releases) (e : RecordsError) → bodies ≡ records → records_of c ≡ Ok records → IsImageOf c es
-    → (e ≡ fault.NoMemory) ⊎ ((i : ℕ) × (e ≡ fault.BadRecord i) × IsBadRecord bodies i) → IsLack (told_records e)
+    → IsBadOrLack (format_of c) bodies e → IsLack (told_records e)
 only_memory c bodies records es e same read image (inl memory) = inr (ap told_records memory)
 only_memory c bodies records es e same read image (inr (i, is, bad)) =
     let here : image.bodies ≡ bodies = cc (read, image.store, same) in
-    absurd (makes_not_bad bodies (recorded es) i (subst (λ bs. Makes bs (recorded es)) here image.list.makes) bad)
+    absurd (makes_not_bad (format_of c) bodies (recorded es) i (subst (λ bs. Makes (format_of c) bs (recorded es)) here image.list.makes) bad)
 
 -- a version is short
 version_short : (s : List ℕ) → IsVersion s → length s ≤ 62
@@ -130,9 +139,9 @@ module _ {D : Type 0} (seen : D → List ℕ) (may_leave : D → List ℕ → Ty
   begins (inr (at, begun)) = inr (at, begins_at at begun)
 
 -- the first record of a new node
-pub made_new : (p : Bundle) (body : List ℕ) (records : List (List ℕ)) (es : Releases) → IsWithinLimits (made p) [] → Spells body (record_of (made p) []) → records ≡ body ∷ [] → es ≡ entry p Permanent ∷ [] → AreRecordsOf records es
-made_new p body records es fits spelled is listed =
-    subst (λ rs. AreRecordsOf rs es) (sym is) (subst (λ l. AreRecordsOf (body ∷ []) l) (sym listed) (first_record p body fits spelled))
+pub made_new : (format : ℕ) (p : Bundle) (body : List ℕ) (records : List (List ℕ)) (es : Releases) → IsWithinLimits (made p) [] → Spells body (record_of (made p) []) → records ≡ body ∷ [] → es ≡ entry p Permanent ∷ [] → AreRecordsOf format records es
+made_new format p body records es fits spelled is listed =
+    subst (λ rs. AreRecordsOf format rs es) (sym is) (subst (λ l. AreRecordsOf format (body ∷ []) l) (sym listed) (first_record format p body fits spelled))
 
 -- whether a list has a one-shot, by what it tells of it
 pub one_shot_told : {A B : Type 0} (f : A → B) (told : Option (Bor A)) (o : Option B) → option_map f (option_copied told) ≡ o → is_some told ≡ is_some o

@@ -48,7 +48,7 @@ use Rattle.node_command.specs.declared.error.HandlerError.{HandlerError}
 use Rattle.node_command.specs.declared.error.HandlerError.TheVariants.{Dead, Device, Exists, Full, NoMemory}
 use Rattle.rel_handler.specs.declared.handler.Handler.{Handler}
 use Rattle.node_command.proofs.CommandLemmas.{commanded_step, small_and_few}
-use Rattle.rel_handler.proofs.Images.{base_behind, each_image, extent_so, image_at, same_extent, settled_so, stored_before, stored_after, started_by, started_by_text, while_committing, with_record}
+use Rattle.rel_handler.proofs.Images.{each_image, either_behind, extent_so, image_at, in_same_format, same_extent, same_records, settled_so, stored_before, stored_after, started_by, started_by_text, while_committing, with_record}
 
 -- what holds of a call that didn't fail
 pub opened : {T E : Type 0} (r : Result T E) (P : Type 0) → false ≡ is_err r → OnOk r P → P
@@ -89,16 +89,16 @@ pub read_nothing : {D : Type 0} (v : Ghosts D) (h : Handler D) → ((c : List �
 read_nothing v h only_now = record { same = refl; crash = λ c now. now; any_moment = started v.moment v.left_since (disk_in h) (v.may_leave (disk_in h)) only_now }
 
 -- the releases of a list have the versions of files
-pub have_versions : (bodies : List (List ℕ)) (es : Releases) → AreRecordsOf bodies es → HaveVersions es
-have_versions bodies es are = each-of_recorded (λ (e : Entry). HasVersions e.release) (λ e s has. has) es (make_versions bodies (recorded es) are.makes)
+pub have_versions : (format : ℕ) (bodies : List (List ℕ)) (es : Releases) → AreRecordsOf format bodies es → HaveVersions es
+have_versions format bodies es are = each-of_recorded (λ (e : Entry). HasVersions e.release) (λ e s has. has) es (make_versions format bodies (recorded es) are.makes)
 
 -- its libraries are what the files of applications say
-pub have_libraries : (bodies : List (List ℕ)) (es : Releases) → AreRecordsOf bodies es → HaveLibraries es
-have_libraries bodies es are = subst (AllByRecursion IsLibrary) (libraries-recorded es) (make_libraries bodies (recorded es) are.makes)
+pub have_libraries : (format : ℕ) (bodies : List (List ℕ)) (es : Releases) → AreRecordsOf format bodies es → HaveLibraries es
+have_libraries format bodies es are = subst (AllByRecursion IsLibrary) (libraries-recorded es) (make_libraries format bodies (recorded es) are.makes)
 
 -- a boot can start the releases of a handler that is ready
 pub releases_startable : {D : Type 0} {seen : D → List ℕ} {may_leave : D → List ℕ → Type 0} (h : Handler D) → IsReady seen may_leave h → AreStartable (list_in h)
-releases_startable h ready = startable-of_recorded (list_in h) (make_startable (store.records_in h.store) (recorded (list_in h)) ready.list.makes)
+releases_startable h ready = startable-of_recorded (list_in h) (make_startable h.store.format (store.records_in h.store) (recorded (list_in h)) ready.list.makes)
 
 -- the record of a release that may come in
 pub unpacked_told : (p : Bundle) (es next : Releases) (body : List ℕ) → Spells body (record_of (unpacked p) es) → HaveLibraries es → IsComplete p → commanded (unpacked p) es ≡ Ok next → IsRecordFor body (unpacked p) es
@@ -217,7 +217,8 @@ module _ {D : Type 0} (v : Ghosts D) (h : Handler D) (ready : IsReady v.seen v.m
     starting =
         weakened v.moment v.left_since (disk_in h) (store.disk_in new) _ (HasOldStartOr v.seen h (λ c. start_slot c ≡ slot_with words))
         (λ c either. (
-          image_at c (store.records_in h.store) (list_in h) (extent_in h) (records_stay c either.0) ready.list ready.room
+          image_at c (store.records_in h.store) (list_in h) (extent_in h) (records_stay c either.0)
+              (in_same_format c h.store.format (store.records_in h.store) (list_in h) (stores.format_kept_by_start v.moment v.left_since v.seen v.may_leave h.store ready.store c either.1) ready.list) ready.room
               (extent_so c (store.records_in h.store) (base_of (v.seen (disk_in h))) (records_stay c either.0) (stores.base_kept_by_start v.moment v.left_since v.seen v.may_leave h.store ready.store c either.1)
               ∙ settled_so v.seen v.may_leave h.store ready.store),
           either_slot c either.0,
@@ -230,11 +231,11 @@ module _ {D : Type 0} (v : Ghosts D) (h : Handler D) (ready : IsReady v.seen v.m
         record { dead = refl; list = refl; extent = same_extent (store_extent new) (extent_in h) base end (ap (λ bodies. length bodies) records); any_moment = starting; counted = counted }
 
   -- It is there, and the handler is ready.
-  module _ (new : Store D) (settled : store.IsSettled v.seen v.may_leave new) (records : store.records_in new ≡ store.records_in h.store) (base : store.base_in new ≡ store.base_in h.store) (end : store.end_in new ≡ store.end_in h.store) where
+  module _ (new : Store D) (settled : store.IsSettled v.seen v.may_leave new) (records : store.records_in new ≡ store.records_in h.store) (base : store.base_in new ≡ store.base_in h.store) (end : store.end_in new ≡ store.end_in h.store) (format : store.format_in new ≡ store.format_in h.store) where
     pub ready_still : IsReady v.seen v.may_leave (record { store = new; list = h.list; dead = true })
     ready_still = record {
       store = settled;
-      list = subst (λ bodies. AreRecordsOf bodies h.list) (sym records) ready.list;
+      list = same_records h.store.format new.format (store.records_in h.store) (store.records_in new) h.list format records ready.list;
       room = subst (λ x. HasBootSpace x h.list) (sym (same_extent (store_extent new) (extent_in h) base end (ap (λ bodies. length bodies) records))) ready.room;
     }
 
@@ -262,7 +263,7 @@ module _ {D : Type 0} (v : Ghosts D) (h : Handler D) (s : IsSound v.seen v.may_l
         sound = record {
           ready = λ alive. record {
             store = sound.settled (same.failed ∙ (s.ready alive).store.works);
-            list = subst (λ bodies. AreRecordsOf bodies h.list) (sym same.records) (s.ready alive).list;
+            list = same_records h.store.format reserved.format (store.records_in h.store) (store.records_in reserved) h.list same.format same.records (s.ready alive).list;
             room = subst (λ x. HasBootSpace x h.list) (sym (extent_kept h.store reserved same)) (s.ready alive).room;
           };
           started = λ alive. subst (λ d. (c : List ℕ) → v.may_leave d c → IsStarted (list_in h) c) (sym same.disk) (s.started alive);
@@ -276,7 +277,7 @@ module _ {D : Type 0} (v : Ghosts D) (h : Handler D) (s : IsSound v.seen v.may_l
       same_but_memory = same_with h reserved same
 
   -- A record is appended behind a reservation.
-  module _ (alive : is_dead h ≡ false) (reserved : Store D) (same : store.IsSame h.store reserved) (e : Event) (next : Releases) (body : List ℕ) (told : IsRecordFor body e (list_in h)) (is : step e (list_in h) ≡ Some next) (room_then : HasBootSpace (extent_behind (extent_in h) (length body)) next) where
+  module _ (alive : is_dead h ≡ false) (reserved : Store D) (same : store.IsSame h.store reserved) (e : Event) (next : Releases) (body : List ℕ) (told : IsRecordFor body e (list_in h)) (needs : makes_one_shot e ≡ true → store.format_in h.store ≡ 2) (is : step e (list_in h) ≡ Some next) (room_then : HasBootSpace (extent_behind (extent_in h) (length body)) next) where
     pub reserved_works : store.has_failed reserved ≡ false
     reserved_works = same.failed ∙ (s.ready alive).store.works
 
@@ -286,9 +287,9 @@ module _ {D : Type 0} (v : Ghosts D) (h : Handler D) (s : IsSound v.seen v.may_l
       committing events after =
           subst (λ d. LeavesOnly v.moment v.left_since d (store.disk_in new) (IsStoredAs (uncertain events (extent_in h) e (length body)))) same.disk
           (weakened v.moment v.left_since (store.disk_in reserved) (store.disk_in new) _ (IsStoredAs (uncertain events (extent_in h) e (length body)))
-          (λ c either. while_committing e (list_in h) next (store.records_in h.store) body text events (s.ready alive).list told is after (base_of (v.seen (disk_in h))) (extent_in h) (settled_so v.seen v.may_leave h.store (s.ready alive).store) (s.ready alive).room room_then
+          (λ c either. while_committing h.store.format e (list_in h) next (store.records_in h.store) body text events (s.ready alive).list told needs is after (base_of (v.seen (disk_in h))) (extent_in h) (settled_so v.seen v.may_leave h.store (s.ready alive).store) (s.ready alive).room room_then
           (v.seen (disk_in h)) (sym slot) (s.started alive (v.seen (disk_in h)) (reads (disk_in h))) c
-          (subst (λ bodies. StandsEither bodies body text c) same.records either.0, base_behind v h.store reserved (s.ready alive).store same (length body) c (subst (λ d. LeavesOthers (IsInRecord (store.gate_in reserved) (length body)) (v.seen d) c) same.disk either.1)))
+          (either_behind v h.store reserved (s.ready alive).store same body text c either.0 either.1))
           (both v.moment v.left_since (store.disk_in reserved) (store.disk_in new) _ _ leaves kept))
 
       pub commits : v.failures (store.disk_in reserved) ≤ v.failures (store.disk_in new) → Commits v e (length body) h (record { store = new; list = next; dead = true })
@@ -300,7 +301,7 @@ module _ {D : Type 0} (v : Ghosts D) (h : Handler D) (s : IsSound v.seen v.may_l
 
     -- It is there.
     module _ (new : Store D) (settled : store.IsSettled v.seen v.may_leave new) (added : store.records_in new ≡ store.records_in reserved ++ body ∷ [])
-        (base : store.base_in new ≡ store.base_in reserved) (end : store.end_in new ≡ store.end_in reserved + (5 + length body)) where
+        (base : store.base_in new ≡ store.base_in reserved) (end : store.end_in new ≡ store.end_in reserved + (5 + length body)) (format : store.format_in new ≡ store.format_in reserved) where
       reaches_behind : store_extent new ≡ extent_behind (extent_in h) (length body)
       reaches_behind =
           same_extent (store_extent new) (extent_behind (extent_in h) (length body)) (base ∙ same.base) (end ∙ ap (λ n. n + (5 + length body)) same.end)
@@ -310,8 +311,8 @@ module _ {D : Type 0} (v : Ghosts D) (h : Handler D) (s : IsSound v.seen v.may_l
       ready_next = record {
         store = settled;
         list =
-            subst (λ bodies. AreRecordsOf bodies next) (sym (added ∙ ap (λ bodies. bodies ++ body ∷ []) same.records))
-            (with_record e (list_in h) next (store.records_in h.store) body (s.ready alive).list told is);
+            same_records h.store.format new.format (store.records_in h.store ++ body ∷ []) (store.records_in new) next (format ∙ same.format) (added ∙ ap (λ bodies. bodies ++ body ∷ []) same.records)
+            (with_record h.store.format e (list_in h) next (store.records_in h.store) body (s.ready alive).list told needs is);
         room = subst (λ x. HasBootSpace x next) (sym reaches_behind) room_then;
       }
 

@@ -4,19 +4,24 @@ use Rattle.std.proofs.lemmas.Bool.Decides.{nat_tests}
 use Rattle.std.specs.Prelude.{◌↔◌, not, if◌then◌else◌, IfErr, IsErrOf, OnOk}
 use Rattle.rel_disk.specs.declared.disk.Disk.{Ghosts}
 use Rattle.rel_disk.specs.Moments.{LeavesOnly, HasFailed}
-use Rattle.rel_disk.proofs.Moments.{started, joined, weakened}
+use Rattle.rel_disk.proofs.Moments.{both, started, joined, weakened}
 use Rattle.rel_list.specs.Event.{Event, recorded, list_after}
 use Rattle.rel_list.specs.Laws.{leaves_permanent, makes_one_shot}
 use Rattle.rel_list.specs.Releases.{Releases, has_one_shot, permanent}
-use Rattle.rel_records.specs.Image.{image_of}
+use Rattle.rel_list.proofs.OneShotLaws.{none_recorded}
+use Rattle.rel_records.specs.Format.{allows}
+use Rattle.rel_records.specs.Image.{image_of, image_record}
 use Rattle.rel_records.specs.Lists.{Makes}
+use Rattle.rel_records.proofs.FormatLemmas.{allows_without, images_write_them}
+use Rattle.rel_store.specs.Changed.{KeepsOthers, IsInCompaction}
 use Rattle.rel_store.specs.Compaction.{EndsEither, FitsImage, image_end, image_place}
-use Rattle.rel_store.specs.Layout.{base_of}
+use Rattle.rel_store.specs.Layout.{base_of, format_of}
 use Rattle.rel_store.specs.Records.{Stands, end_of, space}
 use Rattle.rel_store.specs.State as store
 use Rattle.rel_store.specs.declared.error.StoreError.{StoreError}
 use Rattle.rel_store.specs.declared.error.StoreError.TheVariants as fault
 use Rattle.rel_store.specs.declared.store.Store.{Store}
+use Rattle.rel_store.proofs.Moments as stores
 use Rattle.node_command.specs.declared.error.HandlerError.{HandlerError}
 use Rattle.node_command.specs.declared.error.HandlerError.TheVariants.{Device}
 use Rattle.node_command.proofs.CommandLemmas.{commanded_step}
@@ -28,7 +33,7 @@ use Rattle.rel_handler.specs.Refusals.{CommandRefused, told_compaction}
 use Rattle.rel_handler.specs.State.{disk_in, extent_in, list_in, is_dead, start_in, store_extent, HasStarted, IsReady, IsSound}
 use Rattle.rel_handler.specs.declared.handler.Handler.{Handler}
 use Rattle.rel_handler.proofs.Commits.{dead_is_sound, extent_kept, failed_behind, image_now, none_behind, revived, revived_is_sound, start_is_right}
-use Rattle.rel_handler.proofs.Images.{extent_by_end, extent_with_records, no_boot_space, same_extent, settled_so, started_by, stored_after}
+use Rattle.rel_handler.proofs.Images.{extent_by_end, extent_with_records, in_same_format, no_boot_space, same_extent, same_records, settled_so, started_by, stored_after}
 
 -- a short store stays as it is, and so does that of a list with a one-shot
 pub short_stays : (x : Extent) (es : Releases) → may_be_compacted x es ≡ false → compacted x es ≡ x
@@ -57,6 +62,10 @@ both_within a b c d first second is = grind (arith, nat_tests)
 fits_not : (x : Extent) (n : ℕ) → fits_image x n ≡ false → FitsImage x.base x.end n → ⊥
 fits_not x n is (short, ends) = both_within n 16777216 (image_end x.base x.end n) 67108864 short ends is
 
+-- A store of each format may have the image of a list without a one-shot.
+pub image_allowed : (format : ℕ) (es : Releases) → has_one_shot es ≡ false → allows format (image_record (recorded es)) ≡ true
+image_allowed format es none = allows_without format (image_record (recorded es)) (images_write_them (recorded es) ∙ none_recorded es none)
+
 -- where a store with one record ends
 one_record : (place : ℕ) (body : List ℕ) → place + (6 + length body) ≡ (place + space (body ∷ [])) + 1
 one_record place body = omega arith
@@ -84,7 +93,7 @@ module _ {D : Type 0} (v : Ghosts D) (h : Handler D) (ready : IsReady v.seen v.m
     stays sound reaches = record {
       ready = record {
         store = sound.settled (same.failed ∙ ready.store.works);
-        list = subst (λ bodies. AreRecordsOf bodies h.list) (sym same.records) ready.list;
+        list = same_records h.store.format kept.format (store.records_in h.store) (store.records_in kept) h.list same.format same.records ready.list;
         room = subst (λ x. HasBootSpace x (list_in h)) (sym (extent_kept h.store kept same)) ready.room;
       };
       start = ap (λ d. start_slot (v.seen d)) same.disk;
@@ -92,19 +101,19 @@ module _ {D : Type 0} (v : Ghosts D) (h : Handler D) (ready : IsReady v.seen v.m
     }
 
   -- A store is compacted to an image of its list.
-  module _ (image : List ℕ) (may : may_be_compacted (extent_in h) (list_in h) ≡ true) (is : image_of (recorded (list_in h)) ≡ Some image) (makes : Makes (image ∷ []) (recorded (list_in h))) (new : Store D) where
+  module _ (image : List ℕ) (may : may_be_compacted (extent_in h) (list_in h) ≡ true) (is : image_of (recorded (list_in h)) ≡ Some image) (makes : Makes (store.format_in h.store) (image ∷ []) (recorded (list_in h))) (new : Store D) where
     free : has_one_shot (list_in h) ≡ false
     free = (free_and_long (extent_in h) (list_in h) may).0
 
     long : is_long (extent_in h) ≡ true
     long = (free_and_long (extent_in h) (list_in h) may).1
 
-    by_the_image : AreRecordsOf (image ∷ []) (list_in h)
+    by_the_image : AreRecordsOf h.store.format (image ∷ []) (list_in h)
     by_the_image = record { makes = makes; alone = ready.list.alone }
 
-    with_records : (c : List ℕ) → Stands (store.records_in h.store) (start_in v.seen h) c × (end_of c ≡ store.end_in h.store) → IsOldOrCompacted v.seen h c
-    with_records c (stands, ends) = (
-      record { bodies = store.records_in h.store; store = stands.records; list = ready.list; room = no_boot_space (extent_of c) (list_in h) free },
+    with_records : (c : List ℕ) → format_of c ≡ h.store.format → Stands (store.records_in h.store) (start_in v.seen h) c × (end_of c ≡ store.end_in h.store) → IsOldOrCompacted v.seen h c
+    with_records c same (stands, ends) = (
+      record { bodies = store.records_in h.store; store = stands.records; list = in_same_format c h.store.format (store.records_in h.store) (list_in h) same ready.list; room = no_boot_space (extent_of c) (list_in h) free },
       inl (
           extent_by_end c (store.records_in h.store) (base_of (v.seen (disk_in h))) (store.end_in h.store) stands.records ends (ap (λ g. g + 1) ready.store.end)
           ∙ settled_so v.seen v.may_leave h.store ready.store
@@ -112,12 +121,12 @@ module _ {D : Type 0} (v : Ghosts D) (h : Handler D) (ready : IsReady v.seen v.m
       stands.start,
     )
 
-    with_the_image : fits_image (extent_in h) (length image) ≡ true → (c : List ℕ) → Stands (image ∷ []) (start_in v.seen h) c × (end_of c ≡ image_end (store.base_in h.store) (store.end_in h.store) (length image))
+    with_the_image : fits_image (extent_in h) (length image) ≡ true → (c : List ℕ) → format_of c ≡ h.store.format → Stands (image ∷ []) (start_in v.seen h) c × (end_of c ≡ image_end (store.base_in h.store) (store.end_in h.store) (length image))
         → IsOldOrCompacted v.seen h c
-    with_the_image fits c (stands, ends) =
+    with_the_image fits c same (stands, ends) =
         let place = image_place (store.base_in h.store) (store.end_in h.store) (length image) in
         let far : extent_with_records place (image ∷ []) ≡ extent_with (extent_in h) (length image) = same_extent (extent_with_records place (image ∷ [])) (extent_with (extent_in h) (length image)) refl (sym (one_record place image)) refl in (
-          record { bodies = image ∷ []; store = stands.records; list = by_the_image; room = no_boot_space (extent_of c) (list_in h) free },
+          record { bodies = image ∷ []; store = stands.records; list = in_same_format c h.store.format (image ∷ []) (list_in h) same by_the_image; room = no_boot_space (extent_of c) (list_in h) free },
           inr (
               extent_by_end c (image ∷ []) place (image_end (store.base_in h.store) (store.end_in h.store) (length image)) stands.records ends (one_record place image)
               ∙ far ∙ sym (image_reaches (extent_in h) (list_in h) image may is fits)
@@ -140,12 +149,17 @@ module _ {D : Type 0} (v : Ghosts D) (h : Handler D) (ready : IsReady v.seen v.m
         let told : r ≡ Err fault.Full = full.1 (ready.store.works, fits_not (extent_in h) (length image) unfit) in
         (subst (λ a. IfErr a Refuses) told refused).2
 
+    -- no bytes but its own change
+    abbrev Keeps : List ℕ → Type 0
+    Keeps = KeepsOthers (IsInCompaction (v.seen (disk_in h)) (image_place (store.base_in h.store) (store.end_in h.store) (length image)) (length image)) (v.seen (disk_in h))
+
     -- whatever it was answered
     pub compacts_so : (r : Result (Unit {0}) StoreError) → AnswersFull r → IfErr r Refuses → is_dead h ≡ true → ((c : List ℕ) → v.left_since (disk_in h) (v.moment (disk_in h)) c → v.may_leave (disk_in h) c)
         → (store.has_failed h.store ≡ false
         → LeavesOnly v.moment v.left_since (disk_in h) (store.disk_in new) (EndsEither (store.records_in h.store) (store.end_in h.store) image (image_end (store.base_in h.store) (store.end_in h.store) (length image)) (start_in v.seen h)))
+        → (store.has_failed h.store ≡ false → LeavesOnly v.moment v.left_since (disk_in h) (store.disk_in new) Keeps)
         → v.failures (disk_in h) ≤ v.failures (store.disk_in new) → Compacts v h (record { store = new; list = h.list; dead = h.dead })
-    compacts_so r full refused dead only_now leaves counted = go (fits_image (extent_in h) (length image)) refl
+    compacts_so r full refused dead only_now leaves kept counted = go (fits_image (extent_in h) (length image)) refl
       where
         go : (b : Bool) → fits_image (extent_in h) (length image) ≡ b → Compacts v h (record { store = new; list = h.list; dead = h.dead })
         go true fits = record {
@@ -153,7 +167,8 @@ module _ {D : Type 0} (v : Ghosts D) (h : Handler D) (ready : IsReady v.seen v.m
           list = refl;
           any_moment =
               weakened v.moment v.left_since (disk_in h) (store.disk_in new) _ (IsOldOrCompacted v.seen h)
-              (λ c. ⊎_elim (with_records c) (with_the_image fits c)) (leaves ready.store.works);
+              (λ c now. let same = stores.format_kept_in_compaction v.moment v.left_since v.seen v.may_leave h.store ready.store (length image) c now.1 in ⊎_elim (with_records c same) (with_the_image fits c same) now.0)
+              (both v.moment v.left_since (disk_in h) (store.disk_in new) _ _ (leaves ready.store.works) (kept ready.store.works));
           counted = counted;
         }
         go false unfit = not_compacted new (kept_as_full r full refused unfit) dead only_now
@@ -171,17 +186,17 @@ module _ {D : Type 0} (v : Ghosts D) (h : Handler D) (ready : IsReady v.seen v.m
 
     pub done_so : (r : Result (Unit {0}) StoreError) → AnswersFull r → IfErr r Refuses → store.IsSoundStore v.seen v.may_leave new → OnOk r (store.IsSettled v.seen v.may_leave new)
         → OnOk r (store.records_in new ≡ image ∷ []) → OnOk r (store.text_in v.seen new ≡ start_in v.seen h) → OnOk r (store.base_in new ≡ image_place (store.base_in h.store) (store.end_in h.store) (length image))
-        → OnOk r (store.end_in new ≡ image_end (store.base_in h.store) (store.end_in h.store) (length image)) → OnOk (told_compaction r) (IsCompacted v h (record { store = new; list = h.list; dead = h.dead }))
-    done_so (Ok u) full refused sound settled records start base end = record {
-      ready = record { store = settled; list = subst (λ bodies. AreRecordsOf bodies h.list) (sym records) by_the_image; room = no_boot_space (store_extent new) (list_in h) free };
+        → OnOk r (store.end_in new ≡ image_end (store.base_in h.store) (store.end_in h.store) (length image)) → store.format_in new ≡ store.format_in h.store → OnOk (told_compaction r) (IsCompacted v h (record { store = new; list = h.list; dead = h.dead }))
+    done_so (Ok u) full refused sound settled records start base end format = record {
+      ready = record { store = settled; list = same_records h.store.format new.format (image ∷ []) (store.records_in new) h.list format records by_the_image; room = no_boot_space (store_extent new) (list_in h) free };
       start = start;
       reaches = inl (reaches_image full records base end);
     }
-    done_so (Err fault.Full) full refused sound settled records start base end = stays new refused.2 sound (inr (long, refl))
-    done_so (Err fault.NoMemory) full refused sound settled records start base end = stays new refused.2 sound (inr (long, refl))
-    done_so (Err fault.Device) full refused sound settled records start base end = tt
-    done_so (Err fault.MustReopen) full refused sound settled records start base end = absurd (true≢false (sym refused.0 ∙ ready.store.works))
-    done_so (Err e) full refused sound settled records start base end = absurd refused
+    done_so (Err fault.Full) full refused sound settled records start base end format = stays new refused.2 sound (inr (long, refl))
+    done_so (Err fault.NoMemory) full refused sound settled records start base end format = stays new refused.2 sound (inr (long, refl))
+    done_so (Err fault.Device) full refused sound settled records start base end format = tt
+    done_so (Err fault.MustReopen) full refused sound settled records start base end format = absurd (true≢false (sym refused.0 ∙ ready.store.works))
+    done_so (Err e) full refused sound settled records start base end format = absurd refused
 
     -- or the device failed
     pub failed_told : (r : Result (Unit {0}) StoreError) → IfErr r Refuses → IfErr (told_compaction r) (λ _. HasFailed (v.failures (disk_in h)) (v.failures (store.disk_in new)))

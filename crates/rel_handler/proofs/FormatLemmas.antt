@@ -1,13 +1,14 @@
 -- The format of a node's store is changed before its first one-shot is written.
-use Rattle.std.proofs.Common.{◌≡◌, ℕ, ◌≤◌, Bool, true, false, List, length, Some, Result, Ok, Err, refl, sym, ap, ◌∙◌, subst, arith}
+use Rattle.std.proofs.Common.{◌≡◌, ◌⊎◌, inl, inr, ℕ, ◌≤◌, Bool, true, false, List, length, Some, Result, Ok, Err, refl, sym, ap, ◌∙◌, subst, arith}
 use Rattle.std.specs.Prelude.{is_err, IfErr}
 use Rattle.rel_disk.specs.declared.disk.Disk.{Ghosts}
 use Rattle.rel_disk.specs.Moments.{LeavesOnly, HasFailed}
 use Rattle.rel_disk.proofs.Moments.{joined, weakened, both}
-use Rattle.rel_list.specs.Event.{Event, list_after}
-use Rattle.rel_list.specs.Releases.{has_one_shot, permanent}
+use Rattle.rel_list.specs.Event.{Event, list_after, recorded}
+use Rattle.rel_list.specs.Releases.{Releases, has_one_shot, permanent}
+use Rattle.rel_records.proofs.FormatLemmas.{made_in_2}
 use Rattle.rel_store.specs.Changed.{LeavesOthers, IsFormat}
-use Rattle.rel_store.specs.Layout.{base_of}
+use Rattle.rel_store.specs.Layout.{base_of, format_of}
 use Rattle.rel_store.specs.Records.{Stands}
 use Rattle.rel_store.specs.State as store
 use Rattle.rel_store.specs.declared.error.StoreError.{StoreError}
@@ -18,12 +19,12 @@ use Rattle.node_command.specs.declared.error.HandlerError.{HandlerError}
 use Rattle.node_command.specs.declared.error.HandlerError.TheVariants.{Device}
 use Rattle.rel_handler.specs.Commits.{Commits, Reformats}
 use Rattle.rel_handler.specs.Events.{Events, uncertain, IsStoredAs}
-use Rattle.rel_handler.specs.Image.{IsImageAt, IsStarted, start_slot}
+use Rattle.rel_handler.specs.Image.{AreRecordsOf, HasBootSpace, IsImageAt, IsStarted, start_slot}
 use Rattle.rel_handler.specs.Refusals.{CommandRefused}
 use Rattle.rel_handler.specs.State.{disk_in, extent_in, list_in, is_dead, start_in, store_extent, IsReady, IsSound}
 use Rattle.rel_handler.specs.declared.handler.Handler.{Handler}
-use Rattle.rel_handler.proofs.Commits.{dead_is_sound, ready_still}
-use Rattle.rel_handler.proofs.Images.{extent_so, image_at, same_extent, settled_so, started_by, stored_before}
+use Rattle.rel_handler.proofs.Commits.{dead_is_sound}
+use Rattle.rel_handler.proofs.Images.{extent_so, image_at, in_same_format, same_extent, same_records, settled_so, started_by, stored_before}
 
 -- a call that takes no memory and writes no record failed by the device
 pub failed_by_device : {D : Type 0} (failures : D → ℕ) (old new : Store D) (r : Result (Unit {0}) StoreError) → true ≡ is_err r → IfErr r (store.Refused failures ⊥ ⊥ old new) → store.has_failed old ≡ false
@@ -43,30 +44,45 @@ pub failed_by_it : {D : Type 0} (failures : D → ℕ) (e : Event) (size : ℕ) 
 failed_by_it failures e size old new (Ok x) refused device = tt
 failed_by_it failures e size old new (Err why) refused device = (subst (CommandRefused failures e size old new) device refused).1
 
+-- The records of a list are those of one in a store of format 2.
+in_format_2 : (format : ℕ) (bodies : List (List ℕ)) (es : Releases) → AreRecordsOf format bodies es → AreRecordsOf 2 bodies es
+in_format_2 format bodies es are = record { makes = made_in_2 format bodies (recorded es) are.makes; alone = are.alone }
+
 module _ {D : Type 0} (v : Ghosts D) (h : Handler D) (ready : IsReady v.seen v.may_leave h) (new : Store D) (dead : Bool)
     (records : store.records_in new ≡ store.records_in h.store) (base : store.base_in new ≡ store.base_in h.store) (end : store.end_in new ≡ store.end_in h.store) where
-  unchanged_image : (c : List ℕ) → Stands (store.records_in h.store) (start_in v.seen h) c × LeavesOthers IsFormat (v.seen (disk_in h)) c → IsImageAt c (list_in h) (extent_in h) × (start_slot c ≡ start_in v.seen h)
+  in_either_format : (c : List ℕ) → (format_of c ≡ h.store.format) ⊎ (format_of c ≡ 2) → AreRecordsOf (format_of c) (store.records_in h.store) (list_in h)
+  in_either_format c (inl same) = in_same_format c h.store.format (store.records_in h.store) (list_in h) same ready.list
+  in_either_format c (inr two) = in_same_format c 2 (store.records_in h.store) (list_in h) two (in_format_2 h.store.format (store.records_in h.store) (list_in h) ready.list)
+
+  unchanged_image : (c : List ℕ) → Stands (store.records_in h.store) (start_in v.seen h) c × LeavesOthers (IsFormat h.store.format) (v.seen (disk_in h)) c → IsImageAt c (list_in h) (extent_in h) × (start_slot c ≡ start_in v.seen h)
   unchanged_image c (stands, leaves) = (
-    image_at c (store.records_in h.store) (list_in h) (extent_in h) stands.records ready.list ready.room
+    image_at c (store.records_in h.store) (list_in h) (extent_in h) stands.records (in_either_format c (stores.format_kept_or_2 v.moment v.left_since v.seen v.may_leave h.store ready.store c leaves)) ready.room
         (extent_so c (store.records_in h.store) (base_of (v.seen (disk_in h))) stands.records (stores.base_kept_by_format v.moment v.left_since v.seen v.may_leave h.store ready.store c leaves)
         ∙ settled_so v.seen v.may_leave h.store ready.store),
     stands.start,
   )
 
+  same_reach : store_extent new ≡ extent_in h
+  same_reach = same_extent (store_extent new) (extent_in h) base end (ap (λ bodies. length bodies) records)
+
   -- whatever it was answered
   pub reformats : LeavesOnly v.moment v.left_since (disk_in h) (store.disk_in new) (Stands (store.records_in h.store) (start_in v.seen h))
-      → LeavesOnly v.moment v.left_since (disk_in h) (store.disk_in new) (LeavesOthers IsFormat (v.seen (disk_in h)))
+      → LeavesOnly v.moment v.left_since (disk_in h) (store.disk_in new) (LeavesOthers (IsFormat h.store.format) (v.seen (disk_in h)))
       → v.failures (disk_in h) ≤ v.failures (store.disk_in new) → Reformats v h (record { store = new; list = h.list; dead = dead })
   reformats leaves others counted = record {
     list = refl;
-    extent = same_extent (store_extent new) (extent_in h) base end (ap (λ bodies. length bodies) records);
+    extent = same_reach;
     any_moment = weakened v.moment v.left_since (disk_in h) (store.disk_in new) _ _ unchanged_image (both v.moment v.left_since (disk_in h) (store.disk_in new) _ _ leaves others);
     counted = counted;
   }
 
   -- It was done.
-  pub ready_in_format_2 : store.IsSettled v.seen v.may_leave new → IsReady v.seen v.may_leave (record { store = new; list = h.list; dead = dead })
-  ready_in_format_2 settled = let still = ready_still v h ready new settled records base end in record { store = still.store; list = still.list; room = still.room }
+  pub ready_in_format_2 : store.IsSettled v.seen v.may_leave new → store.format_in new ≡ 2 → IsReady v.seen v.may_leave (record { store = new; list = h.list; dead = dead })
+  ready_in_format_2 settled two = record {
+    store = settled;
+    list = same_records 2 new.format (store.records_in h.store) (store.records_in new) h.list two records (in_format_2 h.store.format (store.records_in h.store) h.list ready.list);
+    room = subst (λ x. HasBootSpace x h.list) (sym same_reach) ready.room;
+  }
 
 -- A command goes on behind it.
 module _ {D : Type 0} (v : Ghosts D) (h mid : Handler D) (changed : Reformats v h mid) (s : IsSound v.seen v.may_leave h) (alive : is_dead h ≡ false) (reads : (d : D) → v.may_leave d (v.seen d)) where

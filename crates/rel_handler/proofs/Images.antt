@@ -10,20 +10,22 @@ use Rattle.rel_list.specs.Event.{Event, entry, booted, recorded, step, list_afte
 use Rattle.rel_list.specs.Event.Event.{made, restart_installed, boot}
 use Rattle.rel_list.specs.Laws.{makes_one_shot}
 use Rattle.rel_list.proofs.OneShotLaws.{one_shots_come_from_restarts, restarts_are_recorded}
+use Rattle.rel_records.specs.Format.{allows}
 use Rattle.rel_records.specs.Lists.{assigned, MakesFrom, Makes}
 use Rattle.rel_records.specs.Reading.{Spells}
 use Rattle.rel_records.specs.Writing.{record_of, IsWithinLimits}
 use Rattle.rel_records.proofs.EventRecords.{one-recorded, tells}
+use Rattle.rel_records.proofs.FormatLemmas.{allows_without, only_restarts_write_them, stands_so}
 use Rattle.rel_records.proofs.ListLemmas.{makes-push, makes_once}
 use Rattle.rel_records.proofs.RecordPlaces.{one_behind}
 use Rattle.rel_store.specs.Creation.{IsNoneOrNew}
 use Rattle.rel_store.specs.Records.{records_of, StandsEither, space, records_or_none, end_of}
-use Rattle.rel_store.specs.Layout.{base_of, slot_with}
+use Rattle.rel_store.specs.Layout.{base_of, format_of, slot_with}
 use Rattle.rel_store.proofs.Scan.{space-push}
 use Rattle.rel_store.proofs.Whole.{sound}
 use Rattle.rel_store.specs.Changed.{LeavesOthers, IsInRecord}
 use Rattle.rel_store.specs.State.{gate_in, records_in, IsSame, IsSettled}
-use Rattle.rel_store.proofs.Moments.{base_kept}
+use Rattle.rel_store.proofs.Moments.{base_kept, format_kept_by_record}
 use Rattle.rel_store.specs.declared.store.Store.{Store}
 use Rattle.rel_disk.specs.declared.disk.Disk.{Ghosts}
 use Rattle.rel_handler.specs.Commits.{IsRecordFor}
@@ -73,11 +75,22 @@ settled_so seen may_leave store s =
 pub settled_extent : {D : Type 0} (seen : D → List ℕ) (may_leave : D → List ℕ → Type 0) (store : Store D) → IsSettled seen may_leave store → extent_of (seen store.disk) ≡ store_extent store
 settled_extent seen may_leave store s = extent_so (seen store.disk) (records_in store) (base_of (seen store.disk)) s.records refl ∙ settled_so seen may_leave store s
 
--- While a record is appended behind a reservation, the records begin where they began.
-pub base_behind : {D : Type 0} (v : Ghosts D) (s reserved : Store D) → IsSettled v.seen v.may_leave s → IsSame s reserved → (n : ℕ) (c : List ℕ) → LeavesOthers (IsInRecord (gate_in reserved) n) (v.seen s.disk) c → base_of c ≡ base_of (v.seen s.disk)
-base_behind v s reserved settled same n c leaves =
-    let same_gate : gate_in reserved ≡ gate_in s = omega (arith, same.end) in
-    base_kept v.moment v.left_since v.seen v.may_leave s settled n c (subst (λ g. LeavesOthers (IsInRecord g n) (v.seen s.disk) c) same_gate leaves)
+-- While a record is appended behind a reservation, the records begin where they began, in a store of the same format.
+pub either_behind : {D : Type 0} (v : Ghosts D) (s reserved : Store D) → IsSettled v.seen v.may_leave s → IsSame s reserved → (body text c : List ℕ) → StandsEither (records_in reserved) body text c
+    → LeavesOthers (IsInRecord (gate_in reserved) (length body)) (v.seen reserved.disk) c → StandsEither (records_in s) body text c × (base_of c ≡ base_of (v.seen s.disk)) × (format_of c ≡ s.format)
+either_behind v s reserved settled same body text c either leaves = (
+  subst (λ bodies. StandsEither bodies body text c) same.records either,
+  base_kept v.moment v.left_since v.seen v.may_leave s settled (length body) c own,
+  format_kept_by_record v.moment v.left_since v.seen v.may_leave s settled (length body) c own,
+)
+  where
+    same_gate : gate_in reserved ≡ gate_in s
+    same_gate = omega (arith, same.end)
+
+    own : LeavesOthers (IsInRecord (gate_in s) (length body)) (v.seen s.disk) c
+    own =
+        subst (λ d. LeavesOthers (IsInRecord (gate_in s) (length body)) (v.seen d) c) same.disk
+        (subst (λ g. LeavesOthers (IsInRecord g (length body)) (v.seen reserved.disk) c) same_gate leaves)
 
 -- where no release is a one-shot, the next boot needs no room
 pub no_boot_space : (x : Extent) (es : Releases) → has_one_shot es ≡ false → HasBootSpace x es
@@ -87,16 +100,24 @@ no_boot_space x es none one = absurd (true≢false (sym one ∙ none))
 pub none_beside : (es : Releases) → has_one_shot es ≡ false → has_one_shot es ≡ true → recorded es ≡ es
 none_beside es none one = absurd (true≢false (sym one ∙ none))
 
+-- the records of a list are those of one in a store of the same format
+pub in_same_format : (c : List ℕ) (format : ℕ) (bodies : List (List ℕ)) (es : Releases) → format_of c ≡ format → AreRecordsOf format bodies es → AreRecordsOf (format_of c) bodies es
+in_same_format c format bodies es same = subst (λ f. AreRecordsOf f bodies es) (sym same)
+
+-- so they are where they stand in another store of it
+pub same_records : (old new : ℕ) (bodies records : List (List ℕ)) (es : Releases) → new ≡ old → records ≡ bodies → AreRecordsOf old bodies es → AreRecordsOf new records es
+same_records old new bodies records es same is are = subst (λ f. AreRecordsOf f records es) (sym same) (subst (λ bs. AreRecordsOf old bs es) (sym is) are)
+
 -- bytes with the records of a list, in a store that reaches so far
-pub image_at : (c : List ℕ) (bodies : List (List ℕ)) (es : Releases) (x : Extent) → records_of c ≡ Ok bodies → AreRecordsOf bodies es → HasBootSpace x es → extent_of c ≡ x → IsImageAt c es x
+pub image_at : (c : List ℕ) (bodies : List (List ℕ)) (es : Releases) (x : Extent) → records_of c ≡ Ok bodies → AreRecordsOf (format_of c) bodies es → HasBootSpace x es → extent_of c ≡ x → IsImageAt c es x
 image_at c bodies es x read are room reaches =
     record { image_of = record { bodies = bodies; store = read; list = are; room = subst (λ y. HasBootSpace y es) (sym reaches) room }; reaches = reaches }
 
 -- each image of a settled store's disk stands for the list that its records make
-pub each_image : {D : Type 0} (seen : D → List ℕ) (may_leave : D → List ℕ → Type 0) (store : Store D) (es : Releases) → IsSettled seen may_leave store → AreRecordsOf (records_in store) es → HasBootSpace (store_extent store) es
+pub each_image : {D : Type 0} (seen : D → List ℕ) (may_leave : D → List ℕ → Type 0) (store : Store D) (es : Releases) → IsSettled seen may_leave store → AreRecordsOf store.format (records_in store) es → HasBootSpace (store_extent store) es
     → (c : List ℕ) → may_leave store.disk c → IsImageAt c es (store_extent store)
 each_image seen may_leave store es s makes_it room c now =
-    image_at c (records_in store) es (store_extent store) (ap records_of (s.durable c now) ∙ s.records) makes_it room (ap (λ d. extent_of d) (s.durable c now) ∙ settled_extent seen may_leave store s)
+    image_at c (records_in store) es (store_extent store) (ap records_of (s.durable c now) ∙ s.records) (in_same_format c store.format (records_in store) es (ap (λ d. format_of d) (s.durable c now) ∙ sym s.format) makes_it) room (ap (λ d. extent_of d) (s.durable c now) ∙ settled_extent seen may_leave store s)
 
 -- the acknowledged events are a prefix that lacks the one in doubt
 pub prefix_without : (events : List Event) (e : Event) → IsPrefix (doubted events e) events
@@ -151,25 +172,33 @@ pub alone_behind : (e : Event) (es next : Releases) → step e es ≡ Some next 
 alone_behind (restart_installed v) es next is one = restarts_are_recorded v es next is
 alone_behind e es next is one = absurd (true≢false (sym one ∙ one_shots_come_from_restarts e es next refl is))
 
+-- A store may have the record of an event, if it is of format 2 where that makes a release a one-shot.
+pub may_have : (format : ℕ) (e : Event) (es : Releases) → (makes_one_shot e ≡ true → format ≡ 2) → allows format (record_of e es) ≡ true
+may_have format e es needs = go (makes_one_shot e) refl
+  where
+    go : (b : Bool) → makes_one_shot e ≡ b → allows format (record_of e es) ≡ true
+    go true is = subst (λ f. allows f (record_of e es) ≡ true) (sym (needs is)) refl
+    go false is = allows_without format (record_of e es) (only_restarts_write_them e es is)
+
 -- With the record of an event the store has the records of the list behind it.
-pub with_record : (e : Event) (es next : Releases) (bodies : List (List ℕ)) (body : List ℕ) → AreRecordsOf bodies es → IsRecordFor body e es → step e es ≡ Some next
-    → AreRecordsOf (bodies ++ body ∷ []) next
-with_record e es next bodies body are told is =
+pub with_record : (format : ℕ) (e : Event) (es next : Releases) (bodies : List (List ℕ)) (body : List ℕ) → AreRecordsOf format bodies es → IsRecordFor body e es → (makes_one_shot e ≡ true → format ≡ 2) → step e es ≡ Some next
+    → AreRecordsOf format (bodies ++ body ∷ []) next
+with_record format e es next bodies body are told needs is =
     let behind : assigned (record_of e es) (recorded es) ≡ Some (recorded next) = told.tells next is (sym (one-recorded es) ∙ are.makes.1) in
     record {
-      makes = (makes-push [] bodies (recorded es) body (record_of e es) (recorded next) are.makes.0 told.spells behind, one_behind (record_of e es) (recorded es) (recorded next) behind);
+      makes = (makes-push format [] bodies (recorded es) body (record_of e es) (recorded next) are.makes.0 told.spells (stands_so format (record_of e es) (recorded es) (recorded next) (may_have format e es needs) behind), one_behind (record_of e es) (recorded es) (recorded next) behind);
       alone = alone_behind e es next is;
     }
 
 -- A record is being appended: the store has the records of the list from before it, or those of the one behind it.
-pub either_image : (es next : Releases) (bodies : List (List ℕ)) (body text : List ℕ) → AreRecordsOf bodies es → AreRecordsOf (bodies ++ body ∷ []) next
+pub either_image : (format : ℕ) (es next : Releases) (bodies : List (List ℕ)) (body text : List ℕ) → AreRecordsOf format bodies es → AreRecordsOf format (bodies ++ body ∷ []) next
     → (base : ℕ) (x : Extent) → extent_with_records base bodies ≡ x → HasBootSpace x es → HasBootSpace (extent_behind x (length body)) next
-    → (c : List ℕ) → StandsEither bodies body text c × (base_of c ≡ base) → (IsImageAt c es x ⊎ IsImageAt c next (extent_behind x (length body))) × (start_slot c ≡ text)
-either_image es next bodies body text are behind base x at room room_then c (inl stands, kept) =
-    (inl (image_at c bodies es x stands.records are room (extent_so c bodies base stands.records kept ∙ at)), stands.start)
-either_image es next bodies body text are behind base x at room room_then c (inr stands, kept) = (
+    → (c : List ℕ) → StandsEither bodies body text c × (base_of c ≡ base) × (format_of c ≡ format) → (IsImageAt c es x ⊎ IsImageAt c next (extent_behind x (length body))) × (start_slot c ≡ text)
+either_image format es next bodies body text are behind base x at room room_then c (inl stands, kept, same) =
+    (inl (image_at c bodies es x stands.records (in_same_format c format bodies es same are) room (extent_so c bodies base stands.records kept ∙ at)), stands.start)
+either_image format es next bodies body text are behind base x at room room_then c (inr stands, kept, same) = (
   inr (
-      image_at c (bodies ++ body ∷ []) next (extent_behind x (length body)) stands.records behind room_then
+      image_at c (bodies ++ body ∷ []) next (extent_behind x (length body)) stands.records (in_same_format c format (bodies ++ body ∷ []) next same behind) room_then
       (extent_so c (bodies ++ body ∷ []) base stands.records kept ∙ extent-push base bodies body ∙ ap (λ y. extent_behind y (length body)) at)
       ),
   stands.start,
@@ -180,23 +209,23 @@ pub leaves_boot_space : (e : Event) → makes_one_shot e ≡ false → (size : �
 leaves_boot_space e other size x es next is = no_boot_space (extent_behind x size) next (one_shots_come_from_restarts e es next other is)
 
 -- So it is while a command appends the record of its event.
-pub while_committing : (e : Event) (es next : Releases) (bodies : List (List ℕ)) (body text : List ℕ) (events : List Event)
-    → AreRecordsOf bodies es → IsRecordFor body e es → step e es ≡ Some next → list_after events ≡ Some es
+pub while_committing : (format : ℕ) (e : Event) (es next : Releases) (bodies : List (List ℕ)) (body text : List ℕ) (events : List Event)
+    → AreRecordsOf format bodies es → IsRecordFor body e es → (makes_one_shot e ≡ true → format ≡ 2) → step e es ≡ Some next → list_after events ≡ Some es
     → (base : ℕ) (x : Extent) → extent_with_records base bodies ≡ x → HasBootSpace x es → HasBootSpace (extent_behind x (length body)) next → (old : List ℕ) → start_slot old ≡ text → IsStarted es old
-    → (c : List ℕ) → StandsEither bodies body text c × (base_of c ≡ base) → IsStoredAs (uncertain events x e (length body)) c
-while_committing e es next bodies body text events makes_it told is after base x at room room_then old slot started c either = go (either_image es next bodies body text makes_it behind base x at room room_then c either)
+    → (c : List ℕ) → StandsEither bodies body text c × (base_of c ≡ base) × (format_of c ≡ format) → IsStoredAs (uncertain events x e (length body)) c
+while_committing format e es next bodies body text events makes_it told needs is after base x at room room_then old slot started c either = go (either_image format es next bodies body text makes_it behind base x at room room_then c either)
   where
-    behind : AreRecordsOf (bodies ++ body ∷ []) next
-    behind = with_record e es next bodies body makes_it told is
+    behind : AreRecordsOf format (bodies ++ body ∷ []) next
+    behind = with_record format e es next bodies body makes_it told needs is
 
     go : (IsImageAt c es x ⊎ IsImageAt c next (extent_behind x (length body))) × (start_slot c ≡ text) → IsStoredAs (uncertain events x e (length body)) c
     go (inl image, same) = stored_before events x e (length body) es c after image (started_by es es old c refl (same ∙ sym slot) started)
     go (inr image, same) = stored_after events x e (length body) es next c after is image.image_of (inl image.reaches) (inl (started_by es es old c refl (same ∙ sym slot) started))
 
 -- the first record is that of its release
-pub first_record : (p : Bundle) (body : List ℕ) → IsWithinLimits (made p) [] → Spells body (record_of (made p) []) → AreRecordsOf (body ∷ []) (entry p Permanent ∷ [])
-first_record p body fits spelled = record {
-  makes = ((record_of (made p) [], entry p Permanent ∷ [], spelled, tells (made p) [] (entry p Permanent ∷ []) tt tt refl fits refl, refl), refl);
+pub first_record : (format : ℕ) (p : Bundle) (body : List ℕ) → IsWithinLimits (made p) [] → Spells body (record_of (made p) []) → AreRecordsOf format (body ∷ []) (entry p Permanent ∷ [])
+first_record format p body fits spelled = record {
+  makes = ((record_of (made p) [], entry p Permanent ∷ [], spelled, stands_so format (record_of (made p) []) [] (entry p Permanent ∷ []) (allows_without format (record_of (made p) []) refl) (tells (made p) [] (entry p Permanent ∷ []) tt tt refl fits refl), refl), refl);
   alone = none_beside (entry p Permanent ∷ []) refl;
 }
 
@@ -216,7 +245,7 @@ unfolding as_after
 while_creating p body start fits versions is spelled c (inl none) = inl none
 while_creating p body start fits versions is spelled c (inr stands) =
     inr (
-      as_after [] (made p) [] (entry p Permanent ∷ []) c refl refl (record { bodies = body ∷ []; store = stands.records; list = first_record p body fits spelled; room = no_boot_space (extent_of c) (entry p Permanent ∷ []) refl }),
+      as_after [] (made p) [] (entry p Permanent ∷ []) c refl refl (record { bodies = body ∷ []; store = stands.records; list = first_record (format_of c) p body fits spelled; room = no_boot_space (extent_of c) (entry p Permanent ∷ []) refl }),
       inl (entry p Permanent ∷ [], refl, started_new p start c versions is stands.start),
     )
 
@@ -225,10 +254,10 @@ pub has_a_store : (bytes : List ℕ) (es : Releases) → IsImageOf bytes es → 
 has_a_store bytes es image = (sound bytes image.bodies image.store).begins
 
 -- A list that was read from the records of bytes is that for which they stand, as records tell it.
-pub recorded_image : (c : List ℕ) (bodies : List (List ℕ)) (found es : Releases) → records_of c ≡ Ok bodies → Makes bodies found → IsImageOf c es → found ≡ recorded es
+pub recorded_image : (c : List ℕ) (bodies : List (List ℕ)) (found es : Releases) → records_of c ≡ Ok bodies → Makes (format_of c) bodies found → IsImageOf c es → found ≡ recorded es
 recorded_image c bodies found es read makes_it image =
     let same : bodies ≡ image.bodies = cc (read, image.store) in
-    makes_once [] bodies found (recorded es) makes_it.0 (subst (λ l. MakesFrom [] l (recorded es)) (sym same) image.list.makes.0)
+    makes_once (format_of c) [] bodies found (recorded es) makes_it.0 (subst (λ l. MakesFrom (format_of c) [] l (recorded es)) (sym same) image.list.makes.0)
 
 pub boots_to : (k : Known) (c : List ℕ) (found : Releases) (of : IsOfPrefix k c) → found ≡ booted of.list → BootsTo k found
 boots_to k c found of is = record {

@@ -8,7 +8,7 @@ use Rattle.rel_list.specs.Event.{booted, recorded}
 use Rattle.rel_list.specs.Event.Event.{boot}
 use Rattle.rel_list.proofs.BootLaws.{boot_leaves_no_one_shot}
 use Rattle.rel_store.specs.Changed.{LeavesOthers, IsInRecord}
-use Rattle.rel_store.specs.Layout.{base_of}
+use Rattle.rel_store.specs.Layout.{base_of, format_of}
 use Rattle.rel_store.specs.Records.{StandsEither}
 use Rattle.rel_store.specs.State as store
 use Rattle.rel_store.specs.declared.store.Store.{Store}
@@ -19,7 +19,7 @@ use Rattle.rel_handler.specs.State.{disk_in, extent_in, list_in, start_in, store
 use Rattle.rel_handler.specs.declared.handler.Handler.{Handler}
 use Rattle.rel_handler.proofs.BootLists.{booted_still, extent_of_none, extent_of_one}
 use Rattle.rel_handler.proofs.Commits.{image_now}
-use Rattle.rel_handler.proofs.Images.{base_behind, either_image, no_boot_space, same_extent, settled_so, with_record}
+use Rattle.rel_handler.proofs.Images.{either_behind, either_image, no_boot_space, same_extent, same_records, settled_so, with_record}
 
 module _ {D : Type 0} (v : Ghosts D) (h : Handler D) (ready : IsReady v.seen v.may_leave h) where
   -- each image of its disk stands for its list
@@ -46,8 +46,8 @@ module _ {D : Type 0} (v : Ghosts D) (h : Handler D) (ready : IsReady v.seen v.m
     none : has_one_shot next ≡ false
     none = boot_leaves_no_one_shot (list_in h)
 
-    are_next : AreRecordsOf (store.records_in h.store ++ body ∷ []) next
-    are_next = with_record boot (list_in h) next (store.records_in h.store) body ready.list told refl
+    are_next : AreRecordsOf h.store.format (store.records_in h.store ++ body ∷ []) next
+    are_next = with_record h.store.format boot (list_in h) next (store.records_in h.store) body ready.list told (λ never. absurd cc) refl
 
     far : extent_behind (extent_in h) (length body) ≡ booted_extent (extent_in h) (list_in h)
     far = ap (extent_behind (extent_in h)) long ∙ sym (extent_of_one (extent_in h) (list_in h) one)
@@ -56,9 +56,9 @@ module _ {D : Type 0} (v : Ghosts D) (h : Handler D) (ready : IsReady v.seen v.m
     pub fits_reserved : store.Fits (store.end_in reserved) (length body)
     fits_reserved = subst (λ e. store.Fits e (length body)) (sym same.end) (subst (λ n. HasSpace (extent_in h) n) (sym long) (ready.room one))
 
-    taking : (text c : List ℕ) → text ≡ start_in v.seen h → StandsEither (store.records_in h.store) body text c × (base_of c ≡ base_of (v.seen (disk_in h))) → IsOldOrTaken v.seen h c
+    taking : (text c : List ℕ) → text ≡ start_in v.seen h → StandsEither (store.records_in h.store) body text c × (base_of c ≡ base_of (v.seen (disk_in h))) × (format_of c ≡ h.store.format) → IsOldOrTaken v.seen h c
     taking text c slot either =
-        let (image, at) = either_image (list_in h) next (store.records_in h.store) body text ready.list are_next (base_of (v.seen (disk_in h))) (extent_in h) (settled_so v.seen v.may_leave h.store ready.store) ready.room (no_boot_space (extent_behind (extent_in h) (length body)) next none) c either in
+        let (image, at) = either_image h.store.format (list_in h) next (store.records_in h.store) body text ready.list are_next (base_of (v.seen (disk_in h))) (extent_in h) (settled_so v.seen v.may_leave h.store ready.store) ready.room (no_boot_space (extent_behind (extent_in h) (length body)) next none) c either in
         (⊎_elim (λ old. inl old) (λ taken. inr (subst (IsImageAt c next) far taken)) image, at ∙ slot)
 
     pub takes : (new : Store D) (text : List ℕ) → LeavesOnly v.moment v.left_since (store.disk_in reserved) (store.disk_in new) (StandsEither (store.records_in reserved) body text)
@@ -68,15 +68,15 @@ module _ {D : Type 0} (v : Ghosts D) (h : Handler D) (ready : IsReady v.seen v.m
       any_moment =
           subst (λ d. LeavesOnly v.moment v.left_since d (store.disk_in new) (IsOldOrTaken v.seen h)) same.disk
           (weakened v.moment v.left_since (store.disk_in reserved) (store.disk_in new) _ (IsOldOrTaken v.seen h)
-          (λ c either. taking text c slot (subst (λ bodies. StandsEither bodies body text c) same.records either.0, base_behind v h.store reserved ready.store same (length body) c (subst (λ d. LeavesOthers (IsInRecord (store.gate_in reserved) (length body)) (v.seen d) c) same.disk either.1)))
+          (λ c either. taking text c slot (either_behind v h.store reserved ready.store same body text c either.0 either.1))
           (both v.moment v.left_since (store.disk_in reserved) (store.disk_in new) _ _ leaves kept));
       counted = subst (λ d. v.failures d ≤ v.failures (store.disk_in new)) same.disk counted;
     }
 
     -- It is there.
-    pub taken : (new : Store D) (dead : Bool) → store.IsSettled v.seen v.may_leave new → store.records_in new ≡ store.records_in reserved ++ body ∷ [] → store.base_in new ≡ store.base_in reserved → store.end_in new ≡ store.end_in reserved + (5 + length body)
+    pub taken : (new : Store D) (dead : Bool) → store.IsSettled v.seen v.may_leave new → store.records_in new ≡ store.records_in reserved ++ body ∷ [] → store.base_in new ≡ store.base_in reserved → store.end_in new ≡ store.end_in reserved + (5 + length body) → store.format_in new ≡ store.format_in reserved
         → IsBooted v h (record { store = new; list = next; dead = dead })
-    taken new dead settled added base end = record {
+    taken new dead settled added base end format = record {
       list = refl;
       extent =
           same_extent (store_extent new) (extent_behind (extent_in h) (length body)) (base ∙ same.base) (end ∙ ap (λ n. n + (5 + length body)) same.end)
@@ -84,7 +84,7 @@ module _ {D : Type 0} (v : Ghosts D) (h : Handler D) (ready : IsReady v.seen v.m
           ∙ far;
       ready = record {
         store = settled;
-        list = subst (λ bodies. AreRecordsOf bodies next) (sym (added ∙ ap (λ bodies. bodies ++ body ∷ []) same.records)) are_next;
+        list = same_records h.store.format new.format (store.records_in h.store ++ body ∷ []) (store.records_in new) next (format ∙ same.format) (added ∙ ap (λ bodies. bodies ++ body ∷ []) same.records) are_next;
         room = no_boot_space (store_extent new) next none;
       };
     }

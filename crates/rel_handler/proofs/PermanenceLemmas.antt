@@ -46,7 +46,7 @@ module _ {D : Type 0} (v : Ghosts D) (h : Handler D) (s : IsSound v.seen v.may_l
   -- they are texts of versions
   pub are_versions : AreVersions versions
   are_versions =
-      let has = listed_versions vsn (list_in h) found.0 (have_versions (records_in h.store) (list_in h) (s.ready alive).list) found.1 in
+      let has = listed_versions vsn (list_in h) found.0 (have_versions h.store.format (records_in h.store) (list_in h) (s.ready alive).list) found.1 in
       subst AreVersions (sym found.2) (has.erts, has.own)
 
   -- The event was appended, and the start record is being written.

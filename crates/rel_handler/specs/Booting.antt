@@ -11,7 +11,7 @@ use Rattle.rel_store.specs.Contents.{HasOnlyRead}
 use Rattle.rel_store.specs.State as of_store
 use Rattle.rel_handler.specs.Commits.{IsRecordFor}
 use Rattle.rel_handler.specs.Image.{Extent, boot_size, booted_extent, extent_of, HasBootSpace, IsImageAt, IsStarted, start_slot}
-use Rattle.rel_handler.specs.State.{disk_in, extent_in, list_in, start_in, IsReady}
+use Rattle.rel_handler.specs.State.{disk_in, extent_in, format_in, list_in, start_in, IsReady}
 use Rattle.rel_handler.specs.declared.error.BootError.{BootError}
 use Rattle.rel_handler.specs.declared.error.BootError.TheVariants.{BadRecord, Device, NoMemory}
 use Rattle.rel_handler.specs.declared.handler.Handler.{Handler}
@@ -19,7 +19,7 @@ use Rattle.rel_handler.specs.declared.handler.Handler.{Handler}
 -- Its store is settled, and its records make its list, in which no release is current. For the next boot there may be no room.
 pub record IsRead {D : Type 0} (seen : D → List ℕ) (may_leave : D → List ℕ → Type 0) (handler : Handler D) : Type 0 where
   pub store : of_store.IsSettled seen may_leave handler.store
-  pub makes : Makes (of_store.records_in handler.store) (list_in handler)
+  pub makes : Makes (format_in handler) (of_store.records_in handler.store) (list_in handler)
   pub as_recorded : recorded (list_in handler) ≡ list_in handler
 
 -- The handler was read from this disk.

@@ -5,7 +5,7 @@ use Rattle.rel_files.specs.Release.{Release}
 use Rattle.rel_list.specs.Releases.{Releases, has_one_shot, permanent}
 use Rattle.rel_list.specs.Event.{Event, booted, recorded, step}
 use Rattle.rel_list.specs.Event.Event.{boot}
-use Rattle.rel_store.specs.Layout.{base_of, has_magic, text_of}
+use Rattle.rel_store.specs.Layout.{base_of, format_of, has_magic, text_of}
 use Rattle.rel_store.specs.Records.{end_of, records_of, records_or_none}
 use Rattle.rel_records.specs.Lists.{Makes}
 use Rattle.rel_handler.specs.Start.{started}
@@ -51,16 +51,17 @@ abbrev pub LeavesBootSpace : Event → ℕ → Extent → Releases → Type 0
 LeavesBootSpace e size x es =
     (next : Releases) → step e es ≡ Some next → HasBootSpace (extent_behind x size) next
 
--- These bodies are the records of a list: they make it as records tell it. Beside a one-shot no release is current.
-pub record AreRecordsOf (bodies : List (List ℕ)) (es : Releases) : Type 0 where
-  pub makes : Makes bodies (recorded es)
+-- These bodies are the records of a list in a store of this format: they make it as records tell it. Beside a one-shot no
+-- release is current.
+pub record AreRecordsOf (format : ℕ) (bodies : List (List ℕ)) (es : Releases) : Type 0 where
+  pub makes : Makes format bodies (recorded es)
   pub alone : has_one_shot es ≡ true → recorded es ≡ es
 
 -- These bytes stand for the list: they are a whole store with its records, and with room for the next boot.
 pub record IsImageOf (image : List ℕ) (es : Releases) : Type 0 where
   pub bodies : List (List ℕ)
   pub store : records_of image ≡ Ok bodies
-  pub list : AreRecordsOf bodies es
+  pub list : AreRecordsOf (format_of image) bodies es
   pub room : HasBootSpace (extent_of image) es
 
 -- They do, in a store that reaches so far.

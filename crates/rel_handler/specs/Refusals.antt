@@ -3,6 +3,7 @@ use Rattle.std.specs.Prelude.{◌≡◌, ◌⊎◌, ℕ, true, false, List, leng
 use Rattle.rel_disk.specs.Moments.{HasFailed}
 use Rattle.rel_list.specs.Releases.{Releases, release_at}
 use Rattle.rel_list.specs.Event.{Event}
+use Rattle.rel_store.specs.Layout.{format_of}
 use Rattle.rel_store.specs.Records.{records_of}
 use Rattle.rel_store.specs.declared.error.StoreError.{StoreError}
 use Rattle.rel_store.specs.declared.error.StoreError.TheVariants as store
@@ -71,8 +72,8 @@ MakingRefused bytes size before now unwritten _ = ⊥
 
 -- They make a list with a one-shot, and behind them is no room for the record of the boot that takes it away: the last of them
 -- is the bad one.
-abbrev pub LeaveNoBootSpace : Extent → List (List ℕ) → ℕ → Type 0
-LeaveNoBootSpace x bodies i = (es : Releases) × Makes bodies es × (HasBootSpace x es → ⊥) × (i ≡ length bodies)
+abbrev pub LeaveNoBootSpace : ℕ → Extent → List (List ℕ) → ℕ → Type 0
+LeaveNoBootSpace format x bodies i = (es : Releases) × Makes format bodies es × (HasBootSpace x es → ⊥) × (i ≡ length bodies)
 
 -- Why a boot refuses these bytes: they are no store, a record of theirs is damaged, or no command could have written one.
 abbrev pub IsBootRefusal : List ℕ → BootError → Type 0
@@ -80,7 +81,7 @@ IsBootRefusal bytes boot.NotAStore = records_of bytes ≡ Err store.NotAStore
 IsBootRefusal bytes (boot.Damaged at) = records_of bytes ≡ Err (store.Damaged at)
 IsBootRefusal bytes (boot.BadRecord i) =
     (bodies : List (List ℕ)) × (records_of bytes ≡ Ok bodies)
-    × (IsBadRecord bodies i ⊎ LeaveNoBootSpace (extent_of bytes) bodies i)
+    × (IsBadRecord (format_of bytes) bodies i ⊎ LeaveNoBootSpace (format_of bytes) (extent_of bytes) bodies i)
 IsBootRefusal bytes e = ⊥
 
 -- Why a boot refuses a disk with these bytes: for them, for a failure of the device, or out of memory.

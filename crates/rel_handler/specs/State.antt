@@ -44,7 +44,7 @@ start_in seen handler = of_store.text_in seen handler.store
 -- Its store is settled, has the records of its list, and room for the next boot.
 pub record IsReady {D : Type 0} (seen : D → List ℕ) (may_leave : D → List ℕ → Type 0) (handler : Handler D) : Type 0 where
   pub store : of_store.IsSettled seen may_leave handler.store
-  pub list : AreRecordsOf (of_store.records_in handler.store) handler.list
+  pub list : AreRecordsOf (format_in handler) (of_store.records_in handler.store) handler.list
   pub room : HasBootSpace (extent_in handler) handler.list
 
 -- From now on each crash leaves the start record of the list's permanent release.

@@ -104,7 +104,7 @@ fn open<D: Disk>(alloc: Global, disk: D) -> Result<Handler<D>, (BootError, D)>
         (D.failures e.1) e.0) }
 {
     match Store::open_disk(alloc, disk) {
-        Ok(store) => match read_list(alloc, store.records()) {
+        Ok(store) => match read_list(alloc, store.format(), store.records()) {
             Ok(list) => Ok(Handler {
                 store,
                 list,

@@ -54,6 +54,7 @@ impl<D: Disk> Handler<D> {
         requires sound { IsSound D.seen D.may_leave self.old }
         requires allowed { IsAllowed (event_of event) self.old }
         requires told { IsRecordFor body.now (event_of event) (list_in self.old) }
+        requires format { makes_one_shot (event_of event) ≡ true → format_in self.old ≡ 2 }
         requires behind { LeavesBootSpace (event_of event) (length body.now)
             (extent_in self.old) (list_in self.old) }
         requires space { HasSpace (extent_in self.old) (length body.now) }

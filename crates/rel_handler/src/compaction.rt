@@ -63,7 +63,8 @@ impl<D: Disk> Handler<D> {
         requires dead { is_dead self.old ≡ true }
         requires may { may_be_compacted (extent_in self.old) (list_in self.old) ≡ true }
         requires image { image_of (recorded (list_in self.old)) ≡ Some image.now }
-        requires makes { Makes (image.now ∷ []) (recorded (list_in self.old)) }
+        requires makes { Makes (format_in self.old) (image.now ∷ [])
+            (recorded (list_in self.old)) }
         ensures compacts { Compacts D.Disk self.old self.new }
         ensures done { OnOk result (IsCompacted D.Disk self.old self.new) }
         ensures format { format_in self.new ≡ format_in self.old }

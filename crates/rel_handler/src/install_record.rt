@@ -10,10 +10,8 @@ ghost use Rattle.rel_records.specs.Lists.{HaveVersions};
 
 use record_writer::{boot_body_behind_restart, change_body};
 use rel_list::{Event, ReleaseList};
+use rel_store::RECORD_HEAD;
 use std::alloc::{AllocError, Global};
-
-// How many bytes of a record stand before its body.
-const RECORD_HEAD: usize = 5;
 
 // The record of an installation.
 #[derive(Drop)]

@@ -216,5 +216,5 @@ left_agrees v es next is holds =
 nothing_agrees : Agree []
 nothing_agrees l k here there like = absurd here
 
-pub make_agreeing : (bodies : List (List ℕ)) (es : Releases) → Makes bodies es → Agreeing es
+pub make_agreeing : (format : ℕ) (bodies : List (List ℕ)) (es : Releases) → Makes format bodies es → Agreeing es
 make_agreeing = kept_made Agreeing first_agrees further_agrees statuses_agree left_agrees (tt, nothing_agrees)

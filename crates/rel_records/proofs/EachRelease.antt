@@ -93,5 +93,5 @@ module _ (P : Entry → Type 0) where
           let (p, of, is) = event_of_record unpacked allowed r ls o es next e in
           subst (AllByRecursion P) (pushed_last p es next is) (each-push es (entry p Unpacked) all (brings es r ls o p Unpacked all small said libraries of))
 
-      pub each_made : (bodies : List (List ℕ)) (es : Releases) → Makes bodies es → AllByRecursion P es
+      pub each_made : (format : ℕ) (bodies : List (List ℕ)) (es : Releases) → Makes format bodies es → AllByRecursion P es
       each_made = kept_made (AllByRecursion P) each_first each_further each_set each_left tt

@@ -2,6 +2,7 @@ pub mod BodyLemmas
 pub mod ImageTerms
 pub mod ReadingLemmas
 pub mod BundleLemmas
+pub mod FormatLemmas
 pub mod ListLemmas
 pub mod InvariantLemmas
 pub mod RecordPlaces

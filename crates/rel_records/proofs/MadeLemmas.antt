@@ -15,7 +15,7 @@ use Rattle.rel_records.specs.Lists.{added_by, assign_all, made_by, Makes, MakesF
 use Rattle.rel_records.specs.Reading.{AreImaged, Says, StandsForRelup}
 use Rattle.rel_records.specs.Record.{Assignment, Imaged, Record, makes, adds, assigns, removes, images}
 use Rattle.rel_records.proofs.InvariantLemmas.{IsOf, kept_behind}
-use Rattle.rel_records.proofs.RecordPlaces.{assigned_so}
+use Rattle.rel_records.proofs.RecordPlaces.{taken_so}
 
 -- terms say the release and its relup, if it has one
 pub record AreSaid (r : Release) (o : Option RelupForm) : Type 0 where
@@ -43,12 +43,12 @@ module _ (P : Releases → Type 0)
     (further : (r : Release) (ls : List Library) (o : Option RelupForm) (es next : Releases) → AreSaid r o → AllByRecursion IsLibrary ls → added_by r ls o es ≡ Some next → P es → P next)
     (statuses : (given : List Assignment) (es next : Releases) → assign_all given es ≡ Some next → P es → P next)
     (left : (v : List ℕ) (es next : Releases) → step (removed v) es ≡ Some next → P es → P next) where
-  kept_from : (es : Releases) (bodies : List (List ℕ)) (end : Releases) → MakesFrom es bodies end → P es → P end
-  kept_from es [] end is holds = subst P (sym is) holds
-  kept_from es (body ∷ bodies) end (r, next, spelled, taken, rest) holds =
-      kept_from next bodies end rest
-      (kept_behind AreSaid IsLibrary P first further statuses left r es next (said_of spelled.term r spelled.says) (assigned_so r es next taken).0 holds)
+  kept_from : (format : ℕ) (es : Releases) (bodies : List (List ℕ)) (end : Releases) → MakesFrom format es bodies end → P es → P end
+  kept_from format es [] end is holds = subst P (sym is) holds
+  kept_from format es (body ∷ bodies) end (r, next, spelled, taken, rest) holds =
+      kept_from format next bodies end rest
+      (kept_behind AreSaid IsLibrary P first further statuses left r es next (said_of spelled.term r spelled.says) (taken_so format r es next taken) holds)
 
   -- what each record keeps holds of each list that records make
-  pub kept_made : P [] → (bodies : List (List ℕ)) (es : Releases) → Makes bodies es → P es
-  kept_made holds bodies es makes_it = kept_from [] bodies es makes_it.0 holds
+  pub kept_made : P [] → (format : ℕ) (bodies : List (List ℕ)) (es : Releases) → Makes format bodies es → P es
+  kept_made holds format bodies es makes_it = kept_from format [] bodies es makes_it.0 holds

@@ -33,5 +33,5 @@ statuses_orderly (a ∷ given) es next is orderly =
 left_orderly : (v : List ℕ) (es next : Releases) → step (removed v) es ≡ Some next → IsOrderly es → IsOrderly next
 left_orderly v es next is orderly = orderly-step (removed v) es next orderly is
 
-pub orderly_made : (bodies : List (List ℕ)) (es : Releases) → Makes bodies es → IsOrderly es
+pub orderly_made : (format : ℕ) (bodies : List (List ℕ)) (es : Releases) → Makes format bodies es → IsOrderly es
 orderly_made = kept_made IsOrderly first_orderly further_orderly statuses_orderly left_orderly orderly-empty

@@ -16,9 +16,10 @@ use Rattle.rel_list.specs.Change.{may_be_given}
 use Rattle.rel_list.specs.Releases.{Bundle, Releases, Entry, status_of}
 use Rattle.rel_list.specs.Event.{Event, entry, is_barred, recorded, recorded_status, step, without, list_assigned, assigned_status, may_be_removed}
 use Rattle.rel_list.specs.Event.Event.{made, removed, unpacked}
+use Rattle.rel_records.specs.Format.{allows}
 use Rattle.rel_records.specs.Limits.{has_one_permanent, is_small, most_releases}
 use Rattle.rel_records.specs.Record.{Assignment, Record, makes, adds, assigns, removes, images}
-use Rattle.rel_records.specs.Lists.{may_be_assigned, added_by, assign_all, brought_by, completed, if_faultless, made_by, mismatch_in, taken_by, with_one_permanent, assigned, MakesFrom}
+use Rattle.rel_records.specs.Lists.{may_be_assigned, added_by, assign_all, brought_by, completed, if_faultless, made_by, mismatch_in, taken_by, with_one_permanent, assigned, assigned_in, MakesFrom}
 use Rattle.rel_list.proofs.OwnRules.{never_made_again, own_of_step}
 use Rattle.rel_records.proofs.InvariantLemmas.{IsOf, kept_behind}
 
@@ -38,6 +39,10 @@ assigned_so r es next e = go (taken_by r es) e
     go : (o : Option Releases) → with_one_permanent o ≡ Some next → (o ≡ Some next) × (has_one_permanent next ≡ true)
     go None e = absurd cc
     go (Some l) e = one l (has_one_permanent l) refl e
+
+-- so it is in a store of each format
+pub taken_so : (format : ℕ) (r : Record) (es next : Releases) → assigned_in format r es ≡ Some next → taken_by r es ≡ Some next
+taken_so format r es next e = (assigned_so r es next (chosen (allows format r) (assigned r es) next e).1).0
 
 pub one_behind : (r : Record) (es next : Releases) → assigned r es ≡ Some next → has_one_permanent next ≡ true
 one_behind r es next e = (assigned_so r es next e).1
@@ -177,7 +182,7 @@ settled_behind r es next e same =
         let gone : without w es ≡ next = cc is in
         subst (λ l. recorded l ≡ l) gone (recorded-without w es ∙ ap (without w) same)
 
-pub settled_made : (es : Releases) (bodies : List (List ℕ)) (end : Releases) → MakesFrom es bodies end → recorded es ≡ es → recorded end ≡ end
-settled_made es [] end is same = ap recorded is ∙ same ∙ sym is
-settled_made es (body ∷ bodies) end (r, next, spelled, taken, rest) same =
-    settled_made next bodies end rest (settled_behind r es next (assigned_so r es next taken).0 same)
+pub settled_made : (format : ℕ) (es : Releases) (bodies : List (List ℕ)) (end : Releases) → MakesFrom format es bodies end → recorded es ≡ es → recorded end ≡ end
+settled_made format es [] end is same = ap recorded is ∙ same ∙ sym is
+settled_made format es (body ∷ bodies) end (r, next, spelled, taken, rest) same =
+    settled_made format next bodies end rest (settled_behind r es next (taken_so format r es next taken) same)

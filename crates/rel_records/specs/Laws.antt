@@ -1,7 +1,10 @@
 -- Laws of records and lists, whatever reads and writes them.
-use Rattle.std.specs.Prelude.{◌≡◌, ◌⊎◌, ℕ, true, List, Some}
-use Rattle.rel_list.specs.Releases.{Releases, HasDistinctVersions}
+use Rattle.std.specs.Prelude.{◌≡◌, ◌⊎◌, ℕ, true, false, List, Some}
+use Rattle.rel_list.specs.Releases.{Releases, has_one_shot, HasDistinctVersions}
 use Rattle.rel_list.specs.Event.{Event, step, recorded}
+use Rattle.rel_list.specs.Laws.{makes_one_shot}
+use Rattle.rel_records.specs.Format.{writes_one_shot}
+use Rattle.rel_records.specs.Image.{image_record}
 use Rattle.rel_records.specs.Limits.{has_one_permanent}
 use Rattle.rel_records.specs.Lists.{assigned, Makes, IsBadRecord, HaveVersions, HaveLibraries}
 use Rattle.rel_records.specs.Reading.{Spells}
@@ -11,21 +14,34 @@ use Rattle.rel_records.specs.Writing.{record_of, IsWithinLimits}
 
 -- Bodies make a list, which is the same behind a boot, or one of them is the first bad record.
 abbrev pub MakeOrHaveABadOne : Type 0
-MakeOrHaveABadOne = (bodies : List (List ℕ)) → ((es : Releases) × Makes bodies es × (recorded es ≡ es)) ⊎ ((i : ℕ) × IsBadRecord bodies i)
+MakeOrHaveABadOne =
+    (format : ℕ) (bodies : List (List ℕ)) → ((es : Releases) × Makes format bodies es × (recorded es ≡ es)) ⊎ ((i : ℕ) × IsBadRecord format bodies i)
 
 -- They make one list.
 abbrev pub MakeOneList : Type 0
-MakeOneList = (bodies : List (List ℕ)) (es fs : Releases) → Makes bodies es → Makes bodies fs → es ≡ fs
+MakeOneList = (format : ℕ) (bodies : List (List ℕ)) (es fs : Releases) → Makes format bodies es → Makes format bodies fs → es ≡ fs
 
 -- Bodies that make a list have no bad record.
 abbrev pub NeverBothRecords : Type 0
-NeverBothRecords = (bodies : List (List ℕ)) (es : Releases) (i : ℕ) → Makes bodies es → IsBadRecord bodies i → ⊥
+NeverBothRecords = (format : ℕ) (bodies : List (List ℕ)) (es : Releases) (i : ℕ) → Makes format bodies es → IsBadRecord format bodies i → ⊥
+
+-- What they make in a store of any format, they make in one of format 2.
+abbrev pub MakeItInFormat2 : Type 0
+MakeItInFormat2 = (format : ℕ) (bodies : List (List ℕ)) (es : Releases) → Makes format bodies es → Makes 2 bodies es
 
 -- The record of an event makes of the list, as records tell it, what the event makes of it, as records tell that.
 abbrev pub RecordsTellEvents : Type 0
 RecordsTellEvents =
     (e : Event) (es next : Releases) → HasDistinctVersions es → HaveLibraries es → step e es ≡ Some next → IsWithinLimits e es
     → has_one_permanent next ≡ true → assigned (record_of e es) (recorded es) ≡ Some (recorded next)
+
+-- Only a restart writes the status `one_shot`: a store of format 1 may have the record of each other event.
+abbrev pub OnlyRestartsWriteOneShots : Type 0
+OnlyRestartsWriteOneShots = (e : Event) (es : Releases) → makes_one_shot e ≡ false → writes_one_shot (record_of e es) ≡ false
+
+-- So does an image of a list that has a one-shot, and no other.
+abbrev pub ImagesWriteTheirOneShots : Type 0
+ImagesWriteTheirOneShots = (es : Releases) → writes_one_shot (image_record es) ≡ has_one_shot es
 
 -- The record is of a release that comes in or leaves: an image is of a whole list, which no single event makes.
 abbrev pub IsOfOneRelease : Record → Type 0
@@ -48,12 +64,12 @@ RecordsAreOfEvents =
 
 -- The releases of the list that bodies make have the versions of files.
 abbrev pub MakeVersions : Type 0
-MakeVersions = (bodies : List (List ℕ)) (es : Releases) → Makes bodies es → HaveVersions es
+MakeVersions = (format : ℕ) (bodies : List (List ℕ)) (es : Releases) → Makes format bodies es → HaveVersions es
 
 -- So do its libraries: each is what the files of an application say.
 abbrev pub MakeLibraries : Type 0
-MakeLibraries = (bodies : List (List ℕ)) (es : Releases) → Makes bodies es → HaveLibraries es
+MakeLibraries = (format : ℕ) (bodies : List (List ℕ)) (es : Releases) → Makes format bodies es → HaveLibraries es
 
 -- A boot can start each of them.
 abbrev pub MakeStartableReleases : Type 0
-MakeStartableReleases = (bodies : List (List ℕ)) (es : Releases) → Makes bodies es → AreStartable es
+MakeStartableReleases = (format : ℕ) (bodies : List (List ℕ)) (es : Releases) → Makes format bodies es → AreStartable es

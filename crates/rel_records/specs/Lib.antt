@@ -2,6 +2,7 @@ pub mod Limits
 pub mod ReleaseTerm
 pub mod Record
 pub mod Reading
+pub mod Format
 pub mod Lists
 pub mod Writing
 pub mod Depth

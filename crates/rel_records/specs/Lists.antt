@@ -13,6 +13,7 @@ use Rattle.rel_list.specs.Releases.{Bundle, Releases, Entry, libraries_named, li
 use Rattle.rel_list.specs.Change.{may_be_given}
 use Rattle.rel_list.specs.Event.{step, list_assigned}
 use Rattle.rel_list.specs.Event.Event.{made, unpacked, removed}
+use Rattle.rel_records.specs.Format.{allows}
 use Rattle.rel_records.specs.Limits.{most_releases, is_small, has_one_permanent}
 use Rattle.rel_records.specs.Record.{Assignment, Imaged, Record, makes, adds, assigns, removes, images}
 use Rattle.rel_records.specs.Reading.{Spells}
@@ -114,28 +115,33 @@ with_one_permanent (Some es) = if has_one_permanent es then Some es else None
 abbrev pub assigned : Record → Releases → Option Releases
 assigned r es = with_one_permanent (taken_by r es)
 
--- these bodies, taken in order, lead from the one list to the other
-abbrev pub MakesFrom : Releases → List (List ℕ) → Releases → Type 0
-MakesFrom es [] end = end ≡ es
-MakesFrom es (body ∷ bodies) end = (r : Record) × (next : Releases) × Spells body r × (assigned r es ≡ Some next) × MakesFrom next bodies end
+-- the list behind a record, where it may stand in a store of this format
+abbrev pub assigned_in : ℕ → Record → Releases → Option Releases
+assigned_in format r es = if allows format r then assigned r es else None
+
+-- these bodies of a store of this format, taken in order, lead from the one list to the other
+abbrev pub MakesFrom : ℕ → Releases → List (List ℕ) → Releases → Type 0
+MakesFrom format es [] end = end ≡ es
+MakesFrom format es (body ∷ bodies) end =
+    (r : Record) × (next : Releases) × Spells body r × (assigned_in format r es ≡ Some next) × MakesFrom format next bodies end
 
 -- These bodies, taken in order, make this list: there are some, so that one release is permanent.
-abbrev pub Makes : List (List ℕ) → Releases → Type 0
-Makes bodies es = MakesFrom [] bodies es × (has_one_permanent es ≡ true)
+abbrev pub Makes : ℕ → List (List ℕ) → Releases → Type 0
+Makes format bodies es = MakesFrom format [] bodies es × (has_one_permanent es ≡ true)
 
 -- some bodies make this list
-abbrev pub IsMade : Releases → Type 0
-IsMade es = (bodies : List (List ℕ)) × Makes bodies es
+abbrev pub IsMadeByRecords : Releases → Type 0
+IsMadeByRecords es = (format : ℕ) × (bodies : List (List ℕ)) × Makes format bodies es
 
--- the body is that of no record which may stand behind this list
-abbrev pub CannotStand : List ℕ → Releases → Type 0
-CannotStand body es = (r : Record) → Spells body r → assigned r es ≡ None
+-- the body is that of no record which may stand behind this list in a store of this format
+abbrev pub CannotStand : ℕ → List ℕ → Releases → Type 0
+CannotStand format body es = (r : Record) → Spells body r → assigned_in format r es ≡ None
 
 -- The first record that may not stand there, counted from 1; 1 where there is no record.
-pub data IsBadRecord : List (List ℕ) → ℕ → Type 0 where
-  none_at_all : IsBadRecord [] 1
+pub data IsBadRecord (format : ℕ) : List (List ℕ) → ℕ → Type 0 where
+  none_at_all : IsBadRecord format [] 1
   bad_after : (before : List (List ℕ)) (body : List ℕ) (rest : List (List ℕ)) (es : Releases)
-      → MakesFrom [] before es → CannotStand body es → IsBadRecord (before ++ body ∷ rest) (length before + 1)
+      → MakesFrom format [] before es → CannotStand format body es → IsBadRecord format (before ++ body ∷ rest) (length before + 1)
 
 -- each release of the list has the versions of a file
 abbrev pub HaveVersions : Releases → Type 0

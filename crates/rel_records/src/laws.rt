@@ -1,11 +1,22 @@
 //! Laws of records and lists, whatever reads and writes them. Each function does nothing: its contract is the law.
-ghost use Rattle.rel_records.specs.Laws.{MakeOrHaveABadOne, MakeOneList, NeverBothRecords, RecordsTellEvents, RecordsAreOfEvents, MakeVersions, MakeLibraries, MakeStartableReleases};
+ghost use Rattle.rel_records.specs.Laws.{MakeOrHaveABadOne, MakeOneList, NeverBothRecords, MakeItInFormat2, RecordsTellEvents, OnlyRestartsWriteOneShots, ImagesWriteTheirOneShots, RecordsAreOfEvents, MakeVersions, MakeLibraries, MakeStartableReleases};
 
 /// The bodies of records make one list, or one of them is the first bad record, and never both.
 pub fn records_make_a_list_or_one_is_bad()
     ensures either { MakeOrHaveABadOne }
     ensures one { MakeOneList }
     ensures never_both { NeverBothRecords }
+{}
+
+/// What records make in a store of any format, they make in one of format 2.
+pub fn records_make_it_in_format_2()
+    ensures { MakeItInFormat2 }
+{}
+
+/// No record of an event but a restart's writes the status `one_shot`. An image does exactly where its list has a one-shot.
+pub fn records_write_one_shots()
+    ensures events { OnlyRestartsWriteOneShots }
+    ensures images { ImagesWriteTheirOneShots }
 {}
 
 /// The record of an event makes of a list what the event makes of it, each as records tell it.

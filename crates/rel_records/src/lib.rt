@@ -6,7 +6,8 @@
 //! list in one record, which stands first.
 //!
 //! `read_list` gives the list that records make, each taken as what it says of the list (`Makes`), or the first record that
-//! no command could have written where it stands (`IsBadRecord`). Which record is that of an event (`record_of`, specs/Writing),
+//! no command could have written where it stands (`IsBadRecord`). Only a store of format 2 has records that write the status
+//! `one_shot` (`allows`, specs/Format). Which record is that of an event (`record_of`, specs/Writing),
 //! and which is the image of a list (`image_of`, specs/Image), is said here; `record_writer` prints them.
 //!
 //! The laws: bodies make one list or one of them is bad, and never both. The record of an event makes of a list what the
@@ -19,6 +20,7 @@
 mod assignment;
 mod bundle;
 mod fault;
+mod format;
 mod imaged;
 pub mod laws;
 mod limits;

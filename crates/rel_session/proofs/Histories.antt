@@ -15,9 +15,11 @@ use Rattle.rel_list.proofs.RestLaws.{recorded_reached}
 use Rattle.rel_records.specs.Limits.{has_one_permanent, is_small, most_releases}
 use Rattle.rel_records.specs.Lists.{may_be_assigned, assign_all, assigned, own_status, MakesFrom}
 use Rattle.rel_records.specs.Record.{Assignment, Record, makes, adds, assigns, removes, images}
+use Rattle.rel_records.proofs.FormatLemmas.{allowed_so}
 use Rattle.rel_records.proofs.ImageEvents.{restored_by}
 use Rattle.rel_records.proofs.OrderlyLemmas.{statuses_orderly}
 use Rattle.rel_records.proofs.RecordPlaces.{chosen, assigned_so, event_of_record, settled_behind}
+use Rattle.rel_store.specs.Layout.{format_of}
 use Rattle.rel_handler.specs.Events.{Events}
 use Rattle.rel_handler.specs.Image.{IsImageOf}
 
@@ -82,16 +84,17 @@ behind_record (assigns given) es next orderly still one taken = by_one one
         (as_told next (statuses_orderly given es next assigned_there orderly) (settled_behind (assigns given) es next assigned_there still) (assigned_so (assigns given) es next taken).1)
         (kept_by given es next assigned_there)
 
-events_behind : (events : Events) (es : Releases) (bodies : List (List ℕ)) (end : Releases) → list_after events ≡ Some es → recorded es ≡ es → (es ≡ []) ⊎ (has_one_permanent es ≡ true)
-    → MakesFrom es bodies end → (all : Events) × (list_after all ≡ Some end)
-events_behind events es [] end after still one is = (events, after ∙ ap (λ l. Some l) (sym is))
-events_behind events es (body ∷ bodies) end after still one (r, between, spelled, taken, rest) =
+events_behind : (format : ℕ) (events : Events) (es : Releases) (bodies : List (List ℕ)) (end : Releases) → list_after events ≡ Some es → recorded es ≡ es → (es ≡ []) ⊎ (has_one_permanent es ≡ true)
+    → MakesFrom format es bodies end → (all : Events) × (list_after all ≡ Some end)
+events_behind format events es [] end after still one is = (events, after ∙ ap (λ l. Some l) (sym is))
+events_behind format events es (body ∷ bodies) end after still one (r, between, spelled, stands, rest) =
+    let taken = (allowed_so format r es between stands).1 in
     let (more, leads) = behind_record r es between (orderly-after events es after) still one taken in
     let (next, permanent) = assigned_so r es between taken in
-    events_behind (events ++ more) between bodies end (list_from-append [] events more es between after leads) (settled_behind r es between next still) (inr permanent) rest
+    events_behind format (events ++ more) between bodies end (list_from-append [] events more es between after leads) (settled_behind r es between next still) (inr permanent) rest
 
 -- A list that a disk stands for is one behind events, where it is as records tell it.
 pub events_of_image : (image : List ℕ) (es : Releases) → IsImageOf image es → recorded es ≡ es → (events : Events) × (list_after events ≡ Some es)
 events_of_image image es of still =
-    let (events, after) = events_behind [] [] of.bodies (recorded es) refl refl (inl refl) of.list.makes.0 in
+    let (events, after) = events_behind (format_of image) [] [] of.bodies (recorded es) refl refl (inl refl) of.list.makes.0 in
     (events, after ∙ ap (λ l. Some l) still)

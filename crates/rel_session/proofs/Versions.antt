@@ -21,6 +21,7 @@ use Rattle.rel_records.proofs.StartableLemmas.{make_startable, startable-of_reco
 use Rattle.node_command.specs.Files.{bundle_brought, made_size}
 use Rattle.node_command.specs.Place.{own_refusal}
 use Rattle.node_command.proofs.CommandLemmas.{IsListRefusal, IsListAnswer, of_command}
+use Rattle.rel_store.specs.Layout.{format_of}
 use Rattle.rel_handler.proofs.Commits.{have_versions}
 use Rattle.rel_handler.proofs.RepairLemmas.{permanent_versions}
 use Rattle.node_command.specs.declared.error.HandlerError.{HandlerError}
@@ -228,7 +229,7 @@ reboots events extent ps vsn list o plain all =
 
 -- the list of an image
 pub of_image : (image : List ℕ) (es : Releases) → IsImageOf image es → AreOfFiles es
-of_image image es of = both es (have_versions of.bodies es of.list) (startable-of_recorded es (make_startable of.bodies (recorded es) of.list.makes))
+of_image image es of = both es (have_versions (format_of image) of.bodies es of.list) (startable-of_recorded es (make_startable (format_of image) of.bodies (recorded es) of.list.makes))
   where
     both : (es : Releases) → HaveVersions es → AreStartable es → AreOfFiles es
     both [] versions start = tt

@@ -1,13 +1,15 @@
 -- What a settled store leaves at each moment of a call.
-use Rattle.std.proofs.Common.{◌≡◌, ◌⊎◌, inl, inr, ℕ, ◌+◌, ◌<◌, ◌≤◌, take, drop, get_or, Bool, true, false, not, ◌-◌, List, [], ◌∷◌, ◌++◌, length, length-append, replicate, refl, sym, ◌∙◌, ap, subst, arith}
+use Rattle.std.proofs.Common.{◌≡◌, ◌⊎◌, inl, inr, ⊎_elim, ℕ, ◌+◌, ◌<◌, ◌≤◌, take, drop, get_or, Bool, true, false, not, ◌-◌, List, [], ◌∷◌, ◌++◌, length, length-append, replicate, refl, sym, ◌∙◌, ap, subst, arith}
 use Rattle.std.specs.Int.{w64, from_be_bytes}
 use Rattle.std.proofs.lemmas.List.{length-replicate, length-take-le, length-drop, get_or-take, get_or-drop}
 use Rattle.rel_disk.specs.Damage.{overwritten, Within}
 use Rattle.rel_disk.specs.Moments.{Elapses, LeavesOnly}
 use Rattle.rel_disk.proofs.Moments.{started, goes_on, joined, weakened}
 use Rattle.std.proofs.lemmas.Grind.{same_number_lists}
-use Rattle.rel_store.specs.Changed.{LeavesOthers, IsFormat, IsInRecord, IsInOtherSlot}
-use Rattle.rel_store.specs.Layout.{part, selected, slot_with, base_slot, base_of}
+use Rattle.rel_store.specs.Changed.{LeavesOthers, KeepsOthers, IsFormat, IsInCompaction, IsInRecord, IsInOtherSlot}
+use Rattle.rel_store.specs.Compaction.{image_place}
+use Rattle.rel_store.specs.Layout.{part, selected, slot_with, base_slot, base_of, format_of}
+use Rattle.rel_store.proofs.Layouts.{format_same}
 use Rattle.rel_store.proofs.Whole.{base-same, selected-le, selected-ge}
 use Rattle.rel_store.specs.Moments.{IsTornFrom, IsTornInSteps}
 use Rattle.rel_store.specs.Records.{record_bytes, Stands, StandsEither, StandsWithEither}
@@ -15,7 +17,7 @@ use Rattle.rel_store.specs.State.{records_in, text_in, IsSettled}
 use Rattle.rel_store.specs.declared.store.Store.{Store}
 use Rattle.rel_store.proofs.Append.{gate_low, gate_within, first_leaves, second_leaves, Staged, staged, Appended, appended}
 use Rattle.rel_store.proofs.Slots.{slot_place, slot_leaves, Slotted, slotted, selector_leaves, Selected, selected_now}
-use Rattle.std.specs.Prelude.{◌==◌, if◌then◌else◌, slice_index}
+use Rattle.std.specs.Prelude.{◌==◌, if◌then◌else◌, nat_le, slice_index}
 
 module _ {D : Type 0} (moment : D → ℕ) (left_since : D → ℕ → List ℕ → Type 0) (seen : D → List ℕ) (may_leave : D → List ℕ → Type 0) (store : Store D) (s : IsSettled seen may_leave store) where
   pub stands_now : Stands (records_in store) (text_in seen store) (seen store.disk)
@@ -90,12 +92,71 @@ module _ {D : Type 0} (moment : D → ℕ) (left_since : D → ℕ → List ℕ 
       own_below i (inr (from, to)) (inr high) = omega (arith, from, to, selected-le (slice_index (seen store.disk) 9) 144 16 144 (omega arith) (omega arith))
 
   -- and a change of format
-  pub base_kept_by_format : (c : List ℕ) → LeavesOthers IsFormat (seen store.disk) c → base_of c ≡ base_of (seen store.disk)
-  base_kept_by_format = base_kept_above IsFormat own_below
+  pub base_kept_by_format : (c : List ℕ) → LeavesOthers (IsFormat store.format) (seen store.disk) c → base_of c ≡ base_of (seen store.disk)
+  base_kept_by_format = base_kept_above (IsFormat store.format) own_below
     where
-      own_below : (i : ℕ) → IsFormat i → (i ≡ 10) ⊎ (272 ≤ i) → ⊥
-      own_below i eleven (inl ten) = omega (arith, eleven, ten)
-      own_below i eleven (inr high) = omega (arith, eleven, high)
+      own_below : (i : ℕ) → IsFormat store.format i → (i ≡ 10) ⊎ (272 ≤ i) → ⊥
+      own_below i own (inl ten) = omega (arith, own.1, ten)
+      own_below i own (inr high) = omega (arith, own.1, high)
+
+  -- a store is one of format 1 or of format 2
+  abbrev told_format : Bool → ℕ
+  told_format b = if b then 1 else 2
+
+  one_or_two : (b : Bool) → (told_format b ≡ 1) ⊎ (told_format b ≡ 2)
+  one_or_two true = inl refl
+  one_or_two false = inr refl
+
+  formats : (store.format ≡ 1) ⊎ (store.format ≡ 2)
+  formats = ⊎_elim (λ one. inl (s.format ∙ one)) (λ two. inr (s.format ∙ two)) (one_or_two (slice_index (seen store.disk) 11 == 0))
+
+  pub format_1 : (store.format ≡ 2 → ⊥) → store.format ≡ 1
+  format_1 other = ⊎_elim (λ one. one) (λ two. absurd (other two)) formats
+
+  -- Bytes in which the byte that tells the format is as it was have the format that they had.
+  format_kept : (c : List ℕ) → (11 < length (seen store.disk) → slice_index c 11 ≡ slice_index (seen store.disk) 11) → format_of c ≡ store.format
+  format_kept c same =
+      let low = gate_low (records_in store) (text_in seen store) (seen store.disk) store.gate stands_now s.end in
+      let within = gate_within (records_in store) (text_in seen store) (seen store.disk) store.gate stands_now s.end in
+      format_same c (seen store.disk) (same (omega (arith, low, within))) ∙ sym s.format
+
+  -- So do those of an append, of a new start text and of a compaction.
+  pub format_kept_by_record : (n : ℕ) (c : List ℕ) → LeavesOthers (IsInRecord store.gate n) (seen store.disk) c → format_of c ≡ store.format
+  format_kept_by_record n c leaves =
+      let low = gate_low (records_in store) (text_in seen store) (seen store.disk) store.gate stands_now s.end in
+      format_kept c (λ long. leaves.kept 11 long (λ own. omega (arith, low, own.0)))
+
+  pub format_kept_by_start : (c : List ℕ) → LeavesOthers (IsInOtherSlot (seen store.disk)) (seen store.disk) c → format_of c ≡ store.format
+  format_kept_by_start c leaves = format_kept c (λ long. leaves.kept 11 long apart)
+    where
+      apart : IsInOtherSlot (seen store.disk) 11 → ⊥
+      apart (inl nine) = omega (arith, nine)
+      apart (inr (from, to)) = omega (arith, from, selected-ge (slice_index (seen store.disk) 9) 144 16 16 (omega arith) (omega arith))
+
+  pub format_kept_in_compaction : (n : ℕ) (c : List ℕ) → KeepsOthers (IsInCompaction (seen store.disk) (image_place store.base (store.gate + 1) n) n) (seen store.disk) c → format_of c ≡ store.format
+  format_kept_in_compaction n c keeps = format_kept c (λ long. (keeps.there 11 long apart).1)
+    where
+      past : 288 ≤ store.gate
+      past = gate_low (records_in store) (text_in seen store) (seen store.disk) store.gate stands_now s.end
+
+      low : (b : Bool) → 288 ≤ (if b then 288 else store.gate + 1)
+      low true = omega arith
+      low false = omega (arith, past)
+
+      apart : IsInCompaction (seen store.disk) (image_place store.base (store.gate + 1) n) n 11 → ⊥
+      apart (inl (inl ten)) = omega (arith, ten)
+      apart (inl (inr (from, to))) = omega (arith, from, selected-ge (slice_index (seen store.disk) 10) 280 272 272 (omega arith) (omega arith))
+      apart (inr (from, to)) = omega (arith, from, low (nat_le (288 + (6 + n)) store.base))
+
+  -- A change of format leaves the format that they had, or format 2.
+  pub format_kept_or_2 : (c : List ℕ) → LeavesOthers (IsFormat store.format) (seen store.disk) c → (format_of c ≡ store.format) ⊎ (format_of c ≡ 2)
+  format_kept_or_2 c leaves = ⊎_elim from_1 from_2 formats
+    where
+      from_1 : store.format ≡ 1 → (format_of c ≡ store.format) ⊎ (format_of c ≡ 2)
+      from_1 is = ⊎_elim (λ one. inl (one ∙ sym is)) (λ two. inr two) (one_or_two (slice_index c 11 == 0))
+
+      from_2 : store.format ≡ 2 → (format_of c ≡ store.format) ⊎ (format_of c ≡ 2)
+      from_2 is = inl (format_kept c (λ long. leaves.kept 11 long (λ own. omega (arith, own.0, is))))
 
   -- each image of its disk now is a store that stands
   pub each_now : (c : List ℕ) → may_leave store.disk c → Stands (records_in store) (text_in seen store) c

@@ -21,9 +21,9 @@ IsInRecord gate n i = (gate ≤ i) × (i < gate + (6 + n))
 abbrev pub IsInOtherSlot : List ℕ → ℕ → Type 0
 IsInOtherSlot bytes i = (i ≡ 9) ⊎ ((other_slot bytes ≤ i) × (i < other_slot bytes + 128))
 
--- a change of format's own: the byte that tells it
-abbrev pub IsFormat : ℕ → Type 0
-IsFormat i = i ≡ 11
+-- a change of format's own: the byte that tells it, in a store of format 1, and none in one of format 2
+abbrev pub IsFormat : ℕ → ℕ → Type 0
+IsFormat format i = (format ≡ 1) × (i ≡ 11)
 
 -- a creation's own: the layout, a record with a body of n bytes, and the gate behind it
 abbrev pub IsInNewStore : ℕ → ℕ → Type 0

@@ -10,8 +10,8 @@ pub const MAX_BODY: usize = 16_777_216;
 /// A store ends at most here, in bytes from the disk's first.
 pub const MAX_END: u64 = 67_108_864;
 
-// What a record takes beside its body: its gate and its length.
-pub(crate) const RECORD_HEAD: usize = 5;
+/// What a record takes before its body, its gate and its length, in bytes.
+pub const RECORD_HEAD: usize = 5;
 
 // Where the records of a new store begin.
 pub(crate) const FIRST_RECORD: u64 = 288;

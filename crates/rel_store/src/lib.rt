@@ -30,5 +30,5 @@ mod store;
 pub use creation::holds_a_store;
 pub use error::StoreError;
 pub use laws::{nothing_else_is_read, what_is_spelled_is_read};
-pub use layout::{MAX_BODY, MAX_END};
+pub use layout::{MAX_BODY, MAX_END, RECORD_HEAD};
 pub use store::Store;

@@ -2,8 +2,9 @@
 ghost use Rattle.std.specs.Prelude.{◌≡◌, ◌⊎◌, ◌≤◌, IfOk, IfErr, IsErrOf, Ok};
 ghost use Rattle.rel_disk.specs.Moments.{LeavesOnly};
 ghost use Rattle.rel_store.specs.Contents.{AreContentsOf, IsSyncedAt, OpenRefused, RefusedByDevice};
+ghost use Rattle.rel_store.specs.Layout.{format_of};
 ghost use Rattle.rel_store.specs.Records.{records_of};
-ghost use Rattle.rel_store.specs.State.{disk_of, records_in, IsSettled, IsSoundStore};
+ghost use Rattle.rel_store.specs.State.{disk_of, format_in, records_in, IsSettled, IsSoundStore};
 
 use crate::contents::Contents;
 use crate::{Store, StoreError};
@@ -21,6 +22,7 @@ impl<D: Disk> Store<D> {
         ensures settled { IfOk result (IsSettled D.seen D.may_leave) }
         ensures sound { IfOk result (IsSoundStore D.seen D.may_leave) }
         ensures records { IfOk result (λ store. records_of (D.seen disk) ≡ Ok (records_in store)) }
+        ensures format { IfOk result (λ store. format_in store ≡ format_of (D.seen disk)) }
 
         // No crash in the call leaves anything that none before it would have left; from its sync on a crash leaves what a
         // read gives, whatever the opening answers then. An opening that answers `Device` may have failed in the sync, and

@@ -255,14 +255,14 @@ impl<D: Disk> Store<D> {
         ensures end { end_in self.new ≡ end_in self.old }
         ensures room { (n : ℕ) → HasRoom n self.old → HasRoom n self.new }
 
-        // A crash at any moment of the call leaves the records and the start text, and all bytes as they were but the one that
-        // tells the format.
+        // A crash at any moment of the call leaves the records and the start text, and all bytes as they were but, in a store of
+        // format 1, the one that tells the format.
         ensures any_moment { has_failed self.old ≡ false
             → LeavesOnly D.moment D.left_since (disk_in self.old) (disk_in self.new)
             (Stands (records_in self.old) (text_in D.seen self.old)) }
         ensures others { has_failed self.old ≡ false
             → LeavesOnly D.moment D.left_since (disk_in self.old) (disk_in self.new)
-            (LeavesOthers IsFormat (D.seen (disk_in self.old))) }
+            (LeavesOthers (IsFormat (format_in self.old)) (D.seen (disk_in self.old))) }
 
         ensures counted { D.failures (disk_in self.old) ≤ D.failures (disk_in self.new) }
         ensures reopened { IsErrOf result StoreError.MustReopen ↔ (has_failed self.old ≡ true) }

@@ -15,7 +15,7 @@ use Rattle.relup_file.specs.Relup.{RelupForm}
 use Rattle.appup_file.proofs.TermLemmas.{says_its_term}
 use Rattle.appup_file.specs.Form.{IsAppupInstruction, IsEntryTerm, Spells}
 use Rattle.appup_file.specs.Instruction.{AppupInstruction, AppupEntryForm, AppupForm, VersionForm}
-use Rattle.appup_file.specs.Instruction.AppupInstruction.{update, update_supervisor, load_module, add_module, delete_module, add_application, remove_application, restart_application, low_level}
+use Rattle.appup_file.specs.Instruction.AppupInstruction.{update, load_module, add_module, delete_module, add_application, remove_application, restart_application, low_level}
 use Rattle.appup_file.specs.Instruction.VersionForm.{text, pattern}
 use Rattle.appup_file.specs.Search.{ends_at, answer_of, answer_at, entry_for}
 use Rattle.rel_unpack.specs.Applications.{AppAt}
@@ -168,7 +168,6 @@ tells_low_level asked line i = elim i as (λ j. MayTell (low_level_fault asked j
 
 tells_instruction : (w : WayForm) (b : RelupAppForm) → IsLineApp b → (i : AppupInstruction) → IsAppupInstruction i → MayTell (instruction_fault w b i)
 tells_instruction w b of (update u) names = tells_known (is_some (owner u.name w.target)) _ (name_line u.name names.0)
-tells_instruction w b of (update_supervisor name) names = of.lines.own
 tells_instruction w b of (load_module l) names = tells_known (is_some (owner l.name w.target)) _ (name_line l.name names.0)
 tells_instruction w b of (add_module d) names = tells_known (is_some (owner d.name w.target)) _ (name_line d.name names.0)
 tells_instruction w b of (delete_module d) names = tells_known (is_among d.name b.modules) _ (name_line d.name names.0)

@@ -11,7 +11,7 @@ use Rattle.relup_instruction.specs.declared.instruction.PurgeMode.TheVariants.{B
 use Rattle.relup_instruction.specs.Instruction.{PurgingForm, Instruction}
 use Rattle.relup_instruction.specs.Instruction.Instruction.{load_object_code, point_of_no_return, load, remove, purge, apply, restart_emulator}
 use Rattle.appup_file.specs.Instruction.{AppupInstruction}
-use Rattle.appup_file.specs.Instruction.AppupInstruction.{update, update_supervisor, load_module, add_module, delete_module, add_application, remove_application, restart_application, low_level}
+use Rattle.appup_file.specs.Instruction.AppupInstruction.{update, load_module, add_module, delete_module, add_application, remove_application, restart_application, low_level}
 use Rattle.relup_row.specs.Release.{RelupAppForm, RelupReleaseForm, WayForm, app_named}
 use Rattle.relup_block.specs.Order.{BlockItemForm}
 use Rattle.relup_block.specs.Order.BlockItemForm.{updated, loaded}
@@ -81,7 +81,6 @@ in_place i = i ∷ []
 -- what an instruction outside a block becomes, behind the point of no return
 abbrev pub single : WayForm → AppupInstruction → List Instruction
 single w (update u) = []
-single w (update_supervisor name) = []
 single w (load_module l) = []
 single w (add_module d) = load_plainly d.name ∷ []
 single w (delete_module d) = deleting d.name

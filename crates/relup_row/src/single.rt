@@ -184,9 +184,7 @@ pub(crate) fn push_single(
         (single (way_of way.entry) (appup_instruction_of instr.now))) }
 {
     match instr {
-        AppupInstr::Update(_) | AppupInstr::UpdateSupervisor(_) | AppupInstr::LoadModule(_) => {
-            Ok(())
-        }
+        AppupInstr::Update(_) | AppupInstr::LoadModule(_) => Ok(()),
         AppupInstr::AddModule(added) => push_load(alloc, added.name.as_str(), out),
         AppupInstr::DeleteModule(deleted) => push_leaving(
             alloc,

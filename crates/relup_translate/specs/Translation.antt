@@ -14,7 +14,7 @@ use Rattle.relup_file.specs.Relup.{EntryForm, RelupForm}
 use Rattle.appup_file.specs.declared.search.EntryFault.{EntryFault}
 use Rattle.appup_file.specs.declared.search.EntryFault.TheVariants.{NoEntry, RegexVersion}
 use Rattle.appup_file.specs.Instruction.{AppupInstruction, AppupForm}
-use Rattle.appup_file.specs.Instruction.AppupInstruction.{update, update_supervisor, load_module, add_module, delete_module, add_application, remove_application, restart_application, low_level}
+use Rattle.appup_file.specs.Instruction.AppupInstruction.{update, load_module, add_module, delete_module, add_application, remove_application, restart_application, low_level}
 use Rattle.appup_file.specs.Search.{entries_of, entry_for}
 use Rattle.relup_translate.specs.declared.error.TranslateError.{TranslateError}
 use Rattle.relup_translate.specs.declared.error.TranslateError.TheVariants.{NoMemory}
@@ -52,7 +52,6 @@ restart_fault w app asked = option_or (left_has_app w app asked) (target_has_app
 -- where the appup of an application that is left in this version has them.
 abbrev pub instruction_fault : WayForm → RelupAppForm → AppupInstruction → Option FaultForm
 instruction_fault w b (update u) = target_has_module w u.name
-instruction_fault w b (update_supervisor name) = Some (unsupported b.name)
 instruction_fault w b (load_module l) = target_has_module w l.name
 instruction_fault w b (add_module d) = target_has_module w d.name
 instruction_fault w b (delete_module d) = deleted_fault b d.name

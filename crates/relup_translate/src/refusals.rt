@@ -68,7 +68,6 @@ fn instruction_fault<'a>(
     let asked = left.name.as_str();
     match instr {
         AppupInstr::Update(update) => target_has_module(way, update.name.as_str()),
-        AppupInstr::UpdateSupervisor(_) => Some(TranslationFault::Unsupported(asked)),
         AppupInstr::LoadModule(load) => target_has_module(way, load.name.as_str()),
         AppupInstr::AddModule(added) => target_has_module(way, added.name.as_str()),
         AppupInstr::DeleteModule(deleted) => deleted_fault(left, deleted.name.as_str()),

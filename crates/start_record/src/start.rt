@@ -5,7 +5,7 @@ ghost use Rattle.rel_store.specs.Changed.{LeavesOthers, IsInOtherSlot, with_star
 ghost use Rattle.rel_store.specs.Contents.{HasOnlyRead};
 ghost use Rattle.rel_store.specs.Layout.{slot_with};
 ghost use Rattle.rel_store.specs.Records.{Stands, StandsWithEither};
-ghost use Rattle.rel_store.specs.State.{disk_in, records_in, text_in, base_in, end_in, has_failed, HasRoom, IsSettled, IsSoundStore};
+ghost use Rattle.rel_store.specs.State.{disk_in, records_in, text_in, base_in, end_in, format_in, has_failed, HasRoom, IsSettled, IsSoundStore};
 ghost use Rattle.start_record.specs.Refusals.{ReadRefused, SlotRefused, WriteRefused};
 ghost use Rattle.start_record.specs.Text.{Versions, versions_of, AreVersions, AreTooLong, start_text, SpellsStart, SpellsEither};
 
@@ -44,6 +44,7 @@ pub fn read_start<D: Disk>(alloc: Global, store: &mut Store<D>) -> Result<Start,
         (disk_in store.old) (disk_in store.new) }
     ensures base { base_in store.new ≡ base_in store.old }
     ensures end { end_in store.new ≡ end_in store.old }
+    ensures format { format_in store.new ≡ format_in store.old }
     ensures room { (n : ℕ) → HasRoom n store.old → HasRoom n store.new }
     ensures any_moment { has_failed store.old ≡ false
         → LeavesOnly D.moment D.left_since (disk_in store.old) (disk_in store.new)
@@ -89,6 +90,7 @@ pub fn write_start<D: Disk>(store: &mut Store<D>, start: &Start) -> Result<(), S
     ensures records { records_in store.new ≡ records_in store.old }
     ensures base { base_in store.new ≡ base_in store.old }
     ensures end { end_in store.new ≡ end_in store.old }
+    ensures format { format_in store.new ≡ format_in store.old }
     ensures room { (n : ℕ) → HasRoom n store.old → HasRoom n store.new }
     ensures bytes { OnOk result
         (D.seen (disk_in store.new)

@@ -53,7 +53,6 @@ pub(crate) fn push_instrs(alloc: Global, instrs: &[AppupInstr], answer: &mut Ans
 fn push_instr(alloc: Global, instr: &AppupInstr, answer: &mut Answer) {
     match instr {
         AppupInstr::Update(update) => push_update(alloc, update, answer),
-        AppupInstr::UpdateSupervisor(name) => answer.push_after("supervisor ", name),
         AppupInstr::LoadModule(load) => push_load(load, answer),
         AppupInstr::AddModule(dependent) => push_dependent("add ", dependent, answer),
         AppupInstr::DeleteModule(dependent) => push_dependent("delete ", dependent, answer),

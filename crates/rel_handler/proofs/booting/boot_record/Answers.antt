@@ -11,7 +11,7 @@ use Rattle.rel_handler.proofs.Boots.{one_shot_told}
 use Rattle.rel_handler.proofs.booting.boot_record.Goals as goal
 
 pub change_body-requires-clause-versions : goal.change_body-requires-clause-versions
-change_body-requires-clause-versions g c = make_versions (records_in c.args.handler.now.store) (list_in c.args.handler.now) c.requires.makes
+change_body-requires-clause-versions g c = make_versions c.args.handler.now.store.format (records_in c.args.handler.now.store) (list_in c.args.handler.now) c.requires.makes
 
 -- it doesn't fit
 pub returns-then-not-fits-clause-refused : goal.returns-then-not-fits-clause-refused

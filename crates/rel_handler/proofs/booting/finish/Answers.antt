@@ -64,7 +64,7 @@ returns-then-right-clause-started g c =
     let t = c.in_ok-take_one_shot.ensures in
     let r = release_of c.in-Some.release.now in
     let listed : permanent (list_in h) ≡ Some r = sym c.in-Some.ensures in
-    let has = permanent_versions (list_in h) r (have_versions (records_in h.store) (list_in h) c.requires.ready.list) listed in
+    let has = permanent_versions (list_in h) r (have_versions h.store.format (records_in h.store) (list_in h) c.requires.ready.list) listed in
     let are = subst AreVersions (sym c.in_ok-start.ensures) (has.erts, has.own) in
     right_already g.D.Disk h c.starts.new.handler c.requires.ready c.in_ok-right.ensures.read c.take_one_shot.new.handler t.leaves t.booted t.start
     (versions_of c.in_ok-start.start) r are c.in_ok-start.ensures listed (c.in_ok-right.ensures.value.0 c.if-right.true)
@@ -81,7 +81,7 @@ commit_start-requires-clause-versions g c =
     let h = c.args.handler.now in
     let r = release_of c.in-Some.release.now in
     let listed : permanent (list_in h) ≡ Some r = sym c.in-Some.ensures in
-    let has = permanent_versions (list_in h) r (have_versions (records_in h.store) (list_in h) c.requires.ready.list) listed in
+    let has = permanent_versions (list_in h) r (have_versions h.store.format (records_in h.store) (list_in h) c.requires.ready.list) listed in
     subst AreVersions (sym c.in_ok-start.ensures) (has.erts, has.own)
 
 pub returns-in_err-commit_start-clause-leaves : goal.returns-in_err-commit_start-clause-leaves
@@ -90,7 +90,7 @@ returns-in_err-commit_start-clause-leaves g c =
     let t = c.in_ok-take_one_shot.ensures in
     let r = release_of c.in-Some.release.now in
     let listed : permanent (list_in h) ≡ Some r = sym c.in-Some.ensures in
-    let has = permanent_versions (list_in h) r (have_versions (records_in h.store) (list_in h) c.requires.ready.list) listed in
+    let has = permanent_versions (list_in h) r (have_versions h.store.format (records_in h.store) (list_in h) c.requires.ready.list) listed in
     let are = subst AreVersions (sym c.in_ok-start.ensures) (has.erts, has.own) in
     written_over g.D.Disk h c.starts.new.handler c.requires.ready c.in_ok-right.ensures.read c.take_one_shot.new.handler t.leaves t.booted t.start
     (versions_of c.in_ok-start.start) r are c.in_ok-start.ensures listed c.commit_start.new.self c.commit_start.ensures.keeps
@@ -101,7 +101,7 @@ returns-in_err-commit_start-clause-refused g c =
     let t = c.in_ok-take_one_shot.ensures in
     let r = release_of c.in-Some.release.now in
     let listed : permanent (list_in h) ≡ Some r = sym c.in-Some.ensures in
-    let has = permanent_versions (list_in h) r (have_versions (records_in h.store) (list_in h) c.requires.ready.list) listed in
+    let has = permanent_versions (list_in h) r (have_versions h.store.format (records_in h.store) (list_in h) c.requires.ready.list) listed in
     let are = subst AreVersions (sym c.in_ok-start.ensures) (has.erts, has.own) in
     refuses_with (FinishRefused g.D.Disk h c.commit_start.new.self) c.from_residual-in_err-commit_start.result Device c.from_residual-in_err-commit_start.ensures
     (failed_over g.D.Disk h c.starts.new.handler c.requires.ready c.in_ok-right.ensures.read c.take_one_shot.new.handler t.leaves t.booted t.start
@@ -113,7 +113,7 @@ returns-clause-leaves g c =
     let t = c.in_ok-take_one_shot.ensures in
     let r = release_of c.in-Some.release.now in
     let listed : permanent (list_in h) ≡ Some r = sym c.in-Some.ensures in
-    let has = permanent_versions (list_in h) r (have_versions (records_in h.store) (list_in h) c.requires.ready.list) listed in
+    let has = permanent_versions (list_in h) r (have_versions h.store.format (records_in h.store) (list_in h) c.requires.ready.list) listed in
     let are = subst AreVersions (sym c.in_ok-start.ensures) (has.erts, has.own) in
     written_over g.D.Disk h c.starts.new.handler c.requires.ready c.in_ok-right.ensures.read c.take_one_shot.new.handler t.leaves t.booted t.start
     (versions_of c.in_ok-start.start) r are c.in_ok-start.ensures listed c.commit_start.new.self c.commit_start.ensures.keeps
@@ -124,7 +124,7 @@ returns-clause-booted g c =
     let t = c.in_ok-take_one_shot.ensures in
     let r = release_of c.in-Some.release.now in
     let listed : permanent (list_in h) ≡ Some r = sym c.in-Some.ensures in
-    let has = permanent_versions (list_in h) r (have_versions (records_in h.store) (list_in h) c.requires.ready.list) listed in
+    let has = permanent_versions (list_in h) r (have_versions h.store.format (records_in h.store) (list_in h) c.requires.ready.list) listed in
     let are = subst AreVersions (sym c.in_ok-start.ensures) (has.erts, has.own) in
     booted_now g.D.Disk h c.starts.new.handler c.requires.ready c.in_ok-right.ensures.read c.take_one_shot.new.handler t.leaves t.booted t.start
     (versions_of c.in_ok-start.start) r are c.in_ok-start.ensures listed c.commit_start.new.self c.commit_start.ensures.keeps c.in_ok-commit_start.ensures.ready
@@ -135,7 +135,7 @@ returns-clause-started g c =
     let t = c.in_ok-take_one_shot.ensures in
     let r = release_of c.in-Some.release.now in
     let listed : permanent (list_in h) ≡ Some r = sym c.in-Some.ensures in
-    let has = permanent_versions (list_in h) r (have_versions (records_in h.store) (list_in h) c.requires.ready.list) listed in
+    let has = permanent_versions (list_in h) r (have_versions h.store.format (records_in h.store) (list_in h) c.requires.ready.list) listed in
     let are = subst AreVersions (sym c.in_ok-start.ensures) (has.erts, has.own) in
     started_now g.D.Disk h c.starts.new.handler c.requires.ready c.in_ok-right.ensures.read c.take_one_shot.new.handler t.leaves t.booted t.start
     (versions_of c.in_ok-start.start) r are c.in_ok-start.ensures listed c.commit_start.new.self c.commit_start.ensures.keeps c.in_ok-commit_start.ensures.acknowledged

@@ -5,7 +5,7 @@ use Rattle.rel_records.proofs.RecordLaws.{as_recorded}
 use Rattle.rel_store.specs.Contents.{HasOnlyRead, IsSyncedAt}
 use Rattle.rel_store.specs.State.{records_in}
 use Rattle.rel_handler.specs.Refusals.{told_boot}
-use Rattle.rel_handler.proofs.Boots.{IsLack, read_so, only_memory, only_reads, settles_so}
+use Rattle.rel_handler.proofs.Boots.{IsBadOrLack, IsLack, makes_so, only_memory, only_reads, read_so, settles_so}
 use Rattle.rel_handler.proofs.Images.{recorded_image}
 use Rattle.rel_handler.proofs.booting.open.Goals as goal
 
@@ -17,16 +17,16 @@ returns-in-Ok-read_list-clause-opened g c =
     let made = c.in-Ok-read_list.ensures.made in
     let (at, synced) = ⊎_elim (λ never. absurd never) (λ synced. synced) c.in-Ok.ensures.synced in
     record {
-      read = record { store = c.in-Ok.ensures.settled; makes = subst (λ bs. Makes bs list) c.records.ensures made; as_recorded = as_recorded (bodies_in c.records.result.now) list made };
+      read = record { store = c.in-Ok.ensures.settled; makes = makes_so c.format.result store.format (bodies_in c.records.result.now) (records_in store) list c.format.ensures c.records.ensures made; as_recorded = as_recorded c.format.result (bodies_in c.records.result.now) list made };
       only_read = only_reads g.D.Disk.seen g.D.Disk.may_leave g.D.Disk.moment g.D.Disk.left_since g.met.D.Disk.counts_now c.args.disk store.disk synced.same c.in-Ok.ensures.any_moment;
     }
 
 pub returns-in-Ok-read_list-clause-only : goal.returns-in-Ok-read_list-clause-only
-returns-in-Ok-read_list-clause-only g c = λ es image. recorded_image (g.D.Disk.seen c.args.disk) (bodies_in c.records.result.now) c.in-Ok-read_list.list es (read_so (g.D.Disk.seen c.args.disk) (bodies_in c.records.result.now) (records_in c.in-Ok.store) c.records.ensures c.in-Ok.ensures.records) c.in-Ok-read_list.ensures.made image
+returns-in-Ok-read_list-clause-only g c = λ es image. recorded_image (g.D.Disk.seen c.args.disk) (bodies_in c.records.result.now) c.in-Ok-read_list.list es (read_so (g.D.Disk.seen c.args.disk) (bodies_in c.records.result.now) (records_in c.in-Ok.store) c.records.ensures c.in-Ok.ensures.records) (subst (λ f. Makes f (bodies_in c.records.result.now) c.in-Ok-read_list.list) (c.format.ensures ∙ c.in-Ok.ensures.format) c.in-Ok-read_list.ensures.made) image
 
 pub returns-in-Err-read_list-clause-only : goal.returns-in-Err-read_list-clause-only
 returns-in-Err-read_list-clause-only g c = λ es image.
-    subst IsLack (sym c.from.ensures) (only_memory (g.D.Disk.seen c.args.disk) (bodies_in c.records.result.now) (records_in c.in-Ok.store) es c.in-Err-read_list.error c.records.ensures c.in-Ok.ensures.records image c.in-Err-read_list.ensures.bad)
+    subst IsLack (sym c.from.ensures) (only_memory (g.D.Disk.seen c.args.disk) (bodies_in c.records.result.now) (records_in c.in-Ok.store) es c.in-Err-read_list.error c.records.ensures c.in-Ok.ensures.records image (subst (λ f. IsBadOrLack f (bodies_in c.records.result.now) c.in-Err-read_list.error) (c.format.ensures ∙ c.in-Ok.ensures.format) c.in-Err-read_list.ensures.bad))
 
 pub returns-in-Ok-read_list-clause-synced : goal.returns-in-Ok-read_list-clause-synced
 returns-in-Ok-read_list-clause-synced g c =

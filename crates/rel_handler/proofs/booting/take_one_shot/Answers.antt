@@ -70,7 +70,7 @@ returns-clause-booted g c =
     let end = opened c.append.result _ c.if-is_err-3.ensures.value c.append.ensures.end in
     subst (λ l. IsBooted g.D.Disk h (record { store = c.append.new.self; list = l; dead = h.dead })) next
     (taken g.D.Disk h c.requires.ready one c.reserve.new.self same (string_bytes c.in-Some.body) told long c.append.new.self h.dead (opened c.append.result _ c.if-is_err-3.ensures.value c.append.ensures.settled)
-    (rw c.as_bytes.ensures.value at added) c.append.ensures.base (rw c.as_bytes.ensures.value at end))
+    (rw c.as_bytes.ensures.value at added) c.append.ensures.base (rw c.as_bytes.ensures.value at end) c.append.ensures.format)
 
 pub returns-clause-start : goal.returns-clause-start
 returns-clause-start g c = opened c.append.result _ c.if-is_err-3.ensures.value c.append.ensures.start ∙ ap (λ d. start_slot (g.D.Disk.seen d)) c.reserve.ensures.kept.disk

@@ -26,7 +26,7 @@ pub returns-clause-ready : goal.returns-clause-ready
 returns-clause-ready g c =
     let h = c.args.self.now in
     let e = c.to_format_2.ensures in
-    ready_in_format_2 g.D.Disk h c.requires c.to_format_2.new.self h.dead e.records e.base e.end (opened c.to_format_2.result _ c.if-is_err.ensures.value e.settled)
+    ready_in_format_2 g.D.Disk h c.requires c.to_format_2.new.self h.dead e.records e.base e.end (opened c.to_format_2.result _ c.if-is_err.ensures.value e.settled) (opened c.to_format_2.result _ c.if-is_err.ensures.value e.format)
 
 pub returns-clause-start : goal.returns-clause-start
 returns-clause-start g c = opened c.to_format_2.result _ c.if-is_err.ensures.value c.to_format_2.ensures.start

@@ -17,7 +17,7 @@ use Rattle.rel_handler.proofs.handler.Handler.append_change.Goals as goal
 
 pub change_body-requires-clause-versions : goal.change_body-requires-clause-versions
 change_body-requires-clause-versions g c =
-    have_versions (records_in c.args.self.now.store) (list_in c.args.self.now) (c.requires.sound.ready c.requires.works).list
+    have_versions c.args.self.now.store.format (records_in c.args.self.now.store) (list_in c.args.self.now) (c.requires.sound.ready c.requires.works).list
 
 -- the list doesn't allow it
 pub returns-in-Some-clause-refused : goal.returns-in-Some-clause-refused

@@ -49,9 +49,9 @@ returns-clause-keeps g c =
 
 pub returns-clause-ready : goal.returns-clause-ready
 returns-clause-ready g c =
-    ready_still g.D.Disk c.args.self.now c.requires.ready c.write_start.new.store (opened c.write_start.result _ c.if-is_err.ensures.value c.write_start.ensures.settled) c.write_start.ensures.records c.write_start.ensures.base c.write_start.ensures.end
+    ready_still g.D.Disk c.args.self.now c.requires.ready c.write_start.new.store (opened c.write_start.result _ c.if-is_err.ensures.value c.write_start.ensures.settled) c.write_start.ensures.records c.write_start.ensures.base c.write_start.ensures.end c.write_start.ensures.format
 
 pub returns-clause-acknowledged : goal.returns-clause-acknowledged
 returns-clause-acknowledged g c =
-    images_still g.D.Disk c.args.self.now c.requires.ready c.write_start.new.store (opened c.write_start.result _ c.if-is_err.ensures.value c.write_start.ensures.settled) c.write_start.ensures.records c.write_start.ensures.base c.write_start.ensures.end
+    images_still g.D.Disk c.args.self.now c.requires.ready c.write_start.new.store (opened c.write_start.result _ c.if-is_err.ensures.value c.write_start.ensures.settled) c.write_start.ensures.records c.write_start.ensures.base c.write_start.ensures.end c.write_start.ensures.format
     _ (opened c.write_start.result _ c.if-is_err.ensures.value c.write_start.ensures.written)

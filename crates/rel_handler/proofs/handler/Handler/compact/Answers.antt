@@ -5,7 +5,7 @@ use Rattle.rel_records.specs.Lists.{Makes}
 use Rattle.rel_store.specs.State.{records_in}
 use Rattle.rel_handler.specs.State.{extent_in, list_in}
 use Rattle.rel_handler.proofs.Commits.{store_same}
-use Rattle.rel_handler.proofs.CompactionLemmas.{free_and_long, long_reaches, not_compacted, short_stays, stays}
+use Rattle.rel_handler.proofs.CompactionLemmas.{free_and_long, image_allowed, long_reaches, not_compacted, short_stays, stays}
 use Rattle.rel_handler.proofs.handler.Handler.compact.Goals as goal
 
 -- the store is short, or a release is a one-shot
@@ -21,7 +21,7 @@ returns-then-not-may_be_compacted-clause-done g c =
 
 -- its records make its list
 pub image_body-requires : goal.image_body-requires
-image_body-requires g c = record { made = (records_in c.args.self.now.store, c.requires.ready.list.makes) }
+image_body-requires g c = record { made = (c.args.self.now.store.format, records_in c.args.self.now.store, c.requires.ready.list.makes) }
 
 pub compact_to-requires-clause-may : goal.compact_to-requires-clause-may
 compact_to-requires-clause-may g c = sym c.if-not-may_be_compacted.ensures
@@ -32,7 +32,10 @@ compact_to-requires-clause-image g c =
 
 pub compact_to-requires-clause-makes : goal.compact_to-requires-clause-makes
 compact_to-requires-clause-makes g c =
-    subst (λ body. Makes (body ∷ []) (recorded (list_in c.args.self.now))) (sym c.as_bytes.ensures.value) (c.in-Ok-Some.ensures.makes _ c.in-Ok-Some.field-0-is)
+    let h = c.args.self.now in
+    let none = (free_and_long (extent_in h) (list_in h) (sym c.if-not-may_be_compacted.ensures)).0 in
+    subst (λ body. Makes h.store.format (body ∷ []) (recorded (list_in h))) (sym c.as_bytes.ensures.value)
+    (c.in-Ok-Some.ensures.makes _ c.in-Ok-Some.field-0-is h.store.format (image_allowed h.store.format (list_in h) none))
 
 -- there is no image
 pub returns-in-Ok-None-clause-compacts : goal.returns-in-Ok-None-clause-compacts

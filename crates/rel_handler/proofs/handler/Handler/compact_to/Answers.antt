@@ -13,7 +13,7 @@ pub returns-clause-compacts : goal.returns-clause-compacts
 returns-clause-compacts g c =
     let q = c.requires in
     let e = c.compact.ensures in
-    compacts_so g.D.Disk c.args.self.now q.ready c.args.image.now q.may q.image q.makes c.compact.new.self c.compact.result e.full e.refused q.dead (g.met.D.Disk.only_now _) e.ends e.counted
+    compacts_so g.D.Disk c.args.self.now q.ready c.args.image.now q.may q.image q.makes c.compact.new.self c.compact.result e.full e.refused q.dead (g.met.D.Disk.only_now _) e.ends e.others e.counted
 
 pub returns-clause-done : goal.returns-clause-done
 returns-clause-done g c =
@@ -22,7 +22,7 @@ returns-clause-done g c =
     let e = c.compact.ensures in
     let new : Handler _ = record { store = c.compact.new.self; list = h.list; dead = h.dead } in
     subst (λ a. OnOk a (IsCompacted g.D.Disk h new)) (sym c.unless_failed.ensures)
-    (done_so g.D.Disk h q.ready c.args.image.now q.may q.image q.makes c.compact.new.self c.compact.result e.full e.refused e.sound e.settled e.compacted e.start e.base e.end)
+    (done_so g.D.Disk h q.ready c.args.image.now q.may q.image q.makes c.compact.new.self c.compact.result e.full e.refused e.sound e.settled e.compacted e.start e.base e.end e.format)
 
 pub returns-clause-device : goal.returns-clause-device
 returns-clause-device g c = subst (λ a. IfErr a (λ e. e ≡ Device)) (sym c.unless_failed.ensures) (device_told c.compact.result)

@@ -50,7 +50,7 @@ of-requires-clause-allowed g c =
 
 pub of-requires-clause-versions : goal.of-requires-clause-versions
 of-requires-clause-versions g c =
-    have_versions (records_in c.args.self.now.store) (list_in c.args.self.now) (c.requires.sound.ready c.if-self.false).list
+    have_versions c.args.self.now.store.format (records_in c.args.self.now.store) (list_in c.args.self.now) (c.requires.sound.ready c.if-self.false).list
 
 -- there is no room for its record and the next boot's
 pub returns-in_err-make_room-clause-commits : goal.returns-in_err-make_room-clause-commits

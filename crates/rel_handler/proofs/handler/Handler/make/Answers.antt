@@ -24,7 +24,7 @@ create_error-requires g c =
 pub returns-in-Ok-create-clause-sound : goal.returns-in-Ok-create-clause-sound
 returns-in-Ok-create-clause-sound g c =
     let spelled = rw (sym c.as_bytes.ensures.value) at c.in-Ok.ensures.spells in
-    sound_so g.D.Disk.seen g.D.Disk.may_leave c.in-Ok-create.store c.in-Ok.new.list c.in-Ok-create.ensures.settled (made_new (bundle_brought (brought_of c.args.brought)) c.as_bytes.result.now _ c.in-Ok.new.list (c.requires.small, c.requires.whole.complete) spelled c.in-Ok-create.ensures.records c.in-Ok.ensures.list) (ap has_one_shot c.in-Ok.ensures.list)
+    sound_so g.D.Disk.seen g.D.Disk.may_leave c.in-Ok-create.store c.in-Ok.new.list c.in-Ok-create.ensures.settled (made_new c.in-Ok-create.store.format (bundle_brought (brought_of c.args.brought)) c.as_bytes.result.now _ c.in-Ok.new.list (c.requires.small, c.requires.whole.complete) spelled c.in-Ok-create.ensures.records c.in-Ok.ensures.list) (ap has_one_shot c.in-Ok.ensures.list)
     (λ d now. subst (λ l. IsStarted l d) (sym c.in-Ok.ensures.list)
     (started_new (bundle_brought (brought_of c.args.brought)) c.as_bytes-2.result.now d c.requires.terms.says.release.versions (c.as_bytes-2.ensures.value ∙ c.in-Ok.ensures.start)
     (ap (λ l. start_slot l) (c.in-Ok-create.ensures.settled.durable d now) ∙ c.in-Ok-create.ensures.start)))
@@ -32,7 +32,7 @@ returns-in-Ok-create-clause-sound g c =
 pub returns-in-Ok-create-clause-acknowledged : goal.returns-in-Ok-create-clause-acknowledged
 returns-in-Ok-create-clause-acknowledged g c = λ d now.
     let spelled = rw (sym c.as_bytes.ensures.value) at c.in-Ok.ensures.spells in
-    each_image g.D.Disk.seen g.D.Disk.may_leave c.in-Ok-create.store c.in-Ok.new.list c.in-Ok-create.ensures.settled (made_new (bundle_brought (brought_of c.args.brought)) c.as_bytes.result.now _ c.in-Ok.new.list (c.requires.small, c.requires.whole.complete) spelled c.in-Ok-create.ensures.records c.in-Ok.ensures.list)
+    each_image g.D.Disk.seen g.D.Disk.may_leave c.in-Ok-create.store c.in-Ok.new.list c.in-Ok-create.ensures.settled (made_new c.in-Ok-create.store.format (bundle_brought (brought_of c.args.brought)) c.as_bytes.result.now _ c.in-Ok.new.list (c.requires.small, c.requires.whole.complete) spelled c.in-Ok-create.ensures.records c.in-Ok.ensures.list)
     (no_boot_space (store_extent c.in-Ok-create.store) c.in-Ok.new.list (ap has_one_shot c.in-Ok.ensures.list)) d now
 
 pub returns-in-Ok-create-clause-any_moment : goal.returns-in-Ok-create-clause-any_moment

@@ -29,6 +29,9 @@ returns-in-Ok-clause-sound g c = record { settled = λ works. returns-in-Ok-clau
 pub returns-in-Ok-clause-records : goal.returns-in-Ok-clause-records
 returns-in-Ok-clause-records g c = c.in-Ok.ensures.ok.records
 
+pub returns-in-Ok-clause-format : goal.returns-in-Ok-clause-format
+returns-in-Ok-clause-format g c = c.in-Ok.ensures.ok.format
+
 pub returns-in-Ok-clause-any_moment : goal.returns-in-Ok-clause-any_moment
 returns-in-Ok-clause-any_moment g c = c.read_contents.ensures.any_moment
 

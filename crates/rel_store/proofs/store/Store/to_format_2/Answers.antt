@@ -1,4 +1,4 @@
-use Rattle.std.proofs.Common.{◌+◌, refl, sym, ◌∙◌, ap, arith, true≢false}
+use Rattle.std.proofs.Common.{◌≡◌, ℕ, ◌+◌, refl, sym, ◌∙◌, ap, arith, true≢false}
 use Rattle.std.specs.Prelude.{◌==◌, if◌then◌else◌}
 use Rattle.rel_disk.proofs.Moments.{weakened}
 use Rattle.rel_store.specs.Changed.{IsFormat}
@@ -6,7 +6,7 @@ use Rattle.rel_store.specs.Records.{space}
 use Rattle.rel_store.specs.State.{records_in}
 use Rattle.rel_store.proofs.Exits.{no_success}
 use Rattle.rel_store.proofs.Append.{gate_low, gate_within}
-use Rattle.rel_store.proofs.Moments.{resting, stands_now}
+use Rattle.rel_store.proofs.Moments.{format_1, resting, stands_now}
 use Rattle.rel_store.proofs.Ownership.{Owns, at_rest, write_leaves}
 use Rattle.rel_store.proofs.Slots.{format_leaves, formatted}
 use Rattle.rel_store.specs.declared.error.StoreError.TheVariants.{Device, MustReopen}
@@ -14,8 +14,8 @@ use Rattle.rel_store.proofs.Scan.{passed_on}
 use Rattle.rel_store.proofs.Refusals.{not_both, device_not_reopened, none_answered, same_store}
 use Rattle.rel_store.proofs.store.Store.to_format_2.Goals as goal
 
-is_format : Owns IsFormat 11 1
-is_format = λ i from within. omega (arith, from, within)
+is_format : (format : ℕ) → format ≡ 1 → Owns (IsFormat format) 11 1
+is_format format one = λ i from within. (one, omega (arith, from, within))
 
 pub write_through-requires : goal.write_through-requires
 write_through-requires g c =
@@ -38,11 +38,11 @@ returns-clause-any_moment g c = λ works.
 
 pub returns-in_err-write_through-clause-others : goal.returns-in_err-write_through-clause-others
 returns-in_err-write_through-clause-others g c = λ works.
-    write_leaves g.D.Disk.moment g.D.Disk.left_since g.D.Disk.seen g.D.Disk.may_leave IsFormat c.args.self.now.disk (c.requires.settled works).durable 11 1 is_format c.write_through.new.disk c.write_through.ensures.any_moment
+    write_leaves g.D.Disk.moment g.D.Disk.left_since g.D.Disk.seen g.D.Disk.may_leave (IsFormat c.args.self.now.format) c.args.self.now.disk (c.requires.settled works).durable 11 1 (is_format c.args.self.now.format (format_1 g.D.Disk.moment g.D.Disk.left_since g.D.Disk.seen g.D.Disk.may_leave c.args.self.now (c.requires.settled works) c.if-self-eq2.false)) c.write_through.new.disk c.write_through.ensures.any_moment
 
 pub returns-clause-others : goal.returns-clause-others
 returns-clause-others g c = λ works.
-    write_leaves g.D.Disk.moment g.D.Disk.left_since g.D.Disk.seen g.D.Disk.may_leave IsFormat c.args.self.now.disk (c.requires.settled works).durable 11 1 is_format c.write_through.new.disk c.write_through.ensures.any_moment
+    write_leaves g.D.Disk.moment g.D.Disk.left_since g.D.Disk.seen g.D.Disk.may_leave (IsFormat c.args.self.now.format) c.args.self.now.disk (c.requires.settled works).durable 11 1 (is_format c.args.self.now.format (format_1 g.D.Disk.moment g.D.Disk.left_since g.D.Disk.seen g.D.Disk.may_leave c.args.self.now (c.requires.settled works) c.if-self-eq2.false)) c.write_through.new.disk c.write_through.ensures.any_moment
 
 pub returns-clause-settled : goal.returns-clause-settled
 returns-clause-settled g c =
