@@ -26,13 +26,13 @@ use Rattle.proc_table.proofs.WaitLemmas.{held_and_released, since}
 use Rattle.rel_check.specs.Modules.{Tables}
 use Rattle.sup_tree.specs.declared.error.StartError.{StartError}
 use Rattle.sup_tree.specs.declared.error.StartError.TheVariants.{AlreadyStarted, NoTable, Unsupported, NoSlot, NoMemory}
-use Rattle.sup_tree.specs.declared.process.StartedProcess.{StartedProcess}
-use Rattle.sup_tree.specs.Starts.{BeganInOrder, IsWhy, StartsApp, beginning_of}
+use Rattle.sup_tree.specs.declared.member.Member.{Member}
+use Rattle.sup_tree.specs.declared.member.StartedProcess.{StartedProcess}
+use Rattle.sup_tree.specs.Starts.{members_at, BeganInOrder, IsWhy, StartsApp, beginning_of}
 use Rattle.sup_tree.specs.Stops.{EndedAt, EndedInOrder, StopsApp, stands}
-use Rattle.sup_tree.specs.Tree.{App, pids_of, processes_of}
-use Rattle.sup_tree.specs.Walk.{Start, app_starts}
-use Rattle.sup_tree.proofs.NamesInOrder.{kept_supervisors}
-use Rattle.held_processes.specs.Applications.{IsWhyNot, Scene, StartsIn, all_begun, all_ended, begun_at, ended_at, held_ended, known, match_pid, pids_for, processes_at, room_in, round_in, scene_at, taken_at, with_started, with_stopped, with_stopped_app}
+use Rattle.sup_tree.specs.Tree.{App, app_pids, members_of, pids_of, process_and, process_in, processes_among}
+use Rattle.sup_tree.specs.Walk.{Start, app_members, app_starts}
+use Rattle.held_processes.specs.Applications.{IsWhyNot, Scene, StartsIn, all_begun, all_ended, begun_at, ended_at, held_ended, known, match_pid, pids_for, state_ended, room_in, round_in, scene_at, taken_at, with_started, with_stopped, with_stopped_app}
 use Rattle.held_processes.specs.Course.{Course, Courses, Hold, add_alone, added, course_after, if_held, let_go, add}
 use Rattle.held_processes.specs.Course.Hold.{not_held, until_point, until_resumed}
 use Rattle.held_processes.specs.Course.Operation.{give_up}
@@ -138,11 +138,11 @@ taken_is values cs pid b none = λ j p. at p (p == pid.slot) refl j
 -- All that an application starts began where its courses say.
 pub record AllBegun (first : View) (cs : Courses) (hs : HeldSlots) (app : List ℕ) (ss : List Start) (pids : List Pid) (ps : List StartedProcess) (w : View) : Type 0 where
   pub follow : AllFollow first (all_begun app ss pids cs) hs w
-  pub processes : ps ≡ processes_at ss pids
+  pub places : pids_of ps ≡ pids
 
 pub began_all : (first : View) (cs : Courses) (hs : HeldSlots) (app : List ℕ) (ss : List Start) (v : View) (ps : List StartedProcess) (w : View) → AllFollow first cs hs v → AllLegal v
     → BeganInOrder app ss v ps w → AllBegun first cs hs app ss (pids_for (length ss) (round_in (values_seen first) cs)) ps w
-began_all first cs hs app [] v [] w f legal is = record { follow = subst (AllFollow first cs hs) (sym is) f; processes = refl }
+began_all first cs hs app [] v [] w f legal is = record { follow = subst (AllFollow first cs hs) (sym is) f; places = refl }
 began_all first cs hs app [] v (p ∷ ps) w f legal is = absurd is
 began_all first cs hs app (s ∷ ss) v [] w f legal is = absurd is
 began_all first cs hs app (s ∷ ss) v (p ∷ ps) w f legal (u, began, is, later) =
@@ -156,7 +156,7 @@ began_all first cs hs app (s ∷ ss) v (p ∷ ps) w f legal (u, began, is, later
     let pids : pids_for (length (s ∷ ss)) rounds ≡ p.pid ∷ pids_for (length ss) (round_in (values_seen first) ds) =
     ap (λ (o : Option Pid). match_pid o (λ pid. pid ∷ pids_for (length ss) (taken_at pid.slot rounds))) low
     ∙ ap (λ (r : ℕ → Option ℕ). p.pid ∷ pids_for (length ss) r) (sym (taken_is (values_seen first) cs p.pid b free.pending)) in
-    subst (λ l. AllBegun first cs hs app (s ∷ ss) l (p ∷ ps) w) (sym pids) (record { follow = rest.follow; processes = λ j. is j ∷ rest.processes j })
+    subst (λ l. AllBegun first cs hs app (s ∷ ss) l (p ∷ ps) w) (sym pids) (record { follow = rest.follow; places = ap (λ l. p.pid ∷ l) rest.places })
 
 -- there was room for them
 began_in_room : (app : List ℕ) (ss : List Start) (v : View) (ps : List StartedProcess) (w : View) → BeganInOrder app ss v ps w → length ss ≤ free_count v
@@ -185,12 +185,11 @@ starts_in followed hs v apps name top tables (Ok x) apps' w f legal s =
     let cs = followed.courses in
     let starts = app_starts tables top in
     let began = began_all first cs hs name starts v s.processes w f legal s.began in
-    let kept = kept_supervisors tables top s.supervisors s.kept in
     record {
       new = s.new;
       sound = s.sound;
       room = subst (λ n. length starts ≤ n) (free_is first cs hs v f legal) (began_in_room name starts v s.processes w s.began);
-      tree = s.tree ∙ (λ j. apps ++ record { name = name; processes = began.processes j; supervisors = kept j } ∷ []);
+      tree = s.tree ∙ (λ j. apps ++ record { name = name; members = members_at (app_members tables top) (began.places j) } ∷ []);
       follow = began.follow;
     }
 starts_in followed hs v apps name top tables (Err e) apps' w f legal s = (
@@ -308,34 +307,47 @@ free_reversed cs pids free = free_reversed_onto cs pids [] free tt
 
 -- the stop of an application
 pub stops_in : {X E : Type 0} (followed : Followed) (hs : HeldSlots) (v : View) (apps : List App) (name : List ℕ) (r : Result X E) (apps' : List App) (w : View)
-    → AllFollow followed.first (held_ended (pids_of (processes_of name apps)) followed.courses) hs v → StopsApp name apps v r apps' w
+    → AllFollow followed.first (held_ended (pids_of (processes_among (members_of name apps))) followed.courses) hs v → StopsApp name apps v r apps' w
     → (apps' ≡ (with_stopped name (scene_at followed apps)).apps) × AllFollow followed.first (with_stopped name (scene_at followed apps)).courses hs w
 stops_in followed hs v apps name (Ok x) apps' w f s =
     let first = followed.first in
-    let pids = pids_of s.app.processes in
+    let pids = app_pids s.app in
     let behind = held_ended pids followed.courses in
-    let processes : processes_of name apps ≡ s.app.processes = ap (λ (o : Option App). option_map_or (λ (a : App). a.processes) o []) s.there in
-    let now = subst (λ (ps : List StartedProcess). AllFollow first (held_ended (pids_of ps) followed.courses) hs v) processes f in
+    let members : members_of name apps ≡ s.app.members = ap (λ (o : Option App). option_map_or (λ (a : App). a.members) o []) s.there in
+    let now = subst (λ (ms : List Member). AllFollow first (held_ended (pids_of (processes_among ms)) followed.courses) hs v) members f in
     let all = ended_all first behind hs (reverse pids) v w now (free_reversed behind pids (all_free pids followed.courses)) s.ended in
     subst (λ (o : Option App). (apps' ≡ (with_stopped_app name o (scene_at followed apps)).apps) × AllFollow first (with_stopped_app name o (scene_at followed apps)).courses hs w) (sym s.there)
     (s.tree, all)
 stops_in followed hs v apps name (Err e) apps' w f s =
     let first = followed.first in
-    let processes : processes_of name apps ≡ [] = ap (λ (o : Option App). option_map_or (λ (a : App). a.processes) o []) s.0 in
-    let now = subst (λ (ps : List StartedProcess). AllFollow first (held_ended (pids_of ps) followed.courses) hs v) processes f in
+    let members : members_of name apps ≡ [] = ap (λ (o : Option App). option_map_or (λ (a : App). a.members) o []) s.0 in
+    let now = subst (λ (ms : List Member). AllFollow first (held_ended (pids_of (processes_among ms)) followed.courses) hs v) members f in
     subst (λ (o : Option App). (apps' ≡ (with_stopped_app name o (scene_at followed apps)).apps) × AllFollow first (with_stopped_app name o (scene_at followed apps)).courses hs w) (sym s.0)
     (s.1, subst (AllFollow first followed.courses hs) (sym s.2) now)
 
--- those that were given up so far, and one more
-next_given_up : (first : View) (hs : HeldSlots) (v : View) (ps : List StartedProcess) (n : ℕ) (cs : Courses) → n < length ps
-    → ((d : StartedProcess) → AllFollow first (give_up_at (slice_index_or ps n d).pid.slot (held_ended (pids_of (take n ps)) cs)) hs v)
-    → AllFollow first (held_ended (pids_of (take (suc n) ps)) cs) hs v
-next_given_up first hs v [] n cs inside f = absurd (omega (arith, inside))
-next_given_up first hs v (p ∷ ps) zero cs inside f = f p
-next_given_up first hs v (p ∷ ps) (suc n) cs inside f = next_given_up first hs v ps n (give_up_at p.pid.slot cs) (omega (arith, inside)) f
+-- the process of one member, in front of those of others
+ended_behind : (first : View) (hs : HeldSlots) (v : View) (o : Option StartedProcess) (ps : List StartedProcess) (cs : Courses)
+    → AllFollow first (held_ended (pids_of ps) (state_ended o cs)) hs v → AllFollow first (held_ended (pids_of (process_and o ps)) cs) hs v
+ended_behind first hs v None ps cs f = f
+ended_behind first hs v (Some p) ps cs f = f
 
-pub one_more_given_up : (first : View) (hs : HeldSlots) (v : View) (ps : List StartedProcess) (n : ℕ) (cs : Courses) → n < length ps
-    → ((d : StartedProcess) → AllFollow first (give_up_at (slice_index_or ps n d).pid.slot (held_ended (pids_of (take n ps)) cs)) hs v)
-    → AllFollow first (held_ended (pids_of (take (n + 1) ps)) cs) hs v
-one_more_given_up first hs v ps n cs inside f =
-    subst (λ m. AllFollow first (held_ended (pids_of (take m ps)) cs) hs v) (let is : suc n ≡ n + 1 = omega arith in is) (next_given_up first hs v ps n cs inside f)
+behind_ended : (o : Option StartedProcess) (ps : List StartedProcess) (cs : Courses) → held_ended (pids_of (process_and o ps)) cs ≡ held_ended (pids_of ps) (state_ended o cs)
+behind_ended None ps cs = refl
+behind_ended (Some p) ps cs = refl
+
+-- those that were given up so far, and one more
+next_given_up : (first : View) (hs : HeldSlots) (v : View) (ms : List Member) (n : ℕ) (cs : Courses) → n < length ms
+    → ((d : Member) → AllFollow first (state_ended (process_in (slice_index_or ms n d)) (held_ended (pids_of (processes_among (take n ms))) cs)) hs v)
+    → AllFollow first (held_ended (pids_of (processes_among (take (suc n) ms))) cs) hs v
+next_given_up first hs v [] n cs inside f = absurd (omega (arith, inside))
+next_given_up first hs v (m ∷ ms) zero cs inside f = ended_behind first hs v (process_in m) [] cs (f m)
+next_given_up first hs v (m ∷ ms) (suc n) cs inside f =
+    ended_behind first hs v (process_in m) (processes_among (take (suc n) ms)) cs
+    (next_given_up first hs v ms n (state_ended (process_in m) cs) (omega (arith, inside))
+    (λ d. subst (λ ds. AllFollow first (state_ended (process_in (slice_index_or ms n d)) ds) hs v) (behind_ended (process_in m) (processes_among (take n ms)) cs) (f d)))
+
+pub one_more_given_up : (first : View) (hs : HeldSlots) (v : View) (ms : List Member) (n : ℕ) (cs : Courses) → n < length ms
+    → ((d : Member) → AllFollow first (state_ended (process_in (slice_index_or ms n d)) (held_ended (pids_of (processes_among (take n ms))) cs)) hs v)
+    → AllFollow first (held_ended (pids_of (processes_among (take (n + 1) ms))) cs) hs v
+one_more_given_up first hs v ms n cs inside f =
+    subst (λ m. AllFollow first (held_ended (pids_of (processes_among (take m ms))) cs) hs v) (let is : suc n ≡ n + 1 = omega arith in is) (next_given_up first hs v ms n cs inside f)

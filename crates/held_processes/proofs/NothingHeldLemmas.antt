@@ -17,10 +17,10 @@ use Rattle.proc_table.proofs.WaitLemmas.{held_and_released}
 use Rattle.std.proofs.lemmas.List.{get_or-replicate}
 use Rattle.rel_check.specs.Modules.{Tables}
 use Rattle.sup_tree.specs.declared.error.StartError.{StartError}
-use Rattle.sup_tree.specs.declared.process.StartedProcess.{StartedProcess}
+use Rattle.sup_tree.specs.declared.member.StartedProcess.{StartedProcess}
 use Rattle.sup_tree.specs.Starts.{AppStarted, BeganInOrder, StartsApp, beginning_of}
 use Rattle.sup_tree.specs.Stops.{EndedInOrder, StopsApp, ending}
-use Rattle.sup_tree.specs.Tree.{App, pids_of}
+use Rattle.sup_tree.specs.Tree.{App, app_pids}
 use Rattle.sup_tree.specs.Walk.{Start, app_starts}
 use Rattle.held_processes.specs.Course.{Courses}
 use Rattle.held_processes.specs.Following.{AreLeft, HoldsNothing}
@@ -59,7 +59,7 @@ starts_nothing name top tables apps v (Ok x) apps' w n s = started_nothing name 
 starts_nothing name top tables apps v (Err e) apps' w n s = subst HoldsNothing (sym s.2) n
 
 stops_nothing : {X E : Type 0} (name : List ℕ) (apps : List App) (v : View) (r : Result X E) (apps' : List App) (w : View) → HoldsNothing v → StopsApp name apps v r apps' w → HoldsNothing w
-stops_nothing name apps v (Ok x) apps' w n s = all_ended (reverse (pids_of s.app.processes)) v w n s.ended
+stops_nothing name apps v (Ok x) apps' w n s = all_ended (reverse (app_pids s.app)) v w n s.ended
 stops_nothing name apps v (Err e) apps' w n s = subst HoldsNothing (sym s.2) n
 
 pub starts_hold_nothing : StartsHoldNothing

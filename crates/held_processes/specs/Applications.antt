@@ -13,13 +13,12 @@ use Rattle.proc_table.specs.Agrees.{slots}
 use Rattle.rel_check.specs.Modules.{Tables}
 use Rattle.sup_tree.specs.declared.error.StartError.{StartError}
 use Rattle.sup_tree.specs.declared.error.StartError.TheVariants.{AlreadyStarted, NoTable, Unsupported, NoSlot, NoMemory}
-use Rattle.sup_tree.specs.declared.process.StartedProcess.{StartedProcess}
-use Rattle.sup_tree.specs.Names.{sorted_names}
-use Rattle.sup_tree.specs.Starts.{beginning_of, process_of}
+use Rattle.sup_tree.specs.declared.member.StartedProcess.{StartedProcess}
+use Rattle.sup_tree.specs.Starts.{beginning_of, members_at}
 use Rattle.sup_tree.specs.Stops.{stands}
-use Rattle.sup_tree.specs.Tree.{App, app_named, pids_of, without}
+use Rattle.sup_tree.specs.Tree.{App, app_named, app_pids, without}
 use Rattle.sup_tree.specs.Walk.StartFault.{no_table, unsupported}
-use Rattle.sup_tree.specs.Walk.{Start, app_fault, app_starts, app_supervisors}
+use Rattle.sup_tree.specs.Walk.{Start, app_fault, app_members, app_starts}
 use Rattle.held_processes.specs.Course.{Courses, add_alone, added, if_held}
 use Rattle.held_processes.specs.Operations.{Values, give_up_at, values_seen}
 use Rattle.held_processes.specs.Following.{HeldSlots, AllFollow, Followed}
@@ -76,10 +75,6 @@ abbrev pub all_begun : List ℕ → List Start → List Pid → Courses → Cour
 all_begun app (s ∷ ss) (pid ∷ pids) cs = all_begun app ss pids (begun_at pid (beginning_of app s) cs)
 all_begun app ss pids cs = cs
 
-abbrev pub processes_at : List Start → List Pid → List StartedProcess
-processes_at (s ∷ ss) (pid ∷ pids) = process_of s pid ∷ processes_at ss pids
-processes_at ss pids = []
-
 -- a process that isn't held is given up, unless it was before
 abbrev pub ended_at : Values → Pid → Courses → Courses
 ended_at first pid cs p =
@@ -88,6 +83,11 @@ ended_at first pid cs p =
 abbrev pub all_ended : Values → List Pid → Courses → Courses
 all_ended first [] cs = cs
 all_ended first (pid ∷ pids) cs = all_ended first pids (ended_at first pid cs)
+
+-- the process that stands for a member is given up and let go, if it is held
+abbrev pub state_ended : Option StartedProcess → Courses → Courses
+state_ended None cs = cs
+state_ended (Some p) cs = give_up_at p.pid.slot cs
 
 -- those that are held are given up and let go
 abbrev pub held_ended : List Pid → Courses → Courses
@@ -117,13 +117,13 @@ abbrev pub with_started : List ℕ → Option (List ℕ) → Tables → Scene �
 with_started name top tables s =
     let pids = places_for tables top s in
     record s {
-      apps = s.apps ++ record { name = name; processes = processes_at (app_starts tables top) pids; supervisors = sorted_names (app_supervisors tables top) } ∷ [];
+      apps = s.apps ++ record { name = name; members = members_at (app_members tables top) pids } ∷ [];
       courses = all_begun name (app_starts tables top) pids s.courses;
     }
 
 abbrev pub with_stopped_app : List ℕ → Option App → Scene → Scene
 with_stopped_app name None s = s
-with_stopped_app name (Some a) s = record s { apps = without name s.apps; courses = all_stopped s.values (pids_of a.processes) s.courses }
+with_stopped_app name (Some a) s = record s { apps = without name s.apps; courses = all_stopped s.values (app_pids a) s.courses }
 
 -- an application is stopped, if it is started
 abbrev pub with_stopped : List ℕ → Scene → Scene

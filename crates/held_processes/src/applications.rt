@@ -1,19 +1,18 @@
 //! Applications that start and stop while processes are held.
 ghost use Rattle.std.specs.Prelude.{◌≡◌, ◌<◌, length, slice_index_or};
 ghost use Rattle.app_file.specs.InMemory.{specification_of};
-ghost use Rattle.held_processes.specs.Applications.{StartsIn, held_ended, scene_at, with_stopped};
+ghost use Rattle.held_processes.specs.Applications.{StartsIn, held_ended, scene_at, state_ended, with_stopped};
 ghost use Rattle.held_processes.specs.Following.{AllFollow, Followed};
-ghost use Rattle.held_processes.specs.Operations.{give_up_at};
 ghost use Rattle.sup_tree.specs.Loaded.{modules_in, tables_of};
-ghost use Rattle.sup_tree.specs.Tree.{pids_of};
-ghost use Rattle.sup_tree.specs.declared.process.StartedProcess.{StartedProcess as Process};
+ghost use Rattle.sup_tree.specs.Tree.{pids_of, process_in, processes_among};
+ghost use Rattle.sup_tree.specs.declared.member.Member.{Member as Part};
 
 use crate::{AppName, HeldProcesses};
 use app_file::App;
 use proc_table::{HandlerSeat, ProcTable};
 use std::alloc::Global;
 use std::sync::Wait;
-use sup_tree::{Loaded, StartError, StartedProcess, Tree};
+use sup_tree::{Loaded, Member, StartError, Tree};
 
 impl HeldProcesses {
     /// Starts the application, beside the processes that are held (OTP: application:start/1). Where it answers an error, nothing
@@ -60,46 +59,43 @@ impl HeldProcesses {
             (with_stopped app.now.name.now (scene_at followed tree.old)).courses
             self.new seat.new.view }
     {
-        self.give_up_all(table, seat, tree.processes(app.name));
+        self.give_up_all(table, seat, tree.members(app.name));
         let _ = tree.stop_app(rt, table, seat, app.name);
     }
 
-    // Those of the processes that are held are given up and let go.
-    fn give_up_all(
-        &mut self,
-        table: &ProcTable,
-        seat: &mut HandlerSeat,
-        processes: &[StartedProcess],
-    )
+    // Those of the processes of these members that are held are given up and let go.
+    fn give_up_all(&mut self, table: &ProcTable, seat: &mut HandlerSeat, members: &[Member])
         ghost followed: { Followed }
         requires table { seat.old.table ≡ table.now }
         requires follow { AllFollow followed.first followed.courses self.old seat.old.view }
         ensures table { seat.new.table ≡ seat.old.table }
-        ensures done { AllFollow followed.first
-            (held_ended (pids_of processes.now) followed.courses) self.new seat.new.view }
+        ensures done { AllFollow followed.first (held_ended
+            (pids_of (processes_among members.now)) followed.courses) self.new seat.new.view }
     {
-        for place in 0..processes.len() {
-            self.give_up_one(table, seat, processes, place);
+        for place in 0..members.len() {
+            self.give_up_one(table, seat, members, place);
         }
     }
 
-    // The process at this place among these is given up and let go, if it is held.
+    // The process of the member at this place among these is given up and let go, if it is held.
     fn give_up_one(
         &mut self,
         table: &ProcTable,
         seat: &mut HandlerSeat,
-        processes: &[StartedProcess],
+        members: &[Member],
         place: usize,
     )
         ghost followed: { Followed }
         requires table { seat.old.table ≡ table.now }
-        requires inside { place < length processes.now }
+        requires inside { place < length members.now }
         requires follow { AllFollow followed.first followed.courses self.old seat.old.view }
         ensures table { seat.new.table ≡ seat.old.table }
-        ensures done { (d : Process) → AllFollow followed.first
-            (give_up_at (slice_index_or processes.now place d).pid.slot followed.courses)
+        ensures done { (d : Part) → AllFollow followed.first
+            (state_ended (process_in (slice_index_or members.now place d)) followed.courses)
             self.new seat.new.view }
     {
-        self.give_up_slot(table, seat, processes[place].pid.slot);
+        if let Some(process) = members[place].process() {
+            self.give_up_slot(table, seat, process.pid.slot);
+        }
     }
 }

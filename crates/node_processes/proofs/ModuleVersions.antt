@@ -8,7 +8,7 @@ use Rattle.library.specs.Library.{Library, IsLibrary}
 use Rattle.rel_check.specs.Modules.{Part, Tables, parts}
 use Rattle.sup_tree.specs.Loaded.{Module, NamedModules, module_named}
 use Rattle.sup_tree.specs.Starts.{beginning_of}
-use Rattle.sup_tree.specs.Walk.{top_children, app_starts}
+use Rattle.sup_tree.specs.Walk.{app_starts}
 use Rattle.proc_history.specs.declared.beginning.Beginning.{Beginning}
 use Rattle.proc_history.specs.declared.value.Now.{Now}
 use Rattle.proc_history.specs.declared.value.Outcome.{Outcome}
@@ -27,7 +27,7 @@ use Rattle.relup_instruction.specs.declared.instruction.Direction.{Direction}
 use Rattle.relup_instruction.specs.Instruction.{ChangeForm, Instruction}
 use Rattle.relup_instruction.specs.Instruction as relup
 use Rattle.relup_script.specs.Script.{is_point}
-use Rattle.sup_tree.specs.Tree.{App, app_named, pids_of}
+use Rattle.sup_tree.specs.Tree.{App, app_named, app_pids}
 use Rattle.held_processes.specs.Applications.{held_ended, places_for, with_started, with_stopped_app}
 use Rattle.held_processes.specs.Course.{Courses, added, course_after}
 use Rattle.held_processes.specs.Course as course
@@ -48,7 +48,7 @@ BeginsVersion b = IsVersion b.table.vsn
 
 beginning_versions : (tables : Tables) → HaveTableVersions tables → (ps : List Part) → AllByRecursion BeginsVersion (beginnings tables ps)
 beginning_versions tables versions ps = each_flat BeginsVersion (part_beginnings tables) (λ p.
-    each_image BeginsVersion StartsVersion (beginning_of p.library.app.name) (λ s version. version) (part_starts tables p) (start_versions 8 tables versions (top_children tables p.library.app.top))) ps
+    each_image BeginsVersion StartsVersion (beginning_of p.library.app.name) (λ s version. version) (part_starts tables p) (start_versions tables versions p.library.app.top)) ps
 
 -- so do the processes right after a boot
 first_version : (o : Option Beginning) → OrNone BeginsVersion o → HasModuleVersion (first_value o)
@@ -141,13 +141,13 @@ started_versions (Some l) r v = by (is_some (app_named l.app.name r.apps))
           modules = v.modules;
           values = v.values;
           courses = begun_versions l.app.name ss (places_for tables l.app.top (scene_of r)) r.courses
-              (start_versions 8 tables (among_versions r.modules v.modules) (top_children tables l.app.top)) v.courses;
+              (start_versions tables (among_versions r.modules v.modules) l.app.top) v.courses;
         }
 
 stopped_versions : (name : List ℕ) (o : Option App) (r : Run) → RunVersions r → RunVersions (with_scene r (with_stopped_app name o (scene_of r)))
 stopped_versions name None r v = record { fetched = v.fetched; modules = v.modules; values = v.values; courses = v.courses }
 stopped_versions name (Some a) r v =
-    let pids = pids_of a.processes in record {
+    let pids = app_pids a in record {
       fetched = v.fetched;
       modules = v.modules;
       values = v.values;

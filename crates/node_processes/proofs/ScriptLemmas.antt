@@ -24,11 +24,11 @@ use Rattle.relup_instruction.specs.Instruction.Instruction.{apply, code_change, 
 use Rattle.relup_script.specs.Script.{is_error, is_point}
 use Rattle.rel_check.specs.Modules.{Tables}
 use Rattle.sup_tree.specs.Loaded.{NamedModules}
-use Rattle.sup_tree.specs.Names.{sorted_names}
+use Rattle.sup_tree.specs.Starts.{members_at}
 use Rattle.sup_tree.specs.Stops.{stands}
-use Rattle.sup_tree.specs.Tree.{App, app_named, pids_of, supervises, without}
-use Rattle.sup_tree.specs.Walk.{app_fault, app_starts, app_supervisors}
-use Rattle.held_processes.specs.Applications.{all_begun, all_ended, ended_at, held_ended, known, lowest, lowest_below, match_pid, pid_at, pids_for, processes_at, room_in, round_in, rounds_below, taken_at, with_started, with_stopped_app}
+use Rattle.sup_tree.specs.Tree.{App, app_named, app_pids, supervises, without}
+use Rattle.sup_tree.specs.Walk.{app_fault, app_members, app_starts}
+use Rattle.held_processes.specs.Applications.{all_begun, all_ended, ended_at, held_ended, known, lowest, lowest_below, match_pid, pid_at, pids_for, room_in, round_in, rounds_below, taken_at, with_started, with_stopped_app}
 use Rattle.held_processes.specs.Course.{Courses, add_alone, added, course_after, if_held, on_all, opening, runs}
 use Rattle.held_processes.specs.Course.Operation.{finish}
 use Rattle.held_processes.specs.Following.{AreUntouched}
@@ -127,7 +127,7 @@ module _ (g : Values) (r : Run) (same : Alike r.values g) where
       λ j. record {
         fetched = r.fetched;
         modules = r.modules;
-        apps = r.apps ++ record { name = name; processes = processes_at ss (pids j); supervisors = sorted_names (app_supervisors tables top) } ∷ [];
+        apps = r.apps ++ record { name = name; members = members_at (app_members tables top) (pids j) } ∷ [];
         values = g;
         courses = all_begun name ss (pids j) r.courses;
       }
@@ -145,7 +145,7 @@ module _ (g : Values) (r : Run) (same : Alike r.values g) where
   stopped_alike : (name : List ℕ) (o : Option App) → with_scene (with_values g r) (with_stopped_app name o (scene_of (with_values g r))) ≡ with_values g (with_scene r (with_stopped_app name o (scene_of r)))
   stopped_alike name None = refl
   stopped_alike name (Some a) =
-      let pids = pids_of a.processes in
+      let pids = app_pids a in
       let all = sym (ended_alike r.values g same (reverse pids) (held_ended pids r.courses)) in
       λ j. record { fetched = r.fetched; modules = r.modules; apps = without name r.apps; values = g; courses = all j }
 

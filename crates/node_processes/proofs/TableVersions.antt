@@ -21,7 +21,7 @@ use Rattle.library.specs.Library.{Library, TableTerm, HaveTables, IsLibrary, is_
 use Rattle.rel_check.specs.Modules.{Tables}
 use Rattle.rel_check.specs.Walk.{of_kind, child_table}
 use Rattle.sup_tree.specs.Loaded.{Module, NamedModules, libraries_behind, loaded_behind, module_of, modules_with, modules_of, named_modules, library_modules, module_named, with_loaded}
-use Rattle.sup_tree.specs.Walk.{Start, child_starts, children_starts}
+use Rattle.sup_tree.specs.Walk.{NewMember, Start, app_members, app_starts, child_members, children_members, members_at_top, start_in, starts_among}
 use Rattle.node_processes.specs.Fresh.{tables_in}
 use Rattle.node_processes.specs.ModuleVersions.{HasTableVersion}
 use Rattle.script_steps.specs.Script.{fetched_from, fetched_of}
@@ -164,15 +164,44 @@ kind_version kind.Worker (Some (Super s)) version = tt
 kind_version kind.Supervisor (Some (Worker w)) version = tt
 kind_version kind.Supervisor (Some (Super s)) version = tt
 
-pub start_versions : (n : ℕ) (tables : Tables) → HaveTableVersions tables → (cs : List ChildSpec) → AllByRecursion StartsVersion (children_starts n tables cs)
-unfolding children_starts
-start_versions zero tables versions cs = tt
-start_versions (suc n) tables versions cs = each_flat StartsVersion (λ (c : ChildSpec). child_starts (children_starts n tables) c (child_table tables c)) (λ c. go c (child_table tables c) (kind_version c.kind (tables c.start) (versions c.start)) (λ below. start_versions n tables versions below)) cs
+-- a member whose table, if it is that of a worker, does
+MemberVersion : NewMember → Type 0
+MemberVersion m = HasTableVersion (Some m.table)
+
+member_versions : (n : ℕ) (tables : Tables) → HaveTableVersions tables → (depth : ℕ) (cs : List ChildSpec) → AllByRecursion MemberVersion (children_members n tables depth cs)
+unfolding MemberVersion children_members
+member_versions zero tables versions depth cs = tt
+member_versions (suc n) tables versions depth cs =
+    each_flat MemberVersion (λ (c : ChildSpec). child_members (children_members n tables (suc depth)) depth c (child_table tables c))
+    (λ c. go c (child_table tables c) (kind_version c.kind (tables c.start) (versions c.start)) (member_versions n tables versions (suc depth))) cs
   where
-    go : (c : ChildSpec) (t : Option Table) → HasTableVersion t → ((below : List ChildSpec) → AllByRecursion StartsVersion (children_starts n tables below)) → AllByRecursion StartsVersion (child_starts (children_starts n tables) c t)
+    go : (c : ChildSpec) (t : Option Table) → HasTableVersion t → ((below : List ChildSpec) → AllByRecursion MemberVersion (children_members n tables (suc depth) below))
+        → AllByRecursion MemberVersion (child_members (children_members n tables (suc depth)) depth c t)
     go c None version below = tt
     go c (Some (Worker w)) version below = (version, tt)
-    go c (Some (Super s)) version below = below s.children
+    go c (Some (Super s)) version below = (version, below s.children)
+
+top_versions : (tables : Tables) → HaveTableVersions tables → (top : Option (List ℕ)) → AllByRecursion MemberVersion (app_members tables top)
+unfolding MemberVersion
+top_versions tables versions None = tt
+top_versions tables versions (Some m) = go (tables m)
+  where
+    go : (t : Option Table) → AllByRecursion MemberVersion (members_at_top tables m t)
+    go None = tt
+    go (Some (Worker w)) = tt
+    go (Some (Super s)) = (tt, member_versions 8 tables versions 1 s.children)
+
+among_members : (ms : List NewMember) → AllByRecursion MemberVersion ms → AllByRecursion StartsVersion (starts_among ms)
+unfolding MemberVersion
+among_members [] all = tt
+among_members (m ∷ ms) all = each_append StartsVersion (start_in m.child m.table) (starts_among ms) (go m.table all.0) (among_members ms all.1)
+  where
+    go : (t : Table) → HasTableVersion (Some t) → AllByRecursion StartsVersion (start_in m.child t)
+    go (Worker w) version = (version, tt)
+    go (Super s) version = tt
+
+pub start_versions : (tables : Tables) → HaveTableVersions tables → (top : Option (List ℕ)) → AllByRecursion StartsVersion (app_starts tables top)
+start_versions tables versions top = among_members (app_members tables top) (top_versions tables versions top)
 
 -- modules that are fetched and loaded
 abbrev pub HaveVersions : NamedModules → Type 0

@@ -1,7 +1,7 @@
 -- What runs right after a boot: the applications of the release that runs that are of type permanent, transient or temporary, in
 -- order, each with the workers below its top, in order (OTP: application, supervisor). What is loaded are the modules of all its
 -- libraries, whatever the type of their applications.
-use Rattle.std.specs.Prelude.{ℕ, suc, ◌+◌, ◌<◌, ◌≤◌, ◌⊎◌, List, [], ◌∷◌, length, map, slice_get, Option, Some, None}
+use Rattle.std.specs.Prelude.{ℕ, zero, suc, ◌+◌, ◌<◌, ◌≤◌, ◌⊎◌, List, [], ◌∷◌, length, map, slice_get, Option, Some, None}
 use Rattle.std.specs.Option.{option_or}
 use Rattle.std.specs.List.{find, filter, flat_map, range_with_len}
 use Rattle.std.proofs.Common.{inl, inr}
@@ -18,11 +18,10 @@ use Rattle.proc_history.specs.Values.{nothing, begun}
 use Rattle.proc_table.specs.Agrees.{slots}
 use Rattle.sup_tree.specs.Loaded.{modules_of, tables_of, listed_modules}
 use Rattle.proc_table.specs.declared.pid.Pid.{Pid}
-use Rattle.sup_tree.specs.declared.process.StartedProcess.{StartedProcess}
-use Rattle.sup_tree.specs.Names.{sorted_names}
-use Rattle.sup_tree.specs.Starts.{beginning_of, process_of}
+use Rattle.sup_tree.specs.Starts.{beginning_of, members_at}
 use Rattle.sup_tree.specs.Tree.{App}
-use Rattle.sup_tree.specs.Walk.{Start, app_starts, app_supervisors}
+use Rattle.sup_tree.specs.Walk.{Start, app_members, app_starts}
+use Rattle.held_processes.specs.Applications.{match_pid}
 use Rattle.node_processes.specs.Processes.{Processes}
 
 -- the applications that a boot starts
@@ -41,20 +40,15 @@ pid_if n (inr past) = None
 abbrev pub first_pid : ℕ → Option Pid
 first_pid n = pid_if n (cases_lt n slots)
 
-abbrev pub process_if : Start → Option Pid → List StartedProcess → List StartedProcess
-process_if s None more = more
-process_if s (Some pid) more = process_of s pid ∷ more
-
--- processes that begin in the slots from this one on
-abbrev pub processes_from : ℕ → List Start → List StartedProcess
-processes_from n [] = []
-processes_from n (s ∷ ss) = process_if s (first_pid n) (processes_from (suc n) ss)
+-- the places of so many processes that begin in the slots from this one on
+abbrev pub pids_from : ℕ → ℕ → List Pid
+pids_from n zero = []
+pids_from n (suc more) = match_pid (first_pid n) (λ pid. pid ∷ pids_from (suc n) more)
 
 abbrev pub app_from : ℕ → Tables → Part → App
 app_from n tables p = record {
   name = p.library.app.name;
-  processes = processes_from n (part_starts tables p);
-  supervisors = sorted_names (app_supervisors tables p.library.app.top);
+  members = members_at (app_members tables p.library.app.top) (pids_from n (length (part_starts tables p)));
 }
 
 -- applications that start one after another

@@ -19,14 +19,14 @@ use Rattle.proc_table.specs.Views.{seen, handler_view}
 use Rattle.proc_table.proofs.BeginLemmas.{began_elsewhere, began_there}
 use Rattle.library.specs.Library.{Library}
 use Rattle.rel_check.specs.Modules.{Part, Tables}
-use Rattle.sup_tree.specs.declared.process.StartedProcess.{StartedProcess}
+use Rattle.sup_tree.specs.declared.member.StartedProcess.{StartedProcess}
 use Rattle.sup_tree.specs.Laws.{FreeFrom}
-use Rattle.sup_tree.specs.Starts.{beginning_of, process_of, BeganInOrder}
-use Rattle.sup_tree.specs.Tree.{App}
-use Rattle.sup_tree.specs.Walk.{Start}
+use Rattle.sup_tree.specs.Starts.{beginning_of, members_at, process_of, BeganInOrder}
+use Rattle.sup_tree.specs.Tree.{App, pids_of}
+use Rattle.sup_tree.specs.Walk.{Start, app_members}
 use Rattle.sup_tree.proofs.BeginLemmas.{first_slots}
-use Rattle.sup_tree.proofs.NamesInOrder.{kept_supervisors}
-use Rattle.node_processes.specs.Fresh.{first_value, first_values, first_pid, pid_if, process_if, processes_from, app_from, apps_from, beginnings, part_beginnings, part_starts, tables_in}
+use Rattle.held_processes.specs.Applications.{match_pid}
+use Rattle.node_processes.specs.Fresh.{first_value, first_values, first_pid, pid_if, pids_from, app_from, apps_from, beginnings, part_beginnings, part_starts, tables_in}
 use Rattle.node_processes.specs.InMemory.{values_in}
 use Rattle.node_start.specs.Starting.{StartedAll}
 
@@ -73,7 +73,7 @@ first_is n there slot round = pid_found n (cases_lt n slots) there slot round
 
 -- A process stands in the slot behind those that began, and they and it have begun.
 record BeginsNext (app : List ℕ) (s : Start) (bs : List Beginning) (u : View) (p : StartedProcess) : Type 0 where
-  first : (more : List StartedProcess) → p ∷ more ≡ process_if s (first_pid (length bs)) more
+  first : (more : List Pid) → p.pid ∷ more ≡ match_pid (first_pid (length bs)) (λ pid. pid ∷ more)
   begun : HaveBegun (bs ++ beginning_of app s ∷ []) u
 
 one_begun : (app : List ℕ) (s : Start) (bs : List Beginning) (v u : View) (p : StartedProcess) → HaveBegun bs v
@@ -84,7 +84,7 @@ one_begun app s bs v u p so_far began is =
     let slot = at.0 in
     let round = at.1 in
     let there = began_there b v u p.pid began in record {
-      first = λ more. ap (λ (q : StartedProcess). q ∷ more) is ∙ ap (λ (o : Option Pid). process_if s o more) (sym (first_is (length bs) p.pid slot round));
+      first = λ more. ap (λ (o : Option Pid). match_pid o (λ pid. pid ∷ more)) (sym (first_is (length bs) p.pid slot round));
       begun = record {
         free = subst (λ n. FreeFrom n u) (sym (length-append bs (b ∷ []))) free;
         each = λ q. dite (ℕ_discrete q p.pid.slot)
@@ -96,7 +96,7 @@ one_begun app s bs v u p so_far began is =
 
 -- all that an application starts
 all_begun : (app : List ℕ) (ss : List Start) (bs : List Beginning) (v w : View) (ps : List StartedProcess) → HaveBegun bs v → BeganInOrder app ss v ps w
-    → (ps ≡ processes_from (length bs) ss) × HaveBegun (bs ++ map (beginning_of app) ss) w
+    → (pids_of ps ≡ pids_from (length bs) (length ss)) × HaveBegun (bs ++ map (beginning_of app) ss) w
 all_begun app [] bs v w [] so_far is = (refl, subst (λ l. HaveBegun l w) (sym (append-nil bs)) (subst (HaveBegun bs) (sym is) so_far))
 all_begun app [] bs v w (p ∷ ps) so_far is = absurd is
 all_begun app (s ∷ ss) bs v w [] so_far is = absurd is
@@ -105,8 +105,8 @@ all_begun app (s ∷ ss) bs v w (p ∷ ps) so_far (u, began, is, later) =
     let one = one_begun app s bs v u p so_far began is in
     let rest = all_begun app ss (bs ++ b ∷ []) u w ps one.begun later in
     let longer : length (bs ++ b ∷ []) ≡ suc (length bs) = length-append bs (b ∷ []) ∙ (let e : length bs + 1 ≡ suc (length bs) = omega arith in e) in
-    let behind : ps ≡ processes_from (suc (length bs)) ss = rest.0 ∙ ap (λ n. processes_from n ss) longer in (
-      ap (λ (l : List StartedProcess). p ∷ l) behind ∙ one.first (processes_from (suc (length bs)) ss),
+    let behind : pids_of ps ≡ pids_from (suc (length bs)) (length ss) = rest.0 ∙ ap (λ n. pids_from n (length ss)) longer in (
+      ap (λ (l : List Pid). p.pid ∷ l) behind ∙ one.first (pids_from (suc (length bs)) (length ss)),
       subst (λ l. HaveBegun l w) (append_assoc bs (b ∷ []) (map (beginning_of app) ss)) rest.1,
     )
 
@@ -122,11 +122,10 @@ apps_begun tables (p ∷ ps) bs apps apps' v w so_far (mid, u, started, later) =
     let ss = part_starts tables p in
     let own = part_beginnings tables p in
     let here = all_begun name ss bs v u started.processes so_far started.began in
-    let kept = kept_supervisors tables p.library.app.top started.supervisors started.kept in
     let rest = apps_begun tables ps (bs ++ own) mid apps' u w here.1 later in
     let longer : length (bs ++ own) ≡ length bs + length ss = length-append bs own ∙ ap (λ n. length bs + n) (length-map ss (beginning_of name)) in
     let one : mid ≡ apps ++ app_from (length bs) tables p ∷ [] =
-    started.tree ∙ (λ i. apps ++ record { name = name; processes = here.0 i; supervisors = kept i } ∷ []) in (
+    started.tree ∙ (λ i. apps ++ record { name = name; members = members_at (app_members tables p.library.app.top) (here.0 i) } ∷ []) in (
       rest.0 ∙ ((λ i. one i ++ apps_from (longer i) tables ps) ∙ append_assoc apps (app_from (length bs) tables p ∷ []) (apps_from (length bs + length ss) tables ps)),
       subst (λ l. HaveBegun l w) (append_assoc bs own (beginnings tables ps)) rest.1,
     )

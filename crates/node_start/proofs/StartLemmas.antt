@@ -22,7 +22,7 @@ use Rattle.library.specs.Library.{Library}
 use Rattle.rel_check.specs.Modules.{Part, Tables, parts}
 use Rattle.rel_check.specs.Walk.{is_started}
 use Rattle.rel_check.proofs.Members.{first_member, later_member}
-use Rattle.sup_tree.specs.declared.process.StartedProcess.{StartedProcess}
+use Rattle.sup_tree.specs.declared.member.StartedProcess.{StartedProcess}
 use Rattle.sup_tree.specs.Loaded.{modules_in, tables_of}
 use Rattle.sup_tree.specs.Starts.{beginning_of, BeganInOrder, AppStarted}
 use Rattle.sup_tree.specs.Tree.{App, app_named, is_named}

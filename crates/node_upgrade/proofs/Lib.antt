@@ -1,3 +1,4 @@
+mod NamesInOrder
 mod StaleLemmas
 mod UpgradeLemmas
 pub mod RunLemmas

@@ -19,10 +19,9 @@ use Rattle.std.proofs.lemmas.Slice.Eq.{bytes_eq-Decides}
 use Rattle.script_steps.specs.Script.{version_in}
 use Rattle.sup_tree.specs.declared.loaded.Loaded.{Loaded}
 use Rattle.sup_tree.specs.Loaded.{Module, NamedModules, listed_in, modules_in, name_and_version}
-use Rattle.sup_tree.specs.Names.{is_among, AreNamesWith, sorted_names}
+use Rattle.node_upgrade.specs.Names.{is_among, AreNamesWith, sorted_names}
 use Rattle.sup_tree.proofs.NamedLemmas.{found_as_listed}
-use Rattle.sup_tree.proofs.NamesInOrder.{names_determined, sorted_are_names}
-use Rattle.sup_tree.proofs.NotedLemmas.{sorted-read, list_any-read}
+use Rattle.node_upgrade.proofs.NamesInOrder.{names_determined, sorted_are_names, sorted-read, list_any-read}
 use Rattle.node_upgrade.specs.InMemory.{NotesStale, is_noted}
 use Rattle.node_upgrade.specs.Stale.{is_stale, names_in, same_version}
 

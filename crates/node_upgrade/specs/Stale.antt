@@ -4,7 +4,7 @@ use Rattle.std.specs.Str.{bytes_eq}
 use Rattle.library.specs.Library.{Library}
 use Rattle.script_steps.specs.Script.{version_in}
 use Rattle.sup_tree.specs.Loaded.{Module, NamedModules, listed_modules}
-use Rattle.sup_tree.specs.Names.{sorted_names}
+use Rattle.node_upgrade.specs.Names.{sorted_names}
 
 abbrev pub same_version : Option (List ℕ) → Option (List ℕ) → Bool
 same_version None None = true

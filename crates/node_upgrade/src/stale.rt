@@ -4,7 +4,7 @@ ghost use Rattle.library.specs.InMemory.{shared_of};
 ghost use Rattle.node_upgrade.specs.InMemory.{NotesStale, is_noted};
 ghost use Rattle.node_upgrade.specs.Stale.{is_stale, names_in, stale_modules};
 ghost use Rattle.sup_tree.specs.Loaded.{listed_in};
-ghost use Rattle.sup_tree.specs.Names.{AreNamesWith};
+ghost use Rattle.node_upgrade.specs.Names.{AreNamesWith};
 
 use library::Library;
 use proc_table::Name;

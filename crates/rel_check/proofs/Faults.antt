@@ -1,5 +1,5 @@
 -- What a release starts, and its first fault.
-use Rattle.std.proofs.Common.{◌≡◌, ℕ, true, ◌&&◌, List, nat_le, Option, None, Some, if◌then◌else◌, refl, sym, ap, ◌∙◌, zero-add, arith}
+use Rattle.std.proofs.Common.{◌≡◌, ℕ, ◌<◌, ◌^◌, ◌-◌, true, ◌&&◌, List, nat_le, Option, None, Some, if◌then◌else◌, refl, sym, ap, ◌∙◌, zero-add, arith}
 use Rattle.std.specs.List.{list_all, sum_by}
 use Rattle.std.proofs.lemmas.Bool.Decides.{nat_tests}
 use Rattle.std.specs.Option.{option_map, option_or, option_and_then, option_map_or}
@@ -8,11 +8,11 @@ use Rattle.mod_table.specs.declared.table.Table.{Table}
 use Rattle.mod_table.specs.declared.table.Table.TheVariants.{Worker, Super}
 use Rattle.rel_check.specs.Modules.{Part, Module, Tables, table_of, modules_in}
 use Rattle.rel_check.specs.Names.{Named, first_again, module_names, first_id_again}
-use Rattle.rel_check.specs.Walk.{first_of, of_kind, missing_from, processes_from, is_within, top_of, part_missing, part_processes, part_is_within, first_missing, processes_in, are_within}
+use Rattle.rel_check.specs.Walk.{first_of, of_kind, missing_from, processes_from, members_from, is_within, top_of, part_missing, part_processes, part_members, part_is_within, first_missing, processes_in, members_in, are_within}
 use Rattle.rel_check.specs.Fault.{first_fault, keeps_limits, few_modules_in, has_few_rows}
 use Rattle.rel_check.specs.Fault.Fault.{module_twice, id_twice, no_table, too_many}
-use Rattle.rel_check.specs.Summary.{Summary, summary, counted, known_at, top_summary, top_summary_at, nothing_started, release_summary, limits_kept}
-use Rattle.rel_check.proofs.Joins.{joined_missing, joined_processes, joined_within}
+use Rattle.rel_check.specs.Summary.{Summary, summary, counted, known_at, top_summary, top_summary_at, nothing_started, no_table_of, release_summary, limits_kept}
+use Rattle.rel_check.proofs.Joins.{joined_missing, joined_number, joined_within}
 
 -- a top module
 
@@ -25,16 +25,22 @@ top_missing : (tables : Tables) (o : Option (List ℕ)) → (top_summary (known_
 top_missing tables None = refl
 top_missing tables (Some m) = missing_at_top tables m (tables m)
 
-processes_at_top : (tables : Tables) (m : List ℕ) (t : Option Table)
-    → (top_summary_at m (option_map (summary 8 tables) t)).processes ≡ counted (option_map_or (processes_from 8 tables) (option_and_then (of_kind kind.Supervisor) t) 0)
-processes_at_top tables m None = refl
-processes_at_top tables m (Some (Worker w)) = refl
-processes_at_top tables m (Some (Super s)) = refl
+-- a number of what is found, which is none where nothing starts
+IsNumber : (Summary → ℕ) → (Table → ℕ) → Tables → Type 0
+IsNumber number from tables = ((t : Table) → number (summary 8 tables t) ≡ counted (from t)) × (number nothing_started ≡ 0) × ((m : List ℕ) → number (no_table_of m) ≡ 0)
 
-top_processes : (tables : Tables) (o : Option (List ℕ))
-    → (top_summary (known_at 8 tables) o).processes ≡ counted (option_map_or (processes_from 8 tables) (option_and_then (of_kind kind.Supervisor) (option_and_then tables o)) 0)
-top_processes tables None = refl
-top_processes tables (Some m) = processes_at_top tables m (tables m)
+number_at_top : (number : Summary → ℕ) (from : Table → ℕ) (tables : Tables) → IsNumber number from tables → (m : List ℕ) (t : Option Table)
+    → number (top_summary_at m (option_map (summary 8 tables) t)) ≡ counted (option_map_or from (option_and_then (of_kind kind.Supervisor) t) 0)
+unfolding IsNumber
+number_at_top number from tables (is, none, missing) m None = none
+number_at_top number from tables (is, none, missing) m (Some (Worker w)) = missing m
+number_at_top number from tables (is, none, missing) m (Some (Super s)) = is (Super s)
+
+top_number : (number : Summary → ℕ) (from : Table → ℕ) (tables : Tables) → IsNumber number from tables → (o : Option (List ℕ))
+    → number (top_summary (known_at 8 tables) o) ≡ counted (option_map_or from (option_and_then (of_kind kind.Supervisor) (option_and_then tables o)) 0)
+unfolding IsNumber
+top_number number from tables is None = is.1
+top_number number from tables is (Some m) = number_at_top number from tables is m (tables m)
 
 within_at_top : (tables : Tables) (m : List ℕ) (t : Option Table)
     → (top_summary_at m (option_map (summary 8 tables) t)).within ≡ option_map_or (is_within 8 tables) (option_and_then (of_kind kind.Supervisor) t) true
@@ -53,16 +59,25 @@ missing_is : (tables : Tables) (ps : List Part) → (release_summary (known_at 8
 missing_is tables ps = joined_missing (λ (p : Part). top_summary (known_at 8 tables) (top_of p)) (part_missing tables) (λ p. top_missing tables (top_of p)) nothing_started ps
 
 processes_are : (tables : Tables) (ps : List Part) → (release_summary (known_at 8 tables) ps).processes ≡ counted (sum_by (part_processes tables) ps)
+unfolding IsNumber
 processes_are tables ps =
-    joined_processes (λ (p : Part). top_summary (known_at 8 tables) (top_of p)) (part_processes tables) (λ p. top_processes tables (top_of p)) nothing_started 0 ps refl
+    joined_number (λ s. s.processes) (λ s t. refl) (λ (p : Part). top_summary (known_at 8 tables) (top_of p)) (part_processes tables)
+    (λ p. top_number (λ s. s.processes) (processes_from 8 tables) tables (λ t. refl, refl, λ m. refl) (top_of p)) nothing_started 0 ps refl
     ∙ ap counted (zero-add (sum_by (part_processes tables) ps))
+
+members_are : (tables : Tables) (ps : List Part) → (release_summary (known_at 8 tables) ps).members ≡ counted (sum_by (part_members tables) ps)
+unfolding IsNumber
+members_are tables ps =
+    joined_number (λ s. s.members) (λ s t. refl) (λ (p : Part). top_summary (known_at 8 tables) (top_of p)) (part_members tables)
+    (λ p. top_number (λ s. s.members) (members_from 8 tables) tables (λ t. refl, refl, λ m. refl) (top_of p)) nothing_started 0 ps refl
+    ∙ ap counted (zero-add (sum_by (part_members tables) ps))
 
 within_is : (tables : Tables) (ps : List Part) → (release_summary (known_at 8 tables) ps).within ≡ list_all (part_is_within tables) ps
 within_is tables ps = joined_within (λ (p : Part). top_summary (known_at 8 tables) (top_of p)) (part_is_within tables) (λ p. top_within tables (top_of p)) nothing_started ps
 
--- 256 processes are counted
-few_counted : (n : ℕ) → nat_le (counted n) 256 ≡ nat_le n 256
-few_counted n = grind (arith, nat_tests)
+-- so many are counted
+few_counted : (most n : ℕ) → most < 2 ^ 64 - 1 → nat_le (counted n) most ≡ nat_le n most
+few_counted most n few = grind (arith, nat_tests)
 
 -- the limits
 limits_are : (ps : List Part) (ms : List Module) (s : Summary) → ms ≡ modules_in ps → s ≡ release_summary (known_at 8 (table_of ms)) ps → limits_kept ps ms s ≡ keeps_limits ps
@@ -71,8 +86,11 @@ limits_are ps ms s modules is =
     let within : s.within ≡ are_within ps = ap (λ (t : Summary). t.within) all ∙ within_is (table_of (modules_in ps)) ps in
     let processes : nat_le s.processes 256 ≡ nat_le (processes_in ps) 256 =
     ap (λ (t : Summary). nat_le t.processes 256) all
-    ∙ (ap (λ n. nat_le n 256) (processes_are (table_of (modules_in ps)) ps) ∙ few_counted (processes_in ps)) in
-    λ j. list_all few_modules_in ps && (list_all has_few_rows (modules j) && (within j && processes j))
+    ∙ (ap (λ n. nat_le n 256) (processes_are (table_of (modules_in ps)) ps) ∙ few_counted 256 (processes_in ps) (omega arith)) in
+    let members : nat_le s.members 4096 ≡ nat_le (members_in ps) 4096 =
+    ap (λ (t : Summary). nat_le t.members 4096) all
+    ∙ (ap (λ n. nat_le n 4096) (members_are (table_of (modules_in ps)) ps) ∙ few_counted 4096 (members_in ps) (omega arith)) in
+    λ j. list_all few_modules_in ps && (list_all has_few_rows (modules j) && (within j && (processes j && members j)))
 
 -- the first fault, from what each test finds
 pub told : (all ps : List Part) (ms : List Module) (a b : Option Named) (s : Summary) → ps ≡ all → ms ≡ modules_in ps

@@ -44,9 +44,14 @@ joined_within g f is s (c ∷ cs) =
 sum_counted : (most a b x y : ℕ) → x ≡ min a most → y ≡ min b most → min (x + y) most ≡ min (a + b) most
 sum_counted most a b x y first second = omega arith
 
-pub joined_processes : {C : Type 0} (g : C → Summary) (f : C → ℕ) → ((c : C) → (g c).processes ≡ counted (f c))
-    → (s : Summary) (p : ℕ) (cs : List C) → s.processes ≡ counted p → (all_joined s (map g cs)).processes ≡ counted (p + sum_by f cs)
-joined_processes g f is s p [] so_far = so_far ∙ ap counted (let e : p ≡ p + 0 = omega arith in e)
-joined_processes g f is s p (c ∷ cs) so_far =
-    joined_processes g f is (joined s (g c)) (p + f c) cs (sum_counted (2 ^ 64 - 1) p (f c) s.processes (g c).processes so_far (is c))
+-- a number of a summary that adds up
+abbrev pub AddsUp : (Summary → ℕ) → Type 0
+AddsUp number = (s t : Summary) → number (joined s t) ≡ counted (number s + number t)
+
+pub joined_number : {C : Type 0} (number : Summary → ℕ) → AddsUp number → (g : C → Summary) (f : C → ℕ) → ((c : C) → number (g c) ≡ counted (f c))
+    → (s : Summary) (p : ℕ) (cs : List C) → number s ≡ counted p → number (all_joined s (map g cs)) ≡ counted (p + sum_by f cs)
+joined_number number adds g f is s p [] so_far = so_far ∙ ap counted (let e : p ≡ p + 0 = omega arith in e)
+joined_number number adds g f is s p (c ∷ cs) so_far =
+    joined_number number adds g f is (joined s (g c)) (p + f c) cs
+    (adds s (g c) ∙ sum_counted (2 ^ 64 - 1) p (f c) (number s) (number (g c)) so_far (is c))
     ∙ ap counted (let e : (p + f c) + sum_by f cs ≡ p + sum_by f (c ∷ cs) = omega (arith, sum_by-cons f c cs) in e)

@@ -44,6 +44,12 @@ processes_from n tables (Worker w) = 1
 processes_from zero tables (Super s) = 0
 processes_from (suc n) tables (Super s) = sum_by (λ (c : ChildSpec). option_map_or (processes_from n tables) (child_table tables c) 0) s.children
 
+-- how many processes and supervisors there are from this table on, itself counted
+unfoldable pub members_from : ℕ → Tables → Table → ℕ
+members_from n tables (Worker w) = 1
+members_from zero tables (Super s) = 0
+members_from (suc n) tables (Super s) = suc (sum_by (λ (c : ChildSpec). option_map_or (members_from n tables) (child_table tables c) 0) s.children)
+
 -- no supervisor has more than 64 children, and none is deeper than so many in each other
 unfoldable pub is_within : ℕ → Tables → Table → Bool
 is_within n tables (Worker w) = true
@@ -77,6 +83,9 @@ top_table tables p = option_and_then (of_kind kind.Supervisor) (option_and_then 
 abbrev pub part_processes : Tables → Part → ℕ
 part_processes tables p = option_map_or (processes_from 8 tables) (top_table tables p) 0
 
+abbrev pub part_members : Tables → Part → ℕ
+part_members tables p = option_map_or (members_from 8 tables) (top_table tables p) 0
+
 abbrev pub part_is_within : Tables → Part → Bool
 part_is_within tables p = option_map_or (is_within 8 tables) (top_table tables p) true
 
@@ -91,6 +100,10 @@ first_missing ps = first_of (part_missing (tables_of ps)) ps
 -- how many processes the release starts
 abbrev pub processes_in : List Part → ℕ
 processes_in ps = sum_by (part_processes (tables_of ps)) ps
+
+-- how many processes and supervisors
+abbrev pub members_in : List Part → ℕ
+members_in ps = sum_by (part_members (tables_of ps)) ps
 
 -- each supervisor that is started has few children, and few are in each other
 abbrev pub are_within : List Part → Bool

@@ -1,5 +1,5 @@
 //! The walk through the processes that a release starts.
-ghost use Rattle.std.specs.Prelude.{◌≡◌, ℕ, List, IfOk, Some, map, length};
+ghost use Rattle.std.specs.Prelude.{◌≡◌, ℕ, List, IfOk, Some, map};
 ghost use Rattle.std.specs.Option.{option_map};
 ghost use Rattle.mod_table.specs.declared.table.Table as table;
 ghost use Rattle.mod_table.specs.InMemory.{child_of};
@@ -29,6 +29,8 @@ pub(crate) struct Walk<'a> {
     pub(crate) missing: Option<&'a str>,
     /// How many processes there are; `usize::MAX` for any number that is greater.
     pub(crate) processes: usize,
+    /// How many processes and supervisors there are, counted likewise.
+    pub(crate) members: usize,
     /// Whether no supervisor has too many children or stands too deep.
     pub(crate) within: bool,
 }
@@ -45,11 +47,12 @@ impl<'a> Walk<'a> {
             kind: ChildKind::Worker,
             missing: None,
             processes: 1,
+            members: 1,
             within: true,
         }
     }
 
-    // No process.
+    // Nothing.
     fn nothing_started() -> Walk<'a>
         ensures { summary_of result ≡ nothing_started }
     {
@@ -57,11 +60,12 @@ impl<'a> Walk<'a> {
             kind: ChildKind::Supervisor,
             missing: None,
             processes: 0,
+            members: 0,
             within: true,
         }
     }
 
-    // No process, and no table of this module.
+    // Nothing, and no table of this module.
     fn no_table_of(name: &'a str) -> Walk<'a>
         ensures { summary_of result ≡ no_table_of name.now }
     {
@@ -69,6 +73,7 @@ impl<'a> Walk<'a> {
             kind: ChildKind::Supervisor,
             missing: Some(name),
             processes: 0,
+            members: 0,
             within: true,
         }
     }
@@ -81,6 +86,7 @@ impl<'a> Walk<'a> {
             kind: ChildKind::Supervisor,
             missing: None,
             processes: 0,
+            members: 1,
             within: children.len() <= MOST_CHILDREN,
         }
     }
@@ -93,6 +99,7 @@ impl<'a> Walk<'a> {
             kind: ChildKind::Supervisor,
             missing: None,
             processes: 0,
+            members: 0,
             within: false,
         }
     }
@@ -105,6 +112,7 @@ impl<'a> Walk<'a> {
             kind: self.kind,
             missing: self.missing.or(below.missing),
             processes: self.processes.saturating_add(below.processes),
+            members: self.members.saturating_add(below.members),
             within: self.within && below.within,
         }
     }

@@ -150,14 +150,14 @@ module _ {D : Type 0} (v : Ghosts D) (h : Handler D) (ready : IsReady v.seen v.m
         (subst (λ a. IfErr a Refuses) told refused).2
 
     -- no bytes but its own change
-    abbrev Keeps : List ℕ → Type 0
-    Keeps = KeepsOthers (IsInCompaction (v.seen (disk_in h)) (image_place (store.base_in h.store) (store.end_in h.store) (length image)) (length image)) (v.seen (disk_in h))
+    abbrev KeepsOtherBytes : List ℕ → Type 0
+    KeepsOtherBytes = KeepsOthers (IsInCompaction (v.seen (disk_in h)) (image_place (store.base_in h.store) (store.end_in h.store) (length image)) (length image)) (v.seen (disk_in h))
 
     -- whatever it was answered
     pub compacts_so : (r : Result (Unit {0}) StoreError) → AnswersFull r → IfErr r Refuses → is_dead h ≡ true → ((c : List ℕ) → v.left_since (disk_in h) (v.moment (disk_in h)) c → v.may_leave (disk_in h) c)
         → (store.has_failed h.store ≡ false
         → LeavesOnly v.moment v.left_since (disk_in h) (store.disk_in new) (EndsEither (store.records_in h.store) (store.end_in h.store) image (image_end (store.base_in h.store) (store.end_in h.store) (length image)) (start_in v.seen h)))
-        → (store.has_failed h.store ≡ false → LeavesOnly v.moment v.left_since (disk_in h) (store.disk_in new) Keeps)
+        → (store.has_failed h.store ≡ false → LeavesOnly v.moment v.left_since (disk_in h) (store.disk_in new) KeepsOtherBytes)
         → v.failures (disk_in h) ≤ v.failures (store.disk_in new) → Compacts v h (record { store = new; list = h.list; dead = h.dead })
     compacts_so r full refused dead only_now leaves kept counted = go (fits_image (extent_in h) (length image)) refl
       where

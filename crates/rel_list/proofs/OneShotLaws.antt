@@ -31,7 +31,7 @@ none-installed false Old = refl
 none-installed false Permanent = refl
 none-installed false OneShot = refl
 
-none-permanent : (b : Bool) (s : Status) → is_one_shot s ≡ false → is_one_shot (permanent_status b s) ≡ false
+pub none-permanent : (b : Bool) (s : Status) → is_one_shot s ≡ false → is_one_shot (permanent_status b s) ≡ false
 none-permanent true s none = refl
 none-permanent false Unpacked none = refl
 none-permanent false Current none = refl

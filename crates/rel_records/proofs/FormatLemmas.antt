@@ -6,12 +6,12 @@ use Rattle.std.specs.Prelude.{◌==◌, find, is_some, if◌then◌else◌}
 use Rattle.std.specs.Option.{option_map}
 use Rattle.rel_list.specs.declared.status.Status.{Status}
 use Rattle.rel_list.specs.declared.status.Status.TheVariants.{Unpacked, Current, Old, Permanent, OneShot}
-use Rattle.rel_list.specs.Event.{Event, booted_status, permanent_status, recorded_status, status_behind}
+use Rattle.rel_list.specs.Event.{Event, booted_status, recorded_status, status_behind}
 use Rattle.rel_list.specs.Event.Event.{made, unpacked, installed, restart_installed, made_permanent, removed, reboot_old, boot}
 use Rattle.rel_list.specs.Laws.{makes_one_shot}
 use Rattle.rel_list.specs.Releases.{Entry, Releases, has_one_shot}
 use Rattle.rel_list.specs.Status.{is_one_shot}
-use Rattle.rel_list.proofs.OneShotLaws.{none-installed}
+use Rattle.rel_list.proofs.OneShotLaws.{none-installed, none-permanent}
 use Rattle.rel_records.specs.Format.{allows, writes_one_shot}
 use Rattle.rel_records.specs.Image.{image_record}
 use Rattle.rel_records.specs.Laws.{ImagesWriteTheirOneShots, MakeItInFormat2, OnlyRestartsWriteOneShots}
@@ -50,14 +50,6 @@ pub made_in_2 : MakeItInFormat2
 made_in_2 format bodies es makes_it = (from_in_2 format [] bodies es makes_it.0, makes_it.1)
 
 -- An event that is no restart makes no release a one-shot that wasn't one.
-none_permanent : (b : Bool) (s : Status) → is_one_shot s ≡ false → is_one_shot (permanent_status b s) ≡ false
-none_permanent true s none = refl
-none_permanent false Unpacked none = refl
-none_permanent false Current none = refl
-none_permanent false Old none = refl
-none_permanent false Permanent none = refl
-none_permanent false OneShot none = none
-
 none_booted : (s : Status) → is_one_shot (booted_status s) ≡ false
 none_booted Unpacked = refl
 none_booted Current = refl
@@ -70,9 +62,9 @@ none_behind (made p) other vsn s none = none
 none_behind (unpacked p) other vsn s none = none
 none_behind (installed v) other vsn s none = none-installed (bytes_eq v vsn) s
 none_behind (restart_installed v) other vsn s none = absurd (true≢false other)
-none_behind (made_permanent v) other vsn s none = none_permanent (bytes_eq v vsn) s none
+none_behind (made_permanent v) other vsn s none = none-permanent (bytes_eq v vsn) s none
 none_behind (removed v) other vsn s none = none
-none_behind (reboot_old v) other vsn s none = none_permanent (bytes_eq v vsn) s none
+none_behind (reboot_old v) other vsn s none = none-permanent (bytes_eq v vsn) s none
 none_behind boot other vsn s none = none_booted s
 
 -- So it writes that status of none: it writes the statuses alone that it changes.

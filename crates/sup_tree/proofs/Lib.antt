@@ -6,5 +6,4 @@ pub mod LoadedLemmas
 pub mod ListingLemmas
 pub mod SlotLemmas
 pub mod NamedLemmas
-pub mod NotedLemmas
-pub mod NamesInOrder
+pub mod StopLemmas

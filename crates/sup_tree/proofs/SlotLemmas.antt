@@ -3,8 +3,8 @@ use Rattle.std.proofs.Common.{◌≡◌, ◌==◌, ℕ, List, ◌∷◌, ◌++�
 use Rattle.std.specs.List.{find}
 use Rattle.std.specs.Option.{option_map, option_or}
 use Rattle.std.proofs.lemmas.List.Folds.{find-append}
-use Rattle.sup_tree.specs.declared.process.StartedProcess.{StartedProcess}
-use Rattle.sup_tree.specs.Tree.{App, all_processes, module_among, module_in}
+use Rattle.sup_tree.specs.declared.member.StartedProcess.{StartedProcess}
+use Rattle.sup_tree.specs.Tree.{App, all_processes, app_processes, module_among, module_in}
 
 option_map-option_or : {X Y : Type 0} (f : X → Y) (o p : Option X) → option_map f (option_or o p) ≡ option_or (option_map f o) (option_map f p)
 option_map-option_or f None p = refl
@@ -16,15 +16,15 @@ among-append slot ps qs =
     ap (option_map (λ (p : StartedProcess). p.module)) (find-append there ps qs) ∙ option_map-option_or _ (find there ps) (find there qs)
 
 -- what is found in an application, or else in those behind it
-in_first : (slot : ℕ) (left rest : List App) (a : App) → left ≡ a ∷ rest → module_in slot left ≡ option_or (module_among slot a.processes) (module_in slot rest)
-in_first slot left rest a split = ap (module_in slot) split ∙ among-append slot a.processes (all_processes rest)
+in_first : (slot : ℕ) (left rest : List App) (a : App) → left ≡ a ∷ rest → module_in slot left ≡ option_or (module_among slot (app_processes a)) (module_in slot rest)
+in_first slot left rest a split = ap (module_in slot) split ∙ among-append slot (app_processes a) (all_processes rest)
 
 -- none of the application began there
-pub not_here : (slot : ℕ) (left rest : List App) (a : App) (r : Option (List ℕ)) → left ≡ a ∷ rest → module_among slot a.processes ≡ None
+pub not_here : (slot : ℕ) (left rest : List App) (a : App) (r : Option (List ℕ)) → left ≡ a ∷ rest → module_among slot (app_processes a) ≡ None
     → module_in slot left ≡ r → module_in slot rest ≡ r
 not_here slot left rest a r split none so_far = sym (in_first slot left rest a split ∙ ap (λ o. option_or o (module_in slot rest)) none) ∙ so_far
 
 -- one of the application did
-pub found_here : (slot : ℕ) (left rest : List App) (a : App) (m : List ℕ) (r : Option (List ℕ)) → left ≡ a ∷ rest → module_among slot a.processes ≡ Some m
+pub found_here : (slot : ℕ) (left rest : List App) (a : App) (m : List ℕ) (r : Option (List ℕ)) → left ≡ a ∷ rest → module_among slot (app_processes a) ≡ Some m
     → module_in slot left ≡ r → Some m ≡ r
 found_here slot left rest a m r split found so_far = sym (in_first slot left rest a split ∙ ap (λ o. option_or o (module_in slot rest)) found) ∙ so_far

@@ -1,53 +1,38 @@
 -- What lies in memory on the way through an application, without where it lies.
-use Rattle.std.specs.Prelude.{◌≡◌, ℕ, ◌<◌, ◌≤◌, Bool, true, ◌||◌, List, [], ◌++◌, length, map, is_some, Option, Some, None, Result, Ok, Err, Vec}
+use Rattle.std.specs.Prelude.{◌≡◌, ℕ, ◌<◌, ◌≤◌, List, [], ◌∷◌, ◌++◌, length, map, Option, Some, None, Result, Ok, Err, Vec}
 use Rattle.std.specs.Borrow.{Bor}
 use Rattle.std.specs.BTreeMap.{BTreeMap, get_by}
 use Rattle.std.specs.Cmp.Lexicographic.{slice_cmp}
 use Rattle.std.specs.Ordering.{nat_cmp}
 use Rattle.std.specs.declared.alloc.Global.{Global}
-use Rattle.mod_table.specs.declared.child.Child.{Child}
 use Rattle.mod_table.specs.declared.table.Table.TheVariants.{Super}
 use Rattle.mod_table.specs.Table.{SuperTable}
-use Rattle.mod_table.specs.InMemory.{child_of}
 use Rattle.rel_check.specs.Modules.{Tables}
-use Rattle.sup_tree.specs.Names.{is_among, AreNamesWith}
-use Rattle.sup_tree.specs.declared.walk.Plan.{Plan}
-use Rattle.sup_tree.specs.declared.walk.Start.{Start}
+use Rattle.sup_tree.specs.declared.walk.NewMember.{NewMember}
 use Rattle.sup_tree.specs.declared.error.StartError.{StartError}
 use Rattle.sup_tree.specs.declared.error.StartError.TheVariants.{NoTable, Unsupported, NoSlot, NoMemory}
 use Rattle.sup_tree.specs.Walk as walk
-use Rattle.sup_tree.specs.Walk.{StartFault, children_fault, children_starts, children_supervisors, worker_at_top, top_children, app_fault, app_starts, app_supervisors}
+use Rattle.sup_tree.specs.Walk.{StartFault, app_fault, app_members, app_starts, children_fault, children_members, members_below, super_children, top_children, worker_at_top}
 use Rattle.sup_tree.specs.Walk.StartFault.{no_table, unsupported}
 
-abbrev pub start_of : Start → walk.Start
-start_of s = record { child = child_of s.child.now; table = s.table.now }
+abbrev pub new_member_of : NewMember → walk.NewMember
+new_member_of m = record {
+  depth = m.depth;
+  child = record { id = m.id.now; start = m.«module».now; restart = m.restart; kind = m.kind };
+  table = m.table.now;
+}
 
-abbrev pub starts_of : List Start → List walk.Start
-starts_of ss = map start_of ss
+abbrev pub new_members_of : List NewMember → List walk.NewMember
+new_members_of ms = map new_member_of ms
 
 -- what is noted of a module
 abbrev pub noted_in : BTreeMap (Bor (List ℕ)) ℕ → List ℕ → Option ℕ
 noted_in noted name = get_by (λ k. slice_cmp nat_cmp name k.now) noted
 
-abbrev pub is_noted : BTreeMap (Bor (List ℕ)) ℕ → List ℕ → Bool
-is_noted noted name = is_some (noted_in noted name)
-
-abbrev pub AreNoted : BTreeMap (Bor (List ℕ)) ℕ → List (List ℕ) → Type 0
-AreNoted noted names = (q : List ℕ) → is_among q names ≡ true → is_noted noted q ≡ true
-
--- below each supervisor that is noted nothing is wrong, through as many in each other, and those below it are noted too
+-- below each supervisor that is noted nothing is wrong, through as many in each other
 abbrev pub AreSound : Tables → BTreeMap (Bor (List ℕ)) ℕ → Type 0
 AreSound tables noted =
-    (name : List ℕ) (n : ℕ) (s : SuperTable) → noted_in noted name ≡ Some n → tables name ≡ Some (Super s)
-    → (children_fault n tables s.children ≡ None) × AreNoted noted (children_supervisors n tables s.children)
-
--- these are noted beside those that were
-abbrev pub NotesAll : List (List ℕ) → BTreeMap (Bor (List ℕ)) ℕ → BTreeMap (Bor (List ℕ)) ℕ → Type 0
-NotesAll names old new = (q : List ℕ) → is_noted new q ≡ (is_noted old q || is_among q names)
-
--- no supervisor that is noted starts a process, through as many in each other
-abbrev pub AreIdle : Tables → BTreeMap (Bor (List ℕ)) ℕ → Type 0
-AreIdle tables noted = (name : List ℕ) (n : ℕ) (s : SuperTable) → noted_in noted name ≡ Some n → tables name ≡ Some (Super s) → children_starts n tables s.children ≡ []
+    (name : List ℕ) (n : ℕ) (s : SuperTable) → noted_in noted name ≡ Some n → tables name ≡ Some (Super s) → children_fault n tables s.children ≡ None
 
 -- an answer is this fault, or none where there is none; or that no memory was left
 abbrev pub FaultIs : StartError → Option StartFault → Type 0
@@ -60,40 +45,37 @@ abbrev pub Reports : {X : Type 0} → Result X StartError → Option StartFault 
 Reports (Ok x) f = f ≡ None
 Reports (Err e) f = FaultIs e f
 
--- These are no more than so many, or there are more; or no memory was left.
-abbrev pub IsCut : ℕ → List walk.Start → StartError → Type 0
-IsCut most all NoSlot = most < length all
-IsCut most all NoMemory = Unit {0}
-IsCut most all e = ⊥
+-- These are more than there may be; or no memory was left.
+abbrev pub AreTooMany : List walk.NewMember → StartError → Type 0
+AreTooMany all Unsupported = 4096 < length all
+AreTooMany all NoMemory = Unit {0}
+AreTooMany all e = ⊥
 
-abbrev pub Adds : {X : Type 0} → ℕ → List Start → List walk.Start → Result X StartError → List Start → Type 0
-Adds most old starts (Ok x) new = (starts_of new ≡ starts_of old ++ starts) × (length new ≤ most)
-Adds most old starts (Err e) new = IsCut most (starts_of old ++ starts) e
+-- These members were added, unless there are too many.
+abbrev pub Adds : {X : Type 0} → List NewMember → List walk.NewMember → Result X StartError → List NewMember → Type 0
+Adds old ms (Ok x) new = (new_members_of new ≡ new_members_of old ++ ms) × (length new ≤ 4096)
+Adds old ms (Err e) new = AreTooMany (new_members_of old ++ ms) e
 
--- What is started, if there are no more than so many.
-abbrev pub AnswersStarts : ℕ → List walk.Start → Result (Vec Start Global) StartError → Type 0
-AnswersStarts most starts (Ok ss) = (starts_of ss.items ≡ starts) × (length ss.items ≤ most)
-AnswersStarts most starts (Err e) = IsCut most starts e
+-- the supervisor at the top of an application
+pub record IsTop (tables : Tables) (top : Option (List ℕ)) (m : walk.NewMember) : Type 0 where
+  pub sound : worker_at_top tables top ≡ None
+  pub depth : m.depth ≡ 0
+  pub children : top_children tables top ≡ super_children (Some m.table)
+  pub members : app_members tables top ≡ m ∷ members_below (children_members 8 tables 1) m.table
 
--- The children of the top, where it has not the table of a worker.
-abbrev pub TopIs : Tables → Option (List ℕ) → Result (Bor (List Child)) StartError → Type 0
-TopIs tables top (Ok cs) = (worker_at_top tables top ≡ None) × (map child_of cs.now ≡ top_children tables top)
+-- the top, where it has the table of a supervisor
+abbrev pub TopIs : Tables → Option (List ℕ) → Result (Option NewMember) StartError → Type 0
 TopIs tables top (Err e) = (f : StartFault) × (worker_at_top tables top ≡ Some f) × FaultIs e (Some f)
+TopIs tables top (Ok None) = (worker_at_top tables top ≡ None) × (top_children tables top ≡ []) × (app_members tables top ≡ [])
+TopIs tables top (Ok (Some m)) = IsTop tables top (new_member_of m)
 
--- The modules of an application's supervisors, if nothing is wrong with it.
-abbrev pub AnswersSupervisors : Tables → Option (List ℕ) → Result (Vec (List ℕ) Global) StartError → Type 0
-AnswersSupervisors tables top (Ok names) = (app_fault tables top ≡ None) × AreNamesWith (λ m. is_among m (app_supervisors tables top)) names.items
-AnswersSupervisors tables top (Err e) = FaultIs e (app_fault tables top)
+-- The members of an application, if nothing is wrong with it.
+abbrev pub AreMembers : Tables → Option (List ℕ) → Result (Vec NewMember Global) StartError → Type 0
+AreMembers tables top (Ok ms) = (app_fault tables top ≡ None) × (new_members_of ms.items ≡ app_members tables top)
+AreMembers tables top (Err e) = FaultIs e (app_fault tables top)
 
--- What an application starts, and its supervisors.
-pub record IsPlan (most : ℕ) (tables : Tables) (top : Option (List ℕ)) (p : Plan) : Type 0 where
-  pub sound : app_fault tables top ≡ None
-  pub starts : starts_of p.starts.items ≡ app_starts tables top
-  pub few : length p.starts.items ≤ most
-  pub supervisors : AreNamesWith (λ m. is_among m (app_supervisors tables top)) p.supervisors.items
-
--- The plan of an application, if nothing is wrong with it and there are no more than so many starts.
-abbrev pub AnswersPlan : ℕ → Tables → Option (List ℕ) → Result Plan StartError → Type 0
-AnswersPlan most tables top (Ok p) = IsPlan most tables top p
-AnswersPlan most tables top (Err NoSlot) = (app_fault tables top ≡ None) × (most < length (app_starts tables top))
-AnswersPlan most tables top (Err e) = FaultIs e (app_fault tables top)
+-- The same, if there are no more than so many processes among them.
+abbrev pub AnswersMembers : ℕ → Tables → Option (List ℕ) → Result (Vec NewMember Global) StartError → Type 0
+AnswersMembers most tables top (Ok ms) = (app_fault tables top ≡ None) × (new_members_of ms.items ≡ app_members tables top) × (length (app_starts tables top) ≤ most)
+AnswersMembers most tables top (Err NoSlot) = (app_fault tables top ≡ None) × (most < length (app_starts tables top))
+AnswersMembers most tables top (Err e) = FaultIs e (app_fault tables top)

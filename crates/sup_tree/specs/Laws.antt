@@ -9,11 +9,11 @@ use Rattle.proc_table.specs.Agrees.{slots}
 use Rattle.proc_table.specs.Views.{seen, handler_view}
 use Rattle.proc_table.specs.Free.{next_in}
 use Rattle.rel_check.specs.Modules.{Tables}
-use Rattle.rel_check.specs.Walk.{missing_below, processes_from, is_within}
+use Rattle.rel_check.specs.Walk.{is_within, members_from, missing_below, processes_from}
 use Rattle.sup_tree.specs.declared.loaded.Loaded.{Loaded}
-use Rattle.sup_tree.specs.declared.process.StartedProcess.{StartedProcess}
+use Rattle.sup_tree.specs.declared.member.StartedProcess.{StartedProcess}
 use Rattle.sup_tree.specs.Loaded.{modules_in, module_named, listed_in}
-use Rattle.sup_tree.specs.Walk.{Start, children_fault, children_starts}
+use Rattle.sup_tree.specs.Walk.{Start, children_fault, children_members, starts_among}
 use Rattle.sup_tree.specs.Starts.{beginning_of, BeganInOrder}
 
 -- Each stands where it began, with the names of its application and its id, in the first state of its table.
@@ -41,10 +41,13 @@ FirstSlots = FreeFrom 0 (handler_view slots)
     × ((app : List ℕ) (ss : List Start) (n : ℕ) (v w : View) (ps : List StartedProcess) → FreeFrom n v → BeganInOrder app ss v ps w
     → AreFrom n ps × FreeFrom (n + length ps) w)
 
--- Below a supervisor that passed the tests of a release nothing is wrong, and it starts as many processes as were counted.
+-- Below a supervisor that passed the tests of a release nothing is wrong, and as many processes start there as were counted, and
+-- with the supervisors as many members.
 abbrev pub CheckedStarts : Type 0
-CheckedStarts = (n : ℕ) (tables : Tables) (s : SuperTable) → missing_below n tables (Super s) ≡ None → is_within n tables (Super s) ≡ true
-    → (children_fault n tables s.children ≡ None) × (length (children_starts n tables s.children) ≡ processes_from n tables (Super s))
+CheckedStarts = (n : ℕ) (tables : Tables) (s : SuperTable) (depth : ℕ) → missing_below n tables (Super s) ≡ None → is_within n tables (Super s) ≡ true
+    → (children_fault n tables s.children ≡ None)
+    × (length (starts_among (children_members n tables depth s.children)) ≡ processes_from n tables (Super s))
+    × (suc (length (children_members n tables depth s.children)) ≡ members_from n tables (Super s))
 
 -- What is loaded under a name is what the list of the loaded modules has under it.
 abbrev pub FoundAsListed : Type 0

@@ -1,9 +1,8 @@
 pub mod Loaded
-pub mod Names
 pub mod Walk
 pub mod InMemory
 pub mod Tree
 pub mod Starts
-pub mod NewProcesses
+pub mod Begins
 pub mod Stops
 pub mod Laws

@@ -1,5 +1,8 @@
 -- What start_app answers, and what it leaves.
 use Rattle.std.specs.Prelude.{◌≡◌, ℕ, ◌<◌, List, [], ◌∷◌, ◌++◌, length, codes, Option, Some, None, IsSome, Result, Ok, Err}
+use Rattle.mod_table.specs.declared.table.Table.{Table}
+use Rattle.mod_table.specs.declared.table.Table.TheVariants.{Worker, Super}
+use Rattle.mod_table.specs.Table.{ChildSpec}
 use Rattle.proc_history.specs.declared.beginning.Beginning.{Beginning}
 use Rattle.proc_table.specs.declared.view.View.{View}
 use Rattle.proc_table.specs.declared.pid.Pid.{Pid}
@@ -7,11 +10,13 @@ use Rattle.proc_table.specs.Free.{free_count, BeganLowest}
 use Rattle.rel_check.specs.Modules.{Tables}
 use Rattle.sup_tree.specs.declared.error.StartError.{StartError}
 use Rattle.sup_tree.specs.declared.error.StartError.TheVariants.{AlreadyStarted, NoTable, Unsupported, NoSlot, NoMemory}
-use Rattle.sup_tree.specs.declared.process.StartedProcess.{StartedProcess}
-use Rattle.sup_tree.specs.Names.{is_among, AreNamesWith}
-use Rattle.sup_tree.specs.Walk.{Start, app_fault, app_starts, app_supervisors}
+use Rattle.sup_tree.specs.declared.member.Member.{Member}
+use Rattle.sup_tree.specs.declared.member.MemberState.{MemberState}
+use Rattle.sup_tree.specs.declared.member.MemberState.TheVariants.{Ended, Process, Supervisor}
+use Rattle.sup_tree.specs.declared.member.StartedProcess.{StartedProcess}
+use Rattle.sup_tree.specs.Walk.{NewMember, Start, app_fault, app_members, app_starts}
 use Rattle.sup_tree.specs.Walk.StartFault.{no_table, unsupported}
-use Rattle.sup_tree.specs.Tree.{App, app_named}
+use Rattle.sup_tree.specs.Tree.{App, app_named, pids_of}
 
 abbrev pub start_error_text : StartError → List ℕ
 start_error_text AlreadyStarted = codes "AlreadyStarted"
@@ -33,15 +38,38 @@ BeganInOrder app [] v [] w = w ≡ v
 BeganInOrder app (s ∷ ss) v (p ∷ ps) w = (u : View) × BeganLowest (beginning_of app s) v (Ok p.pid) u × (p ≡ process_of s p.pid) × BeganInOrder app ss u ps w
 BeganInOrder app ss v ps w = ⊥
 
--- All that the application starts began, and it is started, behind those that were. Its supervisors are kept, each module once.
+-- a member for which this stands
+abbrev pub member_with : NewMember → MemberState → Member
+member_with m s = record { depth = m.depth; id = m.child.id; «module» = m.child.start; restart = m.child.restart; kind = m.child.kind; state = s }
+
+-- what stands for a child whose module has this table, where processes have these places: the first, if it is a process
+abbrev pub state_at : Table → ChildSpec → List Pid → MemberState
+state_at (Worker w) c [] = Ended
+state_at (Worker w) c (pid ∷ pids) = Process (process_of (record { child = c; table = w }) pid)
+state_at (Super s) c pids = Supervisor c.start
+
+-- the places that are left to those behind it
+abbrev pub left_behind : Table → List Pid → List Pid
+left_behind (Worker w) [] = []
+left_behind (Worker w) (pid ∷ pids) = pids
+left_behind (Super s) pids = pids
+
+-- what stands for a member before its process begins
+abbrev pub state_before : NewMember → MemberState
+state_before m = state_at m.table m.child []
+
+-- the members where their processes have these places, in their order
+abbrev pub members_at : List NewMember → List Pid → List Member
+members_at [] pids = []
+members_at (m ∷ ms) pids = member_with m (state_at m.table m.child pids) ∷ members_at ms (left_behind m.table pids)
+
+-- All that the application starts began, and it is started, behind those that were, with its members.
 pub record AppStarted (name : List ℕ) (top : Option (List ℕ)) (tables : Tables) (apps : List App) (v : View) (apps' : List App) (w : View) : Type 0 where
   pub new : app_named name apps ≡ None
   pub sound : app_fault tables top ≡ None
   pub processes : List StartedProcess
   pub began : BeganInOrder name (app_starts tables top) v processes w
-  pub supervisors : List (List ℕ)
-  pub kept : AreNamesWith (λ m. is_among m (app_supervisors tables top)) supervisors
-  pub tree : apps' ≡ apps ++ record { name = name; processes = processes; supervisors = supervisors } ∷ []
+  pub tree : apps' ≡ apps ++ record { name = name; members = members_at (app_members tables top) (pids_of processes) } ∷ []
 
 -- why it isn't started
 abbrev pub IsWhy : StartError → List ℕ → Option (List ℕ) → Tables → List App → View → Type 0

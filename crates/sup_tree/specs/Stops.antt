@@ -7,8 +7,9 @@ use Rattle.proc_table.specs.declared.view.View.{View}
 use Rattle.proc_table.specs.declared.pid.Pid.{Pid}
 use Rattle.proc_table.specs.Holds.{Holding, Released}
 use Rattle.proc_table.specs.Waits.{HeldAtLast}
-use Rattle.sup_tree.specs.declared.process.StartedApp.{StartedApp}
-use Rattle.sup_tree.specs.Tree.{App, app_of, app_named, without, pids_of}
+use Rattle.sup_tree.specs.declared.member.StartedApp.{StartedApp}
+use Rattle.sup_tree.specs.declared.member.StartedProcess.{StartedProcess}
+use Rattle.sup_tree.specs.Tree.{App, app_of, app_named, app_pids, without}
 
 abbrev pub no_such_app_text : List ℕ
 no_such_app_text = codes "NoSuchApp"
@@ -25,6 +26,11 @@ ending pid x = if stands pid x then entry 0 given_up ∷ [] else []
 abbrev pub EndedAt : Pid → View → View → Type 0
 EndedAt pid v w = (h : Holding) × (u : View) × HeldAtLast pid.slot v h u × Released pid.slot (ending pid h.value) u w
 
+-- The process of a member was given up, where one stands for it.
+abbrev pub MemberEnded : Option StartedProcess → View → View → Type 0
+MemberEnded None v w = w ≡ v
+MemberEnded (Some p) v w = EndedAt p.pid v w
+
 -- They were given up one after another.
 abbrev pub EndedInOrder : List Pid → View → View → Type 0
 EndedInOrder [] v w = w ≡ v
@@ -34,7 +40,7 @@ EndedInOrder (p ∷ ps) v w = (u : View) × EndedAt p v u × EndedInOrder ps u w
 pub record AppStopped (name : List ℕ) (apps : List App) (v : View) (apps' : List App) (w : View) : Type 0 where
   pub app : App
   pub there : app_named name apps ≡ Some app
-  pub ended : EndedInOrder (reverse (pids_of app.processes)) v w
+  pub ended : EndedInOrder (reverse (app_pids app)) v w
   pub tree : apps' ≡ without name apps
 
 -- The application is stopped, or isn't started.

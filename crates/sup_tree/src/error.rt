@@ -13,7 +13,7 @@ pub enum StartError<'a> {
     /// This module has no table, or not one of the kind that a child or a top asks for. Of this and Unsupported the one that
     /// comes first on the way through the children is reported.
     NoTable(&'a str),
-    /// Supervisors stand in each other deeper than 8.
+    /// Supervisors stand in each other deeper than 8, or there are more than 4,096 processes and supervisors.
     Unsupported,
     /// A process can begin in fewer slots than it needs.
     NoSlot,

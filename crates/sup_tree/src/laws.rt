@@ -11,7 +11,8 @@ pub fn processes_begin_in_the_first_slots()
     ensures { FirstSlots }
 {}
 
-/// Below a supervisor that passed the tests of a release nothing is wrong, and as many processes start there as were counted.
+/// Below a supervisor that passed the tests of a release nothing is wrong, and as many processes and members start there as were
+/// counted.
 pub fn a_release_that_passed_the_tests_starts()
     ensures { CheckedStarts }
 {}

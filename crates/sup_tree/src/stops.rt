@@ -1,9 +1,9 @@
 //! The end of an application.
 ghost use Rattle.std.specs.Prelude.{◌≡◌, reverse};
-ghost use Rattle.sup_tree.specs.Tree.{pids_of};
-ghost use Rattle.sup_tree.specs.Stops.{EndedAt, EndedInOrder, StopsApp, IsPlaceOf, stands};
+ghost use Rattle.sup_tree.specs.Tree.{pids_of, process_in, processes_among};
+ghost use Rattle.sup_tree.specs.Stops.{EndedAt, EndedInOrder, MemberEnded, StopsApp, IsPlaceOf, stands};
 
-use crate::{NoSuchApp, StartedApp, StartedProcess, Tree};
+use crate::{Member, NoSuchApp, StartedApp, Tree};
 use proc_table::{Entry, HandlerSeat, Pid, ProcTable, Value};
 use std::sync::Wait;
 
@@ -26,10 +26,9 @@ impl Tree {
         };
         let StartedApp {
             name: _name,
-            processes,
-            supervisors: _supervisors,
+            members,
         } = self.apps.remove(place);
-        end_all(rt, table, seat, processes);
+        end_all(rt, table, seat, members);
         Ok(())
     }
 }
@@ -48,18 +47,25 @@ fn place_of(apps: &[StartedApp], name: &str) -> Option<usize>
     None
 }
 
-// The processes are given up, the last first.
-fn end_all<R: Wait>(
-    rt: &R,
-    table: &ProcTable,
-    seat: &mut HandlerSeat,
-    mut processes: Vec<StartedProcess>,
-)
+// The processes of these members are given up, the last first.
+fn end_all<R: Wait>(rt: &R, table: &ProcTable, seat: &mut HandlerSeat, mut members: Vec<Member>)
     requires { seat.old.table ≡ table.now }
     ensures table { seat.new.table ≡ seat.old.table }
-    ensures ended { EndedInOrder (reverse (pids_of processes.items)) seat.old.view seat.new.view }
+    ensures ended { EndedInOrder
+        (reverse (pids_of (processes_among members.items))) seat.old.view seat.new.view }
 {
-    while let Some(process) = processes.pop() {
+    while let Some(member) = members.pop() {
+        end_member(rt, table, seat, member);
+    }
+}
+
+// The process of a member is given up, where one stands for it.
+fn end_member<R: Wait>(rt: &R, table: &ProcTable, seat: &mut HandlerSeat, member: Member)
+    requires { seat.old.table ≡ table.now }
+    ensures table { seat.new.table ≡ seat.old.table }
+    ensures ended { MemberEnded (process_in member) seat.old.view seat.new.view }
+{
+    if let Some(process) = member.process() {
         end(rt, table, seat, process.pid);
     }
 }

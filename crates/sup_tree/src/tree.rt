@@ -1,15 +1,14 @@
 //! The tree of started applications.
 ghost use Rattle.std.specs.Prelude.{◌≡◌, ◌++◌, IfOk, OnOk, is_some, []};
 ghost use Rattle.std.specs.Option.{option_map};
-ghost use Rattle.sup_tree.specs.Names.{is_among};
-ghost use Rattle.sup_tree.specs.Tree.{app_of, app_named, app_using, find_process, module_among, module_in, processes_of, processes_using, supervises};
+ghost use Rattle.sup_tree.specs.Tree.{app_of, app_named, find_process, first_with, members_of, module_among, module_in, processes_among, processes_using, supervises, supervises_in, using_among};
 
-use crate::process::{StartedApp, StartedProcess};
-use proc_table::{Name, Pid};
+use crate::member::{Member, StartedApp};
+use proc_table::Pid;
 use std::alloc::{AllocError, Global};
 use std::marker::Model;
 
-/// The applications that are started, with their processes. Contracts see them in the order of their starts.
+/// The applications that are started, with their members. Contracts see them in the order of their starts.
 #[derive(Drop)]
 pub struct Tree {
     pub(crate) apps: Vec<StartedApp>,
@@ -17,7 +16,7 @@ pub struct Tree {
 
 impl Model for Tree {
     ghost use Rattle.std.specs.Prelude.{List, map};
-    ghost use Rattle.sup_tree.specs.contracts.process.StartedProcess as stored;
+    ghost use Rattle.sup_tree.specs.contracts.member.Member as stored;
     ghost use Rattle.sup_tree.specs.Tree.{App, app_of, apps_code};
 
     ghost Value = { List App };
@@ -44,12 +43,13 @@ impl Tree {
         self.app(app).is_some()
     }
 
-    /// The processes of the application, in the order in which they began; none where it isn't started.
-    pub fn processes(&self, app: &str) -> &[StartedProcess]
-        ensures { result.now ≡ processes_of app.now self.now }
+    /// The members of the application, each supervisor before its children, and a child with those below it before its next
+    /// sibling; none where it isn't started.
+    pub fn members(&self, app: &str) -> &[Member]
+        ensures { result.now ≡ members_of app.now self.now }
     {
         match self.app(app) {
-            Some(app) => app.processes.as_slice(),
+            Some(app) => app.members.as_slice(),
             None => &[],
         }
     }
@@ -59,21 +59,16 @@ impl Tree {
         ensures { result ≡ find_process app.now id.now self.now }
     {
         let app = self.app(app)?;
-        for process in app.processes.as_slice() {
-            if process.id.as_str() == id {
-                return Some(process.pid);
-            }
-        }
-        None
+        process_with(app.members.as_slice(), id)
     }
 
-    /// The processes that run this module, in the order in which they began.
+    /// The processes that run this module, in the order of the walk.
     pub fn processes_using(&self, alloc: Global, module: &str) -> Result<Vec<Pid>, AllocError>
         ensures { IfOk result (λ pids. pids.items ≡ processes_using «module».now self.now) }
     {
         let mut pids = Vec::new(alloc);
         for app in self.apps.as_slice() {
-            add_using(&mut pids, app, module)?;
+            add_using(&mut pids, app.members.as_slice(), module)?;
         }
         Ok(pids)
     }
@@ -83,7 +78,7 @@ impl Tree {
         ensures { option_map (λ m. m.now) result ≡ module_in slot self.now }
     {
         for app in self.apps.as_slice() {
-            if let Some(module) = module_among(app.processes.as_slice(), slot) {
+            if let Some(module) = module_among(app.members.as_slice(), slot) {
                 return Some(module);
             }
         }
@@ -95,7 +90,7 @@ impl Tree {
         ensures { result ≡ supervises «module».now self.now }
     {
         for app in self.apps.as_slice() {
-            if is_among(module, app.supervisors.as_slice()) {
+            if supervises_in(app.members.as_slice(), module) {
                 return true;
             }
         }
@@ -114,36 +109,55 @@ impl Tree {
     }
 }
 
-// Those of one application that run this module, behind those that are there.
-fn add_using(pids: &mut Vec<Pid>, app: &StartedApp, module: &str) -> Result<(), AllocError>
-    ensures { OnOk result
-        (pids.new.items ≡ pids.old.items ++ app_using «module».now (app_of app.now)) }
+// The first process with this id among those of these members.
+fn process_with(members: &[Member], id: &str) -> Option<Pid>
+    ensures { result ≡ first_with id.now (processes_among members.now) }
 {
-    for process in app.processes.as_slice() {
-        if process.module.as_str() == module {
-            pids.push(process.pid)?;
-        }
-    }
-    Ok(())
-}
-
-// The module of the process among these that began in this slot.
-fn module_among(processes: &[StartedProcess], slot: usize) -> Option<&str>
-    ensures { option_map (λ m. m.now) result ≡ module_among slot processes.now }
-{
-    for process in processes {
-        if process.pid.slot == slot {
-            return Some(process.module.as_str());
+    for member in members {
+        if let Some(process) = member.process() {
+            if process.id.as_str() == id {
+                return Some(process.pid);
+            }
         }
     }
     None
 }
 
-fn is_among(name: &str, names: &[Name]) -> bool
-    ensures { result ≡ is_among name.now names.now }
+// Those of these members that run this module, behind those that are there.
+fn add_using(pids: &mut Vec<Pid>, members: &[Member], module: &str) -> Result<(), AllocError>
+    ensures { OnOk result (pids.new.items
+        ≡ pids.old.items ++ using_among «module».now (processes_among members.now)) }
 {
-    for other in names {
-        if name == other.as_str() {
+    for member in members {
+        if let Some(process) = member.process() {
+            if process.module.as_str() == module {
+                pids.push(process.pid)?;
+            }
+        }
+    }
+    Ok(())
+}
+
+// The module of the process among those of these members that began in this slot.
+fn module_among(members: &[Member], slot: usize) -> Option<&str>
+    ensures { option_map (λ m. m.now) result ≡ module_among slot (processes_among members.now) }
+{
+    for member in members {
+        if let Some(process) = member.process() {
+            if process.pid.slot == slot {
+                return Some(process.module.as_str());
+            }
+        }
+    }
+    None
+}
+
+// Whether a supervisor of this module stands for one of these members.
+fn supervises_in(members: &[Member], module: &str) -> bool
+    ensures { result ≡ supervises_in «module».now members.now }
+{
+    for member in members {
+        if member.is_supervisor(module) {
             return true;
         }
     }

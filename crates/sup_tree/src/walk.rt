@@ -1,104 +1,140 @@
-//! The way through the children of an application's top.
-ghost use Rattle.std.specs.Prelude.{◌≡◌, ℕ, ◌≤◌, List, [], ◌∷◌, ◌++◌, OnOk, Some, cond, false, length, map, nat_le};
+//! The way from an application's top through the children of its supervisors.
+ghost use Rattle.std.specs.Prelude.{◌≡◌, ℕ, ◌+◌, ◌≤◌, List, [], ◌∷◌, ◌++◌, OnOk, Some, cond, false, length, map, nat_le};
 ghost use Rattle.std.specs.Str.{bytes_eq};
 ghost use Rattle.std.specs.Option.{option_map, option_map_or};
 ghost use Rattle.app_file.specs.InMemory.{specification_of};
 ghost use Rattle.mod_table.specs.InMemory.{child_of};
 ghost use Rattle.rel_check.specs.Walk.{child_table};
-ghost use Rattle.sup_tree.specs.InMemory.{AreSound, AreIdle, NotesAll, Reports, Adds, noted_in, start_of, AnswersPlan, AnswersStarts, TopIs};
+ghost use Rattle.sup_tree.specs.InMemory.{AreSound, Reports, Adds, noted_in, new_member_of, new_members_of, AnswersMembers, AreMembers, TopIs};
 ghost use Rattle.sup_tree.specs.Loaded.{modules_in, tables_of};
-ghost use Rattle.sup_tree.specs.Walk.{children_fault, children_starts, children_supervisors, fault_from, starts_from, supervisors_from};
+ghost use Rattle.sup_tree.specs.Walk.{children_fault, children_members, fault_from, members_below, members_from, starts_among, super_children};
 
 use crate::StartError;
 use crate::loaded::Loaded;
-use crate::supervisors::supervisors_of;
 use app_file::App;
-use mod_table::{Child, ChildKind, Table, Worker};
-use proc_table::Name;
+use mod_table::{Child, ChildKind, Restart, Table};
 use std::alloc::{AllocError, Global};
 use std::collections::BTreeMap;
 
-/// How many supervisors there are in each other at most.
-pub(crate) const MOST_SUPERVISORS: usize = 8;
+// How many supervisors there are in each other at most.
+const MOST_SUPERVISORS: usize = 8;
 
-/// A process that starts: its child specification, and the table of its module.
+// How many members an application has at most.
+const MOST_MEMBERS: usize = 4_096;
+
+/// A member that starts, a process or a supervisor: in how many supervisors it stands, its child specification, and the table of
+/// its module.
 #[derive(Clone, Copy)]
-pub(crate) struct Start<'a> {
-    pub(crate) child: &'a Child,
-    pub(crate) table: &'a Worker,
+pub(crate) struct NewMember<'a> {
+    pub(crate) depth: usize,
+    pub(crate) id: &'a str,
+    pub(crate) module: &'a str,
+    pub(crate) restart: Restart,
+    pub(crate) kind: ChildKind,
+    pub(crate) table: &'a Table,
 }
 
-/// What an application starts: its processes, and the modules of its supervisors.
-#[derive(Drop)]
-pub(crate) struct Plan<'a> {
-    pub(crate) starts: Vec<Start<'a>>,
-    pub(crate) supervisors: Vec<Name>,
-}
+// Below which supervisors nothing is wrong, by their modules: through how many in each other. So one that many others share isn't
+// walked through again for each of them.
+type Noted<'a> = BTreeMap<&'a str, usize>;
 
-// What is known of supervisors, by their modules: through how many in each other. So one that many others share isn't walked
-// through again for each of them.
-pub(crate) type Noted<'a> = BTreeMap<&'a str, usize>;
-
-/// What an application starts, which are no more than so many.
-pub(crate) fn plan_of<'a>(
+/// The members with which an application starts, with no more than so many processes among them.
+pub(crate) fn members_to_start<'a>(
     alloc: Global,
     loaded: &'a Loaded,
     app: &'a App,
     most: usize,
-) -> Result<Plan<'a>, StartError<'a>>
-    ensures { AnswersPlan most
+) -> Result<Vec<NewMember<'a>>, StartError<'a>>
+    ensures { AnswersMembers most
         (tables_of (modules_in loaded.now)) (specification_of app.now).top result }
 {
-    let children = top_children(loaded, app)?;
-    let supervisors = supervisors_of(alloc, loaded, app, children)?;
-    let starts = starts_below(alloc, loaded, children, most)?;
-    Ok(Plan {
-        starts,
-        supervisors,
-    })
+    let members = members_of_app(alloc, loaded, app)?;
+    if process_count(members.as_slice()) > most {
+        return Err(StartError::NoSlot);
+    }
+    Ok(members)
 }
 
-// What the children of a top start.
-fn starts_below<'a>(
+// The members with which an application starts.
+fn members_of_app<'a>(
     alloc: Global,
     loaded: &'a Loaded,
-    children: &'a [Child],
-    most: usize,
-) -> Result<Vec<Start<'a>>, StartError<'a>>
-    ensures { AnswersStarts most (children_starts MOST_SUPERVISORS
-        (tables_of (modules_in loaded.now)) (map child_of children.now)) result }
+    app: &'a App,
+) -> Result<Vec<NewMember<'a>>, StartError<'a>>
+    ensures { AreMembers
+        (tables_of (modules_in loaded.now)) (specification_of app.now).top result }
 {
-    let mut starts = Vec::new(alloc);
-    let mut idle = BTreeMap::new(alloc);
-    add_starts(
-        loaded,
-        children,
-        MOST_SUPERVISORS,
-        most,
-        &mut starts,
-        &mut idle,
-    )?;
-    Ok(starts)
+    let mut members = Vec::new(alloc);
+    let Some(top) = top_of(loaded, app)? else {
+        return Ok(members);
+    };
+    check_below(alloc, loaded, children_of(top.table))?;
+    add_member(loaded, top, MOST_SUPERVISORS, &mut members)?;
+    Ok(members)
 }
 
-// The children of the top. None for an application without one, or whose top has no table.
-fn top_children<'a>(loaded: &'a Loaded, app: &'a App) -> Result<&'a [Child], StartError<'a>>
+// The supervisor at the top of an application, where there is one.
+fn top_of<'a>(loaded: &'a Loaded, app: &'a App) -> Result<Option<NewMember<'a>>, StartError<'a>>
     ensures { TopIs (tables_of (modules_in loaded.now)) (specification_of app.now).top result }
 {
     let Some(top) = &app.top else {
-        return Ok(&[]);
+        return Ok(None);
     };
-    match loaded.table(top.as_str()) {
-        Some(Table::Super(supervisor)) => Ok(supervisor.children()),
-        Some(Table::Worker(_)) => Err(StartError::NoTable(top.as_str())),
-        None => Ok(&[]),
+    let module = top.as_str();
+    let Some(table) = loaded.table(module) else {
+        return Ok(None);
+    };
+    match table {
+        Table::Super(_) => Ok(Some(NewMember {
+            depth: 0,
+            id: module,
+            module,
+            restart: Restart::Permanent,
+            kind: ChildKind::Supervisor,
+            table,
+        })),
+        Table::Worker(_) => Err(StartError::NoTable(module)),
     }
 }
 
-// Whether nothing is wrong among the children of a supervisor, nor below them, through so many supervisors in each other. All
-// supervisors that it comes through are noted.
+fn children_of(table: &Table) -> &[Child]
+    ensures { map child_of result.now ≡ super_children (Some table.now) }
+{
+    match table {
+        Table::Super(supervisor) => supervisor.children(),
+        Table::Worker(_) => &[],
+    }
+}
+
+// How many processes there are among these members.
+fn process_count(members: &[NewMember<'_>]) -> usize
+    ensures { result ≡ length (starts_among (new_members_of members.now)) }
+{
+    let mut count = 0;
+    for member in members {
+        if let Table::Worker(_) = member.table {
+            count += 1;
+        }
+    }
+    count
+}
+
+// Whether nothing is wrong among the children of a top, nor below them.
+fn check_below<'a>(
+    alloc: Global,
+    loaded: &'a Loaded,
+    children: &'a [Child],
+) -> Result<(), StartError<'a>>
+    ensures { Reports result (children_fault MOST_SUPERVISORS
+        (tables_of (modules_in loaded.now)) (map child_of children.now)) }
+{
+    let mut sound = BTreeMap::new(alloc);
+    check_children(loaded, children, MOST_SUPERVISORS, &mut sound)
+}
+
+// Whether nothing is wrong among the children of a supervisor, nor below them, through so many supervisors in each other.
 #[cycle(checks)]
-pub(crate) fn check_children<'a>(
+fn check_children<'a>(
     loaded: &'a Loaded,
     children: &'a [Child],
     depth: usize,
@@ -106,8 +142,6 @@ pub(crate) fn check_children<'a>(
 ) -> Result<(), StartError<'a>>
     requires { AreSound (tables_of (modules_in loaded.now)) sound.old }
     ensures sound { OnOk result (AreSound (tables_of (modules_in loaded.now)) sound.new) }
-    ensures noted { OnOk result (NotesAll (children_supervisors depth
-        (tables_of (modules_in loaded.now)) (map child_of children.now)) sound.old sound.new) }
     ensures fault { Reports result
         (children_fault depth (tables_of (modules_in loaded.now)) (map child_of children.now)) }
 {
@@ -129,8 +163,6 @@ fn check_child<'a>(
 ) -> Result<(), StartError<'a>>
     requires { AreSound (tables_of (modules_in loaded.now)) sound.old }
     ensures sound { OnOk result (AreSound (tables_of (modules_in loaded.now)) sound.new) }
-    ensures noted { OnOk result (NotesAll (supervisors_from depth
-        (tables_of (modules_in loaded.now)) (child_of child.now)) sound.old sound.new) }
     ensures fault { Reports result
         (fault_from depth (tables_of (modules_in loaded.now)) (child_of child.now)) }
 {
@@ -149,28 +181,53 @@ fn check_child<'a>(
     Ok(())
 }
 
-// Adds what the children of a supervisor start, as long as there are no more than so many.
+// Adds a member and those below it, through so many supervisors in each other.
 #[cycle(gathers)]
-fn add_starts<'a>(
+fn add_member<'a>(
+    loaded: &'a Loaded,
+    member: NewMember<'a>,
+    left: usize,
+    members: &mut Vec<NewMember<'a>>,
+) -> Result<(), StartError<'a>>
+    requires depth { member.depth + left ≤ MOST_SUPERVISORS }
+    requires few { length members.old.items ≤ MOST_MEMBERS }
+    ensures { Adds members.old.items (new_member_of member.entry
+        ∷ members_below (children_members left (tables_of (modules_in loaded.now))
+        (member.entry.depth + 1)) member.entry.table.now) result members.new.items }
+{
+    add_one(members, member)?;
+    match member.table {
+        Table::Worker(_) => Ok(()),
+        Table::Super(supervisor) => add_children(
+            loaded,
+            supervisor.children(),
+            left,
+            member.depth + 1,
+            members,
+        ),
+    }
+}
+
+// Adds the children of a supervisor, which stand in so many, and those below them, through so many in each other.
+#[cycle(gathers)]
+fn add_children<'a>(
     loaded: &'a Loaded,
     children: &'a [Child],
+    left: usize,
     depth: usize,
-    most: usize,
-    starts: &mut Vec<Start<'a>>,
-    idle: &mut Noted<'a>,
+    members: &mut Vec<NewMember<'a>>,
 ) -> Result<(), StartError<'a>>
-    requires idle { AreIdle (tables_of (modules_in loaded.now)) idle.old }
-    requires few { length starts.old.items ≤ most }
-    ensures idle { OnOk result (AreIdle (tables_of (modules_in loaded.now)) idle.new) }
-    ensures added { Adds most starts.old.items
-        (children_starts depth (tables_of (modules_in loaded.now)) (map child_of children.now))
-        result starts.new.items }
+    requires depth { depth + left ≤ MOST_SUPERVISORS + 1 }
+    requires few { length members.old.items ≤ MOST_MEMBERS }
+    ensures { Adds members.old.items
+        (children_members left (tables_of (modules_in loaded.now)) depth
+        (map child_of children.now)) result members.new.items }
 {
-    let Some(below) = depth.checked_sub(1) else {
+    let Some(below) = left.checked_sub(1) else {
         return Ok(());
     };
     for child in children {
-        add_child(loaded, child, below, most, starts, idle)?;
+        add_child(loaded, child, below, depth, members)?;
     }
     Ok(())
 }
@@ -179,35 +236,28 @@ fn add_starts<'a>(
 fn add_child<'a>(
     loaded: &'a Loaded,
     child: &'a Child,
+    left: usize,
     depth: usize,
-    most: usize,
-    starts: &mut Vec<Start<'a>>,
-    idle: &mut Noted<'a>,
+    members: &mut Vec<NewMember<'a>>,
 ) -> Result<(), StartError<'a>>
-    requires idle { AreIdle (tables_of (modules_in loaded.now)) idle.old }
-    requires few { length starts.old.items ≤ most }
-    ensures idle { OnOk result (AreIdle (tables_of (modules_in loaded.now)) idle.new) }
-    ensures added { Adds most starts.old.items
-        (starts_from depth (tables_of (modules_in loaded.now)) (child_of child.now))
-        result starts.new.items }
+    requires depth { depth + left ≤ MOST_SUPERVISORS }
+    requires few { length members.old.items ≤ MOST_MEMBERS }
+    ensures { Adds members.old.items
+        (members_from left (tables_of (modules_in loaded.now)) depth (child_of child.now))
+        result members.new.items }
 {
-    let name = child.module.as_str();
-    match child_table(loaded, child) {
-        None => Ok(()),
-        Some(Table::Worker(table)) => add_worker(most, starts, Start { child, table }),
-        Some(Table::Super(supervisor)) => {
-            if was_idle(idle, name, depth) {
-                return Ok(());
-            }
-            let before = starts.len();
-            add_starts(loaded, supervisor.children(), depth, most, starts, idle)?;
-            if starts.len() > before {
-                return Ok(());
-            }
-            note(idle, name, depth)?;
-            Ok(())
-        }
-    }
+    let Some(table) = child_table(loaded, child) else {
+        return Ok(());
+    };
+    let member = NewMember {
+        depth,
+        id: child.id.as_str(),
+        module: child.module.as_str(),
+        restart: child.restart,
+        kind: child.kind,
+        table,
+    };
+    add_member(loaded, member, left, members)
 }
 
 // The table of a child's module, if it is of the child's kind.
@@ -233,18 +283,8 @@ fn was_sound<'a>(sound: &Noted<'a>, name: &'a str, depth: usize) -> bool
     }
 }
 
-// Whether this supervisor started nothing through no fewer in each other.
-fn was_idle<'a>(idle: &Noted<'a>, name: &'a str, depth: usize) -> bool
-    ensures { result ≡ option_map_or (λ n. nat_le depth n) (noted_in idle.now name.now) false }
-{
-    match idle.get(&name) {
-        Some(known) => depth <= *known,
-        None => false,
-    }
-}
-
 // From now on this number is noted of the supervisor.
-pub(crate) fn note<'a>(noted: &mut Noted<'a>, name: &'a str, depth: usize) -> Result<(), AllocError>
+fn note<'a>(noted: &mut Noted<'a>, name: &'a str, depth: usize) -> Result<(), AllocError>
     ensures { OnOk result ((q : List ℕ) → noted_in noted.new q
         ≡ cond (bytes_eq name.now q) (Some depth) (noted_in noted.old q)) }
 {
@@ -252,24 +292,26 @@ pub(crate) fn note<'a>(noted: &mut Noted<'a>, name: &'a str, depth: usize) -> Re
     Ok(())
 }
 
-fn add_worker<'a>(
-    most: usize,
-    starts: &mut Vec<Start<'a>>,
-    start: Start<'a>,
+// Adds one member, unless there are as many as there may be.
+fn add_one<'a>(
+    members: &mut Vec<NewMember<'a>>,
+    member: NewMember<'a>,
 ) -> Result<(), StartError<'a>>
-    requires { length starts.old.items ≤ most }
-    ensures { Adds most starts.old.items (start_of start.entry ∷ []) result starts.new.items }
+    requires { length members.old.items ≤ MOST_MEMBERS }
+    ensures { Adds members.old.items (new_member_of member.entry ∷ []) result members.new.items }
 {
-    if starts.len() == most {
-        return Err(StartError::NoSlot);
+    if members.len() == MOST_MEMBERS {
+        return Err(StartError::Unsupported);
     }
-    push(starts, start)?;
+    push(members, member)?;
     Ok(())
 }
 
-fn push<'a>(starts: &mut Vec<Start<'a>>, start: Start<'a>) -> Result<(), AllocError>
-    ensures { OnOk result (starts.new.items ≡ starts.old.items ++ start.entry ∷ []) }
+fn push<'a>(members: &mut Vec<NewMember<'a>>, member: NewMember<'a>) -> Result<(), AllocError>
+    ensures { OnOk result
+        (new_members_of members.new.items ≡ new_members_of members.old.items
+        ++ new_member_of member.entry ∷ []) }
 {
-    starts.push(start)?;
+    members.push(member)?;
     Ok(())
 }

@@ -1,14 +1,13 @@
-use Rattle.std.proofs.Common.{◌≡◌, [], ◌∷◌, ◌+◌, map, drop, Some, sym, ap, subst, refl, ◌∙◌, arith}
+use Rattle.std.proofs.Common.{◌≡◌, ◌∷◌, ◌+◌, map, drop, Some, sym, ap, subst, refl, ◌∙◌, arith}
 use Rattle.std.specs.Option.{option_map}
 use Rattle.std.proofs.lemmas.List.{drop_more, drop_all}
 use Rattle.mod_table.specs.declared.table.Table.TheVariants.{Super}
 use Rattle.mod_table.specs.InMemory.{child_of}
 use Rattle.rel_check.specs.Walk.{first_of}
-use Rattle.sup_tree.specs.InMemory.{FaultIs, NotesAll, Reports}
+use Rattle.sup_tree.specs.InMemory.{FaultIs, Reports}
 use Rattle.sup_tree.specs.Loaded.{modules_in, tables_of}
-use Rattle.sup_tree.specs.Walk.{child_fault, children_fault, child_supervisors, children_supervisors, fault_from, supervisors_from}
-use Rattle.sup_tree.proofs.NotedLemmas.{notes_again, noted_now, notes_one, notes_both, row_noted, row_all}
-use Rattle.sup_tree.proofs.WalkLemmas.{none_left, deepest, fault_below, supervisors_below, no_fault_here, fault_passed, table_there, known_sound, sound_noted, passed_on}
+use Rattle.sup_tree.specs.Walk.{child_fault, children_fault, fault_from}
+use Rattle.sup_tree.proofs.WalkLemmas.{none_left, deepest, fault_below, no_fault_here, fault_passed, table_there, known_sound, sound_noted, passed_on}
 use Rattle.sup_tree.proofs.walk.+checks.Goals as goal
 
 pub check_child-returns-then-was_sound-clause-fault : goal.check_child-returns-then-was_sound-clause-fault
@@ -20,22 +19,7 @@ check_child-returns-then-was_sound-clause-fault t c =
     let at = sym c.child_table.ensures ∙ (ap (option_map (λ t. t.now)) c.in-Some.is ∙ ap Some c.in-Super.is) in
     let there = ap tables c.as_str-name.ensures.value ∙ table_there child.kind (tables child.start) (Super s) at in
     ap (child_fault (children_fault depth tables) child) at
-    ∙ (known_sound tables c.args.sound.now c.as_str-name.result.now depth s c.requires there (sym c.was_sound.ensures ∙ c.if-was_sound.true)).0
-
-pub check_child-returns-then-was_sound-clause-noted : goal.check_child-returns-then-was_sound-clause-noted
-check_child-returns-then-was_sound-clause-noted t c =
-    let depth = c.args.depth in
-    let tables = tables_of (modules_in c.args.loaded.now) in
-    let child = child_of c.args.child.now in
-    let name = c.as_str-name.result.now in
-    let s = c.in-Super.supervisor in
-    let noted = c.args.sound.now in
-    let at = sym c.child_table.ensures ∙ (ap (option_map (λ t. t.now)) c.in-Some.is ∙ ap Some c.in-Super.is) in
-    let there = ap tables c.as_str-name.ensures.value ∙ table_there child.kind (tables child.start) (Super s) at in
-    let known = known_sound tables noted name depth s c.requires there (sym c.was_sound.ensures ∙ c.if-was_sound.true) in
-    let all : supervisors_from depth tables child ≡ name ∷ children_supervisors depth tables s.children =
-    ap (child_supervisors (children_supervisors depth tables) child) at ∙ ap (λ n. n ∷ children_supervisors depth tables s.children) (sym c.as_str-name.ensures.value) in
-    subst (λ names. NotesAll names noted noted) (sym all) (notes_again (name ∷ children_supervisors depth tables s.children) noted known.1)
+    ∙ (known_sound tables c.args.sound.now c.as_str-name.result.now depth s c.requires there (sym c.was_sound.ensures ∙ c.if-was_sound.true))
 
 pub check_child-returns-clause-sound : goal.check_child-returns-clause-sound
 check_child-returns-clause-sound t c =
@@ -46,27 +30,7 @@ check_child-returns-clause-sound t c =
     let at = sym c.child_table.ensures ∙ (ap (option_map (λ t. t.now)) c.in-Some.is ∙ ap Some c.in-Super.is) in
     let there = ap tables c.as_str-name.ensures.value ∙ table_there child.kind (tables child.start) (Super s) at in
     let none = ap (children_fault depth tables) (sym c.children.ensures) ∙ c.in_ok-check_children.ensures.fault in
-    let below : NotesAll (children_supervisors depth tables s.children) c.args.sound.now c.check_children.new.sound =
-    subst (λ cs. NotesAll (children_supervisors depth tables cs) c.args.sound.now c.check_children.new.sound) c.children.ensures c.in_ok-check_children.ensures.noted in
-    sound_noted tables c.check_children.new.sound c.note.new.noted c.as_str-name.result.now depth s there none (noted_now (children_supervisors depth tables s.children) c.args.sound.now c.check_children.new.sound below) c.in_ok-note.ensures
-    c.in_ok-check_children.ensures.sound
-
-pub check_child-returns-clause-noted : goal.check_child-returns-clause-noted
-check_child-returns-clause-noted t c =
-    let depth = c.args.depth in
-    let tables = tables_of (modules_in c.args.loaded.now) in
-    let child = child_of c.args.child.now in
-    let name = c.as_str-name.result.now in
-    let s = c.in-Super.supervisor in
-    let old = c.args.sound.now in
-    let new = c.note.new.noted in
-    let at = sym c.child_table.ensures ∙ (ap (option_map (λ t. t.now)) c.in-Some.is ∙ ap Some c.in-Super.is) in
-    let all : supervisors_from depth tables child ≡ name ∷ children_supervisors depth tables s.children =
-    ap (child_supervisors (children_supervisors depth tables) child) at ∙ ap (λ n. n ∷ children_supervisors depth tables s.children) (sym c.as_str-name.ensures.value) in
-    let below : NotesAll (children_supervisors depth tables s.children) old c.check_children.new.sound =
-    subst (λ cs. NotesAll (children_supervisors depth tables cs) old c.check_children.new.sound) c.children.ensures c.in_ok-check_children.ensures.noted in
-    subst (λ names. NotesAll names old new) (sym all)
-    (notes_both (children_supervisors depth tables s.children) (name ∷ []) old c.check_children.new.sound new below (notes_one c.check_children.new.sound new name depth c.in_ok-note.ensures))
+    sound_noted tables c.check_children.new.sound c.note.new.noted c.as_str-name.result.now depth s there none c.in_ok-note.ensures c.in_ok-check_children.ensures.sound
 
 pub check_children-returns-in_default-clause-fault : goal.check_children-returns-in_default-clause-fault
 check_children-returns-in_default-clause-fault t c =
@@ -85,7 +49,7 @@ check_children-returns-in_err-check_child-clause-fault t c =
     let whole = fault_below tables c.args.depth below (map child_of children) (omega (arith, c.in-Some.ensures.0, c.in-Some.ensures.1)) in
     passed_on (λ r. Reports r (children_fault c.args.depth tables (map child_of children))) c.from_residual.result e c.from_residual.ensures
     (subst (FaultIs e) (sym whole)
-    (fault_passed (fault_from below tables) (map child_of (drop c.loop-child.child-index children)) (map child_of later) child _ e (ap (map child_of) split) c.loop-child.invariant.fault
+    (fault_passed (fault_from below tables) (map child_of (drop c.loop-child.child-index children)) (map child_of later) child _ e (ap (map child_of) split) c.loop-child.invariant.1
     c.in_err-check_child.ensures.fault))
 
 pub check_children-loop-child-preserved : goal.check_children-loop-child-preserved
@@ -96,14 +60,11 @@ check_children-loop-child-preserved t c =
     let later = drop (c.loop-child.child-index + 1) children in
     let child = child_of c.child-item.result in
     let split : drop c.loop-child.child-index children ≡ c.child-item.result ∷ later =
-    drop_more children c.loop-child.child-index c.child-item.result c.loop-child-test.true ∙ ap (λ m. m ∷ later) (sym c.child-item.is) in
-    let left = map child_of (drop c.loop-child.child-index children) in
-    let rest = map child_of later in
-    let split_too = ap (map child_of) split in record {
-      sound = c.in_ok-check_child.ensures.sound;
-      fault = no_fault_here (fault_from below tables) left rest child _ _ split_too c.in_ok-check_child.ensures.fault refl c.loop-child.invariant.fault;
-      noted = λ q. row_noted (supervisors_from below tables) left rest child c.loop-child.sound c.check_child.new.sound q _ split_too c.in_ok-check_child.ensures.noted (c.loop-child.invariant.noted q);
-    }
+    drop_more children c.loop-child.child-index c.child-item.result c.loop-child-test.true ∙ ap (λ m. m ∷ later) (sym c.child-item.is) in (
+      c.in_ok-check_child.ensures.sound,
+      no_fault_here (fault_from below tables) (map child_of (drop c.loop-child.child-index children)) (map child_of later) child _ _ (ap (map child_of) split)
+          c.in_ok-check_child.ensures.fault refl c.loop-child.invariant.1,
+    )
 
 pub check_children-returns-clause-fault : goal.check_children-returns-clause-fault
 check_children-returns-clause-fault t c =
@@ -112,14 +73,4 @@ check_children-returns-clause-fault t c =
     let fault = fault_from c.in-Some.below tables in
     let past = c.loop-child-test.false in
     fault_below tables c.args.depth c.in-Some.below (map child_of children) (omega (arith, c.in-Some.ensures.0, c.in-Some.ensures.1))
-    ∙ (sym c.loop-child.invariant.fault ∙ ap (λ cs. first_of fault (map child_of cs)) (drop_all c.loop-child.child-index children (omega (arith, past))))
-
-pub check_children-returns-clause-noted : goal.check_children-returns-clause-noted
-check_children-returns-clause-noted t c =
-    let children = c.args.children.now in
-    let tables = tables_of (modules_in c.args.loaded.now) in
-    let supervisors = supervisors_from c.in-Some.below tables in
-    let past = c.loop-child-test.false in
-    let whole = supervisors_below tables c.args.depth c.in-Some.below (map child_of children) (omega (arith, c.in-Some.ensures.0, c.in-Some.ensures.1)) in
-    let none = drop_all c.loop-child.child-index children (omega (arith, past)) in
-    row_all supervisors (map child_of children) (map child_of (drop c.loop-child.child-index children)) c.args.sound.now c.loop-child.sound _ whole (ap (map child_of) none) c.loop-child.invariant.noted
+    ∙ (sym c.loop-child.invariant.1 ∙ ap (λ cs. first_of fault (map child_of cs)) (drop_all c.loop-child.child-index children (omega (arith, past))))

@@ -6,5 +6,5 @@ pub loop-place-preserved : goal.loop-place-preserved
 loop-place-preserved g c = (
   c.give_up_one.ensures.table ∙ c.loop-place.invariant.0,
   refl,
-  one_more_given_up g.followed.first c.give_up_one.new.self c.give_up_one.new.seat.view c.args.processes.now c.loop-place.place g.followed.courses c.loop-place-test.true c.give_up_one.ensures.done,
+  one_more_given_up g.followed.first c.give_up_one.new.self c.give_up_one.new.seat.view c.args.members.now c.loop-place.place g.followed.courses c.loop-place-test.true c.give_up_one.ensures.done,
 )

@@ -1,16 +1,14 @@
 -- Names in the order of their bytes, each once: there is one such list of the names for which a test holds.
 use Rattle.std.proofs.Common.{◌≡◌, ℕ, Bool, true, false, ◌||◌, List, [], ◌∷◌, map, Ordering, Less, Equal, Greater, refl, sym, ap, subst, ◌∙◌}
 use Rattle.std.specs.Cmp.Lexicographic.{slice_cmp}
-use Rattle.std.specs.List.{AllByRecursion}
+use Rattle.std.specs.List.{AllByRecursion, list_any}
 use Rattle.std.specs.List.Sorted.{IsStrictlySortedBy}
 use Rattle.std.specs.Ordering.{nat_cmp, is_eq, match_ordering, ordering_reverse}
 use Rattle.std.specs.Str.{bytes_eq}
 use Rattle.std.proofs.lemmas.Cmp.{nat_list_cmp_total}
 use Rattle.std.proofs.lemmas.Map.Text.{is_eq-slice_cmp}
 use Rattle.std.proofs.lemmas.Slice.Eq.{bytes_eq-Decides}
-use Rattle.rel_check.specs.Modules.{Tables}
-use Rattle.sup_tree.specs.Names.{is_among, AreNamesWith, with_name, names_in_order, sorted_names}
-use Rattle.sup_tree.specs.Walk.{app_supervisors}
+use Rattle.node_upgrade.specs.Names.{is_among, AreNamesWith, with_name, names_in_order, sorted_names}
 use Rattle.sup_tree.proofs.NamedLemmas.{itself, same_name}
 
 -- a name isn't below itself
@@ -143,6 +141,19 @@ pub sorted_are_names : (ns : List (List ℕ)) → AreNamesWith (λ m. is_among m
 unfolding names_of
 sorted_are_names ns = record { ordered = in_order ns; same = λ q. among_sorted q ns }
 
--- the supervisors that are kept of an application
-pub kept_supervisors : (tables : Tables) (top : _) (names : List (List ℕ)) → AreNamesWith (λ m. is_among m (app_supervisors tables top)) names → names ≡ sorted_names (app_supervisors tables top)
-kept_supervisors tables top names kept = names_determined _ names _ kept (sorted_are_names (app_supervisors tables top))
+-- the names of a list are in order where what they are read of is
+
+read_in_order : {K L : Type 0} (R : K → K → Ordering) (S : L → L → Ordering) (f : K → L) → ((a b : K) → R a b ≡ S (f a) (f b)) → (k : K) (ks : List K)
+    → AllByRecursion (λ x. R k x ≡ Less) ks → AllByRecursion (λ x. S (f k) x ≡ Less) (map f ks)
+read_in_order R S f same k [] all = tt
+read_in_order R S f same k (x ∷ xs) all = (sym (same k x) ∙ all.0, read_in_order R S f same k xs all.1)
+
+pub sorted-read : {K L : Type 0} (R : K → K → Ordering) (S : L → L → Ordering) (f : K → L) → ((a b : K) → R a b ≡ S (f a) (f b)) → (ks : List K)
+    → IsStrictlySortedBy R ks → IsStrictlySortedBy S (map f ks)
+unfolding IsStrictlySortedBy
+sorted-read R S f same [] sorted = sorted
+sorted-read R S f same (k ∷ ks) sorted = (read_in_order R S f same k ks sorted.0, sorted-read R S f same ks sorted.1)
+
+pub list_any-read : {K L : Type 0} (test : K → Bool) (test' : L → Bool) (f : K → L) → ((k : K) → test k ≡ test' (f k)) → (ks : List K) → list_any test ks ≡ list_any test' (map f ks)
+list_any-read test test' f same [] = refl
+list_any-read test test' f same (k ∷ ks) = λ j. same k j || list_any-read test test' f same ks j
