@@ -3,6 +3,7 @@ ghost use Rattle.rel_handler.specs.State.{IsSound};
 
 use crate::files::ReleaseFiles;
 use crate::steps::push_start;
+use loaded_modules::Loaded;
 use node_command::HandlerError;
 use node_upgrade::{InstallError, ScriptFailure};
 use proc_table::ProcTable;
@@ -10,7 +11,7 @@ use rel_disk::Disk;
 use rel_handler::{BootError, Handler, boot};
 use std::alloc::Global;
 use std::sync::Wait;
-use sup_tree::{Loaded, Tree};
+use sup_tree::Tree;
 use text_cases::{Answer, first_word};
 
 // Appends the versions with their statuses, in order, or why the node doesn't list them.

@@ -6,10 +6,11 @@ ghost use Rattle.sup_tree.specs.Tree.{App as Application};
 use crate::node::push_call;
 use app_file::App;
 use held_processes::{AppName, HeldProcesses, Users};
+use loaded_modules::Loaded;
 use proc_table::{HandlerSeat, Pass, Pid, ProcTable};
 use std::alloc::Global;
 use std::sync::Wait;
-use sup_tree::{Loaded, Tree};
+use sup_tree::Tree;
 use text_cases::Answer;
 
 /// An application, what is loaded, the module of processes that are held, and a process that a client calls meanwhile.

@@ -8,11 +8,12 @@ use crate::ways::{Upgrade, Way, carry_out};
 use app_file::App;
 use erl_term::{Term, read_record};
 use held_processes::Users;
+use loaded_modules::Loaded;
 use mod_table::Old;
 use proc_table::{HandlerSeat, Pid, ProcTable};
 use std::alloc::{AllocError, Global};
 use std::sync::Wait;
-use sup_tree::{Loaded, Tree};
+use sup_tree::Tree;
 use text_cases::Answer;
 
 /// What calls before the script answer, what a client is answered meanwhile, what calls behind it answer, and the states then.

@@ -17,7 +17,7 @@ use Rattle.proc_table.specs.declared.pid.Pid.{Pid}
 use Rattle.proc_table.specs.declared.view.View.{View}
 use Rattle.proc_table.specs.Alone.{AnswersAlone, ByOnePass, CalledAlone, DownAlone}
 use Rattle.proc_table.specs.Views.{seen}
-use Rattle.sup_tree.specs.Loaded.{NamedModules}
+use Rattle.loaded_modules.specs.Loaded.{NamedModules}
 use Rattle.sup_tree.specs.Tree.{App, find_process}
 use Rattle.held_processes.specs.Following.{HoldsNothing}
 use Rattle.node_processes.specs.Answers.{no_process_line, outcome_line, value_at, state_line, peeked_line, peek_line, reply_line, called_line, call_line, behind_call, called_at, called, outcome_at}

@@ -12,7 +12,7 @@ use Rattle.proc_table.specs.declared.view.View.{View}
 use Rattle.proc_table.specs.Views.{seen}
 use Rattle.proc_workers.specs.declared.floods.FloodCounts.{FloodCounts}
 use Rattle.proc_workers.specs.Floods.{calls_with, Counts, IsFlooded, outcomes_of}
-use Rattle.sup_tree.specs.Loaded.{NamedModules}
+use Rattle.loaded_modules.specs.Loaded.{NamedModules}
 use Rattle.sup_tree.specs.Tree.{App, find_process}
 use Rattle.node_processes.specs.Answers.{no_process_line, value_at}
 use Rattle.node_processes.specs.Processes.{Processes}

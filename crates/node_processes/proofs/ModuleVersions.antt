@@ -6,7 +6,7 @@ use Rattle.rel_files.specs.Name.{IsVersion}
 use Rattle.rel_list.specs.Releases.{Releases, Entry}
 use Rattle.library.specs.Library.{Library, IsLibrary}
 use Rattle.rel_check.specs.Modules.{Part, Tables, parts}
-use Rattle.sup_tree.specs.Loaded.{Module, NamedModules, module_named}
+use Rattle.loaded_modules.specs.Loaded.{Module, NamedModules, module_named}
 use Rattle.sup_tree.specs.Starts.{beginning_of}
 use Rattle.sup_tree.specs.Walk.{app_starts}
 use Rattle.proc_history.specs.declared.beginning.Beginning.{Beginning}
@@ -122,8 +122,12 @@ with_courses_versions r cs v all = record { fetched = v.fetched; modules = v.mod
 changed_versions : (s : Site) (mode : Direction) (cs : List ChangeForm) (r : Run) → RunVersions r → RunVersions (changed s mode cs r)
 changed_versions s mode [] r v = v
 changed_versions s mode (c ∷ cs) r v =
-    changed_versions s mode cs (changed_once s mode c r)
-    (with_courses_versions r (change_courses c.name (old_version s mode c.name r) c (users_in r) r.courses) v (change_versions c.name (old_version s mode c.name r) c (users_in r) r.courses v.courses))
+    changed_versions s mode cs (changed_once s mode c r) (record {
+      fetched = v.fetched;
+      modules = v.modules;
+      values = v.values;
+      courses = change_versions c.name (old_version s mode c.name r) c (users_in r) r.courses v.courses;
+    })
 
 among_versions : (ms : NamedModules) → HaveVersions ms → HaveTableVersions (tables_among ms)
 among_versions ms all name = module_table (module_named name ms) (found_version name ms all)

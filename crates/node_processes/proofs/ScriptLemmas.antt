@@ -23,7 +23,7 @@ use Rattle.relup_instruction.specs.Instruction.{ChangeForm, Instruction}
 use Rattle.relup_instruction.specs.Instruction.Instruction.{apply, code_change, remove}
 use Rattle.relup_script.specs.Script.{is_error, is_point}
 use Rattle.rel_check.specs.Modules.{Tables}
-use Rattle.sup_tree.specs.Loaded.{NamedModules}
+use Rattle.loaded_modules.specs.Loaded.{NamedModules}
 use Rattle.sup_tree.specs.Starts.{members_at}
 use Rattle.sup_tree.specs.Stops.{stands}
 use Rattle.sup_tree.specs.Tree.{App, app_named, app_pids, supervises, without}

@@ -8,7 +8,7 @@ use Rattle.proc_history.specs.Events.Event.{call}
 use Rattle.proc_history.specs.Values.{nothing, up_in, answer, outcome_of, after}
 use Rattle.node_listing.specs.Listing.{process_listing, module_listing}
 use Rattle.proc_table.specs.declared.pid.Pid.{Pid}
-use Rattle.sup_tree.specs.Loaded.{name_and_version}
+use Rattle.loaded_modules.specs.Loaded.{name_and_version}
 use Rattle.node_processes.specs.Processes.{Processes, process_named}
 
 abbrev pub no_process_line : List ℕ

@@ -16,7 +16,7 @@ use Rattle.proc_history.specs.declared.beginning.Beginning.{Beginning}
 use Rattle.proc_history.specs.declared.value.Value.{Value}
 use Rattle.proc_history.specs.Values.{nothing, begun}
 use Rattle.proc_table.specs.Agrees.{slots}
-use Rattle.sup_tree.specs.Loaded.{modules_of, tables_of, listed_modules}
+use Rattle.loaded_modules.specs.Loaded.{modules_of, tables_of, listed_modules}
 use Rattle.proc_table.specs.declared.pid.Pid.{Pid}
 use Rattle.sup_tree.specs.Starts.{beginning_of, members_at}
 use Rattle.sup_tree.specs.Tree.{App}

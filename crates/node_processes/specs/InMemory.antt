@@ -9,7 +9,7 @@ use Rattle.proc_table.specs.declared.pass.Tried.TheVariants.{Done, Crashed, Ende
 use Rattle.proc_table.specs.declared.view.View.{View}
 use Rattle.proc_table.specs.Agrees.{slots}
 use Rattle.proc_table.specs.Views.{seen}
-use Rattle.sup_tree.specs.Loaded.{listed_in}
+use Rattle.loaded_modules.specs.Loaded.{listed_in}
 use Rattle.held_processes.specs.Following.{HoldsNothing}
 use Rattle.node_processes.specs.declared.processes.Processes.{Processes as ProcessesInMemory}
 use Rattle.node_processes.specs.Answers.{outcome_line, down_line}

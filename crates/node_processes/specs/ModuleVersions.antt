@@ -6,7 +6,7 @@ use Rattle.mod_table.specs.declared.table.Table.{Table}
 use Rattle.mod_table.specs.declared.table.Table.TheVariants.{Worker}
 use Rattle.proc_history.specs.declared.value.Now.{Now}
 use Rattle.proc_history.specs.declared.value.Value.{Value}
-use Rattle.sup_tree.specs.Loaded.{Module}
+use Rattle.loaded_modules.specs.Loaded.{Module}
 use Rattle.node_processes.specs.Processes.{Processes}
 
 -- a process that stands in the slot has a module whose version is one

@@ -2,7 +2,7 @@
 use Rattle.std.specs.Prelude.{ℕ, List, Option}
 use Rattle.proc_history.specs.declared.value.Value.{Value}
 use Rattle.proc_table.specs.declared.pid.Pid.{Pid}
-use Rattle.sup_tree.specs.Loaded.{NamedModules}
+use Rattle.loaded_modules.specs.Loaded.{NamedModules}
 use Rattle.sup_tree.specs.Tree.{App, find_process}
 
 -- What stands in each slot, in order; the started applications, in the order of their starts; and what is loaded, by the bytes

@@ -1,6 +1,7 @@
 //! The processes of a node.
+use loaded_modules::Loaded;
 use proc_table::{HandlerSeat, ProcTable};
-use sup_tree::{Loaded, Tree};
+use sup_tree::Tree;
 
 /// The processes of a node: their table, the seat of the handler there, the started applications, and the loaded modules.
 #[derive(Drop)]

@@ -23,7 +23,7 @@ use Rattle.rel_check.specs.Modules.{Part, Tables, parts}
 use Rattle.rel_check.specs.Walk.{is_started}
 use Rattle.rel_check.proofs.Members.{first_member, later_member}
 use Rattle.sup_tree.specs.declared.member.StartedProcess.{StartedProcess}
-use Rattle.sup_tree.specs.Loaded.{modules_in, tables_of}
+use Rattle.loaded_modules.specs.Loaded.{modules_in, tables_of}
 use Rattle.sup_tree.specs.Starts.{beginning_of, BeganInOrder, AppStarted}
 use Rattle.sup_tree.specs.Tree.{App, app_named, is_named}
 use Rattle.sup_tree.specs.Walk.{Start, app_fault, app_starts}

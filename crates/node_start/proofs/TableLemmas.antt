@@ -15,7 +15,7 @@ use Rattle.rel_check.specs.Walk as walk
 use Rattle.rel_check.proofs.Distinct.{none_again}
 use Rattle.rel_check.proofs.Joins.{or_none}
 use Rattle.rel_check.proofs.Members.{first_member, later_member}
-use Rattle.sup_tree.specs.Loaded as loaded
+use Rattle.loaded_modules.specs.Loaded as loaded
 use Rattle.node_processes.specs.Fresh.{tables_in}
 
 -- the table of the last module of this name, if there is one

@@ -9,7 +9,7 @@ use Rattle.rel_handler.specs.Image.{IsImageOf}
 use Rattle.rel_handler.specs.State.{disk_in, list_in}
 use Rattle.rel_handler.specs.declared.handler.Handler.{Handler}
 use Rattle.proc_table.specs.declared.view.View.{View}
-use Rattle.sup_tree.specs.Loaded.{listed_in}
+use Rattle.loaded_modules.specs.Loaded.{listed_in}
 use Rattle.node_processes.specs.InMemory.{values_in}
 use Rattle.node_processes.specs.Processes.{Processes}
 use Rattle.node_start.specs.declared.start.Started.{Started}

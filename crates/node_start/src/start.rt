@@ -18,13 +18,14 @@ ghost use Rattle.rel_check.specs.Modules.{parts};
 ghost use Rattle.rel_check.specs.Walk.{is_started};
 ghost use Rattle.rel_handler.specs.State.{list_in, is_dead, IsSound};
 ghost use Rattle.rel_list.specs.Status.{is_current, is_permanent};
-ghost use Rattle.sup_tree.specs.Loaded.{modules_in, tables_of};
+ghost use Rattle.loaded_modules.specs.Loaded.{modules_in, tables_of};
 ghost use Rattle.sup_tree.specs.Starts.{AppStarted};
 ghost use Rattle.sup_tree.specs.Tree.{app_named};
 ghost use Rattle.sup_tree.specs.Walk.{app_fault, app_starts};
 
 use app_file::App;
 use library::Library;
+use loaded_modules::Loaded;
 use proc_table::{HandlerSeat, ProcTable};
 use rel_disk::Disk;
 use rel_files::{RelApp, StartType};
@@ -33,7 +34,7 @@ use rel_list::ListedRelease;
 use std::alloc::{AllocError, Global};
 use std::rc::Rc;
 use std::sync::Wait;
-use sup_tree::{Loaded, StartError, Tree};
+use sup_tree::{StartError, Tree};
 
 /// What was started: the applications, and the modules that are loaded.
 #[derive(Drop)]

@@ -9,7 +9,7 @@ use Rattle.std.proofs.lemmas.Cmp.{nat_list_cmp_total}
 use Rattle.std.proofs.lemmas.Map.Text.{is_eq-slice_cmp}
 use Rattle.std.proofs.lemmas.Slice.Eq.{bytes_eq-Decides}
 use Rattle.node_upgrade.specs.Names.{is_among, AreNamesWith, with_name, names_in_order, sorted_names}
-use Rattle.sup_tree.proofs.NamedLemmas.{itself, same_name}
+use Rattle.loaded_modules.proofs.NamedLemmas.{itself, same_name}
 
 -- a name isn't below itself
 not_below_itself : (name : List ℕ) → slice_cmp nat_cmp name name ≡ Less → ⊥

@@ -17,10 +17,10 @@ use Rattle.std.proofs.lemmas.Map.Made.{is_some-lookup}
 use Rattle.std.proofs.lemmas.Map.Text.{is_eq-slice_cmp}
 use Rattle.std.proofs.lemmas.Slice.Eq.{bytes_eq-Decides}
 use Rattle.script_steps.specs.Script.{version_in}
-use Rattle.sup_tree.specs.declared.loaded.Loaded.{Loaded}
-use Rattle.sup_tree.specs.Loaded.{Module, NamedModules, listed_in, modules_in, name_and_version}
+use Rattle.loaded_modules.specs.declared.loaded.Loaded.{Loaded}
+use Rattle.loaded_modules.specs.Loaded.{Module, NamedModules, listed_in, modules_in, name_and_version}
 use Rattle.node_upgrade.specs.Names.{is_among, AreNamesWith, sorted_names}
-use Rattle.sup_tree.proofs.NamedLemmas.{found_as_listed}
+use Rattle.loaded_modules.proofs.NamedLemmas.{found_as_listed}
 use Rattle.node_upgrade.proofs.NamesInOrder.{names_determined, sorted_are_names, sorted-read, list_any-read}
 use Rattle.node_upgrade.specs.InMemory.{NotesStale, is_noted}
 use Rattle.node_upgrade.specs.Stale.{is_stale, names_in, same_version}

@@ -6,7 +6,7 @@ use Rattle.std.specs.Cmp.Lexicographic.{slice_cmp}
 use Rattle.std.specs.Ordering.{nat_cmp}
 use Rattle.library.specs.InMemory.{shared_of}
 use Rattle.relup_script.specs.Search.{found_of}
-use Rattle.sup_tree.specs.Loaded.{NamedModules}
+use Rattle.loaded_modules.specs.Loaded.{NamedModules}
 use Rattle.node_upgrade.specs.Names.{is_among}
 use Rattle.node_upgrade.specs.declared.upgrade.Upgrade.{Upgrade}
 use Rattle.node_upgrade.specs.Stale.{is_stale}

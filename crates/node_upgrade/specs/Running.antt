@@ -6,7 +6,7 @@ use Rattle.held_processes.specs.Following.{AreUntouched}
 use Rattle.relup_exec.specs.Outcome.{IsBroken, IsFinished, IsRefused, Start}
 use Rattle.script_steps.specs.Fault.{Cause}
 use Rattle.script_steps.specs.Fault.Cause.{no_memory}
-use Rattle.sup_tree.specs.Loaded.{NamedModules}
+use Rattle.loaded_modules.specs.Loaded.{NamedModules}
 use Rattle.sup_tree.specs.Tree.{App}
 use Rattle.node_command.specs.declared.error.HandlerError.TheVariants as command
 use Rattle.node_upgrade.specs.declared.error.InstallError.{InstallError}

@@ -3,7 +3,7 @@ use Rattle.std.specs.Prelude.{ℕ, Bool, true, false, not, List, ◌++◌, map, 
 use Rattle.std.specs.Str.{bytes_eq}
 use Rattle.library.specs.Library.{Library}
 use Rattle.script_steps.specs.Script.{version_in}
-use Rattle.sup_tree.specs.Loaded.{Module, NamedModules, listed_modules}
+use Rattle.loaded_modules.specs.Loaded.{Module, NamedModules, listed_modules}
 use Rattle.node_upgrade.specs.Names.{sorted_names}
 
 abbrev pub same_version : Option (List ℕ) → Option (List ℕ) → Bool

@@ -9,7 +9,7 @@ use Rattle.relup_script.specs.Script.{IsRunnable, script_fault}
 use Rattle.relup_script.specs.Search.{FoundForm}
 use Rattle.node_command.specs.Installing.{installation}
 use Rattle.script_steps.specs.Script.{Site}
-use Rattle.sup_tree.specs.Loaded.{NamedModules}
+use Rattle.loaded_modules.specs.Loaded.{NamedModules}
 use Rattle.node_upgrade.specs.declared.error.InstallError.{InstallError}
 use Rattle.node_upgrade.specs.declared.error.InstallError.TheVariants.{Command, Refused, MustReboot}
 use Rattle.node_upgrade.specs.Failure.{Failure, failure, failure_of, fault_failure}

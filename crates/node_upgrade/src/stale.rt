@@ -3,15 +3,15 @@ ghost use Rattle.std.specs.Prelude.{◌≡◌, IfOk, OnOk, map};
 ghost use Rattle.library.specs.InMemory.{shared_of};
 ghost use Rattle.node_upgrade.specs.InMemory.{NotesStale, is_noted};
 ghost use Rattle.node_upgrade.specs.Stale.{is_stale, names_in, stale_modules};
-ghost use Rattle.sup_tree.specs.Loaded.{listed_in};
+ghost use Rattle.loaded_modules.specs.Loaded.{listed_in};
 ghost use Rattle.node_upgrade.specs.Names.{AreNamesWith};
 
 use library::Library;
+use loaded_modules::Loaded;
 use proc_table::Name;
 use std::alloc::{AllocError, Global};
 use std::collections::BTreeMap;
 use std::rc::Rc;
-use sup_tree::Loaded;
 
 // Names that are noted.
 type Noted<'a> = BTreeMap<&'a str, ()>;

@@ -13,12 +13,13 @@ ghost use Rattle.relup_exec.specs.Outcome.{IsFinished, Start};
 ghost use Rattle.relup_script.specs.Script.{IsRunnable, restarts};
 ghost use Rattle.relup_script.specs.Search.{found_of};
 ghost use Rattle.script_steps.specs.InMemory.{cause_of};
-ghost use Rattle.sup_tree.specs.Loaded.{listed_in};
+ghost use Rattle.loaded_modules.specs.Loaded.{listed_in};
 
 use crate::error::{InstallError, ScriptFailure, Why};
 use crate::stale::stale_modules;
 use erl_term::Term;
 use library::Library;
+use loaded_modules::Loaded;
 use node_command::{HandlerError, find_installation};
 use proc_table::{HandlerSeat, Name, ProcTable};
 use rel_files::Rel;
@@ -29,7 +30,7 @@ use script_steps::Cause;
 use std::alloc::Global;
 use std::rc::Rc;
 use std::sync::Wait;
-use sup_tree::{Loaded, Tree};
+use sup_tree::Tree;
 
 /// A release was installed.
 #[derive(Drop)]

@@ -1,8 +1,8 @@
 //! Modules that are loaded one by one.
 use library::Library;
+use loaded_modules::Loaded;
 use std::alloc::{AllocError, Global};
 use std::rc::Rc;
-use sup_tree::Loaded;
 use text_cases::{Answer, first_word};
 
 /// Appends what comes of a step that changes what is loaded, or what is fetched.

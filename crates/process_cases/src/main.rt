@@ -4,6 +4,7 @@
 #![tactic(auto)]
 
 mod answers;
+mod children;
 mod clients;
 mod gates;
 mod loads;

@@ -1,17 +1,19 @@
 //! Applications that are started and stopped.
 ghost use Rattle.std.specs.Prelude.{◌≡◌};
 
+use crate::children::step_of_children;
 use crate::loads::change_loaded;
 use crate::processes::push_pid;
 use crate::steps::take_step;
 use erl_term::read_record;
 use library::{Library, libraries_of_terms};
+use loaded_modules::Loaded;
 use proc_table::{HandlerSeat, ProcTable};
 use rel_files::parts::list_in;
 use std::alloc::Global;
 use std::rc::Rc;
 use std::sync::Wait;
-use sup_tree::{Loaded, StartError, Tree};
+use sup_tree::{StartError, Tree};
 use text_cases::{Answer, first_word, number};
 
 /// Appends what steps at a new table and a new tree answer, with `; ` between them as between the steps. The text is the list of
@@ -22,7 +24,8 @@ use text_cases::{Answer, first_word, number};
 /// - `in SLOT`: the module that the process runs which began there, or `none`. `supervises MODULE`: whether a started application
 ///   has a supervisor of it, `yes` or `no`.
 /// - `vsn MODULE`: its version that is loaded, or `none`. `versions`: each module that is loaded, with its version.
-/// - `fetch`, `load`, `remove`, `copy` change what is loaded, as [`change_loaded`] has them.
+/// - `fetch`, `load`, `remove`, `copy` change what is loaded, as [`change_loaded`] has them. `members`, `change` are about the
+///   members of applications, as [`step_of_children`] has them.
 /// - Any other step is one of a table, as [`crate::steps::follow_steps`] has them.
 pub(crate) fn follow_tree<R: Wait>(rt: &R, alloc: Global, words: &str, answer: &mut Answer) {
     let Some((terms, steps)) = words.split_once(" | ") else {
@@ -77,6 +80,9 @@ fn follow_with<R: Wait>(
                 step,
                 answer,
             ),
+            "members" | "change" => {
+                step_of_children(alloc, &loaded, &mut tree, word, rest, answer);
+            }
             "vsn" | "versions" => push_loaded(alloc, &loaded, word, rest, answer),
             "find" | "using" | "in" | "supervises" => push_found(alloc, &tree, word, rest, answer),
             _ => take_step(rt, alloc, &table, &mut seat, step, answer),

@@ -12,11 +12,12 @@ ghost use Rattle.rel_list.specs.Event.{event_of};
 ghost use Rattle.rel_list.specs.Laws.{leaves_permanent, makes_one_shot};
 ghost use Rattle.rel_list.specs.Refusal.{brings_release};
 ghost use Rattle.rel_store.specs.State.{HasRoom};
-ghost use Rattle.sup_tree.specs.Loaded.{listed_in};
+ghost use Rattle.loaded_modules.specs.Loaded.{listed_in};
 
 use crate::Handler;
 use crate::commit::make_room;
 use crate::install_record::InstallRecord;
+use loaded_modules::Loaded;
 use node_command::HandlerError;
 use node_upgrade::{InstallError, Installed, find_upgrade};
 use proc_table::{HandlerSeat, ProcTable};
@@ -24,7 +25,7 @@ use rel_disk::Disk;
 use rel_list::Event;
 use std::alloc::Global;
 use std::sync::Wait;
-use sup_tree::{Loaded, Tree};
+use sup_tree::Tree;
 
 impl<D: Disk> Handler<D> {
     /// Installs a release by its script: its processes are upgraded, and it is current until the next boot. The script is carried

@@ -13,7 +13,7 @@ use Rattle.relup_exec.specs.Alone.Outcome.{ends, refuses, breaks}
 use Rattle.relup_exec.specs.Outcome.{IsFinished}
 use Rattle.script_steps.specs.Fault.Cause.{no_memory}
 use Rattle.script_steps.specs.Script.{Run}
-use Rattle.sup_tree.specs.Loaded.{listed_in}
+use Rattle.loaded_modules.specs.Loaded.{listed_in}
 use Rattle.node_command.specs.Installing.{installation}
 use Rattle.node_command.specs.declared.error.HandlerError.{HandlerError}
 use Rattle.node_command.specs.declared.error.HandlerError.TheVariants as handler_error

@@ -10,7 +10,7 @@ use Rattle.rel_handler.specs.Commits.{IsDone}
 use Rattle.rel_handler.specs.Image.{HasSpace}
 use Rattle.rel_handler.specs.Installing.{install_event, install_room, install_size, needs_restart, IsInstalledBy}
 use Rattle.rel_handler.specs.State.{disk_in, extent_in, list_in, is_dead, HasStarted, IsSound}
-use Rattle.sup_tree.specs.Loaded.{listed_in}
+use Rattle.loaded_modules.specs.Loaded.{listed_in}
 use Rattle.session_input.specs.declared.error.SessionError.{SessionError}
 use Rattle.node_processes.specs.Fresh.{fresh}
 use Rattle.node_processes.specs.InMemory.{processes_in, AreSound}

@@ -39,15 +39,15 @@ run_more s start e is i a tree v still ran carried = (
 pub point_passed : (s : Site) (start : Start) (script : List Instruction) (a : ArmedForm) (hs : HeldSlots) (v w : View) (armed : IsArmed s start script a v)
     → AllFollow start.first (on_all pass_point (run_behind s start armed.point.front).courses) hs w
     → Ran s start (armed.point.front ++ point_of_no_return ∷ [])
-    × HasDone (past_behind s start (armed.point.front ++ point_of_no_return ∷ [])) (record { held = hs; fetched = a.fetched; next = a.next }) start.apps w
+    × HasDone (past_behind s start (armed.point.front ++ point_of_no_return ∷ [])) (record { held = hs; fetched = a.fetched; next = a.next }) a.apps w
 point_passed s start script a hs v w armed follow =
     let front = armed.point.front in
     let r = run_behind s start front in
     let values : r.values ≡ values_seen start.first = through_values s true front (began_at s start) in (
       ran_push s start.first true front point_of_no_return (began_at s start) armed.ran (v, λ p inside. (armed.follow.each p inside).stand, refl),
-      subst (λ (q : Run). HasDone (record { first = start.first; run = q }) (record { held = hs; fetched = a.fetched; next = a.next }) start.apps w)
+      subst (λ (q : Run). HasDone (record { first = start.first; run = q }) (record { held = hs; fetched = a.fetched; next = a.next }) a.apps w)
           (sym (run_push s true front point_of_no_return (began_at s start)))
-          (record { follow = follow; fetched = armed.fetched; next = armed.next; apps = sym armed.apps; values = values }),
+          (record { follow = follow; fetched = armed.fetched; next = armed.next; apps = armed.apps; values = values }),
     )
 
 -- what is seen stays
@@ -63,14 +63,14 @@ fault_later first s v w r i c same fails = (
 
 -- All before the point was carried out.
 pub armed_well : (s : Site) (start : Start) (script : List Instruction) (place : ℕ) (is : List Instruction) (a : ProgressForm) (tree : List App) (v : View) (point : IsPointAt script place) → is ≡ point.front
-    → tree ≡ start.apps → Ran s start is → HasDone (past_behind s start is) a tree v → IsArmed s start script (record { place = place; held = a.held; fetched = a.fetched; next = a.next }) v
-armed_well s start script place is a tree v point same tree_is ran done =
+    → Ran s start is → HasDone (past_behind s start is) a tree v → IsArmed s start script (record { place = place; held = a.held; fetched = a.fetched; next = a.next; apps = tree }) v
+armed_well s start script place is a tree v point same ran done =
     let done' : HasDone (past_behind s start point.front) a tree v = subst (λ (front : List Instruction). HasDone (past_behind s start front) a tree v) same done in record {
       point = point;
       ran = subst (Ran s start) same ran;
       fetched = done'.fetched;
       next = done'.next;
-      apps = sym done'.apps ∙ tree_is;
+      apps = done'.apps;
       follow = done'.follow;
       quiet = early_quiet s start point.front point.early;
     }

@@ -9,7 +9,7 @@ use Rattle.relup_instruction.specs.declared.instruction.Direction.{Direction}
 use Rattle.relup_instruction.specs.Instruction as instruction
 use Rattle.relup_instruction.specs.Instruction.{CallForm, ChangeForm, Instruction}
 use Rattle.relup_script.specs.Script.{has_one, is_application, is_error}
-use Rattle.sup_tree.specs.Loaded.{module_named}
+use Rattle.loaded_modules.specs.Loaded.{module_named}
 use Rattle.std.specs.Str.{bytes_eq}
 use Rattle.std.proofs.lemmas.Slice.Eq.{bytes_eq-Decides}
 use Rattle.script_steps.specs.Script.AppCall.{starts, stops, idle}

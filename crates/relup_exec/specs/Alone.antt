@@ -4,7 +4,7 @@ use Rattle.proc_history.specs.Histories.{replay_from}
 use Rattle.proc_table.specs.declared.view.View.{View}
 use Rattle.relup_instruction.specs.Instruction.{Instruction}
 use Rattle.relup_script.specs.Script.{is_point}
-use Rattle.sup_tree.specs.Loaded.{NamedModules}
+use Rattle.loaded_modules.specs.Loaded.{NamedModules}
 use Rattle.sup_tree.specs.Tree.{App}
 use Rattle.held_processes.specs.Course.{added}
 use Rattle.held_processes.specs.Operations.{Values}

@@ -7,7 +7,7 @@ use Rattle.proc_table.specs.Views.{seen}
 use Rattle.relup_instruction.specs.Instruction.{Instruction}
 use Rattle.relup_instruction.specs.Instruction.Instruction.{point_of_no_return}
 use Rattle.relup_script.specs.Script.{is_point}
-use Rattle.sup_tree.specs.Loaded.{NamedModules}
+use Rattle.loaded_modules.specs.Loaded.{NamedModules}
 use Rattle.sup_tree.specs.Tree.{App}
 use Rattle.held_processes.specs.Course.{Courses, on_all}
 use Rattle.held_processes.specs.Course.Operation.{finish}
@@ -51,13 +51,14 @@ RanAll s first early (i ∷ is) r = HasNoFault s first r i × RanAll s first (ea
 abbrev pub Ran : Site → Start → List Instruction → Type 0
 Ran s start is = RanAll s start.first true is (began_at s start)
 
--- A script that has come to its point of no return. place: how many instructions stand before the point. next: what is loaded
--- once the script has ended well.
+-- A script that has come to its point of no return. place: how many instructions stand before the point. next and apps: what is
+-- loaded, and what is started, once the script has ended well.
 pub record ArmedForm : Type 0 where
   pub place : ℕ
   pub held : HeldSlots
   pub fetched : NamedModules
   pub next : NamedModules
+  pub apps : List App
 
 -- The point of no return is the first instruction behind so many, all of which may stand before it.
 pub record IsPointAt (script : List Instruction) (place : ℕ) : Type 0 where
@@ -72,13 +73,13 @@ pub record IsPointAt (script : List Instruction) (place : ℕ) : Type 0 where
 abbrev pub CanGoBack : View → HeldSlots → View → Type 0
 CanGoBack first hs v = (courses : Courses) × AllFollow first courses hs v × ((p : ℕ) → (courses p).blocks ≡ [])
 
--- All before the point was done, and nothing of it stands in a history yet. No application was started or stopped.
+-- All before the point was done, and nothing of it stands in a history yet.
 pub record IsArmed (s : Site) (start : Start) (script : List Instruction) (a : ArmedForm) (v : View) : Type 0 where
   pub point : IsPointAt script a.place
   pub ran : Ran s start point.front
   pub fetched : a.fetched ≡ (run_behind s start point.front).fetched
   pub next : a.next ≡ (run_behind s start point.front).modules
-  pub apps : (run_behind s start point.front).apps ≡ start.apps
+  pub apps : a.apps ≡ (run_behind s start point.front).apps
   pub follow : AllFollow start.first (run_behind s start point.front).courses a.held v
   pub quiet : (p : ℕ) → ((run_behind s start point.front).courses p).blocks ≡ []
 

@@ -1,5 +1,5 @@
 //! A script behind its point of no return.
-ghost use Rattle.std.specs.Prelude.{◌≡◌, ℕ, IfErr, IfOk};
+ghost use Rattle.std.specs.Prelude.{◌≡◌, ℕ, IfErr, IfOk, OnErr};
 ghost use mathlib.Core.List.{IsPrefix};
 ghost use Rattle.held_processes.specs.Course.{on_all};
 ghost use Rattle.held_processes.specs.Course.Operation.{finish, pass_point};
@@ -9,16 +9,17 @@ ghost use Rattle.script_steps.specs.InMemory.{cause_of, site_of};
 ghost use Rattle.relup_exec.specs.Outcome.{IsArmed, IsBroken, IsFinished, Start};
 ghost use Rattle.relup_exec.specs.InMemory.{armed_of};
 ghost use Rattle.relup_instruction.specs.Instruction.{script_of};
-ghost use Rattle.sup_tree.specs.Loaded.{listed_in};
+ghost use Rattle.loaded_modules.specs.Loaded.{listed_in};
 
 use crate::armed::Armed;
 use held_processes::HeldProcesses;
+use loaded_modules::Loaded;
 use proc_table::HandlerSeat;
 use relup_instruction::Instr;
 use script_steps::{Cause, Failure, Progress, Site};
 use std::alloc::Global;
 use std::sync::Wait;
-use sup_tree::{Loaded, Tree};
+use sup_tree::Tree;
 
 /// A script of which an instruction behind the point of no return failed.
 #[derive(Drop)]
@@ -29,8 +30,9 @@ pub struct Failed {
 }
 
 impl Armed {
-    /// Carries out the script from its point of no return on, and answers what is loaded then. Where an instruction fails,
-    /// what was held is let go with the changes made so far. It waits for processes that clients have.
+    /// Carries out the script from its point of no return on, and answers what is loaded then. The tree is that of what is
+    /// started then. Where an instruction fails, the tree stays, and what was held is let go with the changes made so far. It
+    /// waits for processes that clients have.
     pub fn run_after<R: Wait>(
         self,
         rt: &R,
@@ -44,12 +46,12 @@ impl Armed {
         requires table { seat.old.table ≡ site.now.table.now }
         requires armed { IsArmed (site_of site.now) start (script_of script.now)
             (armed_of self) seat.old.view }
-        requires tree { tree.old ≡ start.apps }
         ensures table { seat.new.table ≡ seat.old.table }
         ensures finished { IfOk result (λ loaded. IsFinished (site_of site.now) start
             (script_of script.now) (listed_in loaded) tree.new seat.new.view) }
         ensures broken { IfErr result (λ e. IsBroken (site_of site.now) start
             (script_of script.now) e.instr (cause_of e.cause) seat.new.view) }
+        ensures kept { OnErr result (tree.new ≡ tree.old) }
     {
         let Armed {
             place,
@@ -59,12 +61,13 @@ impl Armed {
         for i in place + 1..script.len() {
             let before = &script[..i];
             let instr = &script[i];
-            let done = progress.carry_out_late(rt, alloc, site, seat, tree, before, instr);
+            let done = progress.carry_out_late(rt, alloc, site, seat, before, instr);
             if let Err(failure) = done {
                 let Progress {
                     held,
                     fetched: _fetched,
                     next: _next,
+                    tree: _tree,
                 } = progress;
                 close(held, site, seat, before, instr, &failure);
                 let Failure { cause, .. } = failure;
@@ -78,8 +81,10 @@ impl Armed {
             held,
             fetched: _done,
             next,
+            tree: started,
         } = progress;
         end(held, site, seat, script);
+        *tree = started;
         Ok(next)
     }
 }

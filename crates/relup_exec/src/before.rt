@@ -47,13 +47,13 @@ pub fn run_before<R: Wait>(
         e.instr (cause_of e.cause) seat.new.view) }
 {
     let place = point_in(script);
-    let Ok(mut progress) = Progress::new(alloc, site) else {
+    let Ok(mut progress) = Progress::new(alloc, site, tree) else {
         return Err(Refused {
             instr: 1,
             cause: Cause::NoMemory,
         });
     };
-    match run_early(rt, alloc, site, seat, tree, &mut progress, &script[..place]) {
+    match run_early(rt, alloc, site, seat, &mut progress, &script[..place]) {
         Ok(()) => Ok(Armed { place, progress }),
         Err(refused) => {
             progress.roll_back(site.table, seat);
@@ -87,7 +87,6 @@ fn run_early<R: Wait>(
     alloc: Global,
     site: &Site<'_>,
     seat: &mut HandlerSeat,
-    tree: &Tree,
     progress: &mut Progress,
     instrs: &[Instr],
 ) -> Result<(), Refused>
@@ -95,14 +94,14 @@ fn run_early<R: Wait>(
     requires table { seat.old.table ≡ site.now.table.now }
     requires early { AllByRecursion IsEarly (script_of instrs.now) }
     requires begun { HasBegun (site_of site.now) start
-        (progress_of progress.old) tree.now seat.old.view }
+        (progress_of progress.old) progress.old.tree seat.old.view }
     ensures table { seat.new.table ≡ seat.old.table }
     ensures ran { RunsAll (site_of site.now) start (script_of instrs.now)
-        result (progress_of progress.new) tree.now seat.new.view }
+        result (progress_of progress.new) progress.new.tree seat.new.view }
 {
     for (i, instr) in instrs.iter().enumerate() {
         let before = &instrs[..i];
-        let done = progress.carry_out_early(rt, alloc, site, seat, tree, before, instr);
+        let done = progress.carry_out_early(rt, alloc, site, seat, before, instr);
         if let Err(Failure { cause, .. }) = done {
             return Err(Refused {
                 instr: i + 1,

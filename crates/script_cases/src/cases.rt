@@ -8,6 +8,7 @@ ghost use Rattle.relup_script.specs.Script.{IsRunnable};
 use crate::node::{
     other_libraries, push_call, push_calls, release_list, running_libraries, script,
 };
+use loaded_modules::Loaded;
 use proc_table::{HandlerSeat, Pass, Pid, ProcTable};
 use rel_list::ReleaseList;
 use relup_exec::{Cause, Site, run_before};
@@ -15,14 +16,14 @@ use relup_instruction::Instr;
 use relup_script::check;
 use std::alloc::{AllocError, Global};
 use std::sync::Wait;
-use sup_tree::{Loaded, Tree};
+use sup_tree::{MemberState, Tree};
 use text_cases::Answer;
 
 /// The text is the inputs of calls of the process of `ch3`, a script, and inputs of further calls, with ` | ` between them. The
 /// answer is what the calls answer, whether the script can't be run, is refused, or is armed, and then, by the mode: `before`,
 /// what a call is answered while it is armed, and, once it was rolled back, what the further calls answer; `whole`, which
 /// instruction behind the point fails, or that the script is done and which modules are loaded then, and what the further calls
-/// answer.
+/// answer; `tree`, the same, and behind it the ids of the members of `ch_app`, with `-` before one for which nothing stands.
 pub(crate) fn answer<R: Wait>(
     rt: &R,
     alloc: Global,
@@ -34,6 +35,7 @@ pub(crate) fn answer<R: Wait>(
     match mode {
         "before" => push_case(rt, alloc, Mode::Before, words, &mut answer),
         "whole" => push_case(rt, alloc, Mode::Whole, words, &mut answer),
+        "tree" => push_case(rt, alloc, Mode::Tree, words, &mut answer),
         _ => answer.push("no such mode"),
     }
     answer.finish()
@@ -61,6 +63,7 @@ fn push_case<R: Wait>(rt: &R, alloc: Global, mode: Mode, words: &str, answer: &m
 enum Mode {
     Before,
     Whole,
+    Tree,
 }
 
 /// A script, and the calls around it.
@@ -127,6 +130,9 @@ fn push_script<R: Wait>(
     answer.push(", ");
     push_outcome(rt, alloc, site, seat, tree, &mut pass, case, answer);
     push_calls(site.table, &mut pass, pid, case.behind, answer);
+    if let Mode::Tree = case.mode {
+        push_members(tree, answer);
+    }
     site.table.take_back(seat, pass);
 }
 
@@ -150,7 +156,9 @@ fn push_outcome<R: Wait>(
         (Ok(()), Mode::Before) => {
             push_before(rt, alloc, site, seat, tree, pass, case.script, answer);
         }
-        (Ok(()), Mode::Whole) => push_whole(rt, alloc, site, seat, tree, case.script, answer),
+        (Ok(()), Mode::Whole | Mode::Tree) => {
+            push_whole(rt, alloc, site, seat, tree, case.script, answer);
+        }
         (Err(fault), _) => answer.push_shown(&fault),
     }
 }
@@ -208,6 +216,17 @@ fn push_whole<R: Wait>(
             Err(failed) => push_stopped(alloc, "failed ", failed.instr, &failed.cause, answer),
         },
         Err(refused) => push_stopped(alloc, "refused ", refused.instr, &refused.cause, answer),
+    }
+}
+
+fn push_members(tree: &Tree, answer: &mut Answer) {
+    answer.push(", members:");
+    for member in tree.members("ch_app") {
+        answer.push(match member.state {
+            MemberState::Ended => " -",
+            MemberState::Process(_) | MemberState::Supervisor(_) => " ",
+        });
+        answer.push(member.id.as_str());
     }
 }
 

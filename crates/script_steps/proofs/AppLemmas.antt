@@ -13,7 +13,7 @@ use Rattle.relup_instruction.specs.Instruction.Instruction.{apply}
 use Rattle.relup_script.specs.Script.{has_one, is_error}
 use Rattle.sup_tree.specs.declared.error.StartError.{StartError}
 use Rattle.sup_tree.specs.declared.error.StartError.TheVariants.{AlreadyStarted, NoTable, Unsupported, NoSlot, NoMemory}
-use Rattle.sup_tree.specs.Loaded.{Module, Modules, module_named, tables_of}
+use Rattle.loaded_modules.specs.Loaded.{Module, Modules, module_named, tables_of}
 use Rattle.sup_tree.specs.Tree.{App, app_named}
 use Rattle.sup_tree.specs.Walk.{StartFault, app_fault, app_starts}
 use Rattle.script_steps.specs.declared.cause.Failure.{Failure}

@@ -16,7 +16,7 @@ use Rattle.held_processes.proofs.CourseLemmas.{module_adds_no_block, part_way_ad
 use Rattle.relup_instruction.specs.declared.instruction.Direction.{Direction}
 use Rattle.relup_instruction.specs.Instruction as instruction
 use Rattle.relup_instruction.specs.Instruction.{ChangeForm, Instruction}
-use Rattle.sup_tree.specs.Loaded.{module_named}
+use Rattle.loaded_modules.specs.Loaded.{module_named}
 use Rattle.script_steps.specs.Script.{Run, Site, change_courses, change_within, changed, changed_once, changed_within, courses_within, each_within, load_within, mode_of, old_version, on_each, suspended_in, users_in, worker_in}
 use Rattle.script_steps.specs.Steps.{IsSeen, SameBlocks}
 

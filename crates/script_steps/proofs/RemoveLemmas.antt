@@ -5,7 +5,7 @@ use Rattle.held_processes.specs.Following.{AllFollow}
 use Rattle.held_processes.specs.Operations.{uses_up, users_of, values_seen}
 use Rattle.relup_instruction.specs.Instruction.{PurgingForm}
 use Rattle.relup_instruction.specs.Instruction.Instruction.{remove}
-use Rattle.sup_tree.specs.Loaded.{NamedModules, without_module}
+use Rattle.loaded_modules.specs.Loaded.{NamedModules, without_module}
 use Rattle.sup_tree.specs.Tree.{App, supervises}
 use Rattle.script_steps.specs.Fault.{remove_fault}
 use Rattle.script_steps.specs.Fault.Cause.{in_use}
@@ -14,22 +14,22 @@ use Rattle.script_steps.specs.Steps.{CarriesOut, HasDone, Past, ProgressForm}
 use Rattle.script_steps.proofs.CourseLemmas.{seen_of}
 
 -- whether the module runs somewhere, as it was told, is as the script knows it
-told_here : (past : Past) (name m : List ℕ) (a : ProgressForm) (tree : List App) (v w : View) → HasDone past a tree v → m ≡ name
-    → (supervises m tree || uses_up (values_seen w) (users_of tree) m past.run.courses) ≡ (supervises name past.run.apps || uses_up (values_seen w) (users_of past.run.apps) name past.run.courses)
-told_here past name m a tree v w done named =
-    λ j. supervises (named j) (done.apps j) || uses_up (values_seen w) (users_of (done.apps j)) (named j) past.run.courses
+told_here : (past : Past) (name : List ℕ) (a : ProgressForm) (tree : List App) (v w : View) → HasDone past a tree v
+    → (supervises name tree || uses_up (values_seen w) (users_of tree) name past.run.courses) ≡ (supervises name past.run.apps || uses_up (values_seen w) (users_of past.run.apps) name past.run.courses)
+told_here past name a tree v w done =
+    λ j. supervises name (done.apps j) || uses_up (values_seen w) (users_of (done.apps j)) name past.run.courses
 
-nothing_told : (past : Past) (name m : List ℕ) (a : ProgressForm) (tree : List App) (v w : View) (b : Bool) → HasDone past a tree v → m ≡ name
-    → b ≡ (supervises m tree || uses_up (values_seen w) (users_of tree) m past.run.courses) → b ≡ false → remove_fault name (values_seen w) past.run ≡ None
-nothing_told past name m a tree v w b done named is unused =
-    ap (λ (c : Bool). if c then Some in_use else None) (sym (told_here past name m a tree v w done named) ∙ (sym is ∙ unused))
+nothing_told : (past : Past) (name : List ℕ) (a : ProgressForm) (tree : List App) (v w : View) (b : Bool) → HasDone past a tree v
+    → b ≡ (supervises name tree || uses_up (values_seen w) (users_of tree) name past.run.courses) → b ≡ false → remove_fault name (values_seen w) past.run ≡ None
+nothing_told past name a tree v w b done is unused =
+    ap (λ (c : Bool). if c then Some in_use else None) (sym (told_here past name a tree v w done) ∙ (sym is ∙ unused))
 
 -- nothing runs it
 pub removed_well : (s : Site) (past : Past) (p : PurgingForm) (m : List ℕ) (a : ProgressForm) (next : NamedModules) (tree : List App) (v w : View) (b : Bool) → HasDone past a tree v
-    → AllFollow past.first past.run.courses a.held w → m ≡ p.name → b ≡ (supervises m tree || uses_up (values_seen w) (users_of tree) m past.run.courses) → b ≡ false → next ≡ without_module m a.next
+    → AllFollow past.first past.run.courses a.held w → m ≡ p.name → b ≡ (supervises p.name tree || uses_up (values_seen w) (users_of tree) p.name past.run.courses) → b ≡ false → next ≡ without_module m a.next
     → CarriesOut {X = Unit {0}} s past false (remove p) (Ok tt) (record a { next = next }) tree w
 removed_well s past p m a next tree v w b done follow named is unused removed = (
-  (w, seen_of past.first past.run past.run.courses a.held w (λ p. refl) follow, nothing_told past p.name m a tree v w b done named is unused),
+  (w, seen_of past.first past.run past.run.courses a.held w (λ p. refl) follow, nothing_told past p.name a tree v w b done is unused),
   record {
     follow = follow;
     fetched = done.fetched;

@@ -3,6 +3,8 @@ use Rattle.std.proofs.Common.{◌≡◌, ℕ, ◌<◌, ◌+◌, Bool, true, fals
 use Rattle.library.specs.Library.{Library}
 use Rattle.mod_table.specs.Table.{OldVersion}
 use Rattle.proc_table.specs.declared.view.View.{View}
+use Rattle.proc_table.specs.Agrees.{slots}
+use Rattle.std.proofs.lemmas.Bool.{lt-ltb}
 use Rattle.std.proofs.lemmas.List.{length-map, length-take-le}
 use Rattle.held_processes.specs.Course as course
 use Rattle.held_processes.specs.Course.{Courses, Operation, Users, on_module}
@@ -14,14 +16,14 @@ use Rattle.relup_instruction.specs.declared.instruction.Direction.TheVariants.{U
 use Rattle.relup_instruction.specs.declared.instruction.Suspension.{Suspension}
 use Rattle.relup_instruction.specs.Instruction.{ChangeForm, ConversionForm, FetchForm, PurgingForm, SuspensionForm, suspension_of}
 use Rattle.relup_instruction.specs.Instruction.Instruction.{load_object_code, suspend, load, code_change}
-use Rattle.sup_tree.specs.Loaded.{Module, NamedModules, library_modules, module_named, with_loaded}
+use Rattle.loaded_modules.specs.Loaded.{Module, NamedModules, library_modules, module_named, with_loaded}
 use Rattle.sup_tree.specs.Tree.{App}
 use Rattle.script_steps.specs.declared.cause.Failure.{Failure}
 use Rattle.script_steps.specs.Fault.{Cause, change_fault, fetch_fault, is_stuck, load_fault, table_fault}
 use Rattle.script_steps.specs.Fault.Cause.{no_change, no_memory, not_fetched}
 use Rattle.script_steps.specs.InMemory.{cause_of}
-use Rattle.script_steps.specs.Script.{Run, Site, change_courses, change_within, changed, changed_once, changed_within, each_within, fetched_from, fetched_of, library_for, load_within, mode_of, old_version, on_each, suspended_in, users_in, worker_in}
-use Rattle.script_steps.specs.Steps.{AreDone, CarriesOut, ChangesOnce, GivesTable, HasDone, IsCause, IsCauseIn, IsSeen, Past, ProgressForm, followed_in}
+use Rattle.script_steps.specs.Script.{Run, Site, change_courses, change_within, changed, changed_once, changed_within, each_within, fetched_from, fetched_of, library_for, load_within, mode_of, old_version, on_each, processes_changed, supervisors_changed, suspended_in, tables_among, users_in, worker_in}
+use Rattle.script_steps.specs.Steps.{AreDone, CarriesOut, ChangesOnce, ChangesProcesses, FailsToChange, GivesTable, HasDone, IsCause, IsCauseIn, IsSeen, Past, ProgressForm, followed_in}
 use Rattle.script_steps.proofs.CourseLemmas.{change_none_within, changed_push, changed_stopped, changed_within_same, each_push, each_stopped, follow_same, seen_of}
 use Rattle.script_steps.proofs.RowLemmas.{more, parted}
 
@@ -107,20 +109,19 @@ load_fault_is None users name there = absurd (cc there)
 load_fault_is (Some m) users name there = refl
 
 -- its processes got its table
-pub loaded_well : (s : Site) (past : Past) (early : Bool) (p : PurgingForm) (a : ProgressForm) (n : List ℕ) (hs : HeldSlots) (got before next : NamedModules) (tree : List App) (v w : View)
-    → n ≡ p.name → IsSome (module_named p.name past.run.fetched) → HasDone past a tree v → GivesTable {X = Unit {0}} past early n (Ok tt) hs w
-    → got ≡ a.fetched → before ≡ a.next → next ≡ with_loaded (module_named n got) n before
-    → CarriesOut {X = Unit {0}} s past early (load p) (Ok tt) (record { held = hs; fetched = got; next = next }) tree w
-loaded_well s past early p a n hs got before next tree v w named there done given same kept loaded =
-    let its : GivesTable {X = Unit {0}} past early p.name (Ok tt) hs w = subst (λ (m : List ℕ). GivesTable {X = Unit {0}} past early m (Ok tt) hs w) named given in
+pub loaded_well : (s : Site) (past : Past) (early : Bool) (p : PurgingForm) (a : ProgressForm) (n : List ℕ) (hs : HeldSlots) (got before next : NamedModules) (tree tree' : List App) (v w : View)
+    → n ≡ p.name → IsSome (module_named p.name past.run.fetched) → HasDone past a tree v → GivesTable {X = Unit {0}} past early p.name (Ok tt) hs w
+    → got ≡ a.fetched → before ≡ a.next → tree' ≡ tree → next ≡ with_loaded (module_named n got) n before
+    → CarriesOut {X = Unit {0}} s past early (load p) (Ok tt) (record { held = hs; fetched = got; next = next }) tree' w
+loaded_well s past early p a n hs got before next tree tree' v w named there done given same kept stays loaded =
     let fetched : got ≡ past.run.fetched = same ∙ done.fetched in
     let modules : before ≡ past.run.modules = kept ∙ done.next in (
-      (v, seen_in past a tree v done, load_fault_is (module_named p.name past.run.fetched) (users_in past.run) p.name there ∙ its.0),
+      (v, seen_in past a tree v done, load_fault_is (module_named p.name past.run.fetched) (users_in past.run) p.name there ∙ given.0),
       record {
-        follow = its.1;
+        follow = given.1;
         fetched = fetched;
         next = loaded ∙ (λ j. with_loaded (module_named (named j) (fetched j)) (named j) (modules j));
-        apps = done.apps;
+        apps = stays ∙ done.apps;
         values = done.values;
       },
     )
@@ -151,10 +152,6 @@ stuck_by : (s : Site) (mode : Direction) (c : ChangeForm) (seen : Values) (r : R
     → change_fault s mode (c ∷ []) seen r ≡ once_fault b
 stuck_by s mode c seen r o b there stuck = ap (λ (q : Option OldVersion). once_fault (is_stuck q c seen r)) there ∙ ap once_fault stuck
 
--- a version to change from, by the name of the module
-version_by : (s : Site) (mode : Direction) (n m : List ℕ) (r : Run) (o : Option OldVersion) → n ≡ m → old_version s mode n r ≡ o → old_version s mode m r ≡ o
-version_by s mode n m r o named there = ap (λ (k : List ℕ). old_version s mode k r) (sym named) ∙ there
-
 -- what a change comes to, by what is in the tree
 changes_by : (past : Past) (c : ChangeForm) (tree : List App) (n : List ℕ) (old : OldVersion) (a : ProgressForm) (hs : HeldSlots) (v : View) (r q : Result (Unit {0}) Undone) → n ≡ c.name
     → HasDone past a tree v → Changes (users_of tree) n old c.extra a.held r hs → r ≡ q
@@ -167,14 +164,13 @@ changes_by past c tree n old a hs v r q named done changes is =
     its past.first past.run.courses v done.follow
 
 pub changed_by_row : (s : Site) (past : Past) (mode : Direction) (number : ℕ) (c : ChangeForm) (tree : List App) (n : List ℕ) (old : OldVersion) (a : ProgressForm) (hs : HeldSlots) (v : View) (r : Result (Unit {0}) Undone)
-    → n ≡ c.name → old_version s mode n past.run ≡ Some old → HasDone past a tree v → Changes (users_of tree) n old c.extra a.held r hs → r ≡ Ok tt
-    → ChangesOnce {X = Unit {0}} s past mode number c (Ok tt) (record a { held = hs }) tree v
+    → n ≡ c.name → old_version s mode c.name past.run ≡ Some old → HasDone past a tree v → Changes (users_of tree) n old c.extra a.held r hs → r ≡ Ok tt
+    → ChangesProcesses {X = Unit {0}} s past mode number c (Ok tt) (record a { held = hs }) tree v
 changed_by_row s past mode number c tree n old a hs v r named there done changes is =
-    let did = changes_by past c tree n old a hs v r (Ok tt) named done changes is in
-    let its = version_by s mode n c.name past.run (Some old) named there in (
-      stuck_by s mode c (values_seen v) past.run (Some old) false its (not_true (lacks_row old c.extra (values_seen v) (users_in past.run) c.name past.run.courses) did.1),
+    let did = changes_by past c tree n old a hs v r (Ok tt) named done changes is in (
+      stuck_by s mode c (values_seen v) past.run (Some old) false there (not_true (lacks_row old c.extra (values_seen v) (users_in past.run) c.name past.run.courses) did.1),
       record {
-        follow = subst (λ (o : Option OldVersion). AllFollow past.first (change_courses c.name o c (users_in past.run) past.run.courses) hs v) (sym its) did.0;
+        follow = subst (λ (o : Option OldVersion). AllFollow past.first (change_courses c.name o c (users_in past.run) past.run.courses) hs v) (sym there) did.0;
         fetched = done.fetched;
         next = done.next;
         apps = done.apps;
@@ -183,16 +179,15 @@ changed_by_row s past mode number c tree n old a hs v r named there done changes
     )
 
 pub changed_without_row : (s : Site) (past : Past) (mode : Direction) (number : ℕ) (c : ChangeForm) (tree : List App) (n : List ℕ) (old : OldVersion) (a : ProgressForm) (hs : HeldSlots) (v : View) (r : Result (Unit {0}) Undone) (e : Undone) (k : Failure)
-    → n ≡ c.name → old_version s mode n past.run ≡ Some old → HasDone past a tree v → Changes (users_of tree) n old c.extra a.held r hs → r ≡ Err e
+    → n ≡ c.name → old_version s mode c.name past.run ≡ Some old → HasDone past a tree v → Changes (users_of tree) n old c.extra a.held r hs → r ≡ Err e
     → cause_of k.cause ≡ no_change → k.modules ≡ number → k.slot ≡ e.slot
-    → ChangesOnce {X = Unit {0}} s past mode number c (Err k) (record a { held = hs }) tree v
+    → ChangesProcesses {X = Unit {0}} s past mode number c (Err k) (record a { held = hs }) tree v
 changed_without_row s past mode number c tree n old a hs v r e k named there done changes is cause counted at =
     let did = changes_by past c tree n old a hs v r (Err e) named done changes is in
-    let its = version_by s mode n c.name past.run (Some old) named there in
-    let stuck = stuck_by s mode c (values_seen v) past.run (Some old) true its (not_false (lacks_row old c.extra (values_seen v) (users_in past.run) c.name past.run.courses) did.1) in (
+    let stuck = stuck_by s mode c (values_seen v) past.run (Some old) true there (not_false (lacks_row old c.extra (values_seen v) (users_in past.run) c.name past.run.courses) did.1) in (
       subst (λ (x : Cause). IsCause (change_fault s mode (c ∷ []) (values_seen v) past.run) x) (sym cause) stuck,
       counted,
-      subst (λ (o : Option OldVersion). AllFollow past.first (change_within c.name o c k.slot (users_in past.run) past.run.courses) hs v) (sym its)
+      subst (λ (o : Option OldVersion). AllFollow past.first (change_within c.name o c k.slot (users_in past.run) past.run.courses) hs v) (sym there)
           (subst (λ (m : ℕ). AllFollow past.first (part_way m (users_in past.run) c.name (course.Operation.change old c.extra) past.run.courses) hs v) (sym at) did.0),
     )
 
@@ -213,26 +208,69 @@ not_changed s past mode c k a tree v done at =
 
 -- there is no version to change from, and a process is held
 pub held_without_version : (s : Site) (past : Past) (mode : Direction) (number : ℕ) (c : ChangeForm) (tree : List App) (n : List ℕ) (k : Failure) (a : ProgressForm) (v : View) (b : Bool) → n ≡ c.name
-    → old_version s mode n past.run ≡ None → HasDone past a tree v → TellsHeldUser (users_of tree) n a.held b → b ≡ true
-    → cause_of k.cause ≡ no_change → k.modules ≡ number → k.slot ≡ 0 → ChangesOnce {X = Unit {0}} s past mode number c (Err k) a tree v
+    → old_version s mode c.name past.run ≡ None → HasDone past a tree v → TellsHeldUser (users_of tree) n a.held b → b ≡ true
+    → cause_of k.cause ≡ no_change → k.modules ≡ number → k.slot ≡ 0 → ChangesProcesses {X = Unit {0}} s past mode number c (Err k) a tree v
 held_without_version s past mode number c tree n k a v b named none done told is_held cause counted at =
-    let stuck = stuck_by s mode c (values_seen v) past.run None true (version_by s mode n c.name past.run None named none) (sym (told_of past c tree n a v b named done told) ∙ is_held) in
+    let stuck = stuck_by s mode c (values_seen v) past.run None true none (sym (told_of past c tree n a v b named done told) ∙ is_held) in
     (subst (λ (x : Cause). IsCause (change_fault s mode (c ∷ []) (values_seen v) past.run) x) (sym cause) stuck, counted, not_changed s past mode c k a tree v done at)
 
 -- there is none, and no process is held
 pub free_without_version : (s : Site) (past : Past) (mode : Direction) (number : ℕ) (c : ChangeForm) (tree : List App) (n : List ℕ) (a : ProgressForm) (v : View) (b : Bool) → n ≡ c.name
-    → old_version s mode n past.run ≡ None → HasDone past a tree v → TellsHeldUser (users_of tree) n a.held b → b ≡ false
-    → ChangesOnce {X = Unit {0}} s past mode number c (Ok tt) a tree v
-free_without_version s past mode number c tree n a v b named none done told is_free =
-    let its = version_by s mode n c.name past.run None named none in (
-      stuck_by s mode c (values_seen v) past.run None false its (sym (told_of past c tree n a v b named done told) ∙ is_free),
-      record {
-        follow = subst (λ (o : Option OldVersion). AllFollow past.first (change_courses c.name o c (users_in past.run) past.run.courses) a.held v) (sym its) done.follow;
-        fetched = done.fetched;
-        next = done.next;
-        apps = done.apps;
-        values = done.values;
-      },
+    → old_version s mode c.name past.run ≡ None → HasDone past a tree v → TellsHeldUser (users_of tree) n a.held b → b ≡ false
+    → ChangesProcesses {X = Unit {0}} s past mode number c (Ok tt) a tree v
+free_without_version s past mode number c tree n a v b named none done told is_free = (
+  stuck_by s mode c (values_seen v) past.run None false none (sym (told_of past c tree n a v b named done told) ∙ is_free),
+  record {
+    follow = subst (λ (o : Option OldVersion). AllFollow past.first (change_courses c.name o c (users_in past.run) past.run.courses) a.held v) (sym none) done.follow;
+    fetched = done.fetched;
+    next = done.next;
+    apps = done.apps;
+    values = done.values;
+  },
+)
+
+-- the children of supervisors were changed as well
+pub supervisors_well : (s : Site) (past : Past) (mode : Direction) (number : ℕ) (c : ChangeForm) (n : List ℕ) (a b : ProgressForm) (before tree : List App) (v : View) → n ≡ c.name
+    → ChangesProcesses {X = Unit {0}} s past mode number c (Ok tt) a before v → b.held ≡ a.held → b.fetched ≡ a.fetched → b.next ≡ a.next → tree ≡ supervisors_changed n (tables_among a.next n) before
+    → ChangesOnce {X = Unit {0}} s past mode number c (Ok tt) b tree v
+supervisors_well s past mode number c n a b before tree v named did held fetched next is = (
+  did.0,
+  record {
+    follow = subst (λ (hs : HeldSlots). AllFollow past.first (processes_changed s mode c past.run).courses hs v) (sym held) did.1.follow;
+    fetched = fetched ∙ did.1.fetched;
+    next = next ∙ did.1.next;
+    apps = is ∙ (λ j. supervisors_changed (named j) (tables_among (did.1.next j) (named j)) (did.1.apps j));
+    values = did.1.values;
+  },
+)
+
+-- that of the processes can't be made
+pub fails_once : {X : Type 0} (s : Site) (past : Past) (mode : Direction) (number : ℕ) (c : ChangeForm) (e : Failure) (r : Result X Failure) (a : ProgressForm) (tree : List App) (v : View)
+    → FailsToChange s past mode number c e a v → IsErrAnd r (λ k. k ≡ e) → ChangesOnce s past mode number c r a tree v
+fails_once s past mode number c e (Ok x) a tree v fails passed = absurd passed
+fails_once s past mode number c e (Err k) a tree v fails passed = subst (λ (q : Failure). FailsToChange s past mode number c q a v) (sym passed) fails
+
+-- in all slots
+all_within : (users : Users) (name : List ℕ) (op : Operation) (cs : Courses) (p : ℕ) → p < slots → on_module users name op cs p ≡ part_way slots users name op cs p
+all_within users name op cs p inside = sym (ap (λ (b : Bool). if b then on_module users name op cs p else cs p) (lt-ltb p slots inside))
+
+change_all_within : (name : List ℕ) (old : Option OldVersion) (c : ChangeForm) (users : Users) (cs : Courses) (p : ℕ) → p < slots → change_courses name old c users cs p ≡ change_within name old c slots users cs p
+change_all_within name None c users cs p inside = refl
+change_all_within name (Some old) c users cs p inside = all_within users name (course.Operation.change old c.extra) cs p inside
+
+-- memory was refused for the children of supervisors
+pub supervisors_not_changed : (s : Site) (past : Past) (mode : Direction) (number : ℕ) (c : ChangeForm) (k : Failure) (a b : ProgressForm) (before tree : List App) (v : View)
+    → ChangesProcesses {X = Unit {0}} s past mode number c (Ok tt) a before v → b.held ≡ a.held → cause_of k.cause ≡ no_memory → k.modules ≡ number → k.slot ≡ slots
+    → ChangesOnce {X = Unit {0}} s past mode number c (Err k) b tree v
+supervisors_not_changed s past mode number c k a b before tree v did held cause counted at =
+    let old = old_version s mode c.name past.run in
+    let users = users_in past.run in (
+      subst (λ (x : Cause). IsCause (change_fault s mode (c ∷ []) (values_seen v) past.run) x) (sym cause) tt,
+      counted,
+      subst (λ (m : ℕ). AllFollow past.first (change_within c.name old c m users past.run.courses) b.held v) (sym at)
+          (subst (λ (hs : HeldSlots). AllFollow past.first (change_within c.name old c slots users past.run.courses) hs v) (sym held)
+          (follow_same past.first (change_courses c.name old c users past.run.courses) (change_within c.name old c slots users past.run.courses) a.held v
+          (change_all_within c.name old c users past.run.courses) did.1.follow)),
     )
 
 -- without a mode it is up
@@ -274,11 +312,11 @@ changed_more s past mode number front c all a tree v grown none once = (
 )
 
 -- all changes were made
-pub all_changed : (s : Site) (past : Past) (early : Bool) (conversion : ConversionForm) (mode : Direction) (cs : List ChangeForm) (b a : ProgressForm) (tree : List App) (v : View) → mode ≡ mode_of conversion.mode
-    → cs ≡ conversion.changes → HasDone past b tree v → (change_fault s mode cs (values_seen v) past.run ≡ None) × HasDone (past_changes s mode cs past) a tree v
+pub all_changed : (s : Site) (past : Past) (early : Bool) (conversion : ConversionForm) (mode : Direction) (cs : List ChangeForm) (b a : ProgressForm) (before tree : List App) (v : View) → mode ≡ mode_of conversion.mode
+    → cs ≡ conversion.changes → HasDone past b before v → (change_fault s mode cs (values_seen v) past.run ≡ None) × HasDone (past_changes s mode cs past) a tree v
     → CarriesOut {X = Unit {0}} s past early (code_change conversion) (Ok tt) a tree v
-all_changed s past early conversion mode cs b a tree v moded whole done did = (
-  (v, seen_in past b tree v done, sym (λ j. change_fault s (moded j) (whole j) (values_seen v) past.run) ∙ did.0),
+all_changed s past early conversion mode cs b a before tree v moded whole done did = (
+  (v, seen_in past b before v done, sym (λ j. change_fault s (moded j) (whole j) (values_seen v) past.run) ∙ did.0),
   subst (λ (m : Direction). HasDone (record past { run = changed s m conversion.changes past.run }) a tree v) moded
       (subst (λ (ds : List ChangeForm). HasDone (record past { run = changed s mode ds past.run }) a tree v) whole did.1),
 )

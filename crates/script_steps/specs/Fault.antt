@@ -11,7 +11,7 @@ use Rattle.relup_instruction.specs.declared.instruction.Direction.{Direction}
 use Rattle.relup_instruction.specs.Instruction.{ChangeForm, CallForm, Instruction}
 use Rattle.relup_instruction.specs.Instruction.Instruction.{load_object_code, load, code_change, remove, apply}
 use Rattle.relup_script.specs.Script.{is_error}
-use Rattle.sup_tree.specs.Loaded.{Module, library_modules, module_named}
+use Rattle.loaded_modules.specs.Loaded.{Module, library_modules, module_named}
 use Rattle.sup_tree.specs.Tree.{app_named, supervises}
 use Rattle.sup_tree.specs.Walk.{StartFault, app_fault, app_starts}
 use Rattle.sup_tree.specs.Walk as walk

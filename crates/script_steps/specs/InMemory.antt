@@ -8,7 +8,7 @@ use Rattle.script_steps.specs.declared.site.Site as lent
 use Rattle.script_steps.specs.Fault.{Cause}
 use Rattle.script_steps.specs.Fault.Cause.{no_library, no_module, not_fetched, no_table, no_change, raised, in_use, no_app, no_slot, unsupported, no_memory}
 use Rattle.script_steps.specs.Script.{Site}
-use Rattle.sup_tree.specs.Loaded.{listed_in}
+use Rattle.loaded_modules.specs.Loaded.{listed_in}
 
 abbrev pub site_of : lent.Site → Site
 site_of s = record { releases = s.list.now; target = map shared_of s.target.now; loaded = listed_in s.loaded.now }

@@ -8,7 +8,7 @@ use Rattle.erl_term.specs.Value.{Values as Terms}
 use Rattle.erl_term.specs.Value.Value.{atom}
 use Rattle.erl_term.specs.Value.Values.{value}
 use Rattle.mod_table.specs.declared.table.Table.{Table}
-use Rattle.mod_table.specs.declared.table.Table.TheVariants.{Worker}
+use Rattle.mod_table.specs.declared.table.Table.TheVariants.{Worker, Super}
 use Rattle.mod_table.specs.Table.{OldVersion, WorkerTable}
 use Rattle.mod_table.specs.Table.OldVersion.{up, down}
 use Rattle.library.specs.Library.{Library}
@@ -18,7 +18,8 @@ use Rattle.relup_instruction.specs.declared.instruction.Direction.{Direction}
 use Rattle.relup_instruction.specs.declared.instruction.Direction.TheVariants.{Up, Down}
 use Rattle.relup_instruction.specs.Instruction.{FetchForm, SuspensionForm, ChangeForm, CallForm, Instruction}
 use Rattle.relup_instruction.specs.Instruction.Instruction.{load_object_code, point_of_no_return, suspend, load, code_change, resume, remove, stop, start, apply}
-use Rattle.sup_tree.specs.Loaded.{Module, NamedModules, library_modules, module_named, with_loaded, without_module}
+use Rattle.loaded_modules.specs.Loaded.{Module, NamedModules, library_modules, module_named, with_loaded, without_module}
+use Rattle.sup_tree.specs.Changes.{apps_changed}
 use Rattle.sup_tree.specs.Tree.{App, app_named}
 use Rattle.held_processes.specs.Applications.{Scene, with_started, with_stopped}
 use Rattle.held_processes.specs.Course as course
@@ -95,9 +96,23 @@ abbrev pub change_courses : List ℕ → Option OldVersion → ChangeForm → Us
 change_courses name None c users cs = cs
 change_courses name (Some old) c users cs = on_module users name (course.Operation.change old c.extra) cs
 
--- one change of code
+-- one change of code, of the processes of the module
+abbrev pub processes_changed : Site → Direction → ChangeForm → Run → Run
+processes_changed s mode c r = with_courses r (change_courses c.name (old_version s mode c.name r) c)
+
+-- the tables of these modules
+abbrev pub tables_among : NamedModules → Tables
+tables_among ms name = option_and_then (λ (m : Module). m.table) (module_named name ms)
+
+-- The supervisors of a module have the children of its table, where that is one of a supervisor.
+abbrev pub supervisors_changed : List ℕ → Option Table → List App → List App
+supervisors_changed name (Some (Super t)) apps = apps_changed name t.children apps
+supervisors_changed name t apps = apps
+
+-- one change of code, of the processes of the module, and of its supervisors by what is loaded
 abbrev pub changed_once : Site → Direction → ChangeForm → Run → Run
-changed_once s mode c r = with_courses r (change_courses c.name (old_version s mode c.name r) c)
+changed_once s mode c r =
+    record (processes_changed s mode c r) { apps = supervisors_changed c.name (tables_among r.modules c.name) r.apps }
 
 -- several, one after another
 abbrev pub changed : Site → Direction → List ChangeForm → Run → Run
@@ -138,10 +153,6 @@ app_call c =
 -- the library of an application of the release to which the script leads
 abbrev pub target_library : Site → List ℕ → Option Library
 target_library s name = find (λ (l : Library). bytes_eq l.app.name name) s.target
-
--- the tables of these modules
-abbrev pub tables_among : NamedModules → Tables
-tables_among ms name = option_and_then (λ (m : Module). m.table) (module_named name ms)
 
 abbrev pub scene_of : Run → Scene
 scene_of r = record { values = r.values; apps = r.apps; courses = r.courses }

@@ -7,7 +7,7 @@ use Rattle.library.specs.Library.{Library}
 use Rattle.relup_instruction.specs.declared.instruction.Direction.{Direction}
 use Rattle.relup_instruction.specs.Instruction.{ChangeForm, Instruction}
 use Rattle.relup_script.specs.Script.{is_supported, may_follow, may_precede}
-use Rattle.sup_tree.specs.Loaded.{NamedModules, listed_in, module_named}
+use Rattle.loaded_modules.specs.Loaded.{NamedModules, listed_in, module_named}
 use Rattle.sup_tree.specs.Tree.{App}
 use Rattle.held_processes.specs.Course.{Courses, Operation, Users}
 use Rattle.held_processes.specs.Following.{Followed, HeldSlots, AllFollow, Stand}
@@ -15,7 +15,7 @@ use Rattle.held_processes.specs.Operations.{values_seen}
 use Rattle.script_steps.specs.declared.cause.Cause as declared
 use Rattle.script_steps.specs.declared.cause.Failure.{Failure}
 use Rattle.script_steps.specs.declared.progress.Progress.{Progress}
-use Rattle.script_steps.specs.Script.{Site, Run, change_within, changed_once, courses_within, each_within, fetched_from, load_courses, load_within, old_version, on_each, run_after, users_in, worker_in}
+use Rattle.script_steps.specs.Script.{Site, Run, change_within, changed_once, courses_within, each_within, fetched_from, load_courses, load_within, old_version, on_each, processes_changed, run_after, users_in, worker_in}
 use Rattle.script_steps.specs.Fault.{Cause, change_fault, fault, fetch_fault, table_fault}
 use Rattle.script_steps.specs.Fault.Cause.{no_memory}
 use Rattle.script_steps.specs.InMemory.{cause_of}
@@ -107,10 +107,20 @@ GivesTable past early name (Err e) hs v =
     IsCauseIn past.first v past.run (table_fault (worker_in (module_named name past.run.fetched)) (users_in past.run) name) (cause_of e.cause)
     × AllFollow past.first (load_within early name (worker_in (module_named name past.run.fetched)) e.slot (users_in past.run) past.run.courses) hs v
 
--- The change of code was made, or can't be made, behind so many others.
+-- The change of code can't be made, behind so many others.
+abbrev pub FailsToChange : Site → Past → Direction → ℕ → ChangeForm → Failure → ProgressForm → View → Type 0
+FailsToChange s past mode number c e a v =
+    IsCause (change_fault s mode (c ∷ []) (values_seen v) past.run) (cause_of e.cause) × (e.modules ≡ number)
+    × AllFollow past.first (change_within c.name (old_version s mode c.name past.run) c e.slot (users_in past.run) past.run.courses) a.held v
+
+-- It was made, or can't be made.
 abbrev pub ChangesOnce : {X : Type 0} → Site → Past → Direction → ℕ → ChangeForm → Result X Failure → ProgressForm → List App → View → Type 0
 ChangesOnce s past mode number c (Ok x) a tree v =
     (change_fault s mode (c ∷ []) (values_seen v) past.run ≡ None) × HasDone (record past { run = changed_once s mode c past.run }) a tree v
-ChangesOnce s past mode number c (Err e) a tree v =
-    IsCause (change_fault s mode (c ∷ []) (values_seen v) past.run) (cause_of e.cause) × (e.modules ≡ number)
-    × AllFollow past.first (change_within c.name (old_version s mode c.name past.run) c e.slot (users_in past.run) past.run.courses) a.held v
+ChangesOnce s past mode number c (Err e) a tree v = FailsToChange s past mode number c e a v
+
+-- So it was of the processes.
+abbrev pub ChangesProcesses : {X : Type 0} → Site → Past → Direction → ℕ → ChangeForm → Result X Failure → ProgressForm → List App → View → Type 0
+ChangesProcesses s past mode number c (Ok x) a tree v =
+    (change_fault s mode (c ∷ []) (values_seen v) past.run ≡ None) × HasDone (record past { run = processes_changed s mode c past.run }) a tree v
+ChangesProcesses s past mode number c (Err e) a tree v = FailsToChange s past mode number c e a v

@@ -23,7 +23,7 @@ use relup_instruction::Call;
 use std::alloc::Global;
 use std::rc::Rc;
 use std::sync::Wait;
-use sup_tree::{StartError, Tree};
+use sup_tree::StartError;
 
 // What a call does to applications. Those that load and unload them do nothing.
 enum AppCall<'a> {
@@ -40,20 +40,19 @@ impl Progress {
         alloc: Global,
         site: &Site<'_>,
         seat: &mut HandlerSeat,
-        tree: &mut Tree,
         call: &Call,
     ) -> Result<(), Failure>
         ghost past: { Past }
         requires table { seat.old.table ≡ site.now.table.now }
         requires supported { IsTrue (is_error (call_of call.now)
             || is_application (call_of call.now)) }
-        requires done { HasDone past (progress_of self.old) tree.old seat.old.view }
+        requires done { HasDone past (progress_of self.old) self.old.tree seat.old.view }
         ensures table { seat.new.table ≡ seat.old.table }
         ensures carried { CarriesOut (site_of site.now) past false (apply (call_of call.now))
-            result (progress_of self.new) tree.new seat.new.view }
+            result (progress_of self.new) self.new.tree seat.new.view }
     {
         if call.name.as_str() == "application" {
-            self.call_app(rt, alloc, site, seat, tree, app_call(call))
+            self.call_app(rt, alloc, site, seat, app_call(call))
         } else {
             Err(raise(call))
         }
@@ -66,23 +65,22 @@ impl Progress {
         alloc: Global,
         site: &Site<'_>,
         seat: &mut HandlerSeat,
-        tree: &mut Tree,
         call: AppCall<'_>,
     ) -> Result<(), Failure>
         ghost past: { Past }
         requires table { seat.old.table ≡ site.now.table.now }
-        requires done { HasDone past (progress_of self.old) tree.old seat.old.view }
+        requires done { HasDone past (progress_of self.old) self.old.tree seat.old.view }
         ensures table { seat.new.table ≡ seat.old.table }
         ensures called { CallsApp (site_of site.now) past (app_call_of call.entry)
-            result (progress_of self.new) tree.new seat.new.view }
+            result (progress_of self.new) self.new.tree seat.new.view }
     {
         match call {
             AppCall::Starts(app) => match target_library(site, app) {
-                Some(library) => self.start_from(rt, alloc, site, seat, tree, library.as_ref()),
+                Some(library) => self.start_from(rt, alloc, site, seat, library.as_ref()),
                 None => Err(failed(Cause::NoApp)),
             },
             AppCall::Stops(name) => {
-                self.stop_app(rt, site, seat, tree, &AppName { name });
+                self.stop_app(rt, site, seat, &AppName { name });
                 Ok(())
             }
             AppCall::Idle => Ok(()),
@@ -96,21 +94,17 @@ impl Progress {
         alloc: Global,
         site: &Site<'_>,
         seat: &mut HandlerSeat,
-        tree: &mut Tree,
         library: &Library,
     ) -> Result<(), Failure>
         ghost past: { Past }
         requires table { seat.old.table ≡ site.now.table.now }
-        requires done { HasDone past (progress_of self.old) tree.old seat.old.view }
+        requires done { HasDone past (progress_of self.old) self.old.tree seat.old.view }
         ensures table { seat.new.table ≡ seat.old.table }
         ensures started { StartsFrom (Some (library_of library.now)) past
-            result (progress_of self.new) tree.new seat.new.view }
+            result (progress_of self.new) self.new.tree seat.new.view }
     {
         let Library { app, .. } = library;
-        match self
-            .held
-            .start_app(rt, alloc, site.table, seat, tree, app, &self.next)
-        {
+        match self.held.start_app(rt, alloc, site.table, seat, &mut self.tree, app, &self.next) {
             Ok(()) => Ok(()),
             Err(error) => match start_cause(error) {
                 Some(cause) => Err(failed(cause)),
@@ -125,19 +119,19 @@ impl Progress {
         rt: &R,
         site: &Site<'_>,
         seat: &mut HandlerSeat,
-        tree: &mut Tree,
         app: &AppName<'_>,
     )
         ghost past: { Past }
         requires table { seat.old.table ≡ site.now.table.now }
-        requires done { HasDone past (progress_of self.old) tree.old seat.old.view }
+        requires done { HasDone past (progress_of self.old) self.old.tree seat.old.view }
         ensures table { seat.new.table ≡ seat.old.table }
         ensures done { HasDone (record past {
           run = called_after (site_of site.now)
               (stops app.now.name.now) past.run;
-        }) (progress_of self.new) tree.new seat.new.view }
+        }) (progress_of self.new) self.new.tree seat.new.view }
     {
-        self.held.stop_app(rt, site.table, seat, tree, app);
+        self.held
+            .stop_app(rt, site.table, seat, &mut self.tree, app);
     }
 }
 

@@ -1,23 +1,24 @@
-//! `code_change`: the states of processes that are held are changed.
+//! `code_change`: the states of processes that are held are changed, and the children of supervisors.
 ghost use Rattle.mod_table.specs.InMemory.{old_of};
 ghost use Rattle.proc_table.specs.declared.view.View.{View};
 ghost use Rattle.relup_instruction.specs.Instruction.Instruction.{code_change};
 ghost use Rattle.relup_instruction.specs.Instruction.{change_of, conversion_of};
 ghost use Rattle.script_steps.specs.InMemory.{site_of};
-ghost use Rattle.script_steps.specs.Script.{old_version, version_in};
-ghost use Rattle.script_steps.specs.Steps.{CarriesOut, ChangesOnce, HasDone, Past, progress_of};
+ghost use Rattle.relup_instruction.specs.declared.instruction.Direction.{Direction as Way};
+ghost use Rattle.script_steps.specs.Script as script;
+ghost use Rattle.script_steps.specs.Script.{old_version, supervisors_changed, version_in};
+ghost use Rattle.script_steps.specs.Steps.{CarriesOut, ChangesOnce, ChangesProcesses, HasDone, Past, progress_of};
 ghost use Rattle.std.specs.Option.{option_map, option_or};
-ghost use Rattle.std.specs.Prelude.{◌≡◌, Bool, IfOk, List};
-ghost use Rattle.sup_tree.specs.Loaded.{listed_in};
-ghost use Rattle.sup_tree.specs.Tree.{App};
+ghost use Rattle.std.specs.Prelude.{◌≡◌, Bool, IfOk, OnErr, OnOk};
+ghost use Rattle.loaded_modules.specs.Loaded.{listed_in, modules_in, tables_of};
 
 use crate::progress::Progress;
 use crate::{Cause, Failure, Site};
 use held_processes::Users;
-use mod_table::Old;
+use mod_table::{Old, Table};
+use proc_table::Pid;
 use relup_instruction::{Change, Conversion, Direction};
 use std::alloc::{AllocError, Global};
-use sup_tree::Tree;
 
 impl Progress {
     // Changes of code, one after another.
@@ -25,39 +26,101 @@ impl Progress {
         &mut self,
         alloc: Global,
         site: &Site<'_>,
-        tree: &Tree,
         conversion: &Conversion,
     ) -> Result<(), Failure>
         ensures { (past : Past) (v : View) (early : Bool)
-            → HasDone past (progress_of self.old) tree.now v
+            → HasDone past (progress_of self.old) self.old.tree v
             → CarriesOut (site_of site.now) past early (code_change (conversion_of conversion.now))
-            result (progress_of self.new) tree.now v }
+            result (progress_of self.new) self.new.tree v }
     {
         let mode = conversion.mode.unwrap_or(Direction::Up);
         for (i, change) in conversion.changes.iter().enumerate() {
-            self.change_once(alloc, site, tree, mode, i, change)?;
+            self.change_once(alloc, site, mode, i, change)?;
         }
         Ok(())
     }
 
-    // One change of code, behind so many others. It is none where no process of the module is held.
+    // One change of code, behind so many others.
     fn change_once(
         &mut self,
         alloc: Global,
         site: &Site<'_>,
-        tree: &Tree,
         mode: Direction,
         number: usize,
         change: &Change,
     ) -> Result<(), Failure>
-        ensures { (past : Past) (v : View) → HasDone past (progress_of self.old) tree.now v
+        ensures { (past : Past) (v : View) → HasDone past (progress_of self.old) self.old.tree v
             → ChangesOnce (site_of site.now) past mode number (change_of change.now)
-            result (progress_of self.new) tree.now v }
+            result (progress_of self.new) self.new.tree v }
     {
-        let module = change.name.as_str();
-        let users = Users { tree, module };
-        match self.old_version(alloc, site, mode, module) {
-            Ok(Some(old)) => match self.held.change(&users, &old, &change.extra) {
+        self.change_processes(alloc, site, mode, number, change)?;
+        match self.change_supervisors(alloc, change.name.as_str()) {
+            Ok(()) => Ok(()),
+            Err(_) => Err(Failure {
+                cause: Cause::NoMemory,
+                modules: number,
+                slot: Pid::count(),
+            }),
+        }
+    }
+
+    // The supervisors of the module get the children of its table, where that is one of a supervisor.
+    fn change_supervisors(&mut self, alloc: Global, module: &str) -> Result<(), AllocError>
+        ensures held { self.new.held ≡ self.old.held }
+        ensures fetched { self.new.fetched ≡ self.old.fetched }
+        ensures next { self.new.next ≡ self.old.next }
+        ensures changed { OnOk result (self.new.tree ≡ supervisors_changed «module».now
+            (tables_of (modules_in self.old.next) «module».now) self.old.tree) }
+        ensures kept { OnErr result (self.new.tree ≡ self.old.tree) }
+    {
+        match self.next.table(module) {
+            Some(Table::Super(table)) => self.tree.change_children(alloc, module, table),
+            Some(Table::Worker(_)) | None => Ok(()),
+        }
+    }
+
+    // The processes of the module are changed.
+    fn change_processes(
+        &mut self,
+        alloc: Global,
+        site: &Site<'_>,
+        mode: Direction,
+        number: usize,
+        change: &Change,
+    ) -> Result<(), Failure>
+        ensures { (past : Past) (v : View) → HasDone past (progress_of self.old) self.old.tree v
+            → ChangesProcesses (site_of site.now) past mode number (change_of change.now)
+            result (progress_of self.new) self.new.tree v }
+    {
+        match self.old_version(alloc, site, mode, change.name.as_str()) {
+            Ok(old) => self.change_from(old, number, change),
+            Err(_) => Err(Failure {
+                cause: Cause::NoMemory,
+                modules: number,
+                slot: 0,
+            }),
+        }
+    }
+
+    // They are changed from this version. It is no change where none of them is held.
+    fn change_from(
+        &mut self,
+        old: Option<Old>,
+        number: usize,
+        change: &Change,
+    ) -> Result<(), Failure>
+        ensures { (s : script.Site) (mode : Way) (past : Past) (v : View)
+            → HasDone past (progress_of self.old) self.old.tree v
+            → option_map old_of old ≡ old_version s mode (change_of change.now).name past.run
+            → ChangesProcesses s past mode number (change_of change.now)
+            result (progress_of self.new) self.new.tree v }
+    {
+        let users = Users {
+            tree: &self.tree,
+            module: change.name.as_str(),
+        };
+        match old {
+            Some(old) => match self.held.change(&users, &old, &change.extra) {
                 Ok(()) => Ok(()),
                 Err(undone) => Err(Failure {
                     cause: Cause::NoChange,
@@ -65,17 +128,12 @@ impl Progress {
                     slot: undone.slot,
                 }),
             },
-            Ok(None) if self.held.holds(&users) => Err(Failure {
+            None if self.held.holds(&users) => Err(Failure {
                 cause: Cause::NoChange,
                 modules: number,
                 slot: 0,
             }),
-            Ok(None) => Ok(()),
-            Err(_) => Err(Failure {
-                cause: Cause::NoMemory,
-                modules: number,
-                slot: 0,
-            }),
+            None => Ok(()),
         }
     }
 
@@ -87,8 +145,8 @@ impl Progress {
         mode: Direction,
         name: &str,
     ) -> Result<Option<Old>, AllocError>
-        ensures { IfOk result (λ o. (past : Past) (apps : List App) (v : View)
-            → HasDone past (progress_of self.now) apps v
+        ensures { IfOk result (λ o. (past : Past) (v : View)
+            → HasDone past (progress_of self.now) self.now.tree v
             → option_map old_of o ≡ old_version (site_of site.now) mode name.now past.run) }
     {
         match mode {

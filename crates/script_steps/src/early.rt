@@ -11,7 +11,6 @@ use proc_table::HandlerSeat;
 use relup_instruction::Instr;
 use std::alloc::Global;
 use std::sync::Wait;
-use sup_tree::Tree;
 
 impl Progress {
     /// Carries out an instruction that may stand before the point of no return. It waits for processes that clients have. By
@@ -22,23 +21,22 @@ impl Progress {
         alloc: Global,
         site: &Site<'_>,
         seat: &mut HandlerSeat,
-        tree: &Tree,
         _before: &[Instr],
         instr: &Instr,
     ) -> Result<(), Failure>
         ghost past: { Past }
         requires table { seat.old.table ≡ site.now.table.now }
         requires early { IsEarly (instruction_of instr.now) }
-        requires done { HasDone past (progress_of self.old) tree.now seat.old.view }
+        requires done { HasDone past (progress_of self.old) self.old.tree seat.old.view }
         ensures table { seat.new.table ≡ seat.old.table }
         ensures carried { CarriesOut (site_of site.now) past true (instruction_of instr.now)
-            result (progress_of self.new) tree.now seat.new.view }
+            result (progress_of self.new) self.new.tree seat.new.view }
     {
         match instr {
             Instr::LoadObjectCode(modules) => self.fetch(alloc, site, modules),
-            Instr::Suspend(suspensions) => self.suspend(rt, alloc, site, seat, tree, suspensions),
-            Instr::Load(purging) => self.load(rt, alloc, site, seat, tree, true, purging),
-            Instr::CodeChange(conversion) => self.change_code(alloc, site, tree, conversion),
+            Instr::Suspend(suspensions) => self.suspend(rt, alloc, site, seat, suspensions),
+            Instr::Load(purging) => self.load(rt, alloc, site, seat, true, purging),
+            Instr::CodeChange(conversion) => self.change_code(alloc, site, conversion),
             Instr::Apply(call) => Err(raise(call)),
             _ => unreachable!(),
         }

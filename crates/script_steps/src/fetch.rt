@@ -6,17 +6,16 @@ ghost use Rattle.relup_instruction.specs.Instruction.{fetch_of};
 ghost use Rattle.script_steps.specs.InMemory.{site_of};
 ghost use Rattle.script_steps.specs.Script.{library_for};
 ghost use Rattle.script_steps.specs.Steps.{CarriesOut, Fetches, HasDone, Past, progress_of};
-ghost use Rattle.std.specs.Prelude.{Bool, List, Some, map, string_bytes};
-ghost use Rattle.sup_tree.specs.Loaded.{listed_in};
-ghost use Rattle.sup_tree.specs.Tree.{App};
+ghost use Rattle.std.specs.Prelude.{Bool, Some, map, string_bytes};
+ghost use Rattle.loaded_modules.specs.Loaded.{listed_in};
 
 use crate::progress::Progress;
 use crate::{Cause, Failure, Site};
 use library::Library;
+use loaded_modules::Loaded;
 use relup_instruction::Fetch;
 use std::alloc::Global;
 use std::rc::Rc;
-use sup_tree::Loaded;
 
 impl Progress {
     // Fetches the modules, in place of those of their names that were fetched before.
@@ -26,10 +25,10 @@ impl Progress {
         site: &Site<'_>,
         fetch: &Fetch,
     ) -> Result<(), Failure>
-        ensures { (past : Past) (apps : List App) (v : View) (early : Bool)
-            → HasDone past (progress_of self.old) apps v
+        ensures { (past : Past) (v : View) (early : Bool)
+            → HasDone past (progress_of self.old) self.old.tree v
             → CarriesOut (site_of site.now) past early (load_object_code (fetch_of fetch.now))
-            result (progress_of self.new) apps v }
+            result (progress_of self.new) self.new.tree v }
     {
         match fetch_from(alloc, site, &mut self.fetched, fetch) {
             Ok(()) => Ok(()),

@@ -11,7 +11,6 @@ use proc_table::HandlerSeat;
 use relup_instruction::Instr;
 use std::alloc::Global;
 use std::sync::Wait;
-use sup_tree::Tree;
 
 impl Progress {
     /// Carries out an instruction that may stand behind the point of no return. By those before it the caller's proof names
@@ -22,38 +21,37 @@ impl Progress {
         alloc: Global,
         site: &Site<'_>,
         seat: &mut HandlerSeat,
-        tree: &mut Tree,
         _before: &[Instr],
         instr: &Instr,
     ) -> Result<(), Failure>
         ghost past: { Past }
         requires table { seat.old.table ≡ site.now.table.now }
         requires late { IsLate (instruction_of instr.now) }
-        requires done { HasDone past (progress_of self.old) tree.old seat.old.view }
+        requires done { HasDone past (progress_of self.old) self.old.tree seat.old.view }
         ensures table { seat.new.table ≡ seat.old.table }
         ensures carried { CarriesOut (site_of site.now) past false (instruction_of instr.now)
-            result (progress_of self.new) tree.new seat.new.view }
+            result (progress_of self.new) self.new.tree seat.new.view }
     {
         match instr {
-            Instr::Suspend(suspensions) => self.suspend(rt, alloc, site, seat, tree, suspensions),
-            Instr::Load(purging) => self.load(rt, alloc, site, seat, tree, false, purging),
-            Instr::CodeChange(conversion) => self.change_code(alloc, site, tree, conversion),
+            Instr::Suspend(suspensions) => self.suspend(rt, alloc, site, seat, suspensions),
+            Instr::Load(purging) => self.load(rt, alloc, site, seat, false, purging),
+            Instr::CodeChange(conversion) => self.change_code(alloc, site, conversion),
             Instr::Resume(names) => {
-                self.do_plain(rt, site, seat, tree, Plain::Resume, names);
+                self.do_plain(rt, site, seat, Plain::Resume, names);
                 Ok(())
             }
             Instr::Stop(names) => {
-                self.do_plain(rt, site, seat, tree, Plain::Stop, names);
+                self.do_plain(rt, site, seat, Plain::Stop, names);
                 Ok(())
             }
             Instr::Start(names) => {
-                self.do_plain(rt, site, seat, tree, Plain::Start, names);
+                self.do_plain(rt, site, seat, Plain::Start, names);
                 Ok(())
             }
-            Instr::Remove(purging) => self.remove(rt, site, seat, tree, purging),
+            Instr::Remove(purging) => self.remove(rt, site, seat, purging),
             Instr::Purge(_) => Ok(()),
             Instr::RestartEmulator => Ok(()),
-            Instr::Apply(call) => self.apply(rt, alloc, site, seat, tree, call),
+            Instr::Apply(call) => self.apply(rt, alloc, site, seat, call),
             _ => unreachable!(),
         }
     }

@@ -7,17 +7,17 @@ ghost use Rattle.script_steps.specs.Script.{worker_in};
 ghost use Rattle.script_steps.specs.Steps.{CarriesOut, GivesTable, HasDone, Past, progress_of};
 ghost use Rattle.std.specs.Option.{option_map};
 ghost use Rattle.std.specs.Prelude.{◌≡◌, IsSome};
-ghost use Rattle.sup_tree.specs.Loaded.{listed_in, module_named};
+ghost use Rattle.loaded_modules.specs.Loaded.{listed_in, module_named};
 
 use crate::progress::Progress;
 use crate::{Cause, Failure, Site};
 use held_processes::Users;
+use loaded_modules::Loaded;
 use mod_table::{Table, Worker};
 use proc_table::{HandlerSeat, Pid};
 use relup_instruction::Purging;
 use std::alloc::Global;
 use std::sync::Wait;
-use sup_tree::{Loaded, Tree};
 
 impl Progress {
     // The module that was fetched is loaded. Before the point of no return its processes are held until then.
@@ -27,19 +27,18 @@ impl Progress {
         alloc: Global,
         site: &Site<'_>,
         seat: &mut HandlerSeat,
-        tree: &Tree,
         early: bool,
         purging: &Purging,
     ) -> Result<(), Failure>
         ghost past: { Past }
         requires table { seat.old.table ≡ site.now.table.now }
-        requires done { HasDone past (progress_of self.old) tree.now seat.old.view }
+        requires done { HasDone past (progress_of self.old) self.old.tree seat.old.view }
         ensures table { seat.new.table ≡ seat.old.table }
         ensures carried { CarriesOut (site_of site.now) past early (load (purging_of purging.now))
-            result (progress_of self.new) tree.now seat.new.view }
+            result (progress_of self.new) self.new.tree seat.new.view }
     {
         match self.fetched.vsn(purging.name.as_str()) {
-            Some(_) => self.load_fetched(rt, alloc, site, seat, tree, early, purging),
+            Some(_) => self.load_fetched(rt, alloc, site, seat, early, purging),
             None => Err(Failure {
                 cause: Cause::NotFetched,
                 modules: 0,
@@ -55,24 +54,20 @@ impl Progress {
         alloc: Global,
         site: &Site<'_>,
         seat: &mut HandlerSeat,
-        tree: &Tree,
         early: bool,
         purging: &Purging,
     ) -> Result<(), Failure>
         ghost past: { Past }
         requires table { seat.old.table ≡ site.now.table.now }
-        requires done { HasDone past (progress_of self.old) tree.now seat.old.view }
+        requires done { HasDone past (progress_of self.old) self.old.tree seat.old.view }
         requires fetched { IsSome (module_named (purging_of purging.now).name past.run.fetched) }
         ensures table { seat.new.table ≡ seat.old.table }
         ensures carried { CarriesOut (site_of site.now) past early (load (purging_of purging.now))
-            result (progress_of self.new) tree.now seat.new.view }
+            result (progress_of self.new) self.new.tree seat.new.view }
     {
-        let users = Users {
-            tree,
-            module: purging.name.as_str(),
-        };
-        self.give_table(rt, alloc, site, seat, &users, early)?;
-        match self.next.load_from(alloc, &self.fetched, users.module) {
+        self.give_table(rt, alloc, site, seat, early, purging)?;
+        let module = purging.name.as_str();
+        match self.next.load_from(alloc, &self.fetched, module) {
             Ok(_) => Ok(()),
             Err(_) => Err(Failure {
                 cause: Cause::NoMemory,
@@ -89,20 +84,25 @@ impl Progress {
         alloc: Global,
         site: &Site<'_>,
         seat: &mut HandlerSeat,
-        users: &Users<'_>,
         early: bool,
+        purging: &Purging,
     ) -> Result<(), Failure>
         ghost past: { Past }
         requires table { seat.old.table ≡ site.now.table.now }
-        requires done { HasDone past (progress_of self.old) users.now.tree.now seat.old.view }
+        requires done { HasDone past (progress_of self.old) self.old.tree seat.old.view }
         ensures table { seat.new.table ≡ seat.old.table }
         ensures fetched { self.new.fetched ≡ self.old.fetched }
         ensures next { self.new.next ≡ self.old.next }
-        ensures given { GivesTable past early users.now.module.now
+        ensures tree { self.new.tree ≡ self.old.tree }
+        ensures given { GivesTable past early (purging_of purging.now).name
             result self.new.held seat.new.view }
     {
+        let users = Users {
+            tree: &self.tree,
+            module: purging.name.as_str(),
+        };
         let Some(worker) = worker_in(&self.fetched, users.module) else {
-            return if is_used(users) {
+            return if is_used(&users) {
                 Err(Failure {
                     cause: Cause::NoTable,
                     modules: 0,
@@ -114,7 +114,7 @@ impl Progress {
         };
         match self
             .held
-            .load(rt, alloc, site.table, seat, users, worker, early)
+            .load(rt, alloc, site.table, seat, &users, worker, early)
         {
             Ok(()) => Ok(()),
             Err(undone) => Err(Failure {

@@ -1,5 +1,5 @@
-//! What a script holds, and has fetched, so far.
-ghost use Rattle.std.specs.Prelude.{◌≡◌, ℕ, IfOk, List};
+//! What a script has done so far.
+ghost use Rattle.std.specs.Prelude.{◌≡◌, ℕ, IfOk};
 ghost use Rattle.held_processes.specs.Course.{Courses};
 ghost use Rattle.held_processes.specs.Following.{AllFollow, AreLeft, HoldsNothing};
 ghost use Rattle.held_processes.specs.Operations.{values_seen};
@@ -8,35 +8,39 @@ ghost use Rattle.proc_table.specs.declared.view.View.{View};
 ghost use Rattle.script_steps.specs.InMemory.{site_of};
 ghost use Rattle.script_steps.specs.Script.{began};
 ghost use Rattle.script_steps.specs.Steps.{HasDone, progress_of};
-ghost use Rattle.sup_tree.specs.Tree.{App};
 
 use crate::Site;
 use held_processes::HeldProcesses;
+use loaded_modules::Loaded;
 use proc_table::{HandlerSeat, ProcTable};
 use std::alloc::{AllocError, Global};
-use sup_tree::Loaded;
+use sup_tree::Tree;
 
-/// What a script holds and has fetched so far, and what is loaded once it has ended well.
+/// What a script holds and has fetched so far, and what is loaded and started once it has ended well.
 pub struct Progress {
     pub held: HeldProcesses,
     pub fetched: Loaded,
     pub next: Loaded,
+    pub tree: Tree,
 }
 
 impl Progress {
-    /// Nothing was done yet.
-    pub fn new(alloc: Global, site: &Site<'_>) -> Result<Progress, AllocError>
-        ensures { IfOk result (λ p. (v : View) (apps : List App) → HoldsNothing v → HasDone
-            (record { first = v; run = began (site_of site.now) apps (values_seen v) })
-            (progress_of p) apps v) }
+    /// Nothing was done yet, where these applications are started.
+    pub fn new(alloc: Global, site: &Site<'_>, tree: &Tree) -> Result<Progress, AllocError>
+        ensures tree { IfOk result (λ p. p.tree ≡ tree.now) }
+        ensures begun { IfOk result (λ p. (v : View) → HoldsNothing v → HasDone
+            (record { first = v; run = began (site_of site.now) p.tree (values_seen v) })
+            (progress_of p) p.tree v) }
     {
         let next = site.loaded.copy()?;
+        let tree = tree.copy(alloc)?;
         let held = HeldProcesses::new(alloc)?;
         let fetched = Loaded::new(alloc);
         Ok(Progress {
             held,
             fetched,
             next,
+            tree,
         })
     }
 
@@ -54,6 +58,7 @@ impl Progress {
             held,
             fetched: _fetched,
             next: _next,
+            tree: _tree,
         } = self;
         held.roll_back(table, seat);
     }

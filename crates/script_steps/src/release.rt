@@ -30,19 +30,26 @@ impl Progress {
         rt: &R,
         site: &Site<'_>,
         seat: &mut HandlerSeat,
-        tree: &Tree,
         plain: Plain,
         names: &[String],
     )
         ghost past: { Past }
         requires table { seat.old.table ≡ site.now.table.now }
-        requires done { HasDone past (progress_of self.old) tree.now seat.old.view }
+        requires done { HasDone past (progress_of self.old) self.old.tree seat.old.view }
         ensures table { seat.new.table ≡ seat.old.table }
         ensures carried { CarriesOut {X = Unit {0}} (site_of site.now) past false
             (plain_instruction plain (map string_bytes names.now)) (Ok tt)
-            (progress_of self.new) tree.now seat.new.view }
+            (progress_of self.new) self.new.tree seat.new.view }
     {
-        do_all(rt, site.table, seat, tree, &mut self.held, plain, names);
+        do_all(
+            rt,
+            site.table,
+            seat,
+            &self.tree,
+            &mut self.held,
+            plain,
+            names,
+        );
     }
 }
 

@@ -14,7 +14,6 @@ use held_processes::Users;
 use proc_table::HandlerSeat;
 use relup_instruction::Purging;
 use std::sync::Wait;
-use sup_tree::Tree;
 
 impl Progress {
     // The module isn't loaded any more, unless it runs somewhere.
@@ -23,25 +22,23 @@ impl Progress {
         rt: &R,
         site: &Site<'_>,
         seat: &mut HandlerSeat,
-        tree: &Tree,
         purging: &Purging,
     ) -> Result<(), Failure>
         ghost past: { Past }
         requires table { seat.old.table ≡ site.now.table.now }
-        requires done { HasDone past (progress_of self.old) tree.now seat.old.view }
+        requires done { HasDone past (progress_of self.old) self.old.tree seat.old.view }
         ensures table { seat.new.table ≡ seat.old.table }
         ensures carried { CarriesOut (site_of site.now) past false (remove (purging_of purging.now))
-            result (progress_of self.new) tree.now seat.new.view }
+            result (progress_of self.new) self.new.tree seat.new.view }
     {
-        let module = purging.name.as_str();
-        if self.is_in_use(rt, site, seat, &Users { tree, module }) {
+        if self.is_in_use(rt, site, seat, purging) {
             return Err(Failure {
                 cause: Cause::InUse,
                 modules: 0,
                 slot: 0,
             });
         }
-        self.next.remove(module);
+        self.next.remove(purging.name.as_str());
         Ok(())
     }
 
@@ -51,17 +48,21 @@ impl Progress {
         rt: &R,
         site: &Site<'_>,
         seat: &mut HandlerSeat,
-        users: &Users<'_>,
+        purging: &Purging,
     ) -> bool
         ghost followed: { Followed }
         requires table { seat.old.table ≡ site.now.table.now }
         requires follow { AllFollow followed.first followed.courses self.now.held seat.old.view }
         ensures table { seat.new.table ≡ seat.old.table }
-        ensures told { result ≡ (supervises users.now.module.now users.now.tree.now
-            || uses_up (values_seen seat.new.view) (users_of users.now.tree.now)
-            users.now.module.now followed.courses) }
+        ensures told { result ≡ (supervises (purging_of purging.now).name self.now.tree
+            || uses_up (values_seen seat.new.view) (users_of self.now.tree)
+            (purging_of purging.now).name followed.courses) }
         ensures follow { AllFollow followed.first followed.courses self.now.held seat.new.view }
     {
-        users.tree.supervises(users.module) || self.held.any_up(rt, site.table, seat, users)
+        let users = Users {
+            tree: &self.tree,
+            module: purging.name.as_str(),
+        };
+        self.tree.supervises(users.module) || self.held.any_up(rt, site.table, seat, &users)
     }
 }

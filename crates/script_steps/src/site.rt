@@ -1,10 +1,10 @@
 //! Where a script runs.
 
 use library::Library;
+use loaded_modules::Loaded;
 use proc_table::ProcTable;
 use rel_list::ReleaseList;
 use std::rc::Rc;
-use sup_tree::Loaded;
 
 /// Where a script runs: the processes, the releases from whose libraries modules are fetched, the libraries of the release to
 /// which the script leads, and what was loaded when it began.

@@ -26,19 +26,18 @@ impl Progress {
         alloc: Global,
         site: &Site<'_>,
         seat: &mut HandlerSeat,
-        tree: &Tree,
         suspensions: &[Suspension],
     ) -> Result<(), Failure>
         ghost past: { Past }
         requires table { seat.old.table ≡ site.now.table.now }
-        requires done { HasDone past (progress_of self.old) tree.now seat.old.view }
+        requires done { HasDone past (progress_of self.old) self.old.tree seat.old.view }
         ensures table { seat.new.table ≡ seat.old.table }
         ensures carried { (early : Bool) → CarriesOut (site_of site.now) past early
             (instruction.Instruction.suspend (map suspension_of suspensions.now))
-            result (progress_of self.new) tree.now seat.new.view }
+            result (progress_of self.new) self.new.tree seat.new.view }
     {
         let held = &mut self.held;
-        hold_all(rt, alloc, site.table, seat, tree, held, suspensions)
+        hold_all(rt, alloc, site.table, seat, &self.tree, held, suspensions)
     }
 }
 

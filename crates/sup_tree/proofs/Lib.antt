@@ -2,8 +2,6 @@ pub mod WalkLemmas
 pub mod AppLemmas
 pub mod CheckLemmas
 pub mod BeginLemmas
-pub mod LoadedLemmas
-pub mod ListingLemmas
 pub mod SlotLemmas
-pub mod NamedLemmas
 pub mod StopLemmas
+pub mod ChangeLemmas

@@ -1,4 +1,4 @@
--- Laws of starts and stops, and of what is loaded.
+-- Laws of starts.
 use Rattle.std.specs.Prelude.{◌≡◌, ℕ, suc, ◌+◌, ◌<◌, ◌≤◌, true, List, [], ◌∷◌, length, None, Some}
 use Rattle.mod_table.specs.declared.table.Table.TheVariants.{Super}
 use Rattle.mod_table.specs.Table.{SuperTable}
@@ -10,9 +10,7 @@ use Rattle.proc_table.specs.Views.{seen, handler_view}
 use Rattle.proc_table.specs.Free.{next_in}
 use Rattle.rel_check.specs.Modules.{Tables}
 use Rattle.rel_check.specs.Walk.{is_within, members_from, missing_below, processes_from}
-use Rattle.sup_tree.specs.declared.loaded.Loaded.{Loaded}
 use Rattle.sup_tree.specs.declared.member.StartedProcess.{StartedProcess}
-use Rattle.sup_tree.specs.Loaded.{modules_in, module_named, listed_in}
 use Rattle.sup_tree.specs.Walk.{Start, children_fault, children_members, starts_among}
 use Rattle.sup_tree.specs.Starts.{beginning_of, BeganInOrder}
 
@@ -48,7 +46,3 @@ CheckedStarts = (n : ℕ) (tables : Tables) (s : SuperTable) (depth : ℕ) → m
     → (children_fault n tables s.children ≡ None)
     × (length (starts_among (children_members n tables depth s.children)) ≡ processes_from n tables (Super s))
     × (suc (length (children_members n tables depth s.children)) ≡ members_from n tables (Super s))
-
--- What is loaded under a name is what the list of the loaded modules has under it.
-abbrev pub FoundAsListed : Type 0
-FoundAsListed = (l : Loaded) (name : List ℕ) → modules_in l name ≡ module_named name (listed_in l)

@@ -1,8 +1,8 @@
-pub mod Loaded
 pub mod Walk
 pub mod InMemory
 pub mod Tree
 pub mod Starts
 pub mod Begins
 pub mod Stops
+pub mod Changes
 pub mod Laws

@@ -1,5 +1,5 @@
 -- The applications that are started, and their members.
-use Rattle.std.specs.Prelude.{ℕ, ◌==◌, Bool, false, List, [], ◌∷◌, map, Option, Some, None, if◌then◌else◌}
+use Rattle.std.specs.Prelude.{ℕ, ◌==◌, Bool, false, List, [], ◌∷◌, map, nat_le, Option, Some, None, if◌then◌else◌}
 use Rattle.std.proofs.Common.{refl}
 use Rattle.std.specs.Coded.{Coded, coded×, coded_ℕ, coded_list, code_by}
 use Rattle.std.specs.List.{find, filter, flat_map, list_any}
@@ -67,12 +67,19 @@ app_processes a = processes_among a.members
 abbrev pub app_pids : App → List Pid
 app_pids a = pids_of (app_processes a)
 
--- the first process with this id
-abbrev pub first_with : List ℕ → List StartedProcess → Option Pid
-first_with id ps = option_map (λ (p : StartedProcess). p.pid) (find (λ (p : StartedProcess). bytes_eq p.id id) ps)
+-- of two places the one in the lower slot
+abbrev pub lower : Option Pid → Option Pid → Option Pid
+lower None o = o
+lower o None = o
+lower (Some p) (Some q) = Some (if nat_le p.slot q.slot then p else q)
+
+-- the process with this id: of several the one in the lowest slot
+abbrev pub lowest_with : List ℕ → List StartedProcess → Option Pid
+lowest_with id [] = None
+lowest_with id (p ∷ ps) = if bytes_eq p.id id then lower (Some p.pid) (lowest_with id ps) else lowest_with id ps
 
 abbrev pub find_process : List ℕ → List ℕ → List App → Option Pid
-find_process name id apps = option_and_then (λ (a : App). first_with id (app_processes a)) (app_named name apps)
+find_process name id apps = option_and_then (λ (a : App). lowest_with id (app_processes a)) (app_named name apps)
 
 -- those that run this module
 abbrev pub using_among : List ℕ → List StartedProcess → List Pid

@@ -4,12 +4,13 @@ ghost use Rattle.app_file.specs.InMemory.{specification_of};
 ghost use Rattle.proc_table.specs.Free.{free_count};
 ghost use Rattle.sup_tree.specs.Begins.{AllBegan, IsBegun, new_process_of, preparation_of, to_begin};
 ghost use Rattle.sup_tree.specs.InMemory.{new_member_of, new_members_of};
-ghost use Rattle.sup_tree.specs.Loaded.{modules_in, tables_of};
+ghost use Rattle.loaded_modules.specs.Loaded.{modules_in, tables_of};
 ghost use Rattle.sup_tree.specs.Starts.{StartsApp, state_before};
 
 use crate::walk::{NewMember, members_to_start};
-use crate::{Loaded, Member, MemberState, StartError, StartedApp, StartedProcess, Tree};
+use crate::{Member, MemberState, StartError, StartedApp, StartedProcess, Tree};
 use app_file::App;
+use loaded_modules::Loaded;
 use mod_table::Table;
 use proc_table::{Beginning, HandlerSeat, Name, ProcTable};
 use std::alloc::{AllocError, Global};

@@ -1,5 +1,5 @@
-//! Laws of starts, and of what is loaded. Each function does nothing: its contract is the law.
-ghost use Rattle.sup_tree.specs.Laws.{WhatBeganStands, FirstSlots, CheckedStarts, FoundAsListed};
+//! Laws of starts. Each function does nothing: its contract is the law.
+ghost use Rattle.sup_tree.specs.Laws.{WhatBeganStands, FirstSlots, CheckedStarts};
 
 /// A process that began stands in its slot, with the names of its application and its id, in the first state of its table.
 pub fn what_began_stands()
@@ -15,9 +15,4 @@ pub fn processes_begin_in_the_first_slots()
 /// counted.
 pub fn a_release_that_passed_the_tests_starts()
     ensures { CheckedStarts }
-{}
-
-/// The two views that contracts have of what is loaded agree: what is found under a name is what is listed under it.
-pub fn what_is_loaded_is_listed()
-    ensures { FoundAsListed }
 {}

@@ -1,7 +1,7 @@
 //! The tree of started applications.
-ghost use Rattle.std.specs.Prelude.{◌≡◌, ◌++◌, IfOk, OnOk, is_some, []};
+ghost use Rattle.std.specs.Prelude.{◌≡◌, ◌++◌, IfOk, OnOk, Some, is_some, []};
 ghost use Rattle.std.specs.Option.{option_map};
-ghost use Rattle.sup_tree.specs.Tree.{app_of, app_named, find_process, first_with, members_of, module_among, module_in, processes_among, processes_using, supervises, supervises_in, using_among};
+ghost use Rattle.sup_tree.specs.Tree.{app_of, app_named, find_process, lower, lowest_with, members_of, module_among, module_in, processes_among, processes_using, supervises, supervises_in, using_among};
 
 use crate::member::{Member, StartedApp};
 use proc_table::Pid;
@@ -54,7 +54,7 @@ impl Tree {
         }
     }
 
-    /// The process of this application with this id, where there is one.
+    /// The process of this application with this id, where there is one; of several the one in the lowest slot.
     pub fn find(&self, app: &str, id: &str) -> Option<Pid>
         ensures { result ≡ find_process app.now id.now self.now }
     {
@@ -109,18 +109,29 @@ impl Tree {
     }
 }
 
-// The first process with this id among those of these members.
+// The process with this id among those of these members.
 fn process_with(members: &[Member], id: &str) -> Option<Pid>
-    ensures { result ≡ first_with id.now (processes_among members.now) }
+    ensures { result ≡ lowest_with id.now (processes_among members.now) }
 {
+    let mut found = None;
     for member in members {
         if let Some(process) = member.process() {
             if process.id.as_str() == id {
-                return Some(process.pid);
+                found = Some(lower(found, process.pid));
             }
         }
     }
-    None
+    found
+}
+
+// What was found, or a further place where its slot is lower.
+fn lower(found: Option<Pid>, pid: Pid) -> Pid
+    ensures { Some result ≡ lower found (Some pid) }
+{
+    match found {
+        Some(lowest) if lowest.slot <= pid.slot => lowest,
+        Some(_) | None => pid,
+    }
 }
 
 // Those of these members that run this module, behind those that are there.

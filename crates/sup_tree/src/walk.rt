@@ -6,12 +6,12 @@ ghost use Rattle.app_file.specs.InMemory.{specification_of};
 ghost use Rattle.mod_table.specs.InMemory.{child_of};
 ghost use Rattle.rel_check.specs.Walk.{child_table};
 ghost use Rattle.sup_tree.specs.InMemory.{AreSound, Reports, Adds, noted_in, new_member_of, new_members_of, AnswersMembers, AreMembers, TopIs};
-ghost use Rattle.sup_tree.specs.Loaded.{modules_in, tables_of};
+ghost use Rattle.loaded_modules.specs.Loaded.{modules_in, tables_of};
 ghost use Rattle.sup_tree.specs.Walk.{children_fault, children_members, fault_from, members_below, members_from, starts_among, super_children};
 
 use crate::StartError;
-use crate::loaded::Loaded;
 use app_file::App;
+use loaded_modules::Loaded;
 use mod_table::{Child, ChildKind, Restart, Table};
 use std::alloc::{AllocError, Global};
 use std::collections::BTreeMap;

@@ -5,7 +5,7 @@ use Rattle.proc_table.specs.Views.{handler_view}
 use Rattle.proc_table.specs.declared.view.View.{View}
 use Rattle.rel_check.specs.Modules.{Tables, parts}
 use Rattle.rel_files.specs.Release.{application_of}
-use Rattle.sup_tree.specs.Loaded.{modules_in, tables_of, listed_in}
+use Rattle.loaded_modules.specs.Loaded.{modules_in, tables_of, listed_in}
 use Rattle.sup_tree.specs.Tree.{App}
 use Rattle.node_processes.specs.Fresh.{started_parts, tables_in}
 use Rattle.node_start.specs.Starting.{AreReady, StartedAll}

@@ -1,6 +1,6 @@
 use Rattle.std.proofs.Common.{◌≡◌, ℕ, ◌+◌, List, drop, sym, ap, subst, ◌∙◌}
 use Rattle.std.proofs.lemmas.Map.Text.{btree_map_updates_str}
-use Rattle.sup_tree.specs.Loaded.{listed_in}
+use Rattle.loaded_modules.specs.Loaded.{listed_in}
 use Rattle.node_upgrade.specs.Stale.{is_stale, names_in}
 use Rattle.node_upgrade.proofs.StaleLemmas.{first_names, names_told, noted_with, turn_kept, turn_noted}
 use Rattle.node_upgrade.proofs.stale.note_stale.Goals as goal

@@ -1,5 +1,5 @@
 use Rattle.std.proofs.Common.{◌≡◌, ℕ, List, drop}
-use Rattle.sup_tree.specs.Loaded.{listed_in}
+use Rattle.loaded_modules.specs.Loaded.{listed_in}
 use Rattle.node_upgrade.specs.Stale.{is_stale, names_in}
 use Rattle.node_upgrade.proofs.StaleLemmas.{first_names, noted_with}
 use Rattle.node_upgrade.proofs.stale.note_stale.Given as goal

@@ -1,6 +1,6 @@
 use Rattle.std.proofs.Common.{◌++◌, ap, ◌∙◌}
 use Rattle.std.specs.List.{filter}
-use Rattle.sup_tree.specs.Loaded.{listed_in}
+use Rattle.loaded_modules.specs.Loaded.{listed_in}
 use Rattle.node_upgrade.specs.Names.{sorted_names}
 use Rattle.node_upgrade.specs.Stale.{is_stale, names_in}
 use Rattle.node_upgrade.proofs.StaleLemmas.{if_ok, stale_are}

@@ -1,14 +1,15 @@
-use Rattle.std.proofs.Common.{◌≡◌, ◌∷◌, ◌∙◌, refl, true, List, take, sym, ap, subst}
+use Rattle.std.proofs.Common.{◌≡◌, ◌∷◌, ◌∙◌, true, List, take, sym, ap, subst}
 use Rattle.std.proofs.lemmas.List.{take-map, take_at}
 use Rattle.std.specs.List.{AllByRecursion}
 use Rattle.relup_instruction.specs.declared.instruction.Instr.{Instr}
 use Rattle.relup_instruction.specs.Instruction.{instruction_of, script_of}
 use Rattle.relup_instruction.specs.Instruction.Instruction.{point_of_no_return}
 use Rattle.script_steps.specs.InMemory.{cause_of, site_of}
-use Rattle.relup_exec.specs.Outcome.{IsPointAt, run_behind}
+use Rattle.relup_exec.specs.Outcome.{IsPointAt, Ran, past_behind, run_behind}
 use Rattle.script_steps.specs.Script.{courses_within}
-use Rattle.script_steps.specs.Steps.{IsEarly, progress_of}
-use Rattle.relup_exec.specs.Stepwise.{HasBegun, start_at}
+use Rattle.script_steps.specs.Steps.{HasDone, IsEarly, progress_of}
+use Rattle.relup_exec.specs.Stepwise.{HasBegun, IsStopped, start_at}
+use Rattle.sup_tree.specs.Tree.{App}
 use Rattle.relup_exec.proofs.OutcomeLemmas.{armed_well, refused_at_first, refused_well}
 use Rattle.relup_exec.proofs.before.run_before.Goals as goal
 
@@ -21,8 +22,8 @@ pub run_early-requires : goal.run_early-requires
 run_early-requires g c =
     let early : AllByRecursion IsEarly (script_of (take c.point_in-place.result c.args.script.now)) =
     subst (AllByRecursion IsEarly) (sym (front_is c.args.script.now c.point_in-place.result c.point_in-place.ensures)) c.point_in-place.ensures.early in
-    let begun : HasBegun (site_of c.args.site.now) (start_at c.args.seat.now.view c.args.tree.now) (progress_of c.in-Ok.progress) c.args.tree.now c.args.seat.now.view =
-    c.in-Ok.ensures c.args.seat.now.view c.args.tree.now c.requires.free in
+    let begun : HasBegun (site_of c.args.site.now) (start_at c.args.seat.now.view c.in-Ok.progress.tree) (progress_of c.in-Ok.progress) c.in-Ok.progress.tree c.args.seat.now.view =
+    c.in-Ok.ensures.begun c.args.seat.now.view c.requires.free in
     λ κs live. (live, (c.requires.table, (early, begun)))
 
 pub returns-in-Err-clause-refused : goal.returns-in-Err-clause-refused
@@ -30,7 +31,9 @@ returns-in-Err-clause-refused g c =
     let s = site_of c.args.site.now in
     let v = c.args.seat.now.view in
     let start = start_at v c.args.tree.now in
-    let stopped = c.in-Err.ensures.ran in
+    let instrs = script_of (take c.point_in-place.result c.args.script.now) in
+    let stopped = subst (λ (apps : List App). IsStopped s (start_at v apps) instrs c.in-Err.refused.instr (cause_of c.in-Err.refused.cause) c.run_early.new.progress.held c.run_early.new.seat.view)
+    c.in-Ok.ensures.tree c.in-Err.ensures.ran in
     refused_well s start (script_of c.args.script.now) c.point_in-place.result (script_of (take c.point_in-place.result c.args.script.now)) c.in-Err.refused.instr (cause_of c.in-Err.refused.cause) c.run_early.new.progress.held c.run_early.new.seat.view c.roll_back.new.seat.view
     c.point_in-place.ensures (front_is c.args.script.now c.point_in-place.result c.point_in-place.ensures) stopped c.roll_back.ensures.seen
     (c.roll_back.ensures.left v (courses_within s true stopped.instruction stopped.modules stopped.slot (run_behind s start stopped.front)) stopped.partly)
@@ -40,5 +43,10 @@ returns-in_default-clause-refused g c = refused_at_first (site_of c.args.site.no
 
 pub returns-in-Ok-run_early-clause-armed : goal.returns-in-Ok-run_early-clause-armed
 returns-in-Ok-run_early-clause-armed g c =
-    armed_well (site_of c.args.site.now) (start_at c.args.seat.now.view c.args.tree.now) (script_of c.args.script.now) c.point_in-place.result (script_of (take c.point_in-place.result c.args.script.now)) (progress_of c.run_early.new.progress) c.args.tree.now c.run_early.new.seat.view
-    c.point_in-place.ensures (front_is c.args.script.now c.point_in-place.result c.point_in-place.ensures) refl c.in-Ok-run_early.ensures.ran.0 c.in-Ok-run_early.ensures.ran.1
+    let s = site_of c.args.site.now in
+    let v = c.args.seat.now.view in
+    let instrs = script_of (take c.point_in-place.result c.args.script.now) in
+    let ran = subst (λ (apps : List App). Ran s (start_at v apps) instrs × HasDone (past_behind s (start_at v apps) instrs) (progress_of c.run_early.new.progress) c.run_early.new.progress.tree c.run_early.new.seat.view)
+    c.in-Ok.ensures.tree c.in-Ok-run_early.ensures.ran in
+    armed_well (site_of c.args.site.now) (start_at c.args.seat.now.view c.args.tree.now) (script_of c.args.script.now) c.point_in-place.result (script_of (take c.point_in-place.result c.args.script.now)) (progress_of c.run_early.new.progress) c.run_early.new.progress.tree c.run_early.new.seat.view
+    c.point_in-place.ensures (front_is c.args.script.now c.point_in-place.result c.point_in-place.ensures) ran.0 ran.1

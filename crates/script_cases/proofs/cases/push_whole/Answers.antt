@@ -12,4 +12,4 @@ run_after-requires g c =
     let apps = c.requires.1.1.1.1.1 in
     let same : start_at c.args.seat.now.view c.args.tree.now ≡ g.start = λ i. record { first = first i; apps = apps i } in
     let armed = subst (λ (s : Start). IsArmed (site_of c.args.site.now) s (script_of c.args.script.now) (armed_of c.in-Ok.armed) c.run_before.new.seat.view) same c.in-Ok.ensures.armed in
-    λ κs live. (live, (c.run_before.ensures.table ∙ c.requires.1.0, (armed, apps)))
+    λ κs live. (live, (c.run_before.ensures.table ∙ c.requires.1.0, armed))

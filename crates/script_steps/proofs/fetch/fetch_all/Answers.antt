@@ -3,7 +3,7 @@ use Rattle.std.specs.List.{list_all}
 use Rattle.std.proofs.lemmas.List.{take_all}
 use Rattle.std.proofs.lemmas.List.Folds.{list_all-append}
 use Rattle.library.specs.InMemory.{shared_of}
-use Rattle.sup_tree.specs.Loaded.{NamedModules, library_modules, listed_in, with_loaded}
+use Rattle.loaded_modules.specs.Loaded.{NamedModules, library_modules, listed_in, with_loaded}
 use Rattle.script_steps.specs.Fault.{Cause}
 use Rattle.script_steps.specs.Fault.Cause.{no_module}
 use Rattle.script_steps.specs.Script.{fetched_of}

@@ -1,6 +1,6 @@
 use Rattle.std.proofs.Common.{◌∙◌, ap}
 use Rattle.script_steps.specs.Script.{worker_in, worker_table}
-use Rattle.sup_tree.proofs.NamedLemmas.{found_as_listed}
+use Rattle.loaded_modules.proofs.NamedLemmas.{found_as_listed}
 use Rattle.script_steps.proofs.load.worker_in.Goals as goal
 
 pub returns-in-Some-Worker : goal.returns-in-Some-Worker

@@ -5,7 +5,7 @@ use Rattle.mod_table.specs.declared.table.Table.TheVariants.{Super}
 use Rattle.mod_table.specs.InMemory.{child_of}
 use Rattle.rel_check.specs.Walk.{first_of}
 use Rattle.sup_tree.specs.InMemory.{FaultIs, Reports}
-use Rattle.sup_tree.specs.Loaded.{modules_in, tables_of}
+use Rattle.loaded_modules.specs.Loaded.{modules_in, tables_of}
 use Rattle.sup_tree.specs.Walk.{child_fault, children_fault, fault_from}
 use Rattle.sup_tree.proofs.WalkLemmas.{none_left, deepest, fault_below, no_fault_here, fault_passed, table_there, known_sound, sound_noted, passed_on}
 use Rattle.sup_tree.proofs.walk.+checks.Goals as goal

@@ -2,7 +2,7 @@ use Rattle.std.proofs.Common.{◌≡◌, ◌+◌, ◌*◌, map, drop}
 use Rattle.mod_table.specs.InMemory.{child_of}
 use Rattle.rel_check.specs.Walk.{first_of}
 use Rattle.sup_tree.specs.InMemory.{AreSound}
-use Rattle.sup_tree.specs.Loaded.{modules_in, tables_of}
+use Rattle.loaded_modules.specs.Loaded.{modules_in, tables_of}
 use Rattle.sup_tree.specs.Walk.{fault_from}
 use Rattle.sup_tree.proofs.walk.+checks.Given as goal
 

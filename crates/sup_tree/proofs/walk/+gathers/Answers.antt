@@ -3,7 +3,7 @@ use Rattle.std.specs.List.{flat_map}
 use Rattle.std.proofs.lemmas.List.{drop_more, drop_all}
 use Rattle.mod_table.specs.InMemory.{child_of}
 use Rattle.sup_tree.specs.InMemory.{Adds, AreTooMany, new_members_of}
-use Rattle.sup_tree.specs.Loaded.{modules_in, tables_of}
+use Rattle.loaded_modules.specs.Loaded.{modules_in, tables_of}
 use Rattle.sup_tree.specs.Walk.{children_members, members_from}
 use Rattle.sup_tree.proofs.WalkLemmas.{none_left, deepest_members, members_one_below, all_here, still_too_many, passed_on}
 use Rattle.sup_tree.proofs.walk.+gathers.Goals as goal

@@ -2,7 +2,7 @@ use Rattle.std.proofs.Common.{◌≡◌, ◌≤◌, ◌+◌, ◌*◌, ◌++◌, 
 use Rattle.std.specs.List.{flat_map}
 use Rattle.mod_table.specs.InMemory.{child_of}
 use Rattle.sup_tree.specs.InMemory.{new_members_of}
-use Rattle.sup_tree.specs.Loaded.{modules_in, tables_of}
+use Rattle.loaded_modules.specs.Loaded.{modules_in, tables_of}
 use Rattle.sup_tree.specs.Walk.{members_from}
 use Rattle.sup_tree.proofs.walk.+gathers.Given as goal
 

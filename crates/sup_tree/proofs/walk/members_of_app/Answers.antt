@@ -3,7 +3,7 @@ use Rattle.std.specs.Option.{option_or}
 use Rattle.std.proofs.lemmas.List.{length-map}
 use Rattle.app_file.specs.InMemory.{specification_of}
 use Rattle.sup_tree.specs.InMemory.{AreMembers, AreTooMany, FaultIs, new_member_of, new_members_of}
-use Rattle.sup_tree.specs.Loaded.{modules_in, tables_of}
+use Rattle.loaded_modules.specs.Loaded.{modules_in, tables_of}
 use Rattle.sup_tree.specs.Walk.{app_fault, app_members, children_fault, children_members, crowd_fault, members_below, super_children}
 use Rattle.sup_tree.proofs.AppLemmas.{below_top, crowded, none_wrong, without_top}
 use Rattle.sup_tree.proofs.WalkLemmas.{passed_on}

@@ -1,7 +1,7 @@
 use Rattle.std.proofs.Common.{◌≡◌, Option, Some, String, Global, string_bytes, ap, sym, ◌∙◌, refl}
 use Rattle.std.specs.Option.{option_map}
 use Rattle.mod_table.specs.declared.table.Table.TheVariants.{Worker}
-use Rattle.sup_tree.specs.Loaded.{modules_in, tables_of}
+use Rattle.loaded_modules.specs.Loaded.{modules_in, tables_of}
 use Rattle.sup_tree.specs.Walk.{top_fault, worker_at_top}
 use Rattle.sup_tree.specs.Walk.StartFault.{no_table}
 use Rattle.sup_tree.proofs.walk.top_of.Goals as goal

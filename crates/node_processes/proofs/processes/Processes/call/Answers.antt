@@ -1,6 +1,6 @@
 use Rattle.std.proofs.Common.{◌≡◌, List, ℕ, sym, subst, ◌∙◌, string_bytes}
 use Rattle.std.specs.Result.{IfOk}
-use Rattle.sup_tree.specs.Loaded.{listed_in}
+use Rattle.loaded_modules.specs.Loaded.{listed_in}
 use Rattle.node_processes.proofs.CommandLemmas.{called_nothing, is_called, call_of_none}
 use Rattle.node_processes.proofs.processes.Processes.call.Goals as goal
 

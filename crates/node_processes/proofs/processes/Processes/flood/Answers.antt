@@ -1,6 +1,6 @@
 use Rattle.std.proofs.Common.{◌≡◌, List, ℕ, sym, subst, ◌∙◌, string_bytes}
 use Rattle.std.specs.Result.{IfOk}
-use Rattle.sup_tree.specs.Loaded.{listed_in}
+use Rattle.loaded_modules.specs.Loaded.{listed_in}
 use Rattle.node_processes.proofs.FloodLemmas.{always_ok, is_flood_of}
 use Rattle.node_processes.proofs.processes.Processes.flood.Goals as goal
 

@@ -1,6 +1,6 @@
 use Rattle.std.proofs.Common.{◌≡◌, List, ℕ, sym, subst, ◌∙◌, string_bytes}
 use Rattle.std.specs.Result.{IfOk}
-use Rattle.sup_tree.specs.Loaded.{listed_in}
+use Rattle.loaded_modules.specs.Loaded.{listed_in}
 use Rattle.node_processes.proofs.CommandLemmas.{peek_of_found, peek_of_none}
 use Rattle.node_processes.proofs.processes.Processes.peek.Goals as goal
 

@@ -6,10 +6,10 @@ use Rattle.rel_files.specs.Release.{application_of}
 use Rattle.app_file.specs.InMemory.{specification_of}
 use Rattle.proc_table.specs.Free.{free_count}
 use Rattle.rel_check.specs.Walk.{is_started}
-use Rattle.sup_tree.specs.Loaded.{modules_in, tables_of}
+use Rattle.loaded_modules.specs.Loaded.{modules_in, tables_of}
 use Rattle.sup_tree.specs.Starts.{AppStarted}
 use Rattle.sup_tree.specs.Walk.{app_fault, app_starts}
-use Rattle.sup_tree.specs.declared.loaded.Loaded.{Loaded}
+use Rattle.loaded_modules.specs.declared.loaded.Loaded.{Loaded}
 use Rattle.proc_table.specs.declared.handler.HandlerSeat.{HandlerSeat}
 use Rattle.node_start.specs.declared.start.Started.{Started}
 use Rattle.node_start.proofs.StartLemmas.{AreStartedTo, place_ready, place_started, place_passed, all_started}

@@ -5,7 +5,7 @@ use Rattle.rel_list.specs.Laws.{leaves_permanent}
 use Rattle.rel_list.specs.Refusal.{brings_release}
 use Rattle.rel_list.specs.Releases.{Releases}
 use Rattle.rel_store.specs.State.{records_in}
-use Rattle.sup_tree.specs.Loaded.{listed_in}
+use Rattle.loaded_modules.specs.Loaded.{listed_in}
 use Rattle.node_command.specs.Taking.{change_size, commanded}
 use Rattle.node_command.specs.declared.error.HandlerError.TheVariants.{NoMemory}
 use Rattle.node_command.proofs.Refusals.{refuses_with}

@@ -4,7 +4,6 @@ use Rattle.relup_instruction.specs.declared.instruction.Instr.{Instr}
 use Rattle.relup_instruction.specs.Instruction.{Instruction, instruction_of, script_of}
 use Rattle.relup_instruction.specs.Instruction.Instruction.{point_of_no_return}
 use Rattle.relup_script.specs.Script.{is_point}
-use Rattle.sup_tree.specs.Tree.{App}
 use Rattle.held_processes.specs.Course.{on_all}
 use Rattle.held_processes.specs.Course.Operation.{pass_point}
 use Rattle.held_processes.specs.Following.{AllFollow}
@@ -32,7 +31,7 @@ point_is script place point =
 
 pub let_pass-requires : goal.let_pass-requires
 let_pass-requires g c =
-    let armed = c.requires.1.1.0 in (
+    let armed = c.requires.1.1 in (
       c.requires.1.0,
       subst (λ (is : List Instruction). AllFollow g.start.first (run_behind (site_of c.args.site.now) g.start is).courses c.args.self.progress.held c.args.seat.now.view)
           (sym (front_is c.args.script.now c.args.self.place armed.point)) armed.follow,
@@ -43,7 +42,7 @@ loop-i-init g c =
     let s = site_of c.args.site.now in
     let script = c.args.script.now in
     let place = c.args.self.place in
-    let armed = c.requires.1.1.0 in
+    let armed = c.requires.1.1 in
     let front = point_is script place armed.point in
     let follow = subst (λ (is : List Instruction). AllFollow g.start.first (on_all pass_point (run_behind s g.start is).courses) c.let_pass.new.held c.let_pass.new.seat.view) (front_is script place armed.point)
     c.let_pass.ensures.passed in
@@ -53,14 +52,13 @@ loop-i-init g c =
       omega arith,
       ap (still_early true) front ∙ behind_point armed.point.front [] true,
       subst (Ran s g.start) (sym front) passed.0,
-      subst (λ (is : List Instruction). HasDone (past_behind s g.start is) a c.args.tree.now c.let_pass.new.seat.view) (sym front)
-          (subst (λ (tree : List App). HasDone (past_behind s g.start (armed.point.front ++ point_of_no_return ∷ [])) a tree c.let_pass.new.seat.view) (sym c.requires.1.1.1) passed.1),
+      subst (λ (is : List Instruction). HasDone (past_behind s g.start is) a (armed_of c.args.self).apps c.let_pass.new.seat.view) (sym front) passed.1,
     )
 
 pub carry_out_late-done-requires : goal.carry_out_late-done-requires
 carry_out_late-done-requires g c =
     let script = c.args.script.now in
-    let armed = c.requires.1.1.0 in
+    let armed = c.requires.1.1 in
     let so_far = script_of (take c.loop-i.i script) in
     let i = instruction_of c.index-script-i.result in
     let parts = parted instruction_of script c.loop-i.i c.index-script-i.result c.loop-i-test.true c.index-script-i.is in
@@ -76,12 +74,12 @@ loop-i-preserved g c =
     let so_far = script_of (take c.loop-i.i script) in
     let i = instruction_of c.index-script-i.result in
     let grown = more instruction_of script c.loop-i.i c.index-script-i.result c.loop-i-test.true c.index-script-i.is in
-    let done = run_more s g.start false so_far i (progress_of c.carry_out_late-done.new.self) c.carry_out_late-done.new.tree c.carry_out_late-done.new.seat.view c.loop-i.invariant.2 c.loop-i.invariant.3 c.in_default.ensures.carried in (
+    let done = run_more s g.start false so_far i (progress_of c.carry_out_late-done.new.self) c.carry_out_late-done.new.self.tree c.carry_out_late-done.new.seat.view c.loop-i.invariant.2 c.loop-i.invariant.3 c.in_default.ensures.carried in (
       c.carry_out_late-done.ensures.table ∙ c.loop-i.invariant.0,
       omega (arith, c.loop-i.invariant.1),
       ap (still_early true) grown ∙ (still_push true so_far i ∙ ap (λ e. e && not (is_point i)) c.loop-i.invariant.2),
       subst (Ran s g.start) (sym grown) done.0,
-      subst (λ (is : List Instruction). HasDone (past_behind s g.start is) (progress_of c.carry_out_late-done.new.self) c.carry_out_late-done.new.tree c.carry_out_late-done.new.seat.view) (sym grown) done.1,
+      subst (λ (is : List Instruction). HasDone (past_behind s g.start is) (progress_of c.carry_out_late-done.new.self) c.carry_out_late-done.new.self.tree c.carry_out_late-done.new.seat.view) (sym grown) done.1,
     )
 
 pub returns-in-Err-clause-broken : goal.returns-in-Err-clause-broken

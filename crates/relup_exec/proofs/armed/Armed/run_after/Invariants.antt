@@ -29,4 +29,4 @@ invariant-loop-i g l =
     × (l.place < l.i)
     × (still_early true so_far ≡ false)
     × Ran (site_of l.site) g.start so_far
-    × HasDone (past_behind (site_of l.site) g.start so_far) (progress_of l.progress) l.tree l.seat.view
+    × HasDone (past_behind (site_of l.site) g.start so_far) (progress_of l.progress) l.progress.tree l.seat.view

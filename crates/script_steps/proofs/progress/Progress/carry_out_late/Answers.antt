@@ -7,10 +7,10 @@ use Rattle.script_steps.proofs.progress.Progress.carry_out_late.Goals as goal
 
 pub returns-in-Purge-clause-carried : goal.returns-in-Purge-clause-carried
 returns-in-Purge-clause-carried g c =
-    nothing_done (site_of c.args.site.now) g.past (instruction_of c.args.instr.now) (progress_of c.args.self.now) c.args.tree.now c.args.seat.now.view
+    nothing_done (site_of c.args.site.now) g.past (instruction_of c.args.instr.now) (progress_of c.args.self.now) c.args.self.now.tree c.args.seat.now.view
     (ap (λ i. is_idle (instruction_of i)) c.in-Purge.is) c.requires.1.1.1
 
 pub returns-in-RestartEmulator-clause-carried : goal.returns-in-RestartEmulator-clause-carried
 returns-in-RestartEmulator-clause-carried g c =
-    nothing_done (site_of c.args.site.now) g.past (instruction_of c.args.instr.now) (progress_of c.args.self.now) c.args.tree.now c.args.seat.now.view
+    nothing_done (site_of c.args.site.now) g.past (instruction_of c.args.instr.now) (progress_of c.args.self.now) c.args.self.now.tree c.args.seat.now.view
     (ap (λ i. is_idle (instruction_of i)) c.in-RestartEmulator.is) c.requires.1.1.1

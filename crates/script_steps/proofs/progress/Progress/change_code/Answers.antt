@@ -16,7 +16,7 @@ returns-in_err-change_once c = λ past v early done.
     let front = map change_of (take c.loop-i.i all) in
     let so_far = c.loop-i.invariant past v done in
     let within : c.loop-i.i < length all = omega (arith, c.loop-i-test.true, c.deref-change-items.ensures.len) in
-    change_passes s past early (conversion_of c.args.conversion.now) mode c.loop-i.i front (change_of c.change-item.result) (map change_of (drop (c.loop-i.i + 1) all)) c.in_err-change_once.field-0.0 c.from_residual.result (progress_of c.change_once.new.self) c.args.tree.now v
+    change_passes s past early (conversion_of c.args.conversion.now) mode c.loop-i.i front (change_of c.change-item.result) (map change_of (drop (c.loop-i.i + 1) all)) c.in_err-change_once.field-0.0 c.from_residual.result (progress_of c.change_once.new.self) c.change_once.new.self.tree v
     (c.unwrap_or-mode.ensures ∙ mode_is c.args.conversion.now.mode)
     (parted change_of all c.loop-i.i c.change-item.result within (subst (λ (ys : List Change). c.change-item.result ≡ get_or ys c.loop-i.i c.change-item.result) c.deref-change-items.ensures.value c.change-item.is))
     (length-map (take c.loop-i.i all) change_of ∙ length-take-le c.loop-i.i all (omega (arith, within)))
@@ -30,7 +30,7 @@ loop-i-preserved c = λ past v done.
     let front = map change_of (take c.loop-i.i all) in
     let so_far = c.loop-i.invariant past v done in
     let within : c.loop-i.i < length all = omega (arith, c.loop-i-test.true, c.deref-change-items.ensures.len) in
-    changed_more s past mode c.loop-i.i front (change_of c.change-item.result) (map change_of (take (c.loop-i.i + 1) all)) (progress_of c.change_once.new.self) c.args.tree.now v
+    changed_more s past mode c.loop-i.i front (change_of c.change-item.result) (map change_of (take (c.loop-i.i + 1) all)) (progress_of c.change_once.new.self) c.change_once.new.self.tree v
     (more change_of all c.loop-i.i c.change-item.result within (subst (λ (ys : List Change). c.change-item.result ≡ get_or ys c.loop-i.i c.change-item.result) c.deref-change-items.ensures.value c.change-item.is))
     so_far.0 (c.in_ok-change_once.ensures (past_changes s mode front past) v so_far.1)
 
@@ -41,5 +41,5 @@ returns c = λ past v early done.
     let all = c.args.conversion.now.changes.items in
     let so_far = c.loop-i.invariant past v done in
     let whole : map change_of (take c.loop-i.i all) ≡ map change_of all = ap (map change_of) (take_all c.loop-i.i all (omega (arith, c.loop-i-test.false, c.deref-change-items.ensures.len))) in
-    all_changed s past early (conversion_of c.args.conversion.now) mode (map change_of (take c.loop-i.i all)) (progress_of c.args.self.now) (progress_of c.loop-i.self) c.args.tree.now v
+    all_changed s past early (conversion_of c.args.conversion.now) mode (map change_of (take c.loop-i.i all)) (progress_of c.args.self.now) (progress_of c.loop-i.self) c.args.self.now.tree c.loop-i.self.tree v
     (c.unwrap_or-mode.ensures ∙ mode_is c.args.conversion.now.mode) whole done so_far

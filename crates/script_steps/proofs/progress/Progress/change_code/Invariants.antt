@@ -10,6 +10,6 @@ use Rattle.script_steps.proofs.progress.Progress.change_code.Given as goal
 
 -- the changes so far were made
 abbrev pub invariant-loop-i : goal.invariant-loop-i
-invariant-loop-i l = (past : Past) (v : View) → HasDone past (progress_of l.initial.self) l.tree v
+invariant-loop-i l = (past : Past) (v : View) → HasDone past (progress_of l.initial.self) l.initial.self.tree v
     → (change_fault (site_of l.site) l.mode (map change_of (take l.i l.conversion.changes.items)) (values_seen v) past.run ≡ None)
-    × HasDone (past_changes (site_of l.site) l.mode (map change_of (take l.i l.conversion.changes.items)) past) (progress_of l.self) l.tree v
+    × HasDone (past_changes (site_of l.site) l.mode (map change_of (take l.i l.conversion.changes.items)) past) (progress_of l.self) l.self.tree v

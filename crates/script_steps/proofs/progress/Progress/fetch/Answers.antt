@@ -1,10 +1,10 @@
 use Rattle.relup_instruction.specs.Instruction.{fetch_of}
-use Rattle.sup_tree.specs.Loaded.{listed_in}
+use Rattle.loaded_modules.specs.Loaded.{listed_in}
 use Rattle.script_steps.specs.InMemory.{site_of}
 use Rattle.script_steps.specs.Steps.{progress_of}
 use Rattle.script_steps.proofs.StepLemmas.{fetched_well}
 use Rattle.script_steps.proofs.progress.Progress.fetch.Goals as goal
 
 pub returns-in-Ok : goal.returns-in-Ok
-returns-in-Ok c = λ past apps v early done.
-    fetched_well (site_of c.args.site.now) past early (fetch_of c.args.fetch.now) (progress_of c.args.self.now) (listed_in c.fetch_from.new.fetched) apps v done c.in-Ok.ensures
+returns-in-Ok c = λ past v early done.
+    fetched_well (site_of c.args.site.now) past early (fetch_of c.args.fetch.now) (progress_of c.args.self.now) (listed_in c.fetch_from.new.fetched) c.args.self.now.tree v done c.in-Ok.ensures

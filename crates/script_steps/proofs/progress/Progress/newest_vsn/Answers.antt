@@ -1,7 +1,7 @@
 use Rattle.std.proofs.Common.{◌∙◌, List, ℕ, Option, ap}
 use Rattle.std.specs.Option.{option_map, option_or}
-use Rattle.sup_tree.specs.Loaded.{Module, listed_in}
-use Rattle.sup_tree.proofs.NamedLemmas.{found_as_listed}
+use Rattle.loaded_modules.specs.Loaded.{Module, listed_in}
+use Rattle.loaded_modules.proofs.NamedLemmas.{found_as_listed}
 use Rattle.script_steps.specs.Script.{version_in}
 use Rattle.script_steps.proofs.progress.Progress.newest_vsn.Goals as goal
 

@@ -2,7 +2,7 @@ use Rattle.std.proofs.Common.{◌≡◌, length, is_some, map, string_bytes, ap,
 use Rattle.app_file.specs.InMemory.{specification_of}
 use Rattle.sup_tree.specs.Begins.{AllBegan, preparation_of, to_begin}
 use Rattle.sup_tree.specs.InMemory.{new_members_of}
-use Rattle.sup_tree.specs.Loaded.{modules_in, tables_of}
+use Rattle.loaded_modules.specs.Loaded.{modules_in, tables_of}
 use Rattle.sup_tree.specs.Starts.{members_at}
 use Rattle.sup_tree.specs.Tree.{app_named, pids_of}
 use Rattle.sup_tree.specs.Walk.{app_members}

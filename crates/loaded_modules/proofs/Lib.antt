@@ -1,0 +1,3 @@
+pub mod LoadedLemmas
+pub mod ListingLemmas
+pub mod NamedLemmas
