@@ -31,8 +31,8 @@ use Rattle.sup_tree.specs.declared.member.StartedProcess.{StartedProcess}
 use Rattle.sup_tree.specs.Starts.{members_at, BeganInOrder, IsWhy, StartsApp, beginning_of}
 use Rattle.sup_tree.specs.Stops.{EndedAt, EndedInOrder, StopsApp, stands}
 use Rattle.sup_tree.specs.Tree.{App, app_pids, members_of, pids_of, process_and, process_in, processes_among}
-use Rattle.sup_tree.specs.Walk.{Start, app_members, app_starts}
-use Rattle.held_processes.specs.Applications.{IsWhyNot, Scene, StartsIn, all_begun, all_ended, begun_at, ended_at, held_ended, known, match_pid, pids_for, state_ended, room_in, round_in, scene_at, taken_at, with_started, with_stopped, with_stopped_app}
+use Rattle.app_members.specs.Walk.{Start, app_members, app_starts}
+use Rattle.held_processes.specs.Applications.{IsWhyNot, Scene, StartsIn, all_begun, all_ended, all_stopped, begun_at, ended_at, held_ended, known, match_pid, pids_for, state_ended, room_in, round_in, scene_at, taken_at, with_started, with_stopped, with_stopped_app}
 use Rattle.held_processes.specs.Course.{Course, Courses, Hold, add_alone, added, course_after, if_held, let_go, add}
 use Rattle.held_processes.specs.Course.Hold.{not_held, until_point, until_resumed}
 use Rattle.held_processes.specs.Course.Operation.{give_up}
@@ -58,7 +58,7 @@ free_where_not_out first cs hs v p f inside out = by (slice_index_or hs p None) 
     by (Some h) is at = let held : IsHeld p (cs p) (part_of v.parts p) h = at in absurd (true≢false (sym held.out ∙ out))
 
 -- it is one of which the course says so
-free_where_not_held : (first : View) (cs : Courses) (hs : HeldSlots) (v : View) (p : ℕ) → AllFollow first cs hs v → p < slots → (cs p).hold ≡ not_held → NotHeldAt p cs hs
+pub free_where_not_held : (first : View) (cs : Courses) (hs : HeldSlots) (v : View) (p : ℕ) → AllFollow first cs hs v → p < slots → (cs p).hold ≡ not_held → NotHeldAt p cs hs
 free_where_not_held first cs hs v p f inside hold = by (slice_index_or hs p None) refl (f.each p inside).at
   where
     by : (place : Option HeldForm) → slice_index_or hs p None ≡ place → IsAt p (cs p) (part_of v.parts p) place → NotHeldAt p cs hs
@@ -77,20 +77,20 @@ step_free first cs ds hs v w p f inside free s others =
     (step_all first cs cs ds hs v w p None f inside s others)
 
 -- what was seen stays legal behind a hold and a release
-legal_behind : (p : ℕ) (es : List HistoryEntry) (v : View) (h : Holding) (u w : View) → AllLegal v → HeldAtLast p v h u → Released p es u w → AllLegal w
+pub legal_behind : (p : ℕ) (es : List HistoryEntry) (v : View) (h : Holding) (u w : View) → AllLegal v → HeldAtLast p v h u → Released p es u w → AllLegal w
 legal_behind p es v h u w legal at r q = dite (ℕ_discrete q p)
     (λ is. subst (λ z. IsLegal (seen w z)) (sym is) r.legal)
     (λ ne. subst (λ (x : Part). IsLegal x.seen) (sym ((held_and_released p es v h u w at r).others q ne)) (legal q))
 
 -- a process that begins
 
-same_slot : (slot : ℕ) → (slot == slot) ≡ true
+pub same_slot : (slot : ℕ) → (slot == slot) ≡ true
 same_slot slot = grind (arith, nat_tests)
 
-other_slot : (q slot : ℕ) → q ≢ slot → (q == slot) ≡ false
+pub other_slot : (q slot : ℕ) → q ≢ slot → (q == slot) ≡ false
 other_slot q slot ne = grind (arith, nat_tests)
 
-is_slot : (q slot : ℕ) → (q == slot) ≡ true → q ≡ slot
+pub is_slot : (q slot : ℕ) → (q == slot) ≡ true → q ≡ slot
 is_slot q slot e = grind (arith, nat_tests)
 
 pub began_follow : (first : View) (cs : Courses) (hs : HeldSlots) (v : View) (b : Beginning) (pid : Pid) (w : View) → AllFollow first cs hs v → BeganLowest b v (Ok pid) w
@@ -159,7 +159,7 @@ began_all first cs hs app (s ∷ ss) v (p ∷ ps) w f legal (u, began, is, later
     subst (λ l. AllBegun first cs hs app (s ∷ ss) l (p ∷ ps) w) (sym pids) (record { follow = rest.follow; places = ap (λ l. p.pid ∷ l) rest.places })
 
 -- there was room for them
-began_in_room : (app : List ℕ) (ss : List Start) (v : View) (ps : List StartedProcess) (w : View) → BeganInOrder app ss v ps w → length ss ≤ free_count v
+pub began_in_room : (app : List ℕ) (ss : List Start) (v : View) (ps : List StartedProcess) (w : View) → BeganInOrder app ss v ps w → length ss ≤ free_count v
 began_in_room app [] v [] w is = omega arith
 began_in_room app [] v (p ∷ ps) w is = absurd is
 began_in_room app (s ∷ ss) v [] w is = absurd is
@@ -207,7 +207,7 @@ starts_follow first name top tables s (Err e) apps hs w is = (s.courses, is.2)
 -- a process that ends
 
 -- whether it stands is known
-stands_known : (first : View) (cs : Courses) (hs : HeldSlots) (v : View) (pid : Pid) (h : Holding) (u : View) → AllFollow first cs hs v → (cs pid.slot).pending ≡ [] → HeldAtLast pid.slot v h u
+pub stands_known : (first : View) (cs : Courses) (hs : HeldSlots) (v : View) (pid : Pid) (h : Holding) (u : View) → AllFollow first cs hs v → (cs pid.slot).pending ≡ [] → HeldAtLast pid.slot v h u
     → stands pid h.value ≡ stands pid (known (values_seen first) cs pid.slot)
 stands_known first cs hs v pid h u f none at =
     let p = pid.slot in
@@ -275,7 +275,7 @@ given_up_free not_held c is = is
 given_up_free until_point c is = ap (λ (j : Hold). (if_held j (let_go (add given_up c)) (add_alone given_up c)).hold) is
 given_up_free until_resumed c is = ap (λ (j : Hold). (if_held j (let_go (add given_up c)) (add_alone given_up c)).hold) is
 
-free_there : (slot : ℕ) (cs : Courses) → (give_up_at slot cs slot).hold ≡ not_held
+pub free_there : (slot : ℕ) (cs : Courses) → (give_up_at slot cs slot).hold ≡ not_held
 free_there slot cs =
     ap (λ (b : Bool). (if b then if_held (cs slot).hold (course_after give_up (cs slot)) (cs slot) else cs slot).hold) (same_slot slot)
     ∙ given_up_free (cs slot).hold (cs slot) refl
@@ -305,17 +305,20 @@ free_reversed : (cs : Courses) (pids : List Pid) → AreFree cs pids → AreFree
 unfolding AreFree
 free_reversed cs pids free = free_reversed_onto cs pids [] free tt
 
+-- those that were held are given up, then all others, the last first
+pub all_stopped_follow : (first : View) (cs : Courses) (hs : HeldSlots) (pids : List Pid) (v w : View) → AllFollow first (held_ended pids cs) hs v → EndedInOrder (reverse pids) v w
+    → AllFollow first (all_stopped (values_seen first) pids cs) hs w
+all_stopped_follow first cs hs pids v w f ended = ended_all first (held_ended pids cs) hs (reverse pids) v w f (free_reversed (held_ended pids cs) pids (all_free pids cs)) ended
+
 -- the stop of an application
 pub stops_in : {X E : Type 0} (followed : Followed) (hs : HeldSlots) (v : View) (apps : List App) (name : List ℕ) (r : Result X E) (apps' : List App) (w : View)
     → AllFollow followed.first (held_ended (pids_of (processes_among (members_of name apps))) followed.courses) hs v → StopsApp name apps v r apps' w
     → (apps' ≡ (with_stopped name (scene_at followed apps)).apps) × AllFollow followed.first (with_stopped name (scene_at followed apps)).courses hs w
 stops_in followed hs v apps name (Ok x) apps' w f s =
     let first = followed.first in
-    let pids = app_pids s.app in
-    let behind = held_ended pids followed.courses in
     let members : members_of name apps ≡ s.app.members = ap (λ (o : Option App). option_map_or (λ (a : App). a.members) o []) s.there in
     let now = subst (λ (ms : List Member). AllFollow first (held_ended (pids_of (processes_among ms)) followed.courses) hs v) members f in
-    let all = ended_all first behind hs (reverse pids) v w now (free_reversed behind pids (all_free pids followed.courses)) s.ended in
+    let all = all_stopped_follow first followed.courses hs (app_pids s.app) v w now s.ended in
     subst (λ (o : Option App). (apps' ≡ (with_stopped_app name o (scene_at followed apps)).apps) × AllFollow first (with_stopped_app name o (scene_at followed apps)).courses hs w) (sym s.there)
     (s.tree, all)
 stops_in followed hs v apps name (Err e) apps' w f s =

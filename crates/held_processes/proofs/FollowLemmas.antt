@@ -8,7 +8,7 @@ use mathlib.Core.Logic.{dite}
 use Rattle.proc_table.specs.declared.view.View.{View}
 use Rattle.proc_table.specs.Agrees.{slots}
 use Rattle.proc_table.specs.Parts.{part_of}
-use Rattle.held_processes.specs.Course.{Courses, Operation, Users, course_after, on_module, runs}
+use Rattle.held_processes.specs.Course.{Course, Courses, Operation, Users, course_after, on_module, runs}
 use Rattle.held_processes.specs.Following.{HeldForm, HeldSlots, Follows, AllFollow}
 use Rattle.held_processes.specs.Operations.{up_to}
 use Rattle.held_processes.specs.Slots.{SlotPast, IsFollowed, Steps}
@@ -101,3 +101,13 @@ on_user users name op cs p is = sym (ap (λ b. if b then course_after op (cs p) 
 
 pub on_other : (users : Users) (name : List ℕ) (op : Operation) (cs : Courses) (p : ℕ) → runs name (users p) ≡ false → on_module users name op cs p ≡ cs p
 on_other users name op cs p is = ap (λ b. if b then course_after op (cs p) else cs p) is
+
+-- courses that are the same in each slot are followed alike
+pub follow_same : (first : View) (cs ds : Courses) (hs : HeldSlots) (v : View) → ((p : ℕ) → p < slots → cs p ≡ ds p) → AllFollow first cs hs v → AllFollow first ds hs v
+follow_same first cs ds hs v same f = record {
+  handler = f.handler;
+  count = f.count;
+  lent = f.lent;
+  long = f.long;
+  each = λ p inside. subst (λ (c : Course). Follows first.lent p (part_of first.parts p) c (part_of v.parts p) (slice_index_or hs p None)) (same p inside) (f.each p inside);
+}

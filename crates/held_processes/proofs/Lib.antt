@@ -9,3 +9,5 @@ pub mod AnyLemmas
 pub mod LookLemmas
 pub mod RoundLemmas
 pub mod ApplicationLemmas
+pub mod ChildLemmas
+pub mod RestartLemmas

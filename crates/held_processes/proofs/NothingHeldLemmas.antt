@@ -21,7 +21,7 @@ use Rattle.sup_tree.specs.declared.member.StartedProcess.{StartedProcess}
 use Rattle.sup_tree.specs.Starts.{AppStarted, BeganInOrder, StartsApp, beginning_of}
 use Rattle.sup_tree.specs.Stops.{EndedInOrder, StopsApp, ending}
 use Rattle.sup_tree.specs.Tree.{App, app_pids}
-use Rattle.sup_tree.specs.Walk.{Start, app_starts}
+use Rattle.app_members.specs.Walk.{Start, app_starts}
 use Rattle.held_processes.specs.Course.{Courses}
 use Rattle.held_processes.specs.Following.{AreLeft, HoldsNothing}
 use Rattle.held_processes.specs.Laws.{StartsHoldNothing}

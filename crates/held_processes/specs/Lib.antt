@@ -4,5 +4,7 @@ pub mod Codes
 pub mod InMemory
 pub mod Operations
 pub mod Applications
+pub mod Children
+pub mod Restarts
 pub mod Slots
 pub mod Laws

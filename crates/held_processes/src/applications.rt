@@ -64,8 +64,13 @@ impl HeldProcesses {
         let _ = tree.stop_app(rt, table, seat, app.name);
     }
 
-    // Those of the processes of these members that are held are given up and let go.
-    fn give_up_all(&mut self, table: &ProcTable, seat: &mut HandlerSeat, members: &[Member])
+    /// Those of the processes of these members that are held are given up and let go.
+    pub(crate) fn give_up_all(
+        &mut self,
+        table: &ProcTable,
+        seat: &mut HandlerSeat,
+        members: &[Member],
+    )
         ghost followed: { Followed }
         requires table { seat.old.table ≡ table.now }
         requires follow { AllFollow followed.first followed.courses self.old seat.old.view }

@@ -13,6 +13,9 @@
 //!
 //! [`HeldProcesses::start_app`] and [`HeldProcesses::stop_app`] start and stop an application meanwhile (specs/Applications). Where
 //! its processes begin is told by the courses alone: calls of others leave the round of a slot, and whether a process stands there.
+//! [`HeldProcesses::terminate_child`] and [`HeldProcesses::delete_child`] end a child of a supervisor or take it away
+//! (specs/Children), [`HeldProcesses::restart_child`] begins one again (specs/Restarts). Whether a child is up is told by what the
+//! handler has seen, since calls of others may have ended its process.
 //!
 //! The functions of `laws` say what courses are while no pass is lent, and that before the point of no return there is no block.
 //!
@@ -20,12 +23,15 @@
 #![tactic(auto)]
 
 mod applications;
+mod children;
 mod held_process;
 pub mod laws;
 mod processes;
+mod restarts;
 mod steps;
 mod users;
 
 pub use processes::HeldProcesses;
+pub use restarts::NotRestarted;
 pub use steps::Undone;
-pub use users::{AppName, Users};
+pub use users::{AppName, ChildName, Users};

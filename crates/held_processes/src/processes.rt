@@ -1,5 +1,6 @@
 //! The processes of all slots.
-ghost use Rattle.std.specs.Prelude.{◌≡◌, ℕ, IfOk, OnErr, true};
+ghost use Rattle.std.specs.Prelude.{◌≡◌, ℕ, IfOk, None, OnErr, slice_index_or, true};
+ghost use Rattle.std.specs.Option.{option_map};
 ghost use Rattle.erl_term.specs.Value.{value_of};
 ghost use Rattle.mod_table.specs.InMemory.{old_of};
 ghost use Rattle.proc_table.specs.declared.view.View.{View};
@@ -16,7 +17,7 @@ use crate::held_process::HeldProcess;
 use crate::steps::{self, Step, Undone};
 use erl_term::Term;
 use mod_table::{Old, Worker};
-use proc_table::{HandlerSeat, Pid, ProcTable};
+use proc_table::{HandlerSeat, Pid, ProcTable, Value};
 use std::alloc::{AllocError, Global};
 use std::marker::Model;
 use std::sync::Wait;
@@ -231,6 +232,17 @@ impl HeldProcesses {
     {
         if slot < self.places.len() {
             steps::give_up(table, seat, slot, &mut self.places[slot]);
+        }
+    }
+
+    /// What stands in this slot, where the handler holds it.
+    pub(crate) fn held_value(&self, slot: usize) -> Option<&Value>
+        ensures { option_map (λ x. x.now) result
+            ≡ option_map (λ h. h.held.value) (slice_index_or self.now slot None) }
+    {
+        match self.places.get(slot) {
+            Some(Some(process)) => Some(process.held.value()),
+            _ => None,
         }
     }
 

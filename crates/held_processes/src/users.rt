@@ -1,4 +1,4 @@
-//! The processes that run a module.
+//! What an operation names: the processes that run a module, an application, or a child of a supervisor.
 ghost use Rattle.std.specs.Prelude.{◌≡◌};
 ghost use Rattle.sup_tree.specs.Tree.{module_in};
 ghost use Rattle.held_processes.specs.Course.{runs};
@@ -28,4 +28,11 @@ impl Users<'_> {
 #[derive(Clone, Copy)]
 pub struct AppName<'a> {
     pub name: &'a str,
+}
+
+/// The child of this id of the supervisor of this module.
+#[derive(Clone, Copy)]
+pub struct ChildName<'a> {
+    pub supervisor: &'a str,
+    pub id: &'a str,
 }

@@ -7,7 +7,7 @@ use Rattle.mod_table.specs.declared.table.Table.{Table}
 use Rattle.mod_table.specs.declared.table.Table.TheVariants.{Worker, Super}
 use Rattle.mod_table.specs.Table.{OldVersion, WorkerTable}
 use Rattle.sup_tree.specs.Starts.{beginning_of}
-use Rattle.sup_tree.specs.Walk.{Start}
+use Rattle.app_members.specs.Walk.{Start}
 use Rattle.proc_history.specs.declared.beginning.Beginning.{Beginning}
 use Rattle.proc_history.specs.declared.value.Now.{Now}
 use Rattle.proc_history.specs.declared.value.Standing.{Standing}

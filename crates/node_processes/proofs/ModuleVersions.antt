@@ -8,7 +8,7 @@ use Rattle.library.specs.Library.{Library, IsLibrary}
 use Rattle.rel_check.specs.Modules.{Part, Tables, parts}
 use Rattle.loaded_modules.specs.Loaded.{Module, NamedModules, module_named}
 use Rattle.sup_tree.specs.Starts.{beginning_of}
-use Rattle.sup_tree.specs.Walk.{app_starts}
+use Rattle.app_members.specs.Walk.{app_starts}
 use Rattle.proc_history.specs.declared.beginning.Beginning.{Beginning}
 use Rattle.proc_history.specs.declared.value.Now.{Now}
 use Rattle.proc_history.specs.declared.value.Outcome.{Outcome}
@@ -24,16 +24,19 @@ use Rattle.node_processes.specs.Fresh.{started_parts, part_starts, part_beginnin
 use Rattle.node_processes.specs.Processes.{Processes, process_named}
 use Rattle.node_processes.specs.ModuleVersions.{HasModuleVersion, HaveModuleVersions}
 use Rattle.relup_instruction.specs.declared.instruction.Direction.{Direction}
-use Rattle.relup_instruction.specs.Instruction.{ChangeForm, Instruction}
+use Rattle.relup_instruction.specs.Instruction.{CallForm, ChangeForm, Instruction}
 use Rattle.relup_instruction.specs.Instruction as relup
 use Rattle.relup_script.specs.Script.{is_point}
-use Rattle.sup_tree.specs.Tree.{App, app_named, app_pids}
+use Rattle.sup_tree.specs.Children.{child_members}
+use Rattle.sup_tree.specs.Tree.{App, app_named, app_pids, pids_of, processes_among}
 use Rattle.held_processes.specs.Applications.{held_ended, places_for, with_started, with_stopped_app}
 use Rattle.held_processes.specs.Course.{Courses, added, course_after}
 use Rattle.held_processes.specs.Course as course
 use Rattle.script_steps.specs.Fault.{Cause, fault}
-use Rattle.script_steps.specs.Script.{AppCall, Run, Site, app_call, called_after, change_courses, changed, changed_once, library_for, mode_of, old_version, run_after, scene_of, started_from, suspended_in, tables_among, target_library, users_in, with_scene, worker_in}
-use Rattle.script_steps.specs.Script.AppCall.{starts, stops, idle}
+use Rattle.script_steps.specs.Script.{Run, Site, call_after, called_after, changed, changed_once, child_after, library_for, mode_of, old_version, run_after, scene_of, started_from, suspended_in, tables_among, target_library, users_in, with_scene, worker_in}
+use Rattle.script_steps.specs.Calls.{AppCall, ChildCall, app_call, child_call, is_on_child}
+use Rattle.script_steps.specs.Calls.AppCall.{starts, stops, idle}
+use Rattle.script_steps.specs.Calls.ChildCall.{terminates, nothing as no_end}
 use Rattle.relup_exec.specs.Alone.{fails_at, outcome, outcome_from, unless_fault, values_alone}
 use Rattle.relup_exec.specs.Alone.Outcome.{ends}
 use Rattle.node_processes.specs.Scripts.{behind_run, ended_run, run_on}
@@ -163,6 +166,24 @@ called_run s (starts name) r v = started_versions (target_library s name) r v
 called_run s (stops name) r v = stopped_versions name (app_named name r.apps) r v
 called_run s idle r v = v
 
+child_run : (c : ChildCall) (r : Run) → RunVersions r → RunVersions (child_after c r)
+child_run (terminates super id) r v =
+    let pids = pids_of (processes_among (child_members super id r.apps)) in record {
+      fetched = v.fetched;
+      modules = v.modules;
+      values = v.values;
+      courses = ended_versions r.values (reverse pids) (held_ended pids r.courses) (given_up_versions pids r.courses v.courses);
+    }
+child_run no_end r v = v
+
+one_of_runs : (b : Bool) (q r : Run) → RunVersions q → RunVersions r → RunVersions (if b then q else r)
+one_of_runs true q r v w = v
+one_of_runs false q r v w = w
+
+call_run : (s : Site) (c : CallForm) (r : Run) → RunVersions r → RunVersions (call_after s c r)
+call_run s c r v =
+    one_of_runs (is_on_child c) (child_after (child_call c) r) (called_after s (app_call c) r) (child_run (child_call c) r v) (called_run s (app_call c) r v)
+
 -- an instruction keeps that
 step_versions : (s : Site) (early : Bool) (i : Instruction) (r : Run) → AreWithLibraries s.releases → RunVersions r → RunVersions (run_after s early i r)
 step_versions s early (relup.Instruction.load_object_code f) r libraries v =
@@ -183,7 +204,7 @@ step_versions s early (relup.Instruction.remove p) r libraries v =
     record { fetched = v.fetched; modules = each_kept HasNamedVersion (λ (m : List ℕ × Module). not (bytes_eq p.name m.0)) r.modules v.modules; values = v.values; courses = v.courses }
 step_versions s early (relup.Instruction.stop names) r libraries v = with_courses_versions r _ v (each_courses course.Operation.stop names (users_in r) r.courses tt v.courses)
 step_versions s early (relup.Instruction.start names) r libraries v = with_courses_versions r _ v (each_courses course.Operation.start names (users_in r) r.courses tt v.courses)
-step_versions s early (relup.Instruction.apply c) r libraries v = called_run s (app_call c) r v
+step_versions s early (relup.Instruction.apply c) r libraries v = call_run s c r v
 step_versions s early i r libraries v = v
 
 not_ended : (early : Bool) (n : ℕ) (c : Cause) (r : Run) → fails_at early n c ≡ ends r → ⊥

@@ -19,15 +19,16 @@ use Rattle.proc_table.specs.Agrees.{slots}
 use Rattle.proc_table.specs.Views.{seen}
 use Rattle.relup_instruction.specs.declared.instruction.Direction.{Direction}
 use Rattle.relup_instruction.specs.declared.instruction.Direction.TheVariants.{Up, Down}
-use Rattle.relup_instruction.specs.Instruction.{ChangeForm, Instruction}
+use Rattle.relup_instruction.specs.Instruction.{CallForm, ChangeForm, Instruction}
 use Rattle.relup_instruction.specs.Instruction.Instruction.{apply, code_change, remove}
 use Rattle.relup_script.specs.Script.{is_error, is_point}
 use Rattle.rel_check.specs.Modules.{Tables}
 use Rattle.loaded_modules.specs.Loaded.{NamedModules}
+use Rattle.sup_tree.specs.Children.{child_members, child_terminated}
 use Rattle.sup_tree.specs.Starts.{members_at}
 use Rattle.sup_tree.specs.Stops.{stands}
-use Rattle.sup_tree.specs.Tree.{App, app_named, app_pids, supervises, without}
-use Rattle.sup_tree.specs.Walk.{app_fault, app_members, app_starts}
+use Rattle.sup_tree.specs.Tree.{App, app_named, app_pids, pids_of, processes_among, supervises, without}
+use Rattle.app_members.specs.Walk.{app_fault, app_members, app_starts}
 use Rattle.held_processes.specs.Applications.{all_begun, all_ended, ended_at, held_ended, known, lowest, lowest_below, match_pid, pid_at, pids_for, room_in, round_in, rounds_below, taken_at, with_started, with_stopped_app}
 use Rattle.held_processes.specs.Course.{Courses, add_alone, added, course_after, if_held, on_all, opening, runs}
 use Rattle.held_processes.specs.Course.Operation.{finish}
@@ -35,9 +36,11 @@ use Rattle.held_processes.specs.Following.{AreUntouched}
 use Rattle.held_processes.specs.Operations.{Values, is_held_user, uses_up, values_seen}
 use Rattle.held_processes.proofs.AnyLemmas.{any_alike}
 use Rattle.held_processes.proofs.CourseLemmas.{blocks_alone}
-use Rattle.script_steps.specs.Script.{AppCall, Run, Site, app_call, began, called_after, changed, changed_once, mode_of, old_version, run_after, scene_of, started_from, tables_among, target_library, users_in, with_scene}
-use Rattle.script_steps.specs.Script.AppCall.{starts, stops, idle}
-use Rattle.script_steps.specs.Fault.{Cause, app_call_fault, change_fault, error_cause, fault, is_stuck, start_fault, start_fault_or}
+use Rattle.script_steps.specs.Script.{Run, Site, began, call_after, called_after, changed, changed_once, child_after, mode_of, old_version, run_after, scene_of, started_from, tables_among, target_library, users_in, with_scene}
+use Rattle.script_steps.specs.Calls.{AppCall, ChildCall, app_call, child_call, is_on_child}
+use Rattle.script_steps.specs.Calls.AppCall.{starts, stops, idle}
+use Rattle.script_steps.specs.Calls.ChildCall.{terminates, nothing as no_end}
+use Rattle.script_steps.specs.Fault.{Cause, app_call_fault, call_fault, change_fault, child_call_fault, error_cause, fault, is_stuck, start_fault, start_fault_or}
 use Rattle.script_steps.specs.Fault.Cause.{in_use, no_change, no_memory}
 use Rattle.relup_exec.specs.Alone.{Outcome, outcome, outcome_from, unless_fault, values_alone}
 use Rattle.relup_exec.specs.Alone.Outcome.{ends, refuses, breaks}
@@ -154,9 +157,24 @@ module _ (g : Values) (r : Run) (same : Alike r.values g) where
   called_alike s (stops name) = stopped_alike name (app_named name r.apps)
   called_alike s idle = refl
 
+  child_alike : (c : ChildCall) → child_after c (with_values g r) ≡ with_values g (child_after c r)
+  child_alike (terminates super id) =
+      let pids = pids_of (processes_among (child_members super id r.apps)) in
+      let all = sym (ended_alike r.values g same (reverse pids) (held_ended pids r.courses)) in
+      λ j. record { fetched = r.fetched; modules = r.modules; apps = child_terminated super id r.apps; values = g; courses = all j }
+  child_alike no_end = refl
+
+  call_after_alike : (s : Site) (c : CallForm) → call_after s c (with_values g r) ≡ with_values g (call_after s c r)
+  call_after_alike s c =
+      by (is_on_child c) _ (child_after (child_call c) r) _ (called_after s (app_call c) r) (child_alike (child_call c)) (called_alike s (app_call c))
+    where
+      by : (b : Bool) (x y z w : Run) → x ≡ with_values g y → z ≡ with_values g w → (if b then x else z) ≡ with_values g (if b then y else w)
+      by true x y z w is others = is
+      by false x y z w is others = others
+
   step_alike : (s : Site) (early : Bool) (i : Instruction) → run_after s early i (with_values g r) ≡ with_values g (run_after s early i r)
   step_alike s early (code_change c) = changed_alike s (mode_of c.mode) c.changes g r
-  step_alike s early (apply c) = called_alike s (app_call c)
+  step_alike s early (apply c) = call_after_alike s c
   step_alike s early i = refl
 
 -- why it fails, where this is left in the slots
@@ -187,15 +205,24 @@ module _ (g : Values) (r : Run) (same : Alike r.values g) where
       ap (λ (n : ℕ). if is_some (app_named l.app.name r.apps) then None else start_fault_or (app_fault tables l.app.top) (length (app_starts tables l.app.top)) n)
       (room_alike r.values g same r.courses)
 
-  call_alike : (s : Site) (c : AppCall) → app_call_fault s c r ≡ app_call_fault s c (with_values g r)
-  call_alike s (starts name) = start_alike (target_library s name)
-  call_alike s (stops name) = refl
-  call_alike s idle = refl
+  app_fault_alike : (s : Site) (c : AppCall) → app_call_fault s c r ≡ app_call_fault s c (with_values g r)
+  app_fault_alike s (starts name) = start_alike (target_library s name)
+  app_fault_alike s (stops name) = refl
+  app_fault_alike s idle = refl
+
+  child_fault_alike : (c : ChildCall) → child_call_fault c r ≡ child_call_fault c (with_values g r)
+  child_fault_alike (terminates super id) = refl
+  child_fault_alike no_end = refl
+
+  call_fault_alike : (s : Site) (c : CallForm) → call_fault s c r ≡ call_fault s c (with_values g r)
+  call_fault_alike s c =
+      ap₂ (λ (o o' : Option Cause). if is_error c then error_cause c.args else if is_on_child c then o else o')
+      (child_fault_alike (child_call c)) (app_fault_alike s (app_call c))
 
   fault_alike : (s : Site) (x y : Values) (i : Instruction) → Alike x y → fault s x r i ≡ fault s y (with_values g r) i
   fault_alike s x y (code_change c) left = change_alike s (mode_of c.mode) c.changes x y g r left
   fault_alike s x y (remove q) left = ap (λ (b : Bool). if supervises q.name r.apps || b then Some in_use else None) (uses_alike q.name x y r left)
-  fault_alike s x y (apply c) left = ap (λ (o : Option Cause). if is_error c then error_cause c.args else o) (call_alike s (app_call c))
+  fault_alike s x y (apply c) left = call_fault_alike s c
   fault_alike s x y i left = refl
 
   left_alike : Alike (values_alone r) (values_alone (with_values g r))

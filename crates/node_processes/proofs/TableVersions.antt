@@ -21,7 +21,7 @@ use Rattle.library.specs.Library.{Library, TableTerm, HaveTables, IsLibrary, is_
 use Rattle.rel_check.specs.Modules.{Tables}
 use Rattle.rel_check.specs.Walk.{of_kind, child_table}
 use Rattle.loaded_modules.specs.Loaded.{Module, NamedModules, libraries_behind, loaded_behind, module_of, modules_with, modules_of, named_modules, library_modules, module_named, with_loaded}
-use Rattle.sup_tree.specs.Walk.{NewMember, Start, app_members, app_starts, child_members, children_members, members_at_top, start_in, starts_among}
+use Rattle.app_members.specs.Walk.{NewMember, Start, app_members, app_starts, child_members, children_members, members_at_top, start_in, starts_among}
 use Rattle.node_processes.specs.Fresh.{tables_in}
 use Rattle.node_processes.specs.ModuleVersions.{HasTableVersion}
 use Rattle.script_steps.specs.Script.{fetched_from, fetched_of}

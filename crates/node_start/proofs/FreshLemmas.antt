@@ -23,7 +23,7 @@ use Rattle.sup_tree.specs.declared.member.StartedProcess.{StartedProcess}
 use Rattle.sup_tree.specs.Laws.{FreeFrom}
 use Rattle.sup_tree.specs.Starts.{beginning_of, members_at, process_of, BeganInOrder}
 use Rattle.sup_tree.specs.Tree.{App, pids_of}
-use Rattle.sup_tree.specs.Walk.{Start, app_members}
+use Rattle.app_members.specs.Walk.{Start, app_members}
 use Rattle.sup_tree.proofs.BeginLemmas.{first_slots}
 use Rattle.held_processes.specs.Applications.{match_pid}
 use Rattle.node_processes.specs.Fresh.{first_value, first_values, first_pid, pid_if, pids_from, app_from, apps_from, beginnings, part_beginnings, part_starts, tables_in}

@@ -26,7 +26,7 @@ use Rattle.sup_tree.specs.declared.member.StartedProcess.{StartedProcess}
 use Rattle.loaded_modules.specs.Loaded.{modules_in, tables_of}
 use Rattle.sup_tree.specs.Starts.{beginning_of, BeganInOrder, AppStarted}
 use Rattle.sup_tree.specs.Tree.{App, app_named, is_named}
-use Rattle.sup_tree.specs.Walk.{Start, app_fault, app_starts}
+use Rattle.app_members.specs.Walk.{Start, app_fault, app_starts}
 use Rattle.node_processes.specs.Fresh.{part_starts, started_parts}
 use Rattle.node_start.specs.declared.start.Started.{Started}
 use Rattle.node_start.specs.Starting.{AreReady, IsAlone, StartedAll, IsNew, part_name}

@@ -7,7 +7,7 @@ use Rattle.proc_table.specs.declared.view.View.{View}
 use Rattle.proc_table.specs.Free.{free_count}
 use Rattle.sup_tree.specs.Starts.{AppStarted}
 use Rattle.sup_tree.specs.Tree.{App, app_named}
-use Rattle.sup_tree.specs.Walk.{app_fault}
+use Rattle.app_members.specs.Walk.{app_fault}
 use Rattle.held_processes.specs.Following.{HoldsNothing}
 use Rattle.node_processes.specs.Fresh.{part_starts}
 

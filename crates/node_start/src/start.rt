@@ -21,7 +21,7 @@ ghost use Rattle.rel_list.specs.Status.{is_current, is_permanent};
 ghost use Rattle.loaded_modules.specs.Loaded.{modules_in, tables_of};
 ghost use Rattle.sup_tree.specs.Starts.{AppStarted};
 ghost use Rattle.sup_tree.specs.Tree.{app_named};
-ghost use Rattle.sup_tree.specs.Walk.{app_fault, app_starts};
+ghost use Rattle.app_members.specs.Walk.{app_fault, app_starts};
 
 use app_file::App;
 use library::Library;

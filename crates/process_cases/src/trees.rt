@@ -1,7 +1,7 @@
 //! Applications that are started and stopped.
 ghost use Rattle.std.specs.Prelude.{◌≡◌};
 
-use crate::children::step_of_children;
+use crate::children::{step_of_child, step_of_children};
 use crate::loads::change_loaded;
 use crate::processes::push_pid;
 use crate::steps::take_step;
@@ -25,7 +25,8 @@ use text_cases::{Answer, first_word, number};
 ///   has a supervisor of it, `yes` or `no`.
 /// - `vsn MODULE`: its version that is loaded, or `none`. `versions`: each module that is loaded, with its version.
 /// - `fetch`, `load`, `remove`, `copy` change what is loaded, as [`change_loaded`] has them. `members`, `change` are about the
-///   members of applications, as [`step_of_children`] has them.
+///   members of applications, as [`step_of_children`] has them, and `terminate`, `delete`, `restart` about one child, as
+///   [`step_of_child`] has them.
 /// - Any other step is one of a table, as [`crate::steps::follow_steps`] has them.
 pub(crate) fn follow_tree<R: Wait>(rt: &R, alloc: Global, words: &str, answer: &mut Answer) {
     let Some((terms, steps)) = words.split_once(" | ") else {
@@ -83,6 +84,9 @@ fn follow_with<R: Wait>(
             "members" | "change" => {
                 step_of_children(alloc, &loaded, &mut tree, word, rest, answer);
             }
+            "terminate" | "delete" | "restart" => step_of_child(
+                rt, alloc, &loaded, &table, &mut seat, &mut tree, word, rest, answer,
+            ),
             "vsn" | "versions" => push_loaded(alloc, &loaded, word, rest, answer),
             "find" | "using" | "in" | "supervises" => push_found(alloc, &tree, word, rest, answer),
             _ => take_step(rt, alloc, &table, &mut seat, step, answer),

@@ -160,6 +160,7 @@ cause_plain (script.Cause.raised x) = append_line (codes "Raised ") (text_of x) 
 cause_plain script.Cause.in_use = refl
 cause_plain script.Cause.no_app = refl
 cause_plain script.Cause.no_slot = refl
+cause_plain script.Cause.no_super = refl
 cause_plain script.Cause.unsupported = refl
 cause_plain script.Cause.no_memory = refl
 

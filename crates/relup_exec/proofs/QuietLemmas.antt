@@ -1,5 +1,5 @@
 -- Before the point of no return no block is added to a course.
-use Rattle.std.proofs.Common.{◌≡◌, ℕ, Bool, true, false, ◌&&◌, ◌||◌, IsTrue, if◌then◌else◌, codes, List, [], ◌∷◌, Option, Some, None, not, refl, ap, ◌∙◌}
+use Rattle.std.proofs.Common.{◌≡◌, ℕ, Bool, true, false, ◌&&◌, IsTrue, if◌then◌else◌, codes, List, [], ◌∷◌, Option, Some, None, not, refl, ap, ◌∙◌}
 use Rattle.std.specs.List.{AllByRecursion}
 use Rattle.mod_table.specs.Table.{OldVersion, WorkerTable}
 use Rattle.held_processes.specs.Course.{Courses, Users, on_module}
@@ -8,12 +8,13 @@ use Rattle.held_processes.proofs.CourseLemmas.{module_adds_no_block}
 use Rattle.relup_instruction.specs.declared.instruction.Direction.{Direction}
 use Rattle.relup_instruction.specs.Instruction as instruction
 use Rattle.relup_instruction.specs.Instruction.{CallForm, ChangeForm, Instruction}
-use Rattle.relup_script.specs.Script.{has_one, is_application, is_error}
+use Rattle.relup_script.specs.Script.{has_one, is_error, is_supported_call}
 use Rattle.loaded_modules.specs.Loaded.{module_named}
 use Rattle.std.specs.Str.{bytes_eq}
 use Rattle.std.proofs.lemmas.Slice.Eq.{bytes_eq-Decides}
-use Rattle.script_steps.specs.Script.AppCall.{starts, stops, idle}
-use Rattle.script_steps.specs.Script.{Run, Site, app_call, called_after, first_atom, change_courses, changed, changed_once, load_courses, mode_of, old_version, on_each, run_after, suspended_in, users_in, worker_in}
+use Rattle.script_steps.specs.Calls.{AppCall, app_call, child_call, first_atom, is_on_child}
+use Rattle.script_steps.specs.Calls.AppCall.{starts, stops, idle}
+use Rattle.script_steps.specs.Script.{Run, Site, call_after, called_after, child_after, change_courses, changed, changed_once, load_courses, mode_of, old_version, on_each, run_after, suspended_in, users_in, worker_in}
 use Rattle.relup_exec.specs.Outcome.{Start, began_at, run_behind, run_through}
 use Rattle.script_steps.specs.Steps.{IsEarly, SameBlocks}
 use Rattle.relup_exec.proofs.RunLemmas.{not_the_point}
@@ -26,14 +27,17 @@ right_true : (a b : Bool) → IsTrue (a && b) → b ≡ true
 right_true true b e = e
 right_true false b e = absurd (cc e)
 
--- a call that raises an error is on no application
-pub errors_do_nothing : (c : CallForm) → IsEarly (instruction.Instruction.apply c) → app_call c ≡ idle
-errors_do_nothing c early =
-    let raises : is_error c ≡ true = right_true (is_error c || is_application c) (is_error c) early in
+-- a call that raises an error does nothing
+errors_do_nothing : (s : Site) (c : CallForm) (r : Run) → IsEarly (instruction.Instruction.apply c) → call_after s c r ≡ r
+errors_do_nothing s c r early =
+    let raises : is_error c ≡ true = right_true (is_supported_call c) (is_error c) early in
     let named : c.name ≡ codes "erlang" =
     (bytes_eq-Decides c.name (codes "erlang")).0 (left_true (bytes_eq c.name (codes "erlang")) (bytes_eq c.function (codes "error") && has_one c.args) raises) in
     let other : bytes_eq c.name (codes "application") ≡ false = ap (λ (n : List ℕ). bytes_eq n (codes "application")) named in
-    ap (λ (b : Bool). if b then (if bytes_eq c.function (codes "start") then starts (first_atom c.args) else if bytes_eq c.function (codes "stop") then stops (first_atom c.args) else idle) else idle) other
+    let idles : app_call c ≡ idle =
+    ap (λ (b : Bool). if b then (if bytes_eq c.function (codes "start") then starts (first_atom c.args) else if bytes_eq c.function (codes "stop") then stops (first_atom c.args) else idle) else idle) other in
+    let child : is_on_child c ≡ false = ap (λ (n : List ℕ). bytes_eq n (codes "supervisor")) named in
+    ap (λ (b : Bool). if b then child_after (child_call c) r else called_after s (app_call c) r) child ∙ ap (λ (k : AppCall). called_after s k r) idles
 
 each_same : (names : List (List ℕ)) (users : Users) (cs : Courses) → SameBlocks cs (on_each suspend names users cs)
 each_same [] users cs p = refl
@@ -58,7 +62,7 @@ step_same s (instruction.Instruction.load_object_code f) early r p = refl
 step_same s (instruction.Instruction.suspend ss) early r p = each_same (suspended_in ss) (users_in r) r.courses p
 step_same s (instruction.Instruction.load f) early r p = loads_same f.name (worker_in (module_named f.name r.fetched)) (users_in r) r.courses p
 step_same s (instruction.Instruction.code_change c) early r p = changed_same s (mode_of c.mode) c.changes r p
-step_same s (instruction.Instruction.apply c) early r p = ap (λ k. ((called_after s k r).courses p).blocks) (errors_do_nothing c early)
+step_same s (instruction.Instruction.apply c) early r p = ap (λ (q : Run). (q.courses p).blocks) (errors_do_nothing s c r early)
 step_same s i early r p = absurd (cc early)
 
 through_same : (s : Site) (is : List Instruction) → AllByRecursion IsEarly is → (r : Run) → SameBlocks r.courses (run_through s true is r).courses

@@ -2,7 +2,7 @@
 use Rattle.std.proofs.Common.{◌≡◌, Bool, true, false, ◌&&◌, not, List, [], ◌∷◌, ◌++◌, length, ◌<◌, arith, refl, sym, ap, subst, ◌∙◌, ◌⊎◌, inl, inr, ⊎_elim, Option, Some, None, is_some, if◌then◌else◌}
 use Rattle.std.specs.List.{AllByRecursion}
 use Rattle.proc_table.specs.declared.view.View.{View}
-use Rattle.relup_instruction.specs.Instruction.{ChangeForm, Instruction}
+use Rattle.relup_instruction.specs.Instruction.{CallForm, ChangeForm, Instruction}
 use Rattle.relup_instruction.specs.Instruction.Instruction.{apply, code_change, point_of_no_return}
 use Rattle.relup_script.specs.Script.{IsRunnable, is_point}
 use Rattle.relup_script.proofs.ScriptLemmas.{are_early}
@@ -10,8 +10,11 @@ use Rattle.library.specs.Library.{Library}
 use Rattle.relup_instruction.specs.declared.instruction.Direction.{Direction}
 use Rattle.sup_tree.specs.Tree.{app_named}
 use Rattle.held_processes.specs.Applications.{with_started}
-use Rattle.script_steps.specs.Script.AppCall.{starts, stops, idle}
-use Rattle.script_steps.specs.Script.{AppCall, Run, Site, app_call, called_after, changed, changed_once, mode_of, run_after, scene_of, started_from, tables_among, target_library, with_scene}
+use Rattle.held_processes.specs.Operations.{Values}
+use Rattle.script_steps.specs.Calls.{AppCall, ChildCall, app_call, child_call, is_on_child}
+use Rattle.script_steps.specs.Calls.AppCall.{starts, stops, idle}
+use Rattle.script_steps.specs.Calls.ChildCall.{terminates, nothing}
+use Rattle.script_steps.specs.Script.{Run, Site, call_after, called_after, changed, changed_once, child_after, mode_of, run_after, scene_of, started_from, tables_among, target_library, with_scene}
 use Rattle.relup_exec.specs.Outcome.{RanAll, run_through, still_early}
 use Rattle.script_steps.specs.Steps.{IsLate}
 use Rattle.script_steps.specs.Steps.{HasNoFault, IsEarly}
@@ -110,9 +113,21 @@ called_values s (starts name) r = started_values (target_library s name) r
 called_values s (stops name) r = refl
 called_values s idle r = refl
 
+child_values : (c : ChildCall) (r : Run) → (child_after c r).values ≡ r.values
+child_values (terminates super id) r = refl
+child_values nothing r = refl
+
+one_of_values : (b : Bool) (q q' : Run) (values : Values) → q.values ≡ values → q'.values ≡ values → (if b then q else q').values ≡ values
+one_of_values true q q' values same same' = same
+one_of_values false q q' values same same' = same'
+
+call_values : (s : Site) (c : CallForm) (r : Run) → (call_after s c r).values ≡ r.values
+call_values s c r =
+    one_of_values (is_on_child c) (child_after (child_call c) r) (called_after s (app_call c) r) r.values (child_values (child_call c) r) (called_values s (app_call c) r)
+
 pub step_values : (s : Site) (e : Bool) (i : Instruction) (r : Run) → (run_after s e i r).values ≡ r.values
 step_values s e (code_change c) r = changed_values s (mode_of c.mode) c.changes r
-step_values s e (apply c) r = called_values s (app_call c) r
+step_values s e (apply c) r = call_values s c r
 step_values s e i r = refl
 
 -- what stood in the slots at first is kept

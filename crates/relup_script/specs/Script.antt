@@ -44,13 +44,26 @@ is_application c =
     bytes_eq c.name (codes "application")
     && ((is_one_app_word c.function && is_app c.args) || (bytes_eq c.function (codes "start") && is_typed_app c.args))
 
+-- [Module, Id]
+abbrev pub is_child : Values → Bool
+is_child (value (atom super) (value (atom id) no_values)) = true
+is_child vs = false
+
+-- supervisor:terminate_child/2
+abbrev pub is_child_call : CallForm → Bool
+is_child_call c = bytes_eq c.name (codes "supervisor") && (bytes_eq c.function (codes "terminate_child") && is_child c.args)
+
+-- a call that a script can make
+abbrev pub is_supported_call : CallForm → Bool
+is_supported_call c = is_error c || (is_application c || is_child_call c)
+
 abbrev pub is_point : Instruction → Bool
 is_point point_of_no_return = true
 is_point i = false
 
 -- what is run at all
 abbrev pub is_supported : Instruction → Bool
-is_supported (apply c) = is_error c || is_application c
+is_supported (apply c) = is_supported_call c
 is_supported (sync_nodes vs) = false
 is_supported restart_new_emulator = false
 is_supported i = true

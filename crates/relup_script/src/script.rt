@@ -5,7 +5,7 @@ ghost use Rattle.relup_instruction.specs.Instruction.{instruction_of, script_of}
 ghost use Rattle.relup_script.specs.Script.{is_point, is_supported, may_precede, may_follow, is_restart, restarts, may_stand, fault_at, part_fault, split_point, script_fault, IsRunnable, IsScriptFault};
 
 use crate::ScriptFault;
-use crate::calls::{is_application, is_error};
+use crate::calls::{is_error, is_supported_call};
 use relup_instruction::Instr;
 
 // A side of the point of no return.
@@ -108,7 +108,7 @@ fn is_supported(instr: &Instr) -> bool
     ensures { result ≡ is_supported (instruction_of instr.now) }
 {
     match instr {
-        Instr::Apply(call) => is_error(call) || is_application(call),
+        Instr::Apply(call) => is_supported_call(call),
         Instr::SyncNodes(_) | Instr::RestartNewEmulator => false,
         _ => true,
     }

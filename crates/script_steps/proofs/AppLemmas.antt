@@ -1,30 +1,21 @@
--- Calls that start and stop applications.
-use Rattle.std.proofs.Common.{◌≡◌, ℕ, ◌&&◌, Bool, true, false, nat_lt, List, length, if◌then◌else◌, refl, sym, ap, subst, subst₂, ◌∙◌, Option, None, Some, is_some, Result, Ok, Err, codes}
+-- Calls that start applications.
+use Rattle.std.proofs.Common.{◌≡◌, ℕ, Bool, true, false, nat_lt, List, length, if◌then◌else◌, sym, ap, subst, subst₂, ◌∙◌, Option, None, Some, is_some, Ok}
 use Rattle.std.proofs.lemmas.Bool.{le-ltb, lt-ltb}
-use Rattle.std.proofs.lemmas.Slice.Eq.{bytes_eq-Decides}
 use Rattle.std.specs.Option.{option_and_then}
-use Rattle.std.specs.Str.{bytes_eq}
 use Rattle.library.specs.Library.{Library}
 use Rattle.proc_table.specs.declared.view.View.{View}
 use Rattle.rel_check.specs.Modules.{Tables}
 use Rattle.held_processes.specs.Applications.{IsStartedIn, IsWhyNot, Scene, room_in, scene_at, with_started}
-use Rattle.relup_instruction.specs.Instruction.{CallForm}
-use Rattle.relup_instruction.specs.Instruction.Instruction.{apply}
-use Rattle.relup_script.specs.Script.{has_one, is_error}
 use Rattle.sup_tree.specs.declared.error.StartError.{StartError}
 use Rattle.sup_tree.specs.declared.error.StartError.TheVariants.{AlreadyStarted, NoTable, Unsupported, NoSlot, NoMemory}
 use Rattle.loaded_modules.specs.Loaded.{Module, Modules, module_named, tables_of}
 use Rattle.sup_tree.specs.Tree.{App, app_named}
-use Rattle.sup_tree.specs.Walk.{StartFault, app_fault, app_starts}
-use Rattle.script_steps.specs.declared.cause.Failure.{Failure}
-use Rattle.script_steps.specs.Apps.{CallsApp, StartsFrom, start_cause}
-use Rattle.script_steps.specs.Fault.{Cause, app_call_fault, app_start_fault, call_fault, error_cause, start_fault, start_fault_or}
+use Rattle.app_members.specs.Walk.{StartFault, app_fault, app_starts}
+use Rattle.script_steps.specs.Apps.{StartsFrom, start_cause}
+use Rattle.script_steps.specs.Fault.{Cause, app_start_fault, start_fault, start_fault_or}
 use Rattle.script_steps.specs.Fault.Cause.{no_table, no_slot, unsupported, no_memory}
-use Rattle.script_steps.specs.InMemory.{cause_of}
-use Rattle.script_steps.specs.Script.{AppCall, Run, Site, app_call, scene_of, started_from, tables_among, with_scene}
-use Rattle.script_steps.specs.Steps.{CarriesOut, HasDone, IsCause, Past, ProgressForm, followed_in}
-use Rattle.script_steps.proofs.CourseLemmas.{seen_of}
-use Rattle.script_steps.proofs.StepLemmas.{cause_seen, seen_in}
+use Rattle.script_steps.specs.Script.{Run, scene_of, started_from, tables_among, with_scene}
+use Rattle.script_steps.specs.Steps.{HasDone, IsCause, Past, ProgressForm, followed_in}
 
 -- what is loaded is found as it is listed
 tables_are : (past : Past) (a : ProgressForm) (tree : List App) (v : View) (next : Modules) → HasDone past a tree v → ((name : List ℕ) → next name ≡ module_named name a.next)
@@ -87,25 +78,3 @@ pub start_fails : (past : Past) (l : Library) (a : ProgressForm) (tree : List Ap
 start_fails past l a tree v next e c done listed why is =
     why_not past l e c
     (subst₂ (λ (t : Tables) (s : Scene). IsWhyNot e l.app.name l.app.top t s) (tables_are past a tree v next done listed) (scene_is past a tree v done) why) is
-
--- a call on an application raises no error
-no_error : (call : CallForm) → bytes_eq call.name (codes "application") ≡ true → is_error call ≡ false
-no_error call is = ap (λ (n : List ℕ). bytes_eq n (codes "erlang") && (bytes_eq call.function (codes "error") && has_one call.args)) ((bytes_eq-Decides call.name (codes "application")).0 is)
-
--- so it fails by what it does to the application
-fault_of : (s : Site) (r : Run) (call : CallForm) → bytes_eq call.name (codes "application") ≡ true → call_fault s call r ≡ app_call_fault s (app_call call) r
-fault_of s r call named = ap (λ (b : Bool). if b then error_cause call.args else app_call_fault s (app_call call) r) (no_error call named)
-
--- a call on an application was made
-pub called_well : {X : Type 0} (s : Site) (past : Past) (call : CallForm) (c : AppCall) (r : Result X Failure) (a a' : ProgressForm) (tree tree' : List App) (v w : View) → HasDone past a tree v
-    → bytes_eq call.name (codes "application") ≡ true → c ≡ app_call call → CallsApp s past c r a' tree' w → CarriesOut s past false (apply call) r a' tree' w
-called_well {X} s past call c (Ok x) a a' tree tree' v w done named is called =
-    let here : CallsApp {X = X} s past (app_call call) (Ok x) a' tree' w = subst (λ (k : AppCall). CallsApp {X = X} s past k (Ok x) a' tree' w) is called in
-    ((v, seen_in past a tree v done, fault_of s past.run call named ∙ here.0), here.1)
-called_well {X} s past call c (Err e) a a' tree tree' v w done named is called =
-    let here : CallsApp {X = X} s past (app_call call) (Err e) a' tree' w = subst (λ (k : AppCall). CallsApp {X = X} s past k (Err e) a' tree' w) is called in (
-      cause_seen past.first w past.run (call_fault s call past.run) (cause_of e.cause)
-          (subst (λ (f : Option Cause). IsCause f (cause_of e.cause)) (sym (fault_of s past.run call named)) here.0)
-          (seen_of past.first past.run past.run.courses a'.held w (λ p. refl) here.1),
-      here.1,
-    )

@@ -1,15 +1,13 @@
 -- What steps make of the courses of processes, and where they fail.
-use Rattle.std.proofs.Common.{◌≡◌, ℕ, zero, suc, ◌<◌, Bool, true, List, [], ◌∷◌, ◌++◌, length, if◌then◌else◌, refl, ap, subst, ◌∙◌, Option, Some, None, slice_index_or, arith}
+use Rattle.std.proofs.Common.{◌≡◌, ℕ, zero, suc, Bool, true, List, [], ◌∷◌, ◌++◌, length, if◌then◌else◌, refl, ap, subst, ◌∙◌, Option, Some, None, arith}
 use Rattle.mod_table.specs.Table.{OldVersion, WorkerTable}
 use Rattle.proc_history.specs.Events.{HistoryEntry}
-use Rattle.proc_table.specs.Agrees.{slots}
-use Rattle.proc_table.specs.Parts.{part_of}
 use Rattle.proc_table.specs.Views.{seen}
 use Rattle.proc_table.specs.declared.view.View.{View}
 use Rattle.std.proofs.lemmas.Bool.{le-ltb}
-use Rattle.held_processes.specs.Course.{Course, Courses, Operation, Users, on_module}
+use Rattle.held_processes.specs.Course.{Courses, Operation, Users, on_module}
 use Rattle.held_processes.specs.Course.Operation.{suspend, load, change}
-use Rattle.held_processes.specs.Following.{AllFollow, Follows, HeldSlots, Stand}
+use Rattle.held_processes.specs.Following.{AllFollow, HeldSlots, Stand}
 use Rattle.held_processes.specs.Laws.{IsPending}
 use Rattle.held_processes.specs.Operations.{part_way}
 use Rattle.held_processes.proofs.CourseLemmas.{module_adds_no_block, part_way_adds_no_block}
@@ -19,16 +17,6 @@ use Rattle.relup_instruction.specs.Instruction.{ChangeForm, Instruction}
 use Rattle.loaded_modules.specs.Loaded.{module_named}
 use Rattle.script_steps.specs.Script.{Run, Site, change_courses, change_within, changed, changed_once, changed_within, courses_within, each_within, load_within, mode_of, old_version, on_each, suspended_in, users_in, worker_in}
 use Rattle.script_steps.specs.Steps.{IsSeen, SameBlocks}
-
--- courses that are the same in each slot are followed alike
-pub follow_same : (first : View) (cs ds : Courses) (hs : HeldSlots) (v : View) → ((p : ℕ) → p < slots → cs p ≡ ds p) → AllFollow first cs hs v → AllFollow first ds hs v
-follow_same first cs ds hs v same f = record {
-  handler = f.handler;
-  count = f.count;
-  lent = f.lent;
-  long = f.long;
-  each = λ p inside. subst (λ (c : Course). Follows first.lent p (part_of first.parts p) c (part_of v.parts p) (slice_index_or hs p None)) (same p inside) (f.each p inside);
-}
 
 -- what was followed was seen
 pub seen_of : (first : View) (r : Run) (cs : Courses) (hs : HeldSlots) (v : View) → SameBlocks r.courses cs → AllFollow first cs hs v → IsSeen first r v

@@ -4,3 +4,4 @@ pub mod StepLemmas
 pub mod PlainLemmas
 pub mod RemoveLemmas
 pub mod AppLemmas
+pub mod CallLemmas

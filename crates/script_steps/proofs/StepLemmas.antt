@@ -24,7 +24,8 @@ use Rattle.script_steps.specs.Fault.Cause.{no_change, no_memory, not_fetched}
 use Rattle.script_steps.specs.InMemory.{cause_of}
 use Rattle.script_steps.specs.Script.{Run, Site, change_courses, change_within, changed, changed_once, changed_within, each_within, fetched_from, fetched_of, library_for, load_within, mode_of, old_version, on_each, processes_changed, supervisors_changed, suspended_in, tables_among, users_in, worker_in}
 use Rattle.script_steps.specs.Steps.{AreDone, CarriesOut, ChangesOnce, ChangesProcesses, FailsToChange, GivesTable, HasDone, IsCause, IsCauseIn, IsSeen, Past, ProgressForm, followed_in}
-use Rattle.script_steps.proofs.CourseLemmas.{change_none_within, changed_push, changed_stopped, changed_within_same, each_push, each_stopped, follow_same, seen_of}
+use Rattle.script_steps.proofs.CourseLemmas.{change_none_within, changed_push, changed_stopped, changed_within_same, each_push, each_stopped, seen_of}
+use Rattle.held_processes.proofs.FollowLemmas.{follow_same}
 use Rattle.script_steps.proofs.RowLemmas.{more, parted}
 
 -- what was done was seen

@@ -1,20 +1,19 @@
 -- What calls on applications leave to each other.
-use Rattle.std.specs.Prelude.{◌≡◌, List, Option, Some, None, Result, Ok, Err}
+use Rattle.std.specs.Prelude.{List, Option, Some, None, Result}
 use Rattle.proc_table.specs.declared.view.View.{View}
 use Rattle.library.specs.Library.{Library}
 use Rattle.sup_tree.specs.declared.error.StartError.{StartError}
 use Rattle.sup_tree.specs.declared.error.StartError.TheVariants.{AlreadyStarted, NoTable, Unsupported, NoSlot, NoMemory}
 use Rattle.sup_tree.specs.Tree.{App}
-use Rattle.held_processes.specs.Following.{AllFollow}
 use Rattle.script_steps.specs.declared.apply.AppCall as declared
 use Rattle.script_steps.specs.declared.apply.AppCall.TheVariants.{Starts, Stops, Idle}
 use Rattle.script_steps.specs.declared.cause.Failure.{Failure}
 use Rattle.script_steps.specs.Fault.{Cause, app_call_fault, start_fault}
 use Rattle.script_steps.specs.Fault.Cause.{no_table, unsupported, no_slot, no_memory}
-use Rattle.script_steps.specs.InMemory.{cause_of}
-use Rattle.script_steps.specs.Script.{AppCall, Site, called_after, started_from}
-use Rattle.script_steps.specs.Script.AppCall.{starts, stops, idle}
-use Rattle.script_steps.specs.Steps.{HasDone, IsCause, Past, ProgressForm}
+use Rattle.script_steps.specs.Calls.{AppCall}
+use Rattle.script_steps.specs.Calls.AppCall.{starts, stops, idle}
+use Rattle.script_steps.specs.Script.{Site, called_after, started_from}
+use Rattle.script_steps.specs.Steps.{MakesCall, Past, ProgressForm}
 
 abbrev pub app_call_of : declared.AppCall → AppCall
 app_call_of (Starts app) = starts app.now
@@ -31,10 +30,8 @@ start_cause NoMemory = Some no_memory
 
 -- An application of this library was started, unless it was, or can't be.
 abbrev pub StartsFrom : {X : Type 0} → Option Library → Past → Result X Failure → ProgressForm → List App → View → Type 0
-StartsFrom l past (Ok x) a apps v = (start_fault l past.run ≡ None) × HasDone (record past { run = started_from l past.run }) a apps v
-StartsFrom l past (Err e) a apps v = IsCause (start_fault l past.run) (cause_of e.cause) × AllFollow past.first past.run.courses a.held v
+StartsFrom l past = MakesCall past (start_fault l past.run) (started_from l past.run)
 
 -- A call on an application was made, or fails.
 abbrev pub CallsApp : {X : Type 0} → Site → Past → AppCall → Result X Failure → ProgressForm → List App → View → Type 0
-CallsApp s past c (Ok x) a apps v = (app_call_fault s c past.run ≡ None) × HasDone (record past { run = called_after s c past.run }) a apps v
-CallsApp s past c (Err e) a apps v = IsCause (app_call_fault s c past.run) (cause_of e.cause) × AllFollow past.first past.run.courses a.held v
+CallsApp s past c = MakesCall past (app_call_fault s c past.run) (called_after s c past.run)

@@ -12,14 +12,17 @@ use Rattle.relup_instruction.specs.Instruction.{ChangeForm, CallForm, Instructio
 use Rattle.relup_instruction.specs.Instruction.Instruction.{load_object_code, load, code_change, remove, apply}
 use Rattle.relup_script.specs.Script.{is_error}
 use Rattle.loaded_modules.specs.Loaded.{Module, library_modules, module_named}
+use Rattle.sup_tree.specs.Children.{has_one_supervisor}
 use Rattle.sup_tree.specs.Tree.{app_named, supervises}
-use Rattle.sup_tree.specs.Walk.{StartFault, app_fault, app_starts}
-use Rattle.sup_tree.specs.Walk as walk
+use Rattle.app_members.specs.Walk.{StartFault, app_fault, app_starts}
+use Rattle.app_members.specs.Walk as walk
 use Rattle.held_processes.specs.Course.{Users}
 use Rattle.held_processes.specs.Applications.{room_in}
 use Rattle.held_processes.specs.Operations.{Values, holds_user, is_used, lacks_row, uses_up}
-use Rattle.script_steps.specs.Script.{AppCall, Site, Run, app_call, changed_once, library_for, mode_of, old_version, tables_among, target_library, users_in, worker_in}
-use Rattle.script_steps.specs.Script.AppCall.{starts, stops, idle}
+use Rattle.script_steps.specs.Script.{Site, Run, changed_once, library_for, mode_of, old_version, tables_among, target_library, users_in, worker_in}
+use Rattle.script_steps.specs.Calls.{AppCall, ChildCall, app_call, child_call, is_on_child}
+use Rattle.script_steps.specs.Calls.AppCall.{starts, stops, idle}
+use Rattle.script_steps.specs.Calls.ChildCall.{terminates, nothing}
 
 -- why a script isn't carried out
 pub data Cause : Type 0 where
@@ -33,6 +36,7 @@ pub data Cause : Type 0 where
   no_app : Cause
   no_slot : Cause
   unsupported : Cause
+  no_super : Cause
   no_memory : Cause
 
 -- the name of a cause
@@ -47,6 +51,7 @@ cause_name in_use = codes "InUse"
 cause_name no_app = codes "NoApp"
 cause_name no_slot = codes "NoSlot"
 cause_name unsupported = codes "Unsupported"
+cause_name no_super = codes "NoSuper"
 cause_name no_memory = codes "NoMemory"
 
 -- how a cause is shown: by its name, and an error's with its term
@@ -107,13 +112,20 @@ app_call_fault s (starts name) r = start_fault (target_library s name) r
 app_call_fault s (stops name) r = None
 app_call_fault s idle r = None
 
+-- Not exactly one supervisor of the module is started.
+abbrev pub child_call_fault : ChildCall → Run → Option Cause
+child_call_fault (terminates super id) r = if has_one_supervisor super r.apps then None else Some no_super
+child_call_fault nothing r = None
+
 abbrev pub error_cause : Terms → Option Cause
 error_cause (value x vs) = Some (raised x)
 error_cause vs = None
 
--- it raises an error, or is on applications
+-- it raises an error, or is on a child of a supervisor, or on an application
 abbrev pub call_fault : Site → CallForm → Run → Option Cause
-call_fault s c r = if is_error c then error_cause c.args else app_call_fault s (app_call c) r
+call_fault s c r =
+    if is_error c then error_cause c.args
+    else if is_on_child c then child_call_fault (child_call c) r else app_call_fault s (app_call c) r
 
 -- Why an instruction fails behind what was done, where the histories that the handler has seen leave this; memory aside.
 abbrev pub fault : Site → Values → Run → Instruction → Option Cause

@@ -3,10 +3,10 @@ use Rattle.std.specs.Prelude.{map}
 use Rattle.erl_term.specs.Value.{value_of}
 use Rattle.library.specs.InMemory.{shared_of}
 use Rattle.script_steps.specs.declared.cause.Cause as declared
-use Rattle.script_steps.specs.declared.cause.Cause.TheVariants.{NoLibrary, NoModule, NotFetched, NoTable, NoChange, Raised, InUse, NoApp, NoSlot, Unsupported, NoMemory}
+use Rattle.script_steps.specs.declared.cause.Cause.TheVariants.{NoLibrary, NoModule, NotFetched, NoTable, NoChange, Raised, InUse, NoApp, NoSlot, Unsupported, NoSuper, NoMemory}
 use Rattle.script_steps.specs.declared.site.Site as lent
 use Rattle.script_steps.specs.Fault.{Cause}
-use Rattle.script_steps.specs.Fault.Cause.{no_library, no_module, not_fetched, no_table, no_change, raised, in_use, no_app, no_slot, unsupported, no_memory}
+use Rattle.script_steps.specs.Fault.Cause.{no_library, no_module, not_fetched, no_table, no_change, raised, in_use, no_app, no_slot, unsupported, no_super, no_memory}
 use Rattle.script_steps.specs.Script.{Site}
 use Rattle.loaded_modules.specs.Loaded.{listed_in}
 
@@ -24,4 +24,5 @@ cause_of InUse = in_use
 cause_of NoApp = no_app
 cause_of NoSlot = no_slot
 cause_of Unsupported = unsupported
+cause_of NoSuper = no_super
 cause_of NoMemory = no_memory

@@ -1,12 +1,9 @@
 -- What the instructions of a script do, one after another (OTP: appup(4), low-level instructions): which modules are fetched, which
 -- are loaded, which applications are started, and the course of each process.
-use Rattle.std.specs.Prelude.{ℕ, zero, suc, Bool, List, [], ◌∷◌, map, is_some, Option, Some, None, codes, if◌then◌else◌}
+use Rattle.std.specs.Prelude.{ℕ, zero, suc, Bool, List, [], ◌∷◌, map, is_some, Option, Some, None, if◌then◌else◌}
 use Rattle.std.specs.List.{find}
 use Rattle.std.specs.Option.{option_map, option_and_then, option_or}
 use Rattle.std.specs.Str.{bytes_eq}
-use Rattle.erl_term.specs.Value.{Values as Terms}
-use Rattle.erl_term.specs.Value.Value.{atom}
-use Rattle.erl_term.specs.Value.Values.{value}
 use Rattle.mod_table.specs.declared.table.Table.{Table}
 use Rattle.mod_table.specs.declared.table.Table.TheVariants.{Worker, Super}
 use Rattle.mod_table.specs.Table.{OldVersion, WorkerTable}
@@ -22,9 +19,13 @@ use Rattle.loaded_modules.specs.Loaded.{Module, NamedModules, library_modules, m
 use Rattle.sup_tree.specs.Changes.{apps_changed}
 use Rattle.sup_tree.specs.Tree.{App, app_named}
 use Rattle.held_processes.specs.Applications.{Scene, with_started, with_stopped}
+use Rattle.held_processes.specs.Children.{with_terminated}
 use Rattle.held_processes.specs.Course as course
 use Rattle.held_processes.specs.Course.{Courses, Operation, Users, opening, on_module, on_all}
 use Rattle.held_processes.specs.Operations.{Values, part_way, users_of}
+use Rattle.script_steps.specs.Calls.{AppCall, ChildCall, app_call, child_call, is_on_child}
+use Rattle.script_steps.specs.Calls.AppCall.{starts, stops, idle}
+use Rattle.script_steps.specs.Calls.ChildCall.{terminates, nothing}
 
 -- Where a script runs: the node's releases, from whose libraries modules are fetched; the libraries of the release to which it
 -- leads; and what was loaded when it began.
@@ -133,23 +134,6 @@ on_each op (n ∷ ns) users cs = on_each op ns users (on_module users n op cs)
 abbrev pub suspended_in : List SuspensionForm → List (List ℕ)
 suspended_in ss = map (λ (x : SuspensionForm). x.name) ss
 
--- What a call does to applications. Those that load and unload them, and all others, do nothing.
-pub data AppCall : Type 0 where
-  starts : List ℕ → AppCall
-  stops : List ℕ → AppCall
-  idle : AppCall
-
-abbrev pub first_atom : Terms → List ℕ
-first_atom (value (atom a) vs) = a
-first_atom vs = []
-
-abbrev pub app_call : CallForm → AppCall
-app_call c =
-    if bytes_eq c.name (codes "application")
-    then (if bytes_eq c.function (codes "start") then starts (first_atom c.args)
-    else if bytes_eq c.function (codes "stop") then stops (first_atom c.args) else idle)
-    else idle
-
 -- the library of an application of the release to which the script leads
 abbrev pub target_library : Site → List ℕ → Option Library
 target_library s name = find (λ (l : Library). bytes_eq l.app.name name) s.target
@@ -172,6 +156,14 @@ called_after s (starts name) r = started_from (target_library s name) r
 called_after s (stops name) r = with_scene r (with_stopped name (scene_of r))
 called_after s idle r = r
 
+abbrev pub child_after : ChildCall → Run → Run
+child_after (terminates super id) r = with_scene r (with_terminated super id (scene_of r))
+child_after nothing r = r
+
+-- a call on an application, or on a child of a supervisor
+abbrev pub call_after : Site → CallForm → Run → Run
+call_after s c r = if is_on_child c then child_after (child_call c) r else called_after s (app_call c) r
+
 -- What an instruction does that doesn't fail. Before the point of no return a load keeps what it holds until the point.
 abbrev pub run_after : Site → Bool → Instruction → Run → Run
 run_after s early (load_object_code f) r = record r { fetched = fetched_from (library_for s f) f.modules r.fetched }
@@ -183,7 +175,7 @@ run_after s early (resume names) r = with_courses r (on_each course.Operation.re
 run_after s early (remove p) r = record r { modules = without_module p.name r.modules }
 run_after s early (stop names) r = with_courses r (on_each course.Operation.stop names)
 run_after s early (start names) r = with_courses r (on_each course.Operation.start names)
-run_after s early (apply c) r = called_after s (app_call c) r
+run_after s early (apply c) r = call_after s c r
 run_after s early i r = r
 
 -- these, one after another

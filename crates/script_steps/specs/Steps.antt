@@ -1,8 +1,6 @@
 -- What the steps of a script leave to each other.
-use Rattle.std.specs.Prelude.{◌≡◌, ℕ, ◌<◌, Bool, ◌&&◌, IsTrue, List, [], ◌∷◌, Option, None, Some, Result, Ok, Err}
+use Rattle.std.specs.Prelude.{◌≡◌, ℕ, Bool, ◌&&◌, IsTrue, List, [], ◌∷◌, Option, None, Some, Result, Ok, Err}
 use Rattle.proc_table.specs.declared.view.View.{View}
-use Rattle.proc_table.specs.Agrees.{slots}
-use Rattle.proc_table.specs.Views.{seen}
 use Rattle.library.specs.Library.{Library}
 use Rattle.relup_instruction.specs.declared.instruction.Direction.{Direction}
 use Rattle.relup_instruction.specs.Instruction.{ChangeForm, Instruction}
@@ -10,7 +8,8 @@ use Rattle.relup_script.specs.Script.{is_supported, may_follow, may_precede}
 use Rattle.loaded_modules.specs.Loaded.{NamedModules, listed_in, module_named}
 use Rattle.sup_tree.specs.Tree.{App}
 use Rattle.held_processes.specs.Course.{Courses, Operation, Users}
-use Rattle.held_processes.specs.Following.{Followed, HeldSlots, AllFollow, Stand}
+use Rattle.held_processes.specs.Children.{AreSeen}
+use Rattle.held_processes.specs.Following.{Followed, HeldSlots, AllFollow}
 use Rattle.held_processes.specs.Operations.{values_seen}
 use Rattle.script_steps.specs.declared.cause.Cause as declared
 use Rattle.script_steps.specs.declared.cause.Failure.{Failure}
@@ -47,7 +46,7 @@ followed_in past = record { first = past.first; courses = past.run.courses }
 
 -- Of each slot the handler has seen the history up to here.
 abbrev pub IsSeen : View → Run → View → Type 0
-IsSeen first r v = (p : ℕ) → p < slots → Stand first.lent (seen first p) (r.courses p).blocks (seen v p)
+IsSeen first r v = AreSeen first r.courses v
 
 -- Nothing makes the instruction fail, in histories that the handler had seen.
 abbrev pub HasNoFault : Site → View → Run → Instruction → Type 0
@@ -82,6 +81,11 @@ CarriesOut s past early i (Ok x) a tree v =
 CarriesOut s past early i (Err e) a tree v =
     IsFault past.first s v past.run i (cause_of e.cause)
     × AllFollow past.first (courses_within s early i e.modules e.slot past.run) a.held v
+
+-- A call was made, so that this was done, or it fails with this cause, and nothing was done.
+abbrev pub MakesCall : {X : Type 0} → Past → Option Cause → Run → Result X Failure → ProgressForm → List App → View → Type 0
+MakesCall past o r (Ok x) a tree v = (o ≡ None) × HasDone (record past { run = r }) a tree v
+MakesCall past o r (Err e) a tree v = IsCause o (cause_of e.cause) × AllFollow past.first past.run.courses a.held v
 
 -- The courses have the same blocks: nothing was added to a history.
 abbrev pub SameBlocks : Courses → Courses → Type 0

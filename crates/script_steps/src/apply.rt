@@ -1,17 +1,20 @@
-//! `apply`: applications are started and stopped, or the script itself raises an error (OTP: application(3), erlang:error/1).
-ghost use Rattle.std.specs.Prelude.{◌≡◌, ◌||◌, IsTrue, Some, false};
+//! `apply`: applications are started and stopped, a child of a supervisor ends, or the script itself raises an error (OTP:
+//! application(3), supervisor(3), erlang:error/1).
+ghost use Rattle.std.specs.Prelude.{◌≡◌, IsTrue, Some, false};
 ghost use Rattle.std.specs.Option.{option_map};
 ghost use Rattle.erl_term.specs.Value.{members_of};
 ghost use Rattle.library.specs.InMemory.{library_of, shared_of};
 ghost use Rattle.relup_instruction.specs.Instruction.{call_of};
 ghost use Rattle.relup_instruction.specs.Instruction.Instruction.{apply};
-ghost use Rattle.relup_script.specs.Script.{is_application, is_error};
+ghost use Rattle.relup_script.specs.Script.{is_supported_call};
 ghost use Rattle.script_steps.specs.Apps.{CallsApp, StartsFrom, app_call_of, start_cause};
 ghost use Rattle.script_steps.specs.InMemory.{cause_of, site_of};
-ghost use Rattle.script_steps.specs.Script.{app_call, called_after, first_atom, target_library};
-ghost use Rattle.script_steps.specs.Script.AppCall.{stops};
+ghost use Rattle.script_steps.specs.Calls.AppCall.{stops};
+ghost use Rattle.script_steps.specs.Calls.{app_call, first_atom};
+ghost use Rattle.script_steps.specs.Script.{called_after, target_library};
 ghost use Rattle.script_steps.specs.Steps.{CarriesOut, HasDone, Past, progress_of};
 
+use crate::child::child_call;
 use crate::progress::Progress;
 use crate::raise::raise;
 use crate::{Cause, Failure, Site};
@@ -33,7 +36,7 @@ enum AppCall<'a> {
 }
 
 impl Progress {
-    // A call on an application, or an error that the script raises.
+    // A call on an application or on a child of a supervisor, or an error that the script raises.
     pub(crate) fn apply<R: Wait>(
         &mut self,
         rt: &R,
@@ -44,17 +47,16 @@ impl Progress {
     ) -> Result<(), Failure>
         ghost past: { Past }
         requires table { seat.old.table ≡ site.now.table.now }
-        requires supported { IsTrue (is_error (call_of call.now)
-            || is_application (call_of call.now)) }
+        requires supported { IsTrue (is_supported_call (call_of call.now)) }
         requires done { HasDone past (progress_of self.old) self.old.tree seat.old.view }
         ensures table { seat.new.table ≡ seat.old.table }
         ensures carried { CarriesOut (site_of site.now) past false (apply (call_of call.now))
             result (progress_of self.new) self.new.tree seat.new.view }
     {
-        if call.name.as_str() == "application" {
-            self.call_app(rt, alloc, site, seat, app_call(call))
-        } else {
-            Err(raise(call))
+        match call.name.as_str() {
+            "application" => self.call_app(rt, alloc, site, seat, app_call(call)),
+            "supervisor" => self.call_child(rt, site, seat, child_call(call)),
+            _ => Err(raise(call)),
         }
     }
 
@@ -150,8 +152,8 @@ fn app_call(call: &Call) -> AppCall<'_>
     }
 }
 
-// The name of an application that a call gives.
-fn first_atom(args: &[Term]) -> &str
+// The first name that a call gives: of an application, or of the module of a supervisor.
+pub(crate) fn first_atom(args: &[Term]) -> &str
     ensures { result.now ≡ first_atom (members_of args.now) }
 {
     match args.first() {
@@ -187,7 +189,7 @@ fn start_cause(error: StartError<'_>) -> Option<Cause>
 }
 
 // It failed before anything was done.
-fn failed(cause: Cause) -> Failure
+pub(crate) fn failed(cause: Cause) -> Failure
     ensures { result ≡ (record { cause = cause; modules = 0; slot = 0 }) }
 {
     Failure {

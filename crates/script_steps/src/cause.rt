@@ -29,6 +29,8 @@ pub enum Cause {
     NoSlot,
     /// An application starts in a way that isn't supported.
     Unsupported,
+    /// Not exactly one supervisor of the module is started.
+    NoSuper,
     /// No memory was left. It may come in place of any other.
     NoMemory,
 }
@@ -71,6 +73,7 @@ impl Cause {
             Cause::NoApp => "NoApp",
             Cause::NoSlot => "NoSlot",
             Cause::Unsupported => "Unsupported",
+            Cause::NoSuper => "NoSuper",
             Cause::NoMemory => "NoMemory",
         }
     }

@@ -1,6 +1,6 @@
 //! Instructions of scripts, carried out one at a time on the processes of a node (OTP: release_handler(3), appup(4)).
 //!
-//! A script's [`Progress`] is what it holds and has fetched so far, and what is loaded once it has ended well. Each call carries
+//! A script's [`Progress`] is what it holds and has fetched so far, and what is loaded and started once it has ended well. Each call carries
 //! out one instruction (specs/Script says what it does): [`Progress::carry_out_early`] one that stands before the point of no
 //! return, [`Progress::carry_out_late`] one that stands behind it. It is done where it has no fault, which is a function of what
 //! was done before and of what the histories leave (specs/Fault); else its fault is told, or that memory was refused
@@ -13,6 +13,7 @@
 mod apply;
 mod cause;
 mod change;
+mod child;
 mod early;
 mod fetch;
 mod late;

@@ -23,7 +23,7 @@ use Rattle.sup_tree.specs.declared.member.StartedProcess.{StartedProcess}
 use Rattle.sup_tree.specs.Begins.{process_in_table, preparation_of, process_and, to_begin, IsBegun, IsBegunWith, AllBegan}
 use Rattle.sup_tree.specs.Starts.{beginning_of, member_with, state_at, left_behind, members_at, BeganInOrder}
 use Rattle.sup_tree.specs.Tree.{pids_of}
-use Rattle.sup_tree.specs.Walk.{NewMember, Start, start_in, starts_among}
+use Rattle.app_members.specs.Walk.{NewMember, Start, start_in, starts_among}
 use Rattle.sup_tree.specs.Laws.{WhatBeganStands, FreeFrom, AreFrom, FirstSlots}
 
 -- The processes of these members began in order, and the members stand so.

@@ -1,7 +1,7 @@
-pub mod WalkLemmas
 pub mod AppLemmas
-pub mod CheckLemmas
 pub mod BeginLemmas
 pub mod SlotLemmas
 pub mod StopLemmas
 pub mod ChangeLemmas
+pub mod ChildLemmas
+pub mod RestartLemmas

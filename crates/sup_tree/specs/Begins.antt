@@ -10,7 +10,7 @@ use Rattle.sup_tree.specs.declared.begins.NewProcess.{NewProcess}
 use Rattle.sup_tree.specs.declared.begins.Preparation.{Preparation}
 use Rattle.sup_tree.specs.declared.member.Member.{Member}
 use Rattle.sup_tree.specs.declared.member.MemberState.TheVariants.{Process}
-use Rattle.sup_tree.specs.Walk.{NewMember}
+use Rattle.app_members.specs.Walk.{NewMember}
 use Rattle.sup_tree.specs.Starts.{beginning_of, state_before, member_with}
 
 abbrev pub process_in_table : List ℕ → ChildSpec → Table → Option NewProcess

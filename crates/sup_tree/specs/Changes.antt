@@ -1,6 +1,6 @@
 -- What change_children gives the supervisors of a module: the children of their table in order, and behind them those that it
 -- doesn't name (OTP: supervisor, code_change/3). No process begins or ends.
-use Rattle.std.specs.Prelude.{◌≡◌, ℕ, suc, ◌<◌, Bool, List, [], ◌∷◌, length, map, min, nat_lt, remove, slice_index_or, Option, Some, None, if◌then◌else◌}
+use Rattle.std.specs.Prelude.{◌≡◌, ℕ, ◌+◌, ◌<◌, Bool, List, [], ◌∷◌, length, map, min, nat_lt, remove, slice_index_or, Option, Some, None, if◌then◌else◌}
 use Rattle.std.specs.List.{find, flat_map}
 use Rattle.std.specs.Str.{bytes_eq}
 use Rattle.mod_table.specs.Table.{ChildSpec}
@@ -38,7 +38,7 @@ behind_deeper depth (b ∷ bs) = if nat_lt depth b.member.depth then behind_deep
 
 -- the depth of the children of a member; that of a member is far below the greatest number
 abbrev pub one_deeper : ℕ → ℕ
-one_deeper depth = min (suc depth) 0xffff_ffff_ffff_ffff
+one_deeper depth = min (depth + 1) 0xffff_ffff_ffff_ffff
 
 -- an earlier child has the new specification; what stands for it stays
 abbrev pub respecified : ChildSpec → Branch → Branch

@@ -1,17 +1,13 @@
 -- Laws of starts.
-use Rattle.std.specs.Prelude.{◌≡◌, ℕ, suc, ◌+◌, ◌<◌, ◌≤◌, true, List, [], ◌∷◌, length, None, Some}
-use Rattle.mod_table.specs.declared.table.Table.TheVariants.{Super}
-use Rattle.mod_table.specs.Table.{SuperTable}
+use Rattle.std.specs.Prelude.{◌≡◌, ℕ, suc, ◌+◌, ◌<◌, ◌≤◌, List, [], ◌∷◌, length, None, Some}
 use Rattle.proc_history.specs.Histories.{replay}
 use Rattle.proc_history.specs.Values.{begun}
 use Rattle.proc_table.specs.declared.view.View.{View}
 use Rattle.proc_table.specs.Agrees.{slots}
 use Rattle.proc_table.specs.Views.{seen, handler_view}
 use Rattle.proc_table.specs.Free.{next_in}
-use Rattle.rel_check.specs.Modules.{Tables}
-use Rattle.rel_check.specs.Walk.{is_within, members_from, missing_below, processes_from}
 use Rattle.sup_tree.specs.declared.member.StartedProcess.{StartedProcess}
-use Rattle.sup_tree.specs.Walk.{Start, children_fault, children_members, starts_among}
+use Rattle.app_members.specs.Walk.{Start}
 use Rattle.sup_tree.specs.Starts.{beginning_of, BeganInOrder}
 
 -- Each stands where it began, with the names of its application and its id, in the first state of its table.
@@ -38,11 +34,3 @@ abbrev pub FirstSlots : Type 0
 FirstSlots = FreeFrom 0 (handler_view slots)
     × ((app : List ℕ) (ss : List Start) (n : ℕ) (v w : View) (ps : List StartedProcess) → FreeFrom n v → BeganInOrder app ss v ps w
     → AreFrom n ps × FreeFrom (n + length ps) w)
-
--- Below a supervisor that passed the tests of a release nothing is wrong, and as many processes start there as were counted, and
--- with the supervisors as many members.
-abbrev pub CheckedStarts : Type 0
-CheckedStarts = (n : ℕ) (tables : Tables) (s : SuperTable) (depth : ℕ) → missing_below n tables (Super s) ≡ None → is_within n tables (Super s) ≡ true
-    → (children_fault n tables s.children ≡ None)
-    × (length (starts_among (children_members n tables depth s.children)) ≡ processes_from n tables (Super s))
-    × (suc (length (children_members n tables depth s.children)) ≡ members_from n tables (Super s))

@@ -1,8 +1,9 @@
-pub mod Walk
-pub mod InMemory
 pub mod Tree
 pub mod Starts
 pub mod Begins
 pub mod Stops
 pub mod Changes
+pub mod Looks
+pub mod Children
+pub mod Restarts
 pub mod Laws

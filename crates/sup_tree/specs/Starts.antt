@@ -1,5 +1,6 @@
 -- What start_app answers, and what it leaves.
-use Rattle.std.specs.Prelude.{◌≡◌, ℕ, ◌<◌, List, [], ◌∷◌, ◌++◌, length, codes, Option, Some, None, IsSome, Result, Ok, Err}
+use Rattle.std.specs.Prelude.{◌≡◌, ℕ, ◌<◌, ◌≤◌, List, [], ◌∷◌, ◌++◌, length, codes, Option, Some, None, IsSome, Result, Ok, Err, Vec}
+use Rattle.std.specs.declared.alloc.Global.{Global}
 use Rattle.mod_table.specs.declared.table.Table.{Table}
 use Rattle.mod_table.specs.declared.table.Table.TheVariants.{Worker, Super}
 use Rattle.mod_table.specs.Table.{ChildSpec}
@@ -8,14 +9,18 @@ use Rattle.proc_table.specs.declared.view.View.{View}
 use Rattle.proc_table.specs.declared.pid.Pid.{Pid}
 use Rattle.proc_table.specs.Free.{free_count, BeganLowest}
 use Rattle.rel_check.specs.Modules.{Tables}
+use Rattle.app_members.specs.declared.error.MembersError.{MembersError}
+use Rattle.app_members.specs.declared.error.MembersError.TheVariants as members
+use Rattle.app_members.specs.declared.walk.NewMember as lent
+use Rattle.app_members.specs.InMemory.{new_members_of}
 use Rattle.sup_tree.specs.declared.error.StartError.{StartError}
 use Rattle.sup_tree.specs.declared.error.StartError.TheVariants.{AlreadyStarted, NoTable, Unsupported, NoSlot, NoMemory}
 use Rattle.sup_tree.specs.declared.member.Member.{Member}
 use Rattle.sup_tree.specs.declared.member.MemberState.{MemberState}
 use Rattle.sup_tree.specs.declared.member.MemberState.TheVariants.{Ended, Process, Supervisor}
 use Rattle.sup_tree.specs.declared.member.StartedProcess.{StartedProcess}
-use Rattle.sup_tree.specs.Walk.{NewMember, Start, app_fault, app_members, app_starts}
-use Rattle.sup_tree.specs.Walk.StartFault.{no_table, unsupported}
+use Rattle.app_members.specs.Walk.{NewMember, Start, StartFault, app_fault, app_members, app_starts}
+use Rattle.app_members.specs.Walk.StartFault.{no_table, unsupported}
 use Rattle.sup_tree.specs.Tree.{App, app_named, pids_of}
 
 abbrev pub start_error_text : StartError → List ℕ
@@ -24,6 +29,25 @@ start_error_text (NoTable m) = codes "NoTable"
 start_error_text Unsupported = codes "Unsupported"
 start_error_text NoSlot = codes "NoSlot"
 start_error_text NoMemory = codes "NoMemory"
+
+-- why it isn't started, where it has no members
+abbrev pub members_cause : MembersError → StartError
+members_cause (members.NoTable m) = NoTable m
+members_cause members.Unsupported = Unsupported
+members_cause members.NoMemory = NoMemory
+
+-- an error is this fault, or none where there is none; or that no memory was left
+abbrev pub StartFaultIs : StartError → Option StartFault → Type 0
+StartFaultIs (NoTable m) f = f ≡ Some (no_table m.now)
+StartFaultIs Unsupported f = f ≡ Some unsupported
+StartFaultIs NoMemory f = Unit {0}
+StartFaultIs e f = ⊥
+
+-- The members of an application, if nothing is wrong with it, and if there are no more than so many processes among them.
+abbrev pub AnswersMembers : ℕ → Tables → Option (List ℕ) → Result (Vec lent.NewMember Global) StartError → Type 0
+AnswersMembers most tables top (Ok ms) = (app_fault tables top ≡ None) × (new_members_of ms.items ≡ app_members tables top) × (length (app_starts tables top) ≤ most)
+AnswersMembers most tables top (Err NoSlot) = (app_fault tables top ≡ None) × (most < length (app_starts tables top))
+AnswersMembers most tables top (Err e) = StartFaultIs e (app_fault tables top)
 
 -- what a process of this application begins with
 abbrev pub beginning_of : List ℕ → Start → Beginning

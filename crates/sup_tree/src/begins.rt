@@ -3,13 +3,13 @@ ghost use Rattle.std.specs.Prelude.{◌≡◌, ◌≤◌, [], ◌∷◌, IfOk, l
 ghost use Rattle.app_file.specs.InMemory.{specification_of};
 ghost use Rattle.proc_table.specs.Free.{free_count};
 ghost use Rattle.sup_tree.specs.Begins.{AllBegan, IsBegun, new_process_of, preparation_of, to_begin};
-ghost use Rattle.sup_tree.specs.InMemory.{new_member_of, new_members_of};
+ghost use Rattle.app_members.specs.InMemory.{new_member_of, new_members_of};
 ghost use Rattle.loaded_modules.specs.Loaded.{modules_in, tables_of};
-ghost use Rattle.sup_tree.specs.Starts.{StartsApp, state_before};
+ghost use Rattle.sup_tree.specs.Starts.{AnswersMembers, StartsApp, state_before};
 
-use crate::walk::{NewMember, members_to_start};
 use crate::{Member, MemberState, StartError, StartedApp, StartedProcess, Tree};
 use app_file::App;
+use app_members::{NewMember, members_of_app, process_count};
 use loaded_modules::Loaded;
 use mod_table::Table;
 use proc_table::{Beginning, HandlerSeat, Name, ProcTable};
@@ -18,7 +18,7 @@ use std::sync::Wait;
 
 // A process that is to begin: all that it begins with, and what the tree keeps of it.
 #[derive(Drop)]
-struct NewProcess {
+pub(crate) struct NewProcess {
     begins: Beginning,
     id: Name,
     module: Name,
@@ -26,9 +26,9 @@ struct NewProcess {
 
 // A member for which all memory is there: as it stands before its process begins, and that process, where it is one.
 #[derive(Drop)]
-struct Preparation {
-    member: Member,
-    process: Option<NewProcess>,
+pub(crate) struct Preparation {
+    pub(crate) member: Member,
+    pub(crate) process: Option<NewProcess>,
 }
 
 impl Tree {
@@ -64,8 +64,25 @@ impl Tree {
     }
 }
 
+// The members with which an application starts, with no more than so many processes among them.
+fn members_to_start<'a>(
+    alloc: Global,
+    loaded: &'a Loaded,
+    app: &'a App,
+    most: usize,
+) -> Result<Vec<NewMember<'a>>, StartError<'a>>
+    ensures { AnswersMembers most
+        (tables_of (modules_in loaded.now)) (specification_of app.now).top result }
+{
+    let members = members_of_app(alloc, loaded, app)?;
+    if process_count(members.as_slice()) > most {
+        return Err(StartError::NoSlot);
+    }
+    Ok(members)
+}
+
 // Each process begins in the lowest slot in which one can. There are as many such slots, and so much room.
-fn begin_all<R: Wait>(
+pub(crate) fn begin_all<R: Wait>(
     rt: &R,
     table: &ProcTable,
     seat: &mut HandlerSeat,
@@ -163,7 +180,7 @@ fn prepare(alloc: Global, app: &str, member: NewMember<'_>) -> Result<Preparatio
     })
 }
 
-fn prepare_all(
+pub(crate) fn prepare_all(
     alloc: Global,
     app: &str,
     members: &[NewMember<'_>],

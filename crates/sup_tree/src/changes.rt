@@ -3,7 +3,7 @@ ghost use Rattle.std.specs.Prelude.{◌≡◌, ◌<◌, ◌++◌, IfOk, IfSome, 
 ghost use Rattle.std.specs.List.{find};
 ghost use Rattle.std.specs.Option.{option_map};
 ghost use Rattle.mod_table.specs.InMemory.{child_of};
-ghost use Rattle.sup_tree.specs.Changes.{IsPlaceOfId, TakesDeeper, app_changed, apps_changed, behind_deeper, branch_members, branch_of, branches, branches_of, child_for, deeper, has_id, members_changed, members_in, new_child, new_children, respecified, with_member, without_id};
+ghost use Rattle.sup_tree.specs.Changes.{IsPlaceOfId, TakesDeeper, app_changed, apps_changed, behind_deeper, branch_members, branch_of, branches_of, child_for, deeper, has_id, members_changed, members_in, new_child, new_children, respecified, with_member, without_id};
 ghost use Rattle.sup_tree.specs.Tree.{app_of};
 
 use crate::begins::name_of;

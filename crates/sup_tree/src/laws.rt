@@ -1,5 +1,5 @@
 //! Laws of starts. Each function does nothing: its contract is the law.
-ghost use Rattle.sup_tree.specs.Laws.{WhatBeganStands, FirstSlots, CheckedStarts};
+ghost use Rattle.sup_tree.specs.Laws.{WhatBeganStands, FirstSlots};
 
 /// A process that began stands in its slot, with the names of its application and its id, in the first state of its table.
 pub fn what_began_stands()
@@ -9,10 +9,4 @@ pub fn what_began_stands()
 /// In a new table all slots are free. Where all from one on are, and none below, processes begin in them in order, with round 1.
 pub fn processes_begin_in_the_first_slots()
     ensures { FirstSlots }
-{}
-
-/// Below a supervisor that passed the tests of a release nothing is wrong, and as many processes and members start there as were
-/// counted.
-pub fn a_release_that_passed_the_tests_starts()
-    ensures { CheckedStarts }
 {}

@@ -28,7 +28,7 @@ impl Tree {
             name: _name,
             members,
         } = self.apps.remove(place);
-        end_all(rt, table, seat, members);
+        end_all(rt, table, seat, members.as_slice());
         Ok(())
     }
 }
@@ -47,23 +47,34 @@ fn place_of(apps: &[StartedApp], name: &str) -> Option<usize>
     None
 }
 
-// The processes of these members are given up, the last first.
-fn end_all<R: Wait>(rt: &R, table: &ProcTable, seat: &mut HandlerSeat, mut members: Vec<Member>)
+/// The processes of these members are given up, the last first, but for those that were given up before.
+pub(crate) fn end_all<R: Wait>(
+    rt: &R,
+    table: &ProcTable,
+    seat: &mut HandlerSeat,
+    mut members: &[Member],
+)
     requires { seat.old.table ≡ table.now }
     ensures table { seat.new.table ≡ seat.old.table }
     ensures ended { EndedInOrder
-        (reverse (pids_of (processes_among members.items))) seat.old.view seat.new.view }
+        (reverse (pids_of (processes_among members.now))) seat.old.view seat.new.view }
 {
-    while let Some(member) = members.pop() {
-        end_member(rt, table, seat, member);
+    while let Some((last, others)) = members.split_last() {
+        end_member(rt, table, seat, last);
+        members = others;
     }
 }
 
-// The process of a member is given up, where one stands for it.
-fn end_member<R: Wait>(rt: &R, table: &ProcTable, seat: &mut HandlerSeat, member: Member)
+/// The process of a member is given up, where one stands for it, unless it was before.
+pub(crate) fn end_member<R: Wait>(
+    rt: &R,
+    table: &ProcTable,
+    seat: &mut HandlerSeat,
+    member: &Member,
+)
     requires { seat.old.table ≡ table.now }
     ensures table { seat.new.table ≡ seat.old.table }
-    ensures ended { MemberEnded (process_in member) seat.old.view seat.new.view }
+    ensures ended { MemberEnded (process_in member.now) seat.old.view seat.new.view }
 {
     if let Some(process) = member.process() {
         end(rt, table, seat, process.pid);

@@ -163,8 +163,8 @@ fn module_among(members: &[Member], slot: usize) -> Option<&str>
     None
 }
 
-// Whether a supervisor of this module stands for one of these members.
-fn supervises_in(members: &[Member], module: &str) -> bool
+/// Whether a supervisor of this module stands for one of these members.
+pub(crate) fn supervises_in(members: &[Member], module: &str) -> bool
     ensures { result ≡ supervises_in «module».now members.now }
 {
     for member in members {

@@ -1,6 +1,6 @@
 use Rattle.std.proofs.Common.{◌≡◌, map, take}
 use Rattle.sup_tree.specs.Begins.{preparation_of}
-use Rattle.sup_tree.specs.InMemory.{new_members_of}
+use Rattle.app_members.specs.InMemory.{new_members_of}
 use Rattle.sup_tree.proofs.begins.prepare_all.Given as goal
 
 abbrev pub invariant-loop-member : goal.invariant-loop-member

@@ -8,7 +8,7 @@ use Rattle.proc_table.specs.Free.{free_count}
 use Rattle.rel_check.specs.Walk.{is_started}
 use Rattle.loaded_modules.specs.Loaded.{modules_in, tables_of}
 use Rattle.sup_tree.specs.Starts.{AppStarted}
-use Rattle.sup_tree.specs.Walk.{app_fault, app_starts}
+use Rattle.app_members.specs.Walk.{app_fault, app_starts}
 use Rattle.loaded_modules.specs.declared.loaded.Loaded.{Loaded}
 use Rattle.proc_table.specs.declared.handler.HandlerSeat.{HandlerSeat}
 use Rattle.node_start.specs.declared.start.Started.{Started}

@@ -1,6 +1,7 @@
-use Rattle.std.proofs.Common.{Some, map, ap, sym, subst, ◌∙◌}
-use Rattle.sup_tree.specs.Tree.{app_of, app_named, without}
-use Rattle.sup_tree.specs.Stops.{StandsAt}
+use Rattle.std.proofs.Common.{List, Some, map, reverse, ap, sym, subst, ◌∙◌}
+use Rattle.sup_tree.specs.declared.member.Member.{Member}
+use Rattle.sup_tree.specs.Tree.{app_of, app_named, pids_of, processes_among, without}
+use Rattle.sup_tree.specs.Stops.{EndedInOrder, StandsAt}
 use Rattle.sup_tree.proofs.tree.Tree.stop_app.Goals as goal
 
 pub returns-clause-stopped : goal.returns-clause-stopped
@@ -8,6 +9,6 @@ returns-clause-stopped g c =
     let at = subst (λ l. StandsAt c.args.app.now l c.in-Some.place) c.as_slice.ensures.value (rw c.in-Some.is at c.place_of.ensures) in record {
       app = app_of c.remove-name.result;
       there = ap (app_named c.args.app.now) (sym c.self.view_is) ∙ (at.there c.remove-name.result ∙ ap (λ a. Some (app_of a)) (sym c.remove-name.ensures.value));
-      ended = c.end_all.ensures.ended;
+      ended = subst (λ (ms : List Member). EndedInOrder (reverse (pids_of (processes_among ms))) c.args.seat.now.view c.end_all.new.seat.view) c.as_slice-2.ensures.value c.end_all.ensures.ended;
       tree = ap (map app_of) c.remove-name.ensures.items ∙ (sym at.others ∙ ap (without c.args.app.now) c.self.view_is);
     }

@@ -1,0 +1,88 @@
+-- An application, by what is found below its top, and a child that starts alone.
+use Rattle.std.proofs.Common.{◌≡◌, ℕ, suc, ◌+◌, ◌-◌, ◌<◌, ◌≤◌, true, false, List, [], ◌∷◌, length, nat_lt, Option, Some, None, if◌then◌else◌, refl, ap, sym, subst, ◌∙◌, arith}
+use Rattle.std.specs.Option.{option_or}
+use Rattle.std.proofs.lemmas.Bool.Decides.{nat_tests}
+use Rattle.app_members.specs.declared.error.MembersError.{MembersError}
+use Rattle.app_members.specs.declared.error.MembersError.TheVariants.{NoTable, Unsupported, NoMemory}
+use Rattle.app_members.specs.InMemory.{AreTooMany, FaultIs}
+use Rattle.mod_table.specs.Table.{ChildSpec}
+use Rattle.mod_table.specs.declared.table.Table.{Table}
+use Rattle.rel_check.specs.Modules.{Tables}
+use Rattle.rel_check.specs.Walk.{child_table}
+use Rattle.app_members.specs.Walk.{NewMember, StartFault, app_fault, app_members, child_as_member, child_fault, child_members, children_fault, children_members, crowd_fault, fault_from, lone_fault, lone_members, members_below, top_children, worker_at_top}
+use Rattle.app_members.specs.Walk.StartFault.{unsupported}
+
+-- what is wrong, where the top has not the table of a worker
+pub below_top : (tables : Tables) (top : Option (List ℕ)) (cs : List ChildSpec) (ms : List NewMember) → worker_at_top tables top ≡ None → top_children tables top ≡ cs
+    → app_members tables top ≡ ms → app_fault tables top ≡ option_or (children_fault 8 tables cs) (crowd_fault ms)
+below_top tables top cs ms none children members = λ j. option_or (none j) (option_or (children_fault 8 tables (children j)) (crowd_fault (members j)))
+
+-- the first of two that may be wrong
+first_wrong : (f g : Option StartFault) (x : StartFault) → f ≡ Some x → option_or f g ≡ Some x
+first_wrong f g x is = ap (λ o. option_or o g) is
+
+pub fault_first : (e : MembersError) (f g : Option StartFault) → FaultIs e f → FaultIs e (option_or f g)
+fault_first (NoTable m) f g is = first_wrong f g _ is
+fault_first Unsupported f g is = first_wrong f g _ is
+fault_first NoMemory f g is = tt
+
+few_members : (n : ℕ) → n ≤ 4096 → nat_lt 4096 n ≡ false
+few_members n few = grind (arith, nat_tests)
+
+many_members : (n : ℕ) → 4096 < n → nat_lt 4096 n ≡ true
+many_members n many = grind (arith, nat_tests)
+
+-- there are few enough members
+pub no_crowd : (ms : List NewMember) → length ms ≤ 4096 → crowd_fault ms ≡ None
+no_crowd ms few = ap (λ b. if b then Some unsupported else None) (few_members (length ms) few)
+
+-- nothing is wrong, where there is none
+pub no_children : (tables : Tables) → children_fault 8 tables [] ≡ None
+unfolding children_fault
+no_children tables = refl
+
+-- neither below the top, nor with how many members there are
+pub none_wrong : (f : Option StartFault) (ms : List NewMember) → f ≡ None → length ms ≤ 4096 → option_or f (crowd_fault ms) ≡ None
+none_wrong f ms none few = λ j. option_or (none j) (no_crowd ms few j)
+
+-- there are too many
+pub crowded : (e : MembersError) (ms : List NewMember) → AreTooMany ms e → FaultIs e (crowd_fault ms)
+crowded Unsupported ms many = ap (λ b. if b then Some unsupported else None) (many_members (length ms) many)
+crowded NoMemory ms many = tt
+crowded (NoTable m) ms many = absurd many
+
+-- nothing is wrong where there is no top
+pub without_top : (tables : Tables) (top : Option (List ℕ)) → worker_at_top tables top ≡ None → top_children tables top ≡ [] → app_members tables top ≡ [] → app_fault tables top ≡ None
+without_top tables top none children members = below_top tables top [] [] none children members ∙ none_wrong (children_fault 8 tables []) [] (no_children tables) (omega arith)
+
+-- the top has the table of a worker
+pub worker_wrong : (tables : Tables) (top : Option (List ℕ)) (e : MembersError) (f : StartFault) → worker_at_top tables top ≡ Some f → FaultIs e (Some f) → FaultIs e (app_fault tables top)
+worker_wrong tables top e f is told =
+    subst (FaultIs e) (sym (ap (λ o. option_or o (option_or (children_fault 8 tables (top_children tables top)) (crowd_fault (app_members tables top)))) is)) told
+
+-- a child that starts alone, by its table
+pub record LoneChild (tables : Tables) (depth : ℕ) (c : ChildSpec) (left : ℕ) (m : NewMember) : Type 0 where
+  pub fault : lone_fault tables depth c ≡ option_or (child_fault (children_fault left tables) c (Some m.table)) (crowd_fault (lone_members tables depth c))
+  pub members : lone_members tables depth c ≡ m ∷ members_below (children_members left tables (m.depth + 1)) m.table
+
+member_there : (depth : ℕ) (c : ChildSpec) (o : Option Table) (m : NewMember) → child_as_member depth c o ≡ Some m → (o ≡ Some m.table) × (m ≡ (record { depth = depth; child = c; table = m.table }))
+member_there depth c None m is = absurd cc
+member_there depth c (Some t) m is =
+    let same : (record { depth = depth; child = c; table = t }) ≡ m = cc is in
+    (ap (λ (n : NewMember). Some n.table) same, sym same ∙ ap (λ (n : NewMember). record { depth = depth; child = c; table = n.table }) same)
+
+few_levels : (depth : ℕ) → depth ≤ 8 → nat_lt 8 depth ≡ false
+few_levels depth few = grind (arith, nat_tests)
+
+pub lone_child : (tables : Tables) (depth : ℕ) (c : ChildSpec) (left : ℕ) (m : NewMember) → depth ≤ 8 → left ≡ 8 - depth → child_as_member depth c (child_table tables c) ≡ Some m
+    → LoneChild tables depth c left m
+lone_child tables depth c left m few is there =
+    let member = member_there depth c (child_table tables c) m there in
+    let so = sym is in
+    let deep : suc depth ≡ m.depth + 1 = (let s : suc depth ≡ depth + 1 = omega arith in s) ∙ ap (λ (n : NewMember). n.depth + 1) (sym member.1) in
+    record {
+      fault = ap (λ b. if b then Some unsupported else option_or (fault_from (8 - depth) tables c) (crowd_fault (lone_members tables depth c))) (few_levels depth few)
+          ∙ (λ j. option_or (child_fault (children_fault (so j) tables) c (member.0 j)) (crowd_fault (lone_members tables depth c)));
+      members = (λ j. child_members (children_members (so j) tables (deep j)) depth c (member.0 j))
+          ∙ ap (λ n. n ∷ members_below (children_members left tables (m.depth + 1)) m.table) (sym member.1);
+    }

@@ -1,0 +1,3 @@
+pub mod WalkLemmas
+pub mod AppLemmas
+pub mod CheckLemmas

@@ -1,0 +1,29 @@
+//! Why an application has no members with which it can start.
+ghost use Rattle.std.specs.Prelude.{◌≡◌};
+ghost use Rattle.app_members.specs.declared.error.MembersError.TheVariants.{NoMemory};
+
+use std::alloc::AllocError;
+use thiserror::Error;
+
+/// Why an application has no members with which it can start. Of several reasons the first on the way through the children is
+/// reported.
+#[derive(Clone, Copy, Debug, Error)]
+pub enum MembersError<'a> {
+    /// This module has no table, or not one of the kind that a child or a top asks for.
+    #[error("NoTable")]
+    NoTable(&'a str),
+    /// Supervisors stand in each other deeper than 8, or there are more than 4,096 processes and supervisors.
+    #[error("Unsupported")]
+    Unsupported,
+    /// No memory was left. It may come in place of any other.
+    #[error("NoMemory")]
+    NoMemory,
+}
+
+impl<'a> From<AllocError> for MembersError<'a> {
+    ghost from_gives = { λ _ e. e ≡ NoMemory };
+
+    fn from(_: AllocError) -> MembersError<'a> {
+        MembersError::NoMemory
+    }
+}

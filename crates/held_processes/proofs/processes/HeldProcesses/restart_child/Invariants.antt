@@ -1,0 +1,4 @@
+use Rattle.held_processes.proofs.processes.HeldProcesses.restart_child.Given as goal
+
+abbrev pub ghost-end_held : goal.ghost-end_held
+ghost-end_held g a = g.followed

@@ -1,0 +1,76 @@
+//! Children of supervisors that begin again while processes are held.
+ghost use Rattle.std.specs.Prelude.{◌≡◌};
+ghost use Rattle.held_processes.specs.Applications.{scene_at};
+ghost use Rattle.held_processes.specs.Following.{AllFollow, Followed};
+ghost use Rattle.held_processes.specs.Restarts.{RestartsIn, was_given_up};
+ghost use Rattle.loaded_modules.specs.Loaded.{modules_in, tables_of};
+
+use crate::children::HeldEnd;
+use crate::{ChildName, HeldProcesses};
+use loaded_modules::Loaded;
+use proc_table::{HandlerSeat, ProcTable};
+use std::alloc::Global;
+use std::sync::Wait;
+use sup_tree::{RestartError, Stay, Tree};
+
+/// Why a child doesn't begin again, and whether what stood for it was given up all the same.
+#[derive(Clone, Copy, Debug)]
+pub struct NotRestarted {
+    pub error: RestartError,
+    pub given_up: bool,
+}
+
+impl HeldProcesses {
+    /// Begins a child of the one supervisor of its module again, beside the processes that are held, and answers whether nothing was
+    /// done (OTP: supervisor:restart_child/2). Where its process is held, it is told up or not by what was done to it; one that
+    /// doesn't stay is given up and let go, also where the child doesn't begin then. It waits for the slots.
+    pub fn restart_child<R: Wait>(
+        &mut self,
+        rt: &R,
+        alloc: Global,
+        table: &ProcTable,
+        seat: &mut HandlerSeat,
+        tree: &mut Tree,
+        loaded: &Loaded,
+        child: &ChildName<'_>,
+    ) -> Result<bool, NotRestarted>
+        ghost followed: { Followed }
+        requires table { seat.old.table ≡ table.now }
+        requires follow { AllFollow followed.first followed.courses self.old seat.old.view }
+        ensures table { seat.new.table ≡ seat.old.table }
+        ensures restarted { RestartsIn followed.first child.now.supervisor.now child.now.id.now
+            (tables_of (modules_in loaded.now)) (scene_at followed tree.old)
+            result tree.new self.new seat.new.view }
+    {
+        if !tree.has_one_supervisor(child.supervisor) {
+            return Err(NotRestarted {
+                error: RestartError::NoSuper,
+                given_up: false,
+            });
+        }
+        let members = tree.child_members(child.supervisor, child.id);
+        let end = self.end_held(table, seat, members, Stay::UpOrTemporary);
+        if let HeldEnd::Stays = end {
+            return Ok(true);
+        }
+        seat.knows();
+        match tree.restart_child(rt, alloc, table, seat, loaded, child.supervisor, child.id) {
+            Ok(stays) => Ok(stays),
+            Err(error) => Err(NotRestarted {
+                error,
+                given_up: was_given_up(end, error),
+            }),
+        }
+    }
+}
+
+// Whether what stood for a child was given up: it was held, or it was given up for want of slots.
+fn was_given_up(end: HeldEnd, error: RestartError) -> bool
+    ensures { result ≡ was_given_up end error }
+{
+    match (end, error) {
+        (HeldEnd::GivenUp, _) => true,
+        (_, RestartError::NoSlot) => true,
+        _ => false,
+    }
+}

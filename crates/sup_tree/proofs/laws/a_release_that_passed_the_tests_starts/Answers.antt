@@ -1,5 +1,0 @@
-use Rattle.sup_tree.proofs.CheckLemmas.{checked_starts}
-use Rattle.sup_tree.proofs.laws.a_release_that_passed_the_tests_starts.Goals as goal
-
-pub returns : goal.returns
-returns c = checked_starts

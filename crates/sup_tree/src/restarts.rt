@@ -1,0 +1,142 @@
+//! Children of started supervisors that begin again.
+ghost use Rattle.std.specs.Prelude.{◌≡◌, ◌+◌, ◌≤◌, ◌++◌, IfOk, OnErr, drop, length, take, vec_capacity};
+ghost use Rattle.loaded_modules.specs.Loaded.{modules_in, tables_of};
+ghost use Rattle.sup_tree.specs.Begins.{to_begin};
+ghost use Rattle.sup_tree.specs.Restarts.{Prepares, RestartsChild, RestartsIn, specification};
+ghost use Rattle.sup_tree.specs.Tree.{app_of};
+
+use crate::begins::{Preparation, begin_all, prepare_all};
+use crate::children::{place_of_super, range_of_child, take_out};
+use crate::looks::{Stay, member_stays};
+use crate::stops::end_member;
+use crate::{Member, RestartError, StartedApp, Tree};
+use app_members::{NewChild, members_of_child};
+use loaded_modules::Loaded;
+use proc_table::{HandlerSeat, ProcTable};
+use std::alloc::{AllocError, Global};
+use std::sync::Wait;
+
+impl Tree {
+    /// Begins the child of this id of the one supervisor of this module again, with the tables that are loaded, and where it is a
+    /// supervisor all below it, as [`Tree::start_app`] does (OTP: supervisor:restart_child/2). Where a process stands for it, that
+    /// is given up. It answers whether nothing was done: the child is up, or it is temporary and its process wasn't given up, or
+    /// there is no such child. It waits for the slots, and without end for one that the handler itself holds. Where it answers an
+    /// error, nothing was done; but before NoSlot the process that stood for the child was given up.
+    pub fn restart_child<R: Wait>(
+        &mut self,
+        rt: &R,
+        alloc: Global,
+        table: &ProcTable,
+        seat: &mut HandlerSeat,
+        loaded: &Loaded,
+        module: &str,
+        id: &str,
+    ) -> Result<bool, RestartError>
+        requires { seat.old.table ≡ table.now }
+        ensures table { seat.new.table ≡ seat.old.table }
+        ensures restarted { RestartsChild «module».now id.now (tables_of (modules_in loaded.now))
+            self.old seat.old.view result self.new seat.new.view }
+    {
+        if !self.has_one_supervisor(module) {
+            return Err(RestartError::NoSuper);
+        }
+        let Some(place) = place_of_super(self.apps.as_slice(), module) else {
+            return Ok(true);
+        };
+        restart(
+            rt,
+            alloc,
+            table,
+            seat,
+            loaded,
+            &mut self.apps[place],
+            module,
+            id,
+        )
+    }
+}
+
+// The child of this id of the first supervisor of this module in this application begins again.
+fn restart<R: Wait>(
+    rt: &R,
+    alloc: Global,
+    table: &ProcTable,
+    seat: &mut HandlerSeat,
+    loaded: &Loaded,
+    app: &mut StartedApp,
+    module: &str,
+    id: &str,
+) -> Result<bool, RestartError>
+    requires { seat.old.table ≡ table.now }
+    ensures table { seat.new.table ≡ seat.old.table }
+    ensures restarted { RestartsIn «module».now id.now (tables_of (modules_in loaded.now))
+        (app_of app.old) seat.old.view result (app_of app.new) seat.new.view }
+{
+    let Some((start, end)) = range_of_child(app.members.as_slice(), module, id) else {
+        return Ok(true);
+    };
+    if member_stays(rt, table, seat, &app.members[start], Stay::UpOrTemporary) {
+        return Ok(true);
+    }
+    let prepared = prepare_child(alloc, loaded, app.name.as_str(), &app.members[start])?;
+    let mut begun = Vec::with_capacity(alloc, prepared.len())?;
+    app.members.reserve(prepared.len())?;
+    end_member(rt, table, seat, &app.members[start]);
+    if process_count(prepared.as_slice()) > seat.free_count() {
+        return Err(RestartError::NoSlot);
+    }
+    begin_all(rt, table, seat, prepared, &mut begun);
+    take_out(&mut app.members, start, end);
+    put_in(&mut app.members, start, begun);
+    Ok(false)
+}
+
+// All memory that the child needs, and those below it.
+fn prepare_child(
+    alloc: Global,
+    loaded: &Loaded,
+    app: &str,
+    child: &Member,
+) -> Result<Vec<Preparation>, RestartError>
+    ensures { Prepares (tables_of (modules_in loaded.now)) app.now child.now result }
+{
+    let new = members_of_child(
+        alloc,
+        loaded,
+        NewChild {
+            depth: child.depth,
+            id: child.id.as_str(),
+            module: child.module.as_str(),
+            restart: child.restart,
+            kind: child.kind,
+        },
+    )?;
+    Ok(prepare_all(alloc, app, new.as_slice())?)
+}
+
+// How many processes are to begin.
+fn process_count(prepared: &[Preparation]) -> usize
+    ensures { result ≡ length (to_begin prepared.now) }
+{
+    let mut count = 0;
+    for preparation in prepared {
+        if preparation.process.is_some() {
+            count += 1;
+        }
+    }
+    count
+}
+
+// Puts members in from this place on. There is room for them.
+fn put_in(members: &mut Vec<Member>, place: usize, mut new: Vec<Member>)
+    requires inside { place ≤ length members.old.items }
+    requires room { length members.old.items + length new.items ≤ vec_capacity members.old }
+    ensures { members.new.items ≡ take place members.old.items
+        ++ (new.items ++ drop place members.old.items) }
+{
+    while let Some(member) = new.pop() {
+        let Ok(()) = members.insert(place, member) else {
+            unreachable!();
+        };
+    }
+}
