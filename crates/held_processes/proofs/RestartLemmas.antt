@@ -24,13 +24,14 @@ use Rattle.held_processes.specs.declared.restarts.NotRestarted.{NotRestarted}
 use Rattle.held_processes.specs.Applications.{all_stopped, ended_at, known, scene_at}
 use Rattle.held_processes.specs.Children.{AreSeen, ChildEndsHeld, ProcessEndsHeld, StateEndsHeld, state_stays}
 use Rattle.held_processes.specs.Course.{Courses, add_alone}
-use Rattle.held_processes.specs.Following.{AllFollow, Followed, HeldSlots}
+use Rattle.held_processes.specs.Following.{AllFollow, AreLonger, Followed, HeldSlots}
 use Rattle.held_processes.specs.Operations.{Values, give_up_at, now_in, values_seen}
 use Rattle.held_processes.specs.Restarts.{IsKeptIn, IsNotRestartedIn, IsRestartedIn, IsWhyItDidNot, RestartsIn, child_ended, restart_starts, was_given_up}
 use Rattle.held_processes.proofs.ApplicationLemmas.{began_all, began_in_room, free_there, is_slot, legal_behind}
 use Rattle.held_processes.proofs.ChildLemmas.{NotStaying, given, given_up_gone, looked_follow, seen_where}
 use Rattle.held_processes.proofs.FollowLemmas.{follow_same}
 use Rattle.held_processes.proofs.RoundLemmas.{AllLegal, free_is}
+use Rattle.held_processes.proofs.SlotLemmas.{held_longer, longer_both, longer_still}
 
 -- an end adds nothing to a process that doesn't stand
 ended_nothing : (values : Values) (pid : Pid) (cs : Courses) → stands pid (known values cs pid.slot) ≡ false → (p : ℕ) → ended_at values pid cs p ≡ cs p
@@ -39,6 +40,16 @@ ended_nothing values pid cs gone p = by (p == pid.slot) refl
     by : (b : Bool) → (p == pid.slot) ≡ b → (if b then (if stands pid (known values cs p) then add_alone given_up (cs p) else cs p) else cs p) ≡ cs p
     by true is = ap (λ (c : Bool). if c then add_alone given_up (cs p) else cs p) (ap (λ q. stands pid (known values cs q)) (is_slot p pid.slot is) ∙ gone)
     by false is = refl
+
+-- what was seen stays in front behind a look and an end
+look_longer : (stay : Stay) (m : MemberState) (b : Bool) (v w : View) → StateLookedAt stay m b v w → AreLonger v w
+look_longer stay Ended b v w is = subst (AreLonger v) (sym is.1) (longer_still v)
+look_longer stay (Process q) b v w (h, u, at, told, r) = held_longer q.pid.slot [] v h u w at r
+look_longer stay (Supervisor m) b v w is = subst (AreLonger v) (sym is.1) (longer_still v)
+
+end_longer : (o : Option StartedProcess) (v w : View) → MemberEnded o v w → AreLonger v w
+end_longer None v w is = subst (AreLonger v) (sym is) (longer_still v)
+end_longer (Some q) v w (h, u, at, r) = held_longer q.pid.slot _ v h u w at r
 
 -- whether what stood for a child was given up while it was held
 abbrev pub is_given_up : HeldEnd → Bool
@@ -50,33 +61,36 @@ pub record Looked (first : View) (stay : Stay) (cs : Courses) (m : MemberState) 
   pub seen : View
   pub are_seen : AreSeen first cs seen
   pub told : false ≡ state_stays stay (now_in (values_seen seen) cs) m
+  pub longer : AreLonger seen w
   pub follow : AllFollow first (if is_given_up e then all_stopped (values_seen first) (pids_of (process_and (state_process m) [])) cs else cs) hs w
 
 process_looked : (first : View) (stay : Stay) (cs : Courses) (q : StartedProcess) (hs hs' : HeldSlots) (v u look : View) (e : HeldEnd) → NotStaying e → AllFollow first cs hs v
-    → ProcessEndsHeld first stay q.pid cs v e hs' u → LookedAt stay q.pid false u look → Looked first stay cs (Process q) e hs' look
-process_looked first stay cs q hs hs' v u look Stays not before f looked = absurd not
-process_looked first stay cs q hs hs' v u look GivenUp not before f looked =
+    → ProcessEndsHeld first stay q.pid cs v e hs' u → AreLonger v u → LookedAt stay q.pid false u look → Looked first stay cs (Process q) e hs' look
+process_looked first stay cs q hs hs' v u look Stays not before f longer looked = absurd not
+process_looked first stay cs q hs hs' v u look GivenUp not before f longer looked =
     let ds = give_up_at q.pid.slot cs in
     let at = looked_follow first ds hs' u stay q.pid false look f.2 (free_there q.pid.slot cs) looked in record {
       seen = v;
       are_seen = seen_where first cs hs v before;
       told = sym f.0;
+      longer = longer_both v u look longer (look_longer stay (Process q) false u look looked);
       follow = follow_same first ds (ended_at (values_seen first) q.pid ds) hs' look (λ p inside. sym (ended_nothing (values_seen first) q.pid ds (given_up_gone (values_seen first) q.pid cs f.1) p)) at.0;
     }
-process_looked first stay cs q hs hs' v u look NotHeld not before f looked =
+process_looked first stay cs q hs hs' v u look NotHeld not before f longer looked =
     let at = looked_follow first cs hs' u stay q.pid false look f.1 f.0 looked in
-    record { seen = look; are_seen = seen_where first cs hs' look at.0; told = at.1; follow = at.0 }
+    record { seen = look; are_seen = seen_where first cs hs' look at.0; told = at.1; longer = longer_still look; follow = at.0 }
 
 state_looked : (first : View) (stay : Stay) (cs : Courses) (m : MemberState) (hs hs' : HeldSlots) (v u look : View) (e : HeldEnd) → NotStaying e → AllFollow first cs hs v
-    → StateEndsHeld first stay m cs v e hs' u → StateLookedAt stay m false u look → Looked first stay cs m e hs' look
-state_looked first stay cs Ended hs hs' v u look e not before f looked = record {
+    → StateEndsHeld first stay m cs v e hs' u → AreLonger v u → StateLookedAt stay m false u look → Looked first stay cs m e hs' look
+state_looked first stay cs Ended hs hs' v u look e not before f longer looked = record {
   seen = u;
   are_seen = seen_where first cs hs' u f.1;
   told = refl;
+  longer = look_longer stay Ended false u look looked;
   follow = subst (λ x. AllFollow first (if is_given_up x then cs else cs) hs' look) (sym f.0) (subst (AllFollow first cs hs') (sym looked.1) f.1);
 }
-state_looked first stay cs (Process q) hs hs' v u look e not before f looked = process_looked first stay cs q hs hs' v u look e not before f looked
-state_looked first stay cs (Supervisor m) hs hs' v u look e not before f looked = absurd (true≢false (sym looked.0))
+state_looked first stay cs (Process q) hs hs' v u look e not before f longer looked = process_looked first stay cs q hs hs' v u look e not before f longer looked
+state_looked first stay cs (Supervisor m) hs hs' v u look e not before f longer looked = absurd (true≢false (sym looked.0))
 
 -- what was seen stays legal behind a look and an end
 legal_look : (stay : Stay) (m : MemberState) (b : Bool) (v w : View) → AllLegal v → StateLookedAt stay m b v w → AllLegal w
@@ -123,20 +137,24 @@ begun_in followed hs hs' v u look w apps apps' name id tables p e not one there 
 
 -- a child for which there are too few slots
 slotless_in : (followed : Followed) (hs hs' : HeldSlots) (v u look w : View) (apps apps' : List App) (name id : List ℕ) (tables : Tables) (p : Place) (e : HeldEnd) → NotStaying e → has_one_supervisor name apps ≡ true
-    → child_place name id apps ≡ Some p → AllFollow followed.first followed.courses hs v → ChildEndsHeld followed.first UpOrTemporary (Some p) followed.courses v e hs' u → AllLegal u
+    → child_place name id apps ≡ Some p → AllFollow followed.first followed.courses hs v → ChildEndsHeld followed.first UpOrTemporary (Some p) followed.courses v e hs' u → AllLegal u → AreLonger v u
     → ChildLookedAt UpOrTemporary (Some p) false u look → HasNoSlot tables p look w → apps' ≡ apps
     → IsNotRestartedIn followed.first name id tables (scene_at followed apps) (record { error = NoSlot; given_up = was_given_up e NoSlot }) apps' hs' w
-slotless_in followed hs hs' v u look w apps apps' name id tables p e not one there before f legal looked t same =
+slotless_in followed hs hs' v u look w apps apps' name id tables p e not one there before f legal longer looked t same =
     let first = followed.first in
     let s = scene_at followed apps in
     let cs = child_ended s (Some p) in
     let is = given first UpOrTemporary followed.courses (Some p) hs hs' v u look w e not before f false looked t.ended in
+    let then_is = state_looked first UpOrTemporary followed.courses p.child.state hs hs' v u look e not before f longer looked in
     let legal_now = legal_end (process_in p.child) look w (legal_look UpOrTemporary p.child.state false u look legal looked) t.ended in
     record {
       one = one;
       place = p;
       there = there;
-      stay = is.stay_is;
+      then_view = then_is.seen;
+      seen = then_is.are_seen;
+      stay = then_is.told;
+      longer = longer_both then_is.seen look w then_is.longer (end_longer (process_in p.child) look w t.ended);
       why = (t.sound, subst (λ n. n < length (restart_starts tables p)) (free_is first cs hs' w is.follow legal_now) t.few);
       tree = same;
       follow = by e is.follow;
@@ -151,16 +169,19 @@ slotless_in followed hs hs' v u look w apps apps' name id tables p e not one the
 -- a child that has a fault, or for which no memory is left
 faulty_in : (followed : Followed) (hs hs' : HeldSlots) (v u look w : View) (apps apps' : List App) (name id : List ℕ) (tables : Tables) (p : Place) (e : HeldEnd) (x : RestartError) → NotStaying e
     → has_one_supervisor name apps ≡ true → child_place name id apps ≡ Some p → AllFollow followed.first followed.courses hs v → ChildEndsHeld followed.first UpOrTemporary (Some p) followed.courses v e hs' u
-    → ChildLookedAt UpOrTemporary (Some p) false u look → was_given_up e x ≡ is_given_up e → IsWhyItDidNot x tables p (scene_at followed apps) → w ≡ look → apps' ≡ apps
+    → AreLonger v u → ChildLookedAt UpOrTemporary (Some p) false u look → was_given_up e x ≡ is_given_up e → IsWhyItDidNot x tables p (scene_at followed apps) → w ≡ look → apps' ≡ apps
     → IsNotRestartedIn followed.first name id tables (scene_at followed apps) (record { error = x; given_up = was_given_up e x }) apps' hs' w
-faulty_in followed hs hs' v u look w apps apps' name id tables p e x not one there before f looked given_so why ended same =
+faulty_in followed hs hs' v u look w apps apps' name id tables p e x not one there before f longer looked given_so why ended same =
     let first = followed.first in
-    let is = state_looked first UpOrTemporary followed.courses p.child.state hs hs' v u look e not before f looked in
+    let is = state_looked first UpOrTemporary followed.courses p.child.state hs hs' v u look e not before f longer looked in
     record {
       one = one;
       place = p;
       there = there;
-      stay = (is.seen, is.are_seen, is.told);
+      then_view = is.seen;
+      seen = is.are_seen;
+      stay = is.told;
+      longer = subst (AreLonger is.seen) (sym ended) is.longer;
       why = why;
       tree = same;
       follow = subst (λ b. AllFollow first (if b then child_ended (scene_at followed apps) (Some p) else followed.courses) hs' w) (sym given_so)
@@ -186,7 +207,7 @@ told_of e (Ok b) = Ok b
 told_of e (Err x) = Err (record { error = x; given_up = was_given_up e x })
 
 module _ (followed : Followed) (hs hs' : HeldSlots) (v u w : View) (apps apps' : List App) (name id : List ℕ) (tables : Tables) (e : HeldEnd) (not : NotStaying e) (one : has_one_supervisor name apps ≡ true)
-    (before : AllFollow followed.first followed.courses hs v) (legal : AllLegal u) where
+    (before : AllFollow followed.first followed.courses hs v) (legal : AllLegal u) (longer : AreLonger v u) where
   outcome_in : (o : Option Place) (stays : Bool) (look : View) (r : Result Bool RestartError) → child_place name id apps ≡ o → ChildEndsHeld followed.first UpOrTemporary o followed.courses v e hs' u
       → ChildLookedAt UpOrTemporary o stays u look
       → RestartsUnless stays tables (super_app name apps) o (λ (ms : List Member). apps_with (in_place ms) name id apps) apps look r apps' w
@@ -200,13 +221,13 @@ module _ (followed : Followed) (hs hs' : HeldSlots) (v u w : View) (apps apps' :
   outcome_in (Some p) false look (Ok true) there f looked is = absurd is
   outcome_in (Some p) false look (Ok false) there f looked is = begun_in followed hs hs' v u look w apps apps' name id tables p e not one there before f legal looked is
   outcome_in (Some p) false look (Err NoSuper) there f looked is = absurd is.0.0
-  outcome_in (Some p) false look (Err NoSlot) there f looked is = slotless_in followed hs hs' v u look w apps apps' name id tables p e not one there before f legal looked is.0 is.1
+  outcome_in (Some p) false look (Err NoSlot) there f looked is = slotless_in followed hs hs' v u look w apps apps' name id tables p e not one there before f legal longer looked is.0 is.1
   outcome_in (Some p) false look (Err NoTable) there f looked is =
-      faulty_in followed hs hs' v u look w apps apps' name id tables p e NoTable not one there before f looked (given_alike e NoTable (λ no. cc no)) is.0.0 is.0.1 is.1
+      faulty_in followed hs hs' v u look w apps apps' name id tables p e NoTable not one there before f longer looked (given_alike e NoTable (λ no. cc no)) is.0.0 is.0.1 is.1
   outcome_in (Some p) false look (Err Unsupported) there f looked is =
-      faulty_in followed hs hs' v u look w apps apps' name id tables p e Unsupported not one there before f looked (given_alike e Unsupported (λ no. cc no)) is.0.0 is.0.1 is.1
+      faulty_in followed hs hs' v u look w apps apps' name id tables p e Unsupported not one there before f longer looked (given_alike e Unsupported (λ no. cc no)) is.0.0 is.0.1 is.1
   outcome_in (Some p) false look (Err NoMemory) there f looked is =
-      faulty_in followed hs hs' v u look w apps apps' name id tables p e NoMemory not one there before f looked (given_alike e NoMemory (λ no. cc no)) is.0.0 is.0.1 is.1
+      faulty_in followed hs hs' v u look w apps apps' name id tables p e NoMemory not one there before f longer looked (given_alike e NoMemory (λ no. cc no)) is.0.0 is.0.1 is.1
 
   pub restarts_in : (r : Result Bool RestartError) → ChildEndsHeld followed.first UpOrTemporary (child_place name id apps) followed.courses v e hs' u → RestartsChild name id tables apps u r apps' w
       → RestartsIn followed.first name id tables (scene_at followed apps) (told_of e r) apps' hs' w

@@ -10,6 +10,7 @@ use Rattle.proc_history.specs.Events.{Event, HistoryEntry, ByHandler, IsCall, en
 use Rattle.proc_history.specs.Histories.{replay, replay_from, IsLegal}
 use Rattle.proc_history.specs.Values.{after, MayCome}
 use Rattle.proc_history.proofs.Beginnings.{event_adds}
+use Rattle.proc_history.proofs.Prefixes.{prefix_self, prefix_trans}
 use Rattle.proc_table.specs.declared.view.View.{View}
 use Rattle.proc_table.specs.Calls.{Elsewhere}
 use Rattle.proc_table.specs.Holds.{Holding, Released}
@@ -20,7 +21,7 @@ use Rattle.proc_table.proofs.WaitLemmas.{since, elsewhere_left}
 use Rattle.held_processes.specs.Course.{Hold, Course, add, add_alone, added, course_after, if_held, let_go, load_free}
 use Rattle.held_processes.specs.Course.Operation.{give_up}
 use Rattle.held_processes.specs.Course.Hold.{not_held, until_point, until_resumed}
-use Rattle.held_processes.specs.Following.{AreStrangers, Stand, HeldForm, IsHeld, IsFree}
+use Rattle.held_processes.specs.Following.{AreLonger, AreStrangers, Stand, HeldForm, IsHeld, IsFree}
 use Rattle.held_processes.specs.Slots.{SlotPast, IsFollowed, Steps, dropped, taken, value_with}
 use Rattle.held_processes.proofs.StandLemmas.{stand_more, stand_block}
 
@@ -82,11 +83,26 @@ lets_go past p c v w h f r = record {
   elsewhere = elsewhere_left p c.pending v w r;
 }
 
--- what the handler had seen stays in front
-pub released_longer : (p : ℕ) (es : List HistoryEntry) (v w : View) → Released p es v w → (q : ℕ) → IsPrefix (seen v q) (seen w q)
-released_longer p es v w r q = dite (ℕ_discrete q p)
-    (λ is. subst (λ z. IsPrefix (seen v z) (seen w z)) (sym is) (es, sym r.seen_is))
-    (λ ne. ([], append-nil (seen v q) ∙ sym (ap (λ (x : Part). x.seen) (r.rest.others q ne))))
+-- what the handler had seen stays in front where nothing happens, and through two steps
+pub longer_still : (v : View) → AreLonger v v
+longer_still v = λ p. prefix_self (seen v p)
+
+pub longer_both : (v u w : View) → AreLonger v u → AreLonger u w → AreLonger v w
+longer_both v u w a b = λ p. prefix_trans (seen v p) (seen u p) (seen w p) (a p) (b p)
+
+-- so it does where entries come in one slot alone
+longer_there : (p : ℕ) (es : List HistoryEntry) (v w : View) → seen w p ≡ seen v p ++ es → Elsewhere p v w → AreLonger v w
+longer_there p es v w here elsewhere = λ q. dite (ℕ_discrete q p)
+    (λ is. subst (λ z. IsPrefix (seen v z) (seen w z)) (sym is) (es, sym here))
+    (λ ne. ([], append-nil (seen v q) ∙ sym (ap (λ (x : Part). x.seen) (elsewhere.others q ne))))
+
+-- so it does where a slot is given back, also if it was held for that
+pub released_longer : (p : ℕ) (es : List HistoryEntry) (v w : View) → Released p es v w → AreLonger v w
+released_longer p es v w r = longer_there p es v w r.seen_is (elsewhere_left p es v w r)
+
+pub held_longer : (p : ℕ) (es : List HistoryEntry) (v : View) (h : Holding) (u w : View) → HeldAtLast p v h u → Released p es u w → AreLonger v w
+held_longer p es v h u w at r =
+    let s = since p v h u at in longer_both v u w (longer_there p s.between v u s.seen_is s.elsewhere) (released_longer p es u w r)
 
 -- a process is given back as it was
 pub drops : (past : SlotPast) (p : ℕ) (c : Course) (v w : View) (h : HeldForm) → IsFollowed past p c v (Some h) → Released p [] v w → Steps past p (dropped c) v None w

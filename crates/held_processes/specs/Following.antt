@@ -1,5 +1,6 @@
 -- The handler follows the courses of processes: what it knows of their slots, and what it holds.
 use Rattle.std.specs.Prelude.{◌≡◌, ℕ, ◌<◌, true, false, List, [], ◌∷◌, ◌++◌, length, slice_index_or, Option, Some, None}
+use mathlib.Core.List.{IsPrefix}
 use Rattle.proc_history.specs.declared.value.Value.{Value}
 use Rattle.proc_history.specs.Events.{HistoryEntry, ByHandler, own}
 use Rattle.proc_history.specs.Histories.{replay, IsLegal}
@@ -7,7 +8,7 @@ use Rattle.proc_table.specs.declared.view.View.{View}
 use Rattle.proc_table.specs.Agrees.{slots}
 use Rattle.proc_table.specs.Holds.{Holding}
 use Rattle.proc_table.specs.Parts.{Part, part_of}
-use Rattle.proc_table.specs.Views.{is_out}
+use Rattle.proc_table.specs.Views.{seen, is_out}
 use Rattle.held_processes.specs.Course.{Hold, Course, Courses, added, opening}
 use Rattle.held_processes.specs.Course.Hold.{not_held}
 
@@ -86,6 +87,10 @@ pub record AreLeft (first : View) (cs : Courses) (v : View) : Type 0 where
 pub record HoldsNothing (v : View) : Type 0 where
   pub handler : v.number ≡ 0
   pub out : (p : ℕ) → p < slots → is_out v p ≡ false
+
+-- What was seen of each slot is still in front.
+abbrev pub AreLonger : View → View → Type 0
+AreLonger v w = (p : ℕ) → IsPrefix (seen v p) (seen w p)
 
 -- what the handler's view was at first, and the courses of the processes since then
 pub record Followed : Type 0 where

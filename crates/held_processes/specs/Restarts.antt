@@ -15,9 +15,10 @@ use Rattle.held_processes.specs.declared.children.HeldEnd.{HeldEnd}
 use Rattle.held_processes.specs.declared.children.HeldEnd.TheVariants.{GivenUp}
 use Rattle.held_processes.specs.declared.restarts.NotRestarted.{NotRestarted}
 use Rattle.held_processes.specs.Applications.{Scene, all_begun, all_stopped, pids_for, room_in, round_in}
-use Rattle.held_processes.specs.Children.{IsStay, child_pids}
+use Rattle.held_processes.specs.Children.{AreSeen, IsStay, child_pids, child_stays}
 use Rattle.held_processes.specs.Course.{Courses}
-use Rattle.held_processes.specs.Following.{AllFollow, HeldSlots}
+use Rattle.held_processes.specs.Following.{AllFollow, AreLonger, HeldSlots}
+use Rattle.held_processes.specs.Operations.{now_in, values_seen}
 
 -- whether what stood for a child was given up: it was held, or it was given up for want of slots
 abbrev pub was_given_up : HeldEnd → RestartError → Bool
@@ -72,13 +73,17 @@ pub record IsNotRestartedIn (first : View) (name id : List ℕ) (tables : Tables
   pub one : has_one_supervisor name s.apps ≡ true
   pub place : Place
   pub there : child_place name id s.apps ≡ Some place
-  pub stay : IsStay first UpOrTemporary s.courses (Some place) false
+  pub then_view : View
+  pub seen : AreSeen first s.courses then_view
+  pub stay : false ≡ child_stays UpOrTemporary (now_in (values_seen then_view) s.courses) (Some place)
+  pub longer : AreLonger then_view w
   pub why : IsWhyItDidNot e.error tables place s
   pub tree : apps ≡ s.apps
   pub follow : AllFollow first (if e.given_up then child_ended s (Some place) else s.courses) hs w
 
 abbrev pub FailsToRestart : RestartError → View → List ℕ → List ℕ → Tables → Scene → NotRestarted → List App → HeldSlots → View → Type 0
-FailsToRestart NoSuper first name id tables s e apps hs w = (has_one_supervisor name s.apps ≡ false) × (apps ≡ s.apps) × AllFollow first s.courses hs w
+FailsToRestart NoSuper first name id tables s e apps hs w =
+    (has_one_supervisor name s.apps ≡ false) × (e.given_up ≡ false) × (apps ≡ s.apps) × AllFollow first s.courses hs w
 FailsToRestart x first name id tables s e apps hs w = IsNotRestartedIn first name id tables s e apps hs w
 
 -- The child stays, or it began again, or why it didn't.

@@ -2,7 +2,7 @@
 ghost use Rattle.std.specs.Prelude.{◌≡◌, [], Option};
 ghost use Rattle.held_processes.specs.Applications.{scene_at};
 ghost use Rattle.held_processes.specs.Children.{ChildEndsHeld, DeletesIn, TellsStay, TerminatesIn};
-ghost use Rattle.held_processes.specs.Following.{AllFollow, Followed};
+ghost use Rattle.held_processes.specs.Following.{AllFollow, AreLonger, Followed};
 ghost use Rattle.sup_tree.specs.Children.{Place, with_below};
 ghost use Rattle.std.specs.Option.{option_map_or};
 
@@ -92,6 +92,7 @@ impl HeldProcesses {
         ensures ended { (o : Option Place) → members.now ≡ option_map_or with_below o []
             → ChildEndsHeld followed.first stay o followed.courses
             seat.old.view result self.new seat.new.view }
+        ensures longer { AreLonger seat.old.view seat.new.view }
     {
         let Some(member) = members.first() else {
             return HeldEnd::NotHeld;

@@ -1,11 +1,10 @@
 //! A process that is held.
 ghost use Rattle.std.specs.Prelude.{◌≡◌, ℕ, None, Some};
 ghost use Rattle.held_processes.specs.Course.{let_go};
-ghost use Rattle.held_processes.specs.Following.{HeldForm};
+ghost use Rattle.held_processes.specs.Following.{AreLonger, HeldForm};
 ghost use Rattle.held_processes.specs.InMemory.{hold_of, is_until_point};
 ghost use Rattle.held_processes.specs.Slots.{SlotPast, IsFollowed, Steps, Takes, dropped};
 ghost use Rattle.proc_table.specs.Views.{seen};
-ghost use mathlib.Core.List.{IsPrefix};
 
 use proc_table::{HandlerSeat, Held, Pid, ProcTable, Value};
 use std::alloc::{AllocError, Global};
@@ -76,7 +75,7 @@ impl HeldProcess {
         ensures table { seat.new.table ≡ seat.old.table }
         ensures gone { Steps past self.held.slot
             (let_go past.course) seat.old.view None seat.new.view }
-        ensures longer { (p : ℕ) → IsPrefix (seen seat.old.view p) (seen seat.new.view p) }
+        ensures longer { AreLonger seat.old.view seat.new.view }
     {
         let HeldProcess {
             held,

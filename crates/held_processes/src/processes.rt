@@ -7,10 +7,9 @@ ghost use Rattle.proc_table.specs.declared.view.View.{View};
 ghost use Rattle.proc_table.specs.Views.{seen};
 ghost use Rattle.held_processes.specs.Course.{Courses, on_all, on_module, opening};
 ghost use Rattle.held_processes.specs.Course.Operation.{suspend, load, resume, stop, start, pass_point, finish};
-ghost use Rattle.held_processes.specs.Following.{AllFollow, AreLeft, Followed, HoldsNothing};
+ghost use Rattle.held_processes.specs.Following.{AllFollow, AreLeft, AreLonger, Followed, HoldsNothing};
 ghost use Rattle.held_processes.specs.InMemory.{behind_release, is_released, operation_of, takes_memory};
 ghost use Rattle.held_processes.specs.Operations.{Changes, IsDone, TellsHeldUser, give_up_at, users_of, uses_up, values_seen};
-ghost use mathlib.Core.List.{IsPrefix};
 
 use crate::Users;
 use crate::held_process::HeldProcess;
@@ -229,6 +228,7 @@ impl HeldProcesses {
         ensures table { seat.new.table ≡ seat.old.table }
         ensures done { AllFollow followed.first (give_up_at slot followed.courses)
             self.new seat.new.view }
+        ensures longer { AreLonger seat.old.view seat.new.view }
     {
         if slot < self.places.len() {
             steps::give_up(table, seat, slot, &mut self.places[slot]);
@@ -254,7 +254,7 @@ impl HeldProcesses {
         requires follow { AllFollow followed.first followed.courses self seat.old.view }
         ensures table { seat.new.table ≡ seat.old.table }
         ensures left { AreLeft followed.first (on_all finish followed.courses) seat.new.view }
-        ensures longer { (p : ℕ) → IsPrefix (seen seat.old.view p) (seen seat.new.view p) }
+        ensures longer { AreLonger seat.old.view seat.new.view }
     {
         let HeldProcesses { mut places } = self;
         while let Some(place) = places.pop() {

@@ -4,6 +4,7 @@ ghost use Rattle.erl_term.specs.Value.{value_of};
 ghost use Rattle.mod_table.specs.InMemory.{old_of};
 ghost use Rattle.held_processes.specs.Course.{add_alone, if_held, course_after};
 ghost use Rattle.held_processes.specs.Course.Operation.{suspend, load, resume, stop, start, give_up};
+ghost use Rattle.held_processes.specs.Following.{AreLonger};
 ghost use Rattle.held_processes.specs.InMemory.{operation_of, takes_memory};
 ghost use Rattle.held_processes.specs.Slots.{SlotPast, IsFollowed, Steps, StepsBy, ChangesAt, value_with};
 ghost use Rattle.proc_history.specs.Values.{up_at};
@@ -264,6 +265,7 @@ pub(crate) fn give_up(
     ensures done { Steps past slot
         (if_held past.course.hold (course_after give_up past.course) past.course)
         seat.old.view place.new seat.new.view }
+    ensures longer { AreLonger seat.old.view seat.new.view }
 {
     match place.take() {
         Some(mut process) => {

@@ -27,22 +27,25 @@ use Rattle.relup_instruction.specs.declared.instruction.Direction.{Direction}
 use Rattle.relup_instruction.specs.Instruction.{CallForm, ChangeForm, Instruction}
 use Rattle.relup_instruction.specs.Instruction as relup
 use Rattle.relup_script.specs.Script.{is_point}
-use Rattle.sup_tree.specs.Children.{child_members}
+use Rattle.sup_tree.specs.Children.{Place, child_members, child_place}
+use Rattle.sup_tree.specs.Restarts.{specification, super_app}
 use Rattle.sup_tree.specs.Tree.{App, app_named, app_pids, pids_of, processes_among}
-use Rattle.held_processes.specs.Applications.{held_ended, places_for, with_started, with_stopped_app}
+use Rattle.held_processes.specs.Applications.{all_stopped, held_ended, places_for, with_started, with_stopped_app}
+use Rattle.held_processes.specs.Children.{child_pids, with_deleted}
+use Rattle.held_processes.specs.Restarts.{child_ended, restart_pids, restart_starts}
 use Rattle.held_processes.specs.Course.{Courses, added, course_after}
 use Rattle.held_processes.specs.Course as course
 use Rattle.script_steps.specs.Fault.{Cause, fault}
-use Rattle.script_steps.specs.Script.{Run, Site, call_after, called_after, changed, changed_once, child_after, library_for, mode_of, old_version, run_after, scene_of, started_from, suspended_in, tables_among, target_library, users_in, with_scene, worker_in}
+use Rattle.script_steps.specs.Script.{Run, Site, call_after, called_after, changed, changed_once, child_after, library_for, mode_of, old_version, restarted_at, run_after, scene_of, started_from, stays_at, suspended_in, tables_among, target_library, users_in, with_scene, worker_in}
 use Rattle.script_steps.specs.Calls.{AppCall, ChildCall, app_call, child_call, is_on_child}
 use Rattle.script_steps.specs.Calls.AppCall.{starts, stops, idle}
-use Rattle.script_steps.specs.Calls.ChildCall.{terminates, nothing as no_end}
-use Rattle.relup_exec.specs.Alone.{fails_at, outcome, outcome_from, unless_fault, values_alone}
+use Rattle.script_steps.specs.Calls.ChildCall.{terminates, deletes, restarts, nothing as no_end}
+use Rattle.relup_exec.specs.Alone.{fails_at, outcome, outcome_from, step_alone, unless_fault, values_alone}
 use Rattle.relup_exec.specs.Alone.Outcome.{ends}
 use Rattle.node_processes.specs.Scripts.{behind_run, ended_run, run_on}
 use Rattle.node_processes.proofs.EventVersions.{begun_version, after_version, replay_versions, added_versions, worker_version, course_versions, AllVersions, each_courses, load_versions, change_versions, begun_versions, ended_versions, given_up_versions}
 use Rattle.node_processes.proofs.RunningEntry.{running_found}
-use Rattle.node_processes.proofs.TableVersions.{OrNone, each_set, each_got, each_mapped, each_image, each_flat, each_kept, HasNamedVersion, listed_versions, HaveTableVersions, module_table, table_versions, StartsVersion, start_versions, HaveVersions, found_version, with_versions, from_versions, library_is}
+use Rattle.node_processes.proofs.TableVersions.{OrNone, each_set, each_got, each_mapped, each_image, each_flat, each_kept, HasNamedVersion, listed_versions, HaveTableVersions, module_table, table_versions, StartsVersion, child_starts_versions, start_versions, HaveVersions, found_version, with_versions, from_versions, library_is}
 pub use Rattle.node_processes.proofs.EventVersions.{nothing_version}
 pub use Rattle.node_processes.proofs.TableVersions.{AreWithLibraries, each_at}
 
@@ -151,46 +154,55 @@ started_versions (Some l) r v = by (is_some (app_named l.app.name r.apps))
               (start_versions tables (among_versions r.modules v.modules) l.app.top) v.courses;
         }
 
+-- where these processes end
+all_ended_versions : (pids : List Pid) (r : Run) → RunVersions r → AllVersions (all_stopped r.values pids r.courses)
+all_ended_versions pids r v = ended_versions r.values (reverse pids) (held_ended pids r.courses) (given_up_versions pids r.courses v.courses)
+
 stopped_versions : (name : List ℕ) (o : Option App) (r : Run) → RunVersions r → RunVersions (with_scene r (with_stopped_app name o (scene_of r)))
 stopped_versions name None r v = record { fetched = v.fetched; modules = v.modules; values = v.values; courses = v.courses }
-stopped_versions name (Some a) r v =
-    let pids = app_pids a in record {
-      fetched = v.fetched;
-      modules = v.modules;
-      values = v.values;
-      courses = ended_versions r.values (reverse pids) (held_ended pids r.courses) (given_up_versions pids r.courses v.courses);
-    }
+stopped_versions name (Some a) r v = record { fetched = v.fetched; modules = v.modules; values = v.values; courses = all_ended_versions (app_pids a) r v }
 
 called_run : (s : Site) (c : AppCall) (r : Run) → RunVersions r → RunVersions (called_after s c r)
 called_run s (starts name) r v = started_versions (target_library s name) r v
 called_run s (stops name) r v = stopped_versions name (app_named name r.apps) r v
 called_run s idle r v = v
 
-child_run : (c : ChildCall) (r : Run) → RunVersions r → RunVersions (child_after c r)
-child_run (terminates super id) r v =
-    let pids = pids_of (processes_among (child_members super id r.apps)) in record {
+restarted_versions : (super id : List ℕ) (o : Option Place) (r : Run) → RunVersions r → RunVersions (restarted_at super id o r)
+restarted_versions super id None r v = v
+restarted_versions super id (Some p) r v =
+    let tables = tables_among r.modules in record {
       fetched = v.fetched;
       modules = v.modules;
       values = v.values;
-      courses = ended_versions r.values (reverse pids) (held_ended pids r.courses) (given_up_versions pids r.courses v.courses);
+      courses = begun_versions (super_app super r.apps) (restart_starts tables p) (restart_pids tables p (scene_of r)) (child_ended (scene_of r) (Some p))
+          (child_starts_versions tables (among_versions r.modules v.modules) p.child.depth (specification p.child)) (all_ended_versions (child_pids (Some p)) r v);
     }
-child_run no_end r v = v
 
 one_of_runs : (b : Bool) (q r : Run) → RunVersions q → RunVersions r → RunVersions (if b then q else r)
 one_of_runs true q r v w = v
 one_of_runs false q r v w = w
 
-call_run : (s : Site) (c : CallForm) (r : Run) → RunVersions r → RunVersions (call_after s c r)
-call_run s c r v =
-    one_of_runs (is_on_child c) (child_after (child_call c) r) (called_after s (app_call c) r) (child_run (child_call c) r v) (called_run s (app_call c) r v)
+child_run : (c : ChildCall) (b : Bool) (r : Run) → RunVersions r → RunVersions (child_after c b r)
+child_run (terminates super id) b r v =
+    record { fetched = v.fetched; modules = v.modules; values = v.values; courses = all_ended_versions (pids_of (processes_among (child_members super id r.apps))) r v }
+child_run (deletes super id) b r v =
+    one_of_runs b r (with_scene r (with_deleted super id (scene_of r))) v
+    (record { fetched = v.fetched; modules = v.modules; values = v.values; courses = all_ended_versions (child_pids (child_place super id r.apps)) r v })
+child_run (restarts super id) b r v =
+    one_of_runs b r (restarted_at super id (child_place super id r.apps) r) v (restarted_versions super id (child_place super id r.apps) r v)
+child_run no_end b r v = v
+
+call_run : (s : Site) (c : CallForm) (b : Bool) (r : Run) → RunVersions r → RunVersions (call_after s c b r)
+call_run s c b r v =
+    one_of_runs (is_on_child c) (child_after (child_call c) b r) (called_after s (app_call c) r) (child_run (child_call c) b r v) (called_run s (app_call c) r v)
 
 -- an instruction keeps that
-step_versions : (s : Site) (early : Bool) (i : Instruction) (r : Run) → AreWithLibraries s.releases → RunVersions r → RunVersions (run_after s early i r)
-step_versions s early (relup.Instruction.load_object_code f) r libraries v =
+step_versions : (s : Site) (early b : Bool) (i : Instruction) (r : Run) → AreWithLibraries s.releases → RunVersions r → RunVersions (run_after s early b i r)
+step_versions s early b (relup.Instruction.load_object_code f) r libraries v =
     record { fetched = from_versions (library_for s f) f.modules r.fetched (library_is s.releases f.app f.vsn libraries) v.fetched; modules = v.modules; values = v.values; courses = v.courses }
-step_versions s early relup.Instruction.point_of_no_return r libraries v = with_courses_versions r _ v (λ p. course_versions course.Operation.pass_point (r.courses p) tt (v.courses p))
-step_versions s early (relup.Instruction.suspend ss) r libraries v = with_courses_versions r _ v (each_courses course.Operation.suspend (suspended_in ss) (users_in r) r.courses tt v.courses)
-step_versions s early (relup.Instruction.load p) r libraries v =
+step_versions s early b relup.Instruction.point_of_no_return r libraries v = with_courses_versions r _ v (λ p. course_versions course.Operation.pass_point (r.courses p) tt (v.courses p))
+step_versions s early b (relup.Instruction.suspend ss) r libraries v = with_courses_versions r _ v (each_courses course.Operation.suspend (suspended_in ss) (users_in r) r.courses tt v.courses)
+step_versions s early b (relup.Instruction.load p) r libraries v =
     let m = module_named p.name r.fetched in
     let version = found_version p.name r.fetched v.fetched in record {
       fetched = v.fetched;
@@ -198,14 +210,14 @@ step_versions s early (relup.Instruction.load p) r libraries v =
       values = v.values;
       courses = load_versions early p.name (worker_in m) (users_in r) r.courses (worker_version _ (module_table m version)) v.courses;
     }
-step_versions s early (relup.Instruction.code_change c) r libraries v = changed_versions s (mode_of c.mode) c.changes r v
-step_versions s early (relup.Instruction.resume names) r libraries v = with_courses_versions r _ v (each_courses course.Operation.resume names (users_in r) r.courses tt v.courses)
-step_versions s early (relup.Instruction.remove p) r libraries v =
+step_versions s early b (relup.Instruction.code_change c) r libraries v = changed_versions s (mode_of c.mode) c.changes r v
+step_versions s early b (relup.Instruction.resume names) r libraries v = with_courses_versions r _ v (each_courses course.Operation.resume names (users_in r) r.courses tt v.courses)
+step_versions s early b (relup.Instruction.remove p) r libraries v =
     record { fetched = v.fetched; modules = each_kept HasNamedVersion (λ (m : List ℕ × Module). not (bytes_eq p.name m.0)) r.modules v.modules; values = v.values; courses = v.courses }
-step_versions s early (relup.Instruction.stop names) r libraries v = with_courses_versions r _ v (each_courses course.Operation.stop names (users_in r) r.courses tt v.courses)
-step_versions s early (relup.Instruction.start names) r libraries v = with_courses_versions r _ v (each_courses course.Operation.start names (users_in r) r.courses tt v.courses)
-step_versions s early (relup.Instruction.apply c) r libraries v = call_run s c r v
-step_versions s early i r libraries v = v
+step_versions s early b (relup.Instruction.stop names) r libraries v = with_courses_versions r _ v (each_courses course.Operation.stop names (users_in r) r.courses tt v.courses)
+step_versions s early b (relup.Instruction.start names) r libraries v = with_courses_versions r _ v (each_courses course.Operation.start names (users_in r) r.courses tt v.courses)
+step_versions s early b (relup.Instruction.apply c) r libraries v = call_run s c b r v
+step_versions s early b i r libraries v = v
 
 not_ended : (early : Bool) (n : ℕ) (c : Cause) (r : Run) → fails_at early n c ≡ ends r → ⊥
 not_ended true n c r is = cc
@@ -216,10 +228,10 @@ ended_run_versions : (s : Site) (early : Bool) (n : ℕ) (is : List Instruction)
 ended_run_versions s early n [] r q libraries v e = let same : r ≡ q = cc in subst RunVersions same v
 ended_run_versions s early n (i ∷ is) r q libraries v e =
     by (fault s (values_alone r) r i)
-    (ended_run_versions s (early && not (is_point i)) (n + 1) is (run_after s early i r) q libraries (step_versions s early i r libraries v)) e
+    (ended_run_versions s (early && not (is_point i)) (n + 1) is (step_alone s early i r) q libraries (step_versions s early (stays_at (values_alone r) i r) i r libraries v)) e
   where
-    by : (o : Option Cause) → (outcome_from s (early && not (is_point i)) (n + 1) is (run_after s early i r) ≡ ends q → RunVersions q)
-        → unless_fault o early (n + 1) (outcome_from s (early && not (is_point i)) (n + 1) is (run_after s early i r)) ≡ ends q → RunVersions q
+    by : (o : Option Cause) → (outcome_from s (early && not (is_point i)) (n + 1) is (step_alone s early i r) ≡ ends q → RunVersions q)
+        → unless_fault o early (n + 1) (outcome_from s (early && not (is_point i)) (n + 1) is (step_alone s early i r)) ≡ ends q → RunVersions q
     by None behind is = behind is
     by (Some c) behind is = absurd (not_ended early (n + 1) c q is)
 

@@ -24,28 +24,32 @@ use Rattle.relup_instruction.specs.Instruction.Instruction.{apply, code_change, 
 use Rattle.relup_script.specs.Script.{is_error, is_point}
 use Rattle.rel_check.specs.Modules.{Tables}
 use Rattle.loaded_modules.specs.Loaded.{NamedModules}
-use Rattle.sup_tree.specs.Children.{child_members, child_terminated}
+use Rattle.sup_tree.specs.declared.looks.Stay.TheVariants as stay
+use Rattle.sup_tree.specs.Children.{Place, apps_with, child_deleted, child_members, child_place, child_terminated}
+use Rattle.sup_tree.specs.Restarts.{in_place, restart_fault, restart_members, super_app}
 use Rattle.sup_tree.specs.Starts.{members_at}
 use Rattle.sup_tree.specs.Stops.{stands}
 use Rattle.sup_tree.specs.Tree.{App, app_named, app_pids, pids_of, processes_among, supervises, without}
 use Rattle.app_members.specs.Walk.{app_fault, app_members, app_starts}
 use Rattle.held_processes.specs.Applications.{all_begun, all_ended, ended_at, held_ended, known, lowest, lowest_below, match_pid, pid_at, pids_for, room_in, round_in, rounds_below, taken_at, with_started, with_stopped_app}
+use Rattle.held_processes.specs.Children.{child_pids, with_deleted}
 use Rattle.held_processes.specs.Course.{Courses, add_alone, added, course_after, if_held, on_all, opening, runs}
 use Rattle.held_processes.specs.Course.Operation.{finish}
 use Rattle.held_processes.specs.Following.{AreUntouched}
-use Rattle.held_processes.specs.Operations.{Values, is_held_user, uses_up, values_seen}
+use Rattle.held_processes.specs.Operations.{Values, is_held_user, now_in, uses_up, values_seen}
+use Rattle.held_processes.specs.Restarts.{child_ended, restart_pids, restart_starts}
 use Rattle.held_processes.proofs.AnyLemmas.{any_alike}
 use Rattle.held_processes.proofs.CourseLemmas.{blocks_alone}
-use Rattle.script_steps.specs.Script.{Run, Site, began, call_after, called_after, changed, changed_once, child_after, mode_of, old_version, run_after, scene_of, started_from, tables_among, target_library, users_in, with_scene}
+use Rattle.script_steps.specs.Script.{Run, Site, began, call_after, called_after, changed, changed_once, child_after, child_stays_at, mode_of, old_version, restarted_at, run_after, scene_of, started_from, stays_at, tables_among, target_library, users_in, with_scene}
 use Rattle.script_steps.specs.Calls.{AppCall, ChildCall, app_call, child_call, is_on_child}
 use Rattle.script_steps.specs.Calls.AppCall.{starts, stops, idle}
-use Rattle.script_steps.specs.Calls.ChildCall.{terminates, nothing as no_end}
-use Rattle.script_steps.specs.Fault.{Cause, app_call_fault, call_fault, change_fault, child_call_fault, error_cause, fault, is_stuck, start_fault, start_fault_or}
+use Rattle.script_steps.specs.Calls.ChildCall.{terminates, deletes, restarts, nothing as no_end}
+use Rattle.script_steps.specs.Fault.{Cause, app_call_fault, call_fault, change_fault, child_call_fault, error_cause, fault, is_stuck, restart_fault_at, start_fault, start_fault_or, super_fault_or}
 use Rattle.script_steps.specs.Fault.Cause.{in_use, no_change, no_memory}
-use Rattle.relup_exec.specs.Alone.{Outcome, outcome, outcome_from, unless_fault, values_alone}
+use Rattle.relup_exec.specs.Alone.{Outcome, outcome, outcome_from, step_alone, unless_fault, values_alone}
 use Rattle.relup_exec.specs.Alone.Outcome.{ends, refuses, breaks}
 use Rattle.relup_exec.specs.Outcome.{IsBroken, IsFinished, IsRefused, Start, began_at, run_behind}
-use Rattle.relup_exec.proofs.AloneLemmas.{Alike, has_one_outcome}
+use Rattle.relup_exec.proofs.AloneLemmas.{Alike, has_one_outcome, now_alike, place_alike}
 use Rattle.relup_exec.proofs.RunLemmas.{step_values}
 use Rattle.node_processes.specs.InMemory.{values_in}
 use Rattle.node_processes.specs.Scripts.{behind_run, ended_run, run_on, values_of}
@@ -157,25 +161,69 @@ module _ (g : Values) (r : Run) (same : Alike r.values g) where
   called_alike s (stops name) = stopped_alike name (app_named name r.apps)
   called_alike s idle = refl
 
-  child_alike : (c : ChildCall) → child_after c (with_values g r) ≡ with_values g (child_after c r)
-  child_alike (terminates super id) =
+  one_alike : (b : Bool) (x y z w : Run) → x ≡ with_values g y → z ≡ with_values g w → (if b then x else z) ≡ with_values g (if b then y else w)
+  one_alike true x y z w is others = is
+  one_alike false x y z w is others = others
+
+  child_ended_alike : (o : Option Place) → child_ended (scene_of r) o ≡ child_ended (scene_of (with_values g r)) o
+  child_ended_alike o = ended_alike r.values g same (reverse (child_pids o)) (held_ended (child_pids o) r.courses)
+
+  restarted_alike : (super id : List ℕ) (o : Option Place) → restarted_at super id o (with_values g r) ≡ with_values g (restarted_at super id o r)
+  restarted_alike super id None = refl
+  restarted_alike super id (Some p) =
+      let tables = tables_among r.modules in
+      let ss = restart_starts tables p in
+      let cs = child_ended (scene_of r) (Some p) in
+      let all = sym (child_ended_alike (Some p)) in
+      let pids : restart_pids tables p (scene_of (with_values g r)) ≡ restart_pids tables p (scene_of r) =
+      ap (λ (ds : Courses). pids_for (length ss) (round_in g ds)) all ∙ sym (pids_alike (length ss) (round_in r.values cs) (round_in g cs) (round_alike r.values g same cs)) in
+      λ j. record {
+        fetched = r.fetched;
+        modules = r.modules;
+        apps = apps_with (in_place (members_at (restart_members tables p.child) (pids j))) super id r.apps;
+        values = g;
+        courses = all_begun (super_app super r.apps) ss (pids j) (all j);
+      }
+
+  child_alike : (c : ChildCall) (b : Bool) → child_after c b (with_values g r) ≡ with_values g (child_after c b r)
+  child_alike (terminates super id) b =
       let pids = pids_of (processes_among (child_members super id r.apps)) in
       let all = sym (ended_alike r.values g same (reverse pids) (held_ended pids r.courses)) in
       λ j. record { fetched = r.fetched; modules = r.modules; apps = child_terminated super id r.apps; values = g; courses = all j }
-  child_alike no_end = refl
+  child_alike (deletes super id) b =
+      let all = sym (child_ended_alike (child_place super id r.apps)) in
+      one_alike b (with_values g r) r _ (with_scene r (with_deleted super id (scene_of r))) refl
+      (λ j. record { fetched = r.fetched; modules = r.modules; apps = child_deleted super id r.apps; values = g; courses = all j })
+  child_alike (restarts super id) b =
+      one_alike b (with_values g r) r _ (restarted_at super id (child_place super id r.apps) r) refl (restarted_alike super id (child_place super id r.apps))
+  child_alike no_end b = refl
 
-  call_after_alike : (s : Site) (c : CallForm) → call_after s c (with_values g r) ≡ with_values g (call_after s c r)
-  call_after_alike s c =
-      by (is_on_child c) _ (child_after (child_call c) r) _ (called_after s (app_call c) r) (child_alike (child_call c)) (called_alike s (app_call c))
-    where
-      by : (b : Bool) (x y z w : Run) → x ≡ with_values g y → z ≡ with_values g w → (if b then x else z) ≡ with_values g (if b then y else w)
-      by true x y z w is others = is
-      by false x y z w is others = others
+  call_after_alike : (s : Site) (c : CallForm) (b : Bool) → call_after s c b (with_values g r) ≡ with_values g (call_after s c b r)
+  call_after_alike s c b = one_alike (is_on_child c) _ (child_after (child_call c) b r) _ (called_after s (app_call c) r) (child_alike (child_call c) b) (called_alike s (app_call c))
 
-  step_alike : (s : Site) (early : Bool) (i : Instruction) → run_after s early i (with_values g r) ≡ with_values g (run_after s early i r)
-  step_alike s early (code_change c) = changed_alike s (mode_of c.mode) c.changes g r
-  step_alike s early (apply c) = call_after_alike s c
-  step_alike s early i = refl
+  run_alike : (s : Site) (early b : Bool) (i : Instruction) → run_after s early b i (with_values g r) ≡ with_values g (run_after s early b i r)
+  run_alike s early b (code_change c) = changed_alike s (mode_of c.mode) c.changes g r
+  run_alike s early b (apply c) = call_after_alike s c b
+  run_alike s early b i = refl
+
+  left_alike : Alike (values_alone r) (values_alone (with_values g r))
+  left_alike p inside = ap (λ (v : Value). replay_from v (added (r.courses p).blocks)) (same p inside)
+
+  -- whether it leaves a child as it is
+  child_told_alike : (x y : Values) (c : ChildCall) → Alike x y → child_stays_at x c r ≡ child_stays_at y c (with_values g r)
+  child_told_alike x y (terminates super id) left = refl
+  child_told_alike x y (deletes super id) left = place_alike stay.Up (now_in x r.courses) (now_in y r.courses) (child_place super id r.apps) (now_alike x y r.courses left)
+  child_told_alike x y (restarts super id) left = place_alike stay.UpOrTemporary (now_in x r.courses) (now_in y r.courses) (child_place super id r.apps) (now_alike x y r.courses left)
+  child_told_alike x y no_end left = refl
+
+  told_alike : (x y : Values) (i : Instruction) → Alike x y → stays_at x i r ≡ stays_at y i (with_values g r)
+  told_alike x y (apply c) left = ap (λ (b : Bool). if is_on_child c then b else false) (child_told_alike x y (child_call c) left)
+  told_alike x y i left = refl
+
+  step_alike : (s : Site) (early : Bool) (i : Instruction) → step_alone s early i (with_values g r) ≡ with_values g (step_alone s early i r)
+  step_alike s early i =
+      ap (λ (b : Bool). run_after s early b i (with_values g r)) (sym (told_alike (values_alone r) (values_alone (with_values g r)) i left_alike))
+      ∙ run_alike s early (stays_at (values_alone r) i r) i
 
 -- why it fails, where this is left in the slots
 stuck_alike : (old : Option OldVersion) (c : ChangeForm) (x y : Values) (g : Values) (r : Run) → Alike x y → is_stuck old c x r ≡ is_stuck old c y (with_values g r)
@@ -210,23 +258,31 @@ module _ (g : Values) (r : Run) (same : Alike r.values g) where
   app_fault_alike s (stops name) = refl
   app_fault_alike s idle = refl
 
-  child_fault_alike : (c : ChildCall) → child_call_fault c r ≡ child_call_fault c (with_values g r)
-  child_fault_alike (terminates super id) = refl
-  child_fault_alike no_end = refl
+  restart_fault_alike : (o : Option Place) → restart_fault_at o (tables_among r.modules) r ≡ restart_fault_at o (tables_among r.modules) (with_values g r)
+  restart_fault_alike None = refl
+  restart_fault_alike (Some p) =
+      let tables = tables_among r.modules in
+      ap (start_fault_or (restart_fault tables p.child) (length (restart_starts tables p)))
+      (room_alike r.values g same (child_ended (scene_of r) (Some p)) ∙ ap (room_in g) (child_ended_alike g r same (Some p)))
 
-  call_fault_alike : (s : Site) (c : CallForm) → call_fault s c r ≡ call_fault s c (with_values g r)
-  call_fault_alike s c =
+  child_fault_alike : (x y : Values) (c : ChildCall) → Alike x y → child_call_fault x c r ≡ child_call_fault y c (with_values g r)
+  child_fault_alike x y (terminates super id) left = refl
+  child_fault_alike x y (deletes super id) left = refl
+  child_fault_alike x y (restarts super id) left =
+      ap₂ (λ (b : Bool) (o : Option Cause). super_fault_or super r (if b then None else o)) (child_told_alike g r same x y (restarts super id) left)
+      (restart_fault_alike (child_place super id r.apps))
+  child_fault_alike x y no_end left = refl
+
+  call_fault_alike : (s : Site) (x y : Values) (c : CallForm) → Alike x y → call_fault s x c r ≡ call_fault s y c (with_values g r)
+  call_fault_alike s x y c left =
       ap₂ (λ (o o' : Option Cause). if is_error c then error_cause c.args else if is_on_child c then o else o')
-      (child_fault_alike (child_call c)) (app_fault_alike s (app_call c))
+      (child_fault_alike x y (child_call c) left) (app_fault_alike s (app_call c))
 
   fault_alike : (s : Site) (x y : Values) (i : Instruction) → Alike x y → fault s x r i ≡ fault s y (with_values g r) i
   fault_alike s x y (code_change c) left = change_alike s (mode_of c.mode) c.changes x y g r left
   fault_alike s x y (remove q) left = ap (λ (b : Bool). if supervises q.name r.apps || b then Some in_use else None) (uses_alike q.name x y r left)
-  fault_alike s x y (apply c) left = call_fault_alike s c
+  fault_alike s x y (apply c) left = call_fault_alike s x y c left
   fault_alike s x y i left = refl
-
-  left_alike : Alike (values_alone r) (values_alone (with_values g r))
-  left_alike p inside = ap (λ (v : Value). replay_from v (added (r.courses p).blocks)) (same p inside)
 
 mapped : (h : Run → Run) (o : Option Cause) (early : Bool) (n : ℕ) (more : Outcome) → unless_fault o early n (map_outcome h more) ≡ map_outcome h (unless_fault o early n more)
 mapped h None early n more = refl
@@ -237,11 +293,11 @@ from_alike : (s : Site) (early : Bool) (n : ℕ) (is : List Instruction) (g : Va
     → outcome_from s early n is (with_values g r) ≡ map_outcome (with_values g) (outcome_from s early n is r)
 from_alike s early n [] g r same = refl
 from_alike s early n (i ∷ is) g r same =
-    let r' = run_after s early i r in
+    let r' = step_alone s early i r in
     let early' = early && not (is_point i) in
-    let kept : Alike r'.values g = λ p inside. ap (λ (x : Values). x p) (step_values s early i r) ∙ same p inside in
+    let kept : Alike r'.values g = λ p inside. ap (λ (x : Values). x p) (step_values s early (stays_at (values_alone r) i r) i r) ∙ same p inside in
     let more = outcome_from s early' (n + 1) is r' in
-    let rest : outcome_from s early' (n + 1) is (run_after s early i (with_values g r)) ≡ map_outcome (with_values g) more =
+    let rest : outcome_from s early' (n + 1) is (step_alone s early i (with_values g r)) ≡ map_outcome (with_values g) more =
     ap (outcome_from s early' (n + 1) is) (step_alike g r same s early i) ∙ from_alike s early' (n + 1) is g r' kept in
     let why = fault_alike g r same s (values_alone r) (values_alone (with_values g r)) i (left_alike g r same) in
     (λ j. unless_fault (sym why j) early (n + 1) (rest j)) ∙ mapped (with_values g) (fault s (values_alone r) r i) early (n + 1) more
@@ -278,7 +334,7 @@ pub script_ends : (s : Site) (v : View) (apps : List App) (modules : NamedModule
     → v.lent ≡ [] → IsFinished s (start v apps) script loaded' apps' w
     → (r : Run) × (outcome s (run_on s (node v apps modules)) script ≡ ends r) × (behind_run r ≡ node w apps' loaded')
 script_ends s v apps modules script loaded' apps' w none done =
-    let q = run_behind s (start v apps) script in
+    let q = run_behind s (start v apps) done.told script in
     let g = values_of (node v apps modules) in
     let r = with_values g q in
     let values : map (values_alone (ended_run r)) (range_with_len 0 slots) ≡ values_in w =

@@ -1,5 +1,5 @@
 -- Tables of libraries have versions, and so has what is loaded and what starts with them.
-use Rattle.std.proofs.Common.{◌≡◌, ℕ, zero, suc, Bool, true, false, List, [], ◌∷◌, ◌++◌, map, get_or, set, Option, Some, None, Ordering, Less, Equal, Greater, cond, if◌then◌else◌}
+use Rattle.std.proofs.Common.{◌≡◌, ℕ, ◌-◌, zero, suc, Bool, true, false, List, [], ◌∷◌, ◌++◌, map, get_or, set, Option, Some, None, Ordering, Less, Equal, Greater, cond, if◌then◌else◌}
 use Rattle.std.specs.BTreeMap.{insert_entry}
 use Rattle.std.specs.Cmp.Lexicographic.{slice_cmp}
 use Rattle.std.specs.List.{AllByRecursion, flat_map, slice_get, list_all, filter, find}
@@ -21,7 +21,7 @@ use Rattle.library.specs.Library.{Library, TableTerm, HaveTables, IsLibrary, is_
 use Rattle.rel_check.specs.Modules.{Tables}
 use Rattle.rel_check.specs.Walk.{of_kind, child_table}
 use Rattle.loaded_modules.specs.Loaded.{Module, NamedModules, libraries_behind, loaded_behind, module_of, modules_with, modules_of, named_modules, library_modules, module_named, with_loaded}
-use Rattle.app_members.specs.Walk.{NewMember, Start, app_members, app_starts, child_members, children_members, members_at_top, start_in, starts_among}
+use Rattle.app_members.specs.Walk.{NewMember, Start, app_members, app_starts, child_members, children_members, lone_members, members_at_top, members_from, start_in, starts_among}
 use Rattle.node_processes.specs.Fresh.{tables_in}
 use Rattle.node_processes.specs.ModuleVersions.{HasTableVersion}
 use Rattle.script_steps.specs.Script.{fetched_from, fetched_of}
@@ -199,6 +199,19 @@ among_members (m ∷ ms) all = each_append StartsVersion (start_in m.child m.tab
     go : (t : Table) → HasTableVersion (Some t) → AllByRecursion StartsVersion (start_in m.child t)
     go (Worker w) version = (version, tt)
     go (Super s) version = tt
+
+-- a child, and those below it
+lone_versions : (tables : Tables) → HaveTableVersions tables → (n depth : ℕ) (c : ChildSpec) → AllByRecursion MemberVersion (members_from n tables depth c)
+unfolding MemberVersion
+lone_versions tables versions n depth c = go (child_table tables c) (kind_version c.kind (tables c.start) (versions c.start))
+  where
+    go : (t : Option Table) → HasTableVersion t → AllByRecursion MemberVersion (child_members (children_members n tables (suc depth)) depth c t)
+    go None version = tt
+    go (Some (Worker w)) version = (version, tt)
+    go (Some (Super s)) version = (version, member_versions n tables versions (suc depth) s.children)
+
+pub child_starts_versions : (tables : Tables) → HaveTableVersions tables → (depth : ℕ) (c : ChildSpec) → AllByRecursion StartsVersion (starts_among (lone_members tables depth c))
+child_starts_versions tables versions depth c = among_members (lone_members tables depth c) (lone_versions tables versions (8 - depth) depth c)
 
 pub start_versions : (tables : Tables) → HaveTableVersions tables → (top : Option (List ℕ)) → AllByRecursion StartsVersion (app_starts tables top)
 start_versions tables versions top = among_members (app_members tables top) (top_versions tables versions top)

@@ -1,5 +1,5 @@
 -- The one outcome of a script that the handler carries out alone.
-use Rattle.std.proofs.Common.{◌≡◌, ◌≢◌, ℕ, ◌+◌, ◌<◌, Bool, true, ◌&&◌, ◌||◌, not, if◌then◌else◌, List, [], ◌∷◌, ◌++◌, length, Option, Some, None, is_some, refl, sym, ap, ap₂, ◌∙◌, arith, append-nil}
+use Rattle.std.proofs.Common.{◌≡◌, ◌≢◌, ℕ, ◌+◌, ◌<◌, Bool, true, false, ◌&&◌, ◌||◌, not, if◌then◌else◌, List, [], ◌∷◌, ◌++◌, length, Option, Some, None, is_some, refl, sym, ap, ap₂, ◌∙◌, arith, append-nil}
 use Rattle.mod_table.specs.Table.{OldVersion}
 use Rattle.proc_history.specs.Changes.{finds_row}
 use Rattle.proc_history.specs.Histories.{replay, replay_from}
@@ -10,19 +10,28 @@ use Rattle.proc_table.specs.Agrees.{slots}
 use Rattle.proc_table.specs.Views.{seen}
 use Rattle.relup_instruction.specs.declared.instruction.Direction.{Direction}
 use Rattle.relup_instruction.specs.Instruction.{ChangeForm, Instruction}
-use Rattle.relup_instruction.specs.Instruction.Instruction.{code_change, remove}
-use Rattle.relup_script.specs.Script.{is_point}
+use Rattle.relup_instruction.specs.Instruction.Instruction.{apply, code_change, remove}
+use Rattle.relup_script.specs.Script.{is_error, is_point}
+use Rattle.sup_tree.specs.declared.looks.Stay.{Stay}
+use Rattle.sup_tree.specs.declared.looks.Stay.TheVariants.{Up, UpOrTemporary}
+use Rattle.sup_tree.specs.declared.member.MemberState.{MemberState}
+use Rattle.sup_tree.specs.declared.member.MemberState.TheVariants.{Ended, Process, Supervisor}
+use Rattle.sup_tree.specs.Children.{Place, child_place}
+use Rattle.sup_tree.specs.Looks.{process_stays}
 use Rattle.sup_tree.specs.Tree.{supervises}
-use Rattle.held_processes.specs.Course.{added, runs}
-use Rattle.held_processes.specs.Operations.{Values, is_held_user, uses_up, values_seen}
+use Rattle.held_processes.specs.Children.{child_stays, state_stays}
+use Rattle.held_processes.specs.Course.{Courses, added, runs}
+use Rattle.held_processes.specs.Operations.{Values, is_held_user, now_in, uses_up, values_seen}
 use Rattle.held_processes.proofs.AnyLemmas.{any_alike}
 use Rattle.held_processes.proofs.StandLemmas.{stand_alone}
-use Rattle.script_steps.specs.Script.{Run, Site, changed_once, mode_of, old_version, run_after, users_in}
-use Rattle.script_steps.specs.Fault.{Cause, change_fault, fault, is_stuck}
+use Rattle.script_steps.specs.Calls.{ChildCall, app_call, child_call, is_on_child}
+use Rattle.script_steps.specs.Calls.ChildCall.{terminates, deletes, restarts, nothing as no_call}
+use Rattle.script_steps.specs.Script.{Run, Site, changed_once, child_stays_at, mode_of, old_version, run_after, stays_at, users_in}
+use Rattle.script_steps.specs.Fault.{Cause, app_call_fault, change_fault, child_call_fault, error_cause, fault, is_stuck, restart_call_fault, super_fault_or}
 use Rattle.script_steps.specs.Fault.Cause.{in_use, no_change, no_memory}
-use Rattle.script_steps.specs.Steps.{IsFault, IsSeen}
+use Rattle.script_steps.specs.Steps.{HasNoFault, IsFault, IsSeen}
 use Rattle.relup_exec.specs.Outcome.{IsInstructionAt, RanAll, Start, began_at, run_behind, run_through, still_early}
-use Rattle.relup_exec.specs.Alone.{HasOneOutcome, fails_at, outcome, outcome_from, unless_fault, values_alone}
+use Rattle.relup_exec.specs.Alone.{HasOneOutcome, fails_at, outcome, outcome_from, step_alone, unless_fault, values_alone}
 use Rattle.relup_exec.proofs.RunLemmas.{step_values, still_before, through_values}
 
 -- the same is left in each slot
@@ -44,10 +53,42 @@ uses_alike : (name : List ℕ) (f g : Values) (r : Run) → Alike f g → uses_u
 uses_alike name f g r same =
     any_alike _ _ slots (λ p inside. ap (λ x. runs name (users_in r p) && is_some (up_at (replay_from x (r.courses p).pending).now)) (same p inside))
 
+-- a child stays so by what is left in the slots
+state_alike : (stay : Stay) (f g : Values) (m : MemberState) → Alike f g → state_stays stay f m ≡ state_stays stay g m
+state_alike stay f g Ended same = refl
+state_alike stay f g (Process q) same = ap (process_stays stay q.pid) (same q.pid.slot q.pid.inside)
+state_alike stay f g (Supervisor m) same = refl
+
+pub place_alike : (stay : Stay) (f g : Values) (o : Option Place) → Alike f g → child_stays stay f o ≡ child_stays stay g o
+place_alike stay f g None same = refl
+place_alike stay f g (Some p) same = state_alike stay f g p.child.state same
+
+pub now_alike : (f g : Values) (cs : Courses) → Alike f g → Alike (now_in f cs) (now_in g cs)
+now_alike f g cs same p inside = ap (λ x. replay_from x (cs p).pending) (same p inside)
+
+child_alike : (f g : Values) (c : ChildCall) (r : Run) → Alike f g → child_stays_at f c r ≡ child_stays_at g c r
+child_alike f g (terminates super id) r same = refl
+child_alike f g (deletes super id) r same = place_alike Up (now_in f r.courses) (now_in g r.courses) (child_place super id r.apps) (now_alike f g r.courses same)
+child_alike f g (restarts super id) r same = place_alike UpOrTemporary (now_in f r.courses) (now_in g r.courses) (child_place super id r.apps) (now_alike f g r.courses same)
+child_alike f g no_call r same = refl
+
+stays_alike : (f g : Values) (i : Instruction) (r : Run) → Alike f g → stays_at f i r ≡ stays_at g i r
+stays_alike f g (apply c) r same = ap (λ (b : Bool). if is_on_child c then b else false) (child_alike f g (child_call c) r same)
+stays_alike f g i r same = refl
+
+child_fault_alike : (f g : Values) (c : ChildCall) (r : Run) → Alike f g → child_call_fault f c r ≡ child_call_fault g c r
+child_fault_alike f g (terminates super id) r same = refl
+child_fault_alike f g (deletes super id) r same = refl
+child_fault_alike f g (restarts super id) r same =
+    ap (λ (b : Bool). super_fault_or super r (restart_call_fault b super id r)) (child_alike f g (restarts super id) r same)
+child_fault_alike f g no_call r same = refl
+
 -- an instruction fails so by what is left in the slots
 fault_alike : (s : Site) (f g : Values) (r : Run) (i : Instruction) → Alike f g → fault s f r i ≡ fault s g r i
 fault_alike s f g r (code_change c) same = change_alike s (mode_of c.mode) c.changes f g r same
 fault_alike s f g r (remove q) same = ap (λ (b : Bool). if supervises q.name r.apps || b then Some in_use else None) (uses_alike q.name f g r same)
+fault_alike s f g r (apply c) same =
+    ap (λ (o : Option Cause). if is_error c then error_cause c.args else if is_on_child c then o else app_call_fault s (app_call c) r) (child_fault_alike f g (child_call c) r same)
 fault_alike s f g r i same = refl
 
 -- what the handler has seen alone
@@ -60,17 +101,31 @@ seen_alone first r v none values at p inside =
 fault_alone : (first : View) (s : Site) (r : Run) (v : View) (i : Instruction) → first.lent ≡ [] → r.values ≡ values_seen first → IsSeen first r v → fault s (values_seen v) r i ≡ fault s (values_alone r) r i
 fault_alone first s r v i none values at = fault_alike s (values_seen v) (values_alone r) r i (seen_alone first r v none values at)
 
+-- one instruction that was carried out, of which this is told
+step_is : (s : Site) (first : View) (e b : Bool) (i : Instruction) (rest : List Instruction) (n : ℕ) (r : Run) → first.lent ≡ [] → r.values ≡ values_seen first → HasNoFault s first r b i
+    → outcome_from s e n (i ∷ rest) r ≡ outcome_from s (e && not (is_point i)) (n + 1) rest (run_after s e b i r)
+step_is s first e b i rest n r none values ran =
+    let here : fault s (values_alone r) r i ≡ None = sym (fault_alone first s r ran.0 i none values ran.1) ∙ ran.2 in
+    let told : stays_at (values_alone r) i r ≡ b = sym (ran.3 ∙ stays_alike (values_seen ran.0) (values_alone r) i r (seen_alone first r ran.0 none values ran.1)) in
+    ap (λ f. unless_fault f e (n + 1) (outcome_from s (e && not (is_point i)) (n + 1) rest (step_alone s e i r))) here
+    ∙ ap (λ (c : Bool). outcome_from s (e && not (is_point i)) (n + 1) rest (run_after s e c i r)) told
+
 -- instructions that were carried out
-ran_alone : (s : Site) (first : View) (e : Bool) (is rest : List Instruction) (n : ℕ) (r : Run) → first.lent ≡ [] → r.values ≡ values_seen first → RanAll s first e is r
-    → outcome_from s e n (is ++ rest) r ≡ outcome_from s (still_early e is) (n + length is) rest (run_through s e is r)
-ran_alone s first e [] rest n r none values ran = ap (λ m. outcome_from s e m rest r) (omega arith)
-ran_alone s first e (i ∷ is) rest n r none values ran =
-    let here : fault s (values_alone r) r i ≡ None = sym (fault_alone first s r ran.0.0 i none values ran.0.1) ∙ ran.0.2 in
-    let e' = e && not (is_point i) in
-    let r' = run_after s e i r in
-    ap (λ f. unless_fault f e (n + 1) (outcome_from s e' (n + 1) (is ++ rest) r')) here
-    ∙ (ran_alone s first e' is rest (n + 1) r' none (step_values s e i r ∙ values) ran.1
-    ∙ ap (λ m. outcome_from s (still_early e' is) m rest (run_through s e' is r')) (omega arith))
+ran_alone : (s : Site) (first : View) (e : Bool) (told : List Bool) (is rest : List Instruction) (n : ℕ) (r : Run) → first.lent ≡ [] → r.values ≡ values_seen first → RanAll s first e told is r
+    → outcome_from s e n (is ++ rest) r ≡ outcome_from s (still_early e is) (n + length is) rest (run_through s e told is r)
+ran_alone s first e told [] rest n r none values ran = ap (λ m. outcome_from s e m rest r) (omega arith)
+ran_alone s first true told (i ∷ is) rest n r none values ran =
+    let e' = not (is_point i) in
+    let r' = run_after s true false i r in
+    step_is s first true false i (is ++ rest) n r none values ran.0
+    ∙ (ran_alone s first e' told is rest (n + 1) r' none (step_values s true false i r ∙ values) ran.1
+    ∙ ap (λ m. outcome_from s (still_early e' is) m rest (run_through s e' told is r')) (omega arith))
+ran_alone s first false [] (i ∷ is) rest n r none values ran = absurd ran
+ran_alone s first false (b ∷ told) (i ∷ is) rest n r none values ran =
+    let r' = run_after s false b i r in
+    step_is s first false b i (is ++ rest) n r none values ran.0
+    ∙ (ran_alone s first false told is rest (n + 1) r' none (step_values s false b i r ∙ values) ran.1
+    ∙ ap (λ m. outcome_from s (still_early false is) m rest (run_through s false told is r')) (omega arith))
 
 -- a cause that isn't memory
 fault_is : (first : View) (s : Site) (v : View) (r : Run) (i : Instruction) (c : Cause) → c ≢ no_memory → IsFault first s v r i c → (fault s (values_seen v) r i ≡ Some c) × IsSeen first r v
@@ -78,25 +133,25 @@ fault_is first s v r i no_memory other fails = absurd (other refl)
 fault_is first s v r i c other fails = fails
 
 -- the first instruction that fails
-failed_alone : (s : Site) (start : Start) (script : List Instruction) (number : ℕ) (c : Cause) (front : List Instruction) (i : Instruction) (v : View) → start.first.lent ≡ [] → c ≢ no_memory
-    → IsInstructionAt script number front i → RanAll s start.first true front (began_at s start) → IsFault start.first s v (run_behind s start front) i c
+failed_alone : (s : Site) (start : Start) (script : List Instruction) (number : ℕ) (c : Cause) (told : List Bool) (front : List Instruction) (i : Instruction) (v : View) → start.first.lent ≡ [] → c ≢ no_memory
+    → IsInstructionAt script number front i → RanAll s start.first true told front (began_at s start) → IsFault start.first s v (run_behind s start told front) i c
     → outcome s (began_at s start) script ≡ fails_at (still_early true front) number c
-failed_alone s start script number c front i v none other at ran fails =
-    let r = run_behind s start front in
+failed_alone s start script number c told front i v none other at ran fails =
+    let r = run_behind s start told front in
     let is = fault_is start.first s v r i c other fails in
-    let values : r.values ≡ values_seen start.first = through_values s true front (began_at s start) in
+    let values : r.values ≡ values_seen start.first = through_values s true told front (began_at s start) in
     ap (outcome s (began_at s start)) at.is
-    ∙ (ran_alone s start.first true front (i ∷ at.rest) 0 (began_at s start) none refl ran
-    ∙ (ap (λ f. unless_fault f (still_early true front) (0 + length front + 1) (outcome_from s (still_early true front && not (is_point i)) (0 + length front + 1) at.rest (run_after s (still_early true front) i r)))
+    ∙ (ran_alone s start.first true told front (i ∷ at.rest) 0 (began_at s start) none refl ran
+    ∙ (ap (λ f. unless_fault f (still_early true front) (0 + length front + 1) (outcome_from s (still_early true front && not (is_point i)) (0 + length front + 1) at.rest (step_alone s (still_early true front) i r)))
     (sym (fault_alone start.first s r v i none values is.1) ∙ is.0)
     ∙ ap (λ n. fails_at (still_early true front) n c) (omega (arith, at.counted))))
 
 pub has_one_outcome : HasOneOutcome
 has_one_outcome = record {
   finished = λ s start script loaded apps v none done.
-      ap (outcome s (began_at s start)) (sym (append-nil script)) ∙ ran_alone s start.first true script [] 0 (began_at s start) none refl done.ran;
+      ap (outcome s (began_at s start)) (sym (append-nil script)) ∙ ran_alone s start.first true done.told script [] 0 (began_at s start) none refl done.ran;
   refused = λ s start script number c v none other is.
-      failed_alone s start script number c is.front is.instruction v none other is.at is.ran is.fails ∙ ap (λ e. fails_at e number c) (still_before is.front is.early);
+      failed_alone s start script number c [] is.front is.instruction v none other is.at is.ran is.fails ∙ ap (λ e. fails_at e number c) (still_before is.front is.early);
   broken = λ s start script number c v none other is.
-      failed_alone s start script number c is.front is.instruction is.then_view none other is.at is.ran is.fails ∙ ap (λ e. fails_at e number c) is.late;
+      failed_alone s start script number c is.told is.front is.instruction is.then_view none other is.at is.ran is.fails ∙ ap (λ e. fails_at e number c) is.late;
 }

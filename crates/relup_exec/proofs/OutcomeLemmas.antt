@@ -1,5 +1,5 @@
 -- What comes of a script, by what comes of its instructions.
-use Rattle.std.proofs.Common.{◌≡◌, ℕ, Bool, true, List, [], ◌∷◌, ◌++◌, refl, sym, ap, subst, ◌∙◌, append_assoc, append-nil, Ok}
+use Rattle.std.proofs.Common.{◌≡◌, ℕ, ◌≤◌, Bool, true, false, List, [], ◌∷◌, ◌++◌, length, refl, sym, ap, subst, ◌∙◌, append_assoc, append-nil}
 use Rattle.std.specs.List.{AllByRecursion}
 use Rattle.proc_history.specs.Histories.{replay}
 use Rattle.proc_table.specs.Parts.{part_of}
@@ -14,39 +14,48 @@ use Rattle.relup_instruction.specs.Instruction.{Instruction}
 use Rattle.relup_instruction.specs.Instruction.Instruction.{point_of_no_return}
 use Rattle.relup_script.specs.Script.{IsRunnable}
 use Rattle.sup_tree.specs.Tree.{App}
-use Rattle.script_steps.specs.Script.{Run, Site, courses_within, run_after}
+use Rattle.script_steps.specs.Script.{Run, Site, courses_within}
 use Rattle.script_steps.specs.Fault.{Cause, fault}
 use Rattle.script_steps.specs.Fault.Cause.{no_memory}
 use Rattle.relup_exec.specs.Outcome.{ArmedForm, IsArmed, IsPointAt, IsRefused, Ran, Start, began_at, past_behind, run_behind, still_early}
-use Rattle.script_steps.specs.Steps.{CarriesOut, HasDone, IsEarly, IsFault, ProgressForm}
+use Rattle.script_steps.specs.Steps.{HasDone, IsCarriedOut, IsEarly, IsFault, ProgressForm}
 use Rattle.relup_exec.specs.Stepwise.{IsStopped, start_at}
 use Rattle.script_steps.proofs.RowLemmas.{all_front}
 use Rattle.script_steps.proofs.CourseLemmas.{within_adds_no_block}
 use Rattle.relup_exec.proofs.QuietLemmas.{early_quiet}
-use Rattle.relup_exec.proofs.RunLemmas.{ran_push, run_push, through_values}
+use Rattle.relup_exec.proofs.RunLemmas.{ran_push_early, ran_push_late, run_push_early, run_push_late, still_before, through_values}
 
--- one instruction more was done
-pub run_more : (s : Site) (start : Start) (e : Bool) (is : List Instruction) (i : Instruction) (a : ProgressForm) (tree : List App) (v : View) → still_early true is ≡ e → Ran s start is
-    → CarriesOut {X = Unit {0}} s (past_behind s start is) e i (Ok tt) a tree v
-    → Ran s start (is ++ i ∷ []) × HasDone (past_behind s start (is ++ i ∷ [])) a tree v
-run_more s start e is i a tree v still ran carried = (
-  ran_push s start.first true is i (began_at s start) ran carried.0,
-  subst (λ (r : Run). HasDone (record { first = start.first; run = r }) a tree v)
-      (sym (run_push s true is i (began_at s start) ∙ ap (λ e. run_after s e i (run_behind s start is)) still)) carried.1,
+-- one instruction more was done, before the point
+pub run_more_early : (s : Site) (start : Start) (is : List Instruction) (i : Instruction) (a : ProgressForm) (tree : List App) (v : View) → still_early true is ≡ true → Ran s start [] is
+    → IsCarriedOut s (past_behind s start [] is) true false i a tree v
+    → Ran s start [] (is ++ i ∷ []) × HasDone (past_behind s start [] (is ++ i ∷ [])) a tree v
+run_more_early s start is i a tree v early ran carried = (
+  ran_push_early s start.first true [] is i (began_at s start) early ran carried.0,
+  subst (λ (r : Run). HasDone (record { first = start.first; run = r }) a tree v) (sym (run_push_early s true [] is i (began_at s start) early)) carried.1,
+)
+
+-- and behind it
+pub run_more_late : (s : Site) (start : Start) (told : List Bool) (is : List Instruction) (b : Bool) (i : Instruction) (a : ProgressForm) (tree : List App) (v : View) → still_early true is ≡ false
+    → Ran s start told is → IsCarriedOut s (past_behind s start told is) false b i a tree v
+    → Ran s start (told ++ b ∷ []) (is ++ i ∷ []) × HasDone (past_behind s start (told ++ b ∷ []) (is ++ i ∷ [])) a tree v
+run_more_late s start told is b i a tree v late ran carried = (
+  ran_push_late s start.first true told is b i (began_at s start) late ran carried.0,
+  subst (λ (r : Run). HasDone (record { first = start.first; run = r }) a tree v) (sym (run_push_late s start.first true told is b i (began_at s start) late ran)) carried.1,
 )
 
 -- the point of no return was passed
 pub point_passed : (s : Site) (start : Start) (script : List Instruction) (a : ArmedForm) (hs : HeldSlots) (v w : View) (armed : IsArmed s start script a v)
-    → AllFollow start.first (on_all pass_point (run_behind s start armed.point.front).courses) hs w
-    → Ran s start (armed.point.front ++ point_of_no_return ∷ [])
-    × HasDone (past_behind s start (armed.point.front ++ point_of_no_return ∷ [])) (record { held = hs; fetched = a.fetched; next = a.next }) a.apps w
+    → AllFollow start.first (on_all pass_point (run_behind s start [] armed.point.front).courses) hs w
+    → Ran s start [] (armed.point.front ++ point_of_no_return ∷ [])
+    × HasDone (past_behind s start [] (armed.point.front ++ point_of_no_return ∷ [])) (record { held = hs; fetched = a.fetched; next = a.next }) a.apps w
 point_passed s start script a hs v w armed follow =
     let front = armed.point.front in
-    let r = run_behind s start front in
-    let values : r.values ≡ values_seen start.first = through_values s true front (began_at s start) in (
-      ran_push s start.first true front point_of_no_return (began_at s start) armed.ran (v, λ p inside. (armed.follow.each p inside).stand, refl),
+    let r = run_behind s start [] front in
+    let early = still_before front armed.point.early in
+    let values : r.values ≡ values_seen start.first = through_values s true [] front (began_at s start) in (
+      ran_push_early s start.first true [] front point_of_no_return (began_at s start) early armed.ran (v, λ p inside. (armed.follow.each p inside).stand, refl, refl),
       subst (λ (q : Run). HasDone (record { first = start.first; run = q }) (record { held = hs; fetched = a.fetched; next = a.next }) a.apps w)
-          (sym (run_push s true front point_of_no_return (began_at s start)))
+          (sym (run_push_early s true [] front point_of_no_return (began_at s start) early))
           (record { follow = follow; fetched = armed.fetched; next = armed.next; apps = armed.apps; values = values }),
     )
 
@@ -62,12 +71,15 @@ fault_later first s v w r i c same fails = (
     values = λ j p. replay (same p j)
 
 -- All before the point was carried out.
-pub armed_well : (s : Site) (start : Start) (script : List Instruction) (place : ℕ) (is : List Instruction) (a : ProgressForm) (tree : List App) (v : View) (point : IsPointAt script place) → is ≡ point.front
-    → Ran s start is → HasDone (past_behind s start is) a tree v → IsArmed s start script (record { place = place; held = a.held; fetched = a.fetched; next = a.next; apps = tree }) v
-armed_well s start script place is a tree v point same ran done =
-    let done' : HasDone (past_behind s start point.front) a tree v = subst (λ (front : List Instruction). HasDone (past_behind s start front) a tree v) same done in record {
+pub armed_well : (s : Site) (start : Start) (script : List Instruction) (place room : ℕ) (told : List Bool) (is : List Instruction) (a : ProgressForm) (tree : List App) (v : View) (point : IsPointAt script place)
+    → told ≡ [] → length script ≤ room → is ≡ point.front → Ran s start [] is → HasDone (past_behind s start [] is) a tree v
+    → IsArmed s start script (record { place = place; told = told; room = room; held = a.held; fetched = a.fetched; next = a.next; apps = tree }) v
+armed_well s start script place room told is a tree v point nothing enough same ran done =
+    let done' : HasDone (past_behind s start [] point.front) a tree v = subst (λ (front : List Instruction). HasDone (past_behind s start [] front) a tree v) same done in record {
       point = point;
-      ran = subst (Ran s start) same ran;
+      told = nothing;
+      room = enough;
+      ran = subst (Ran s start []) same ran;
       fetched = done'.fetched;
       next = done'.next;
       apps = done'.apps;
@@ -78,7 +90,7 @@ armed_well s start script place is a tree v point same ran done =
 -- An instruction before the point fails, and what was held went back.
 pub refused_well : (s : Site) (start : Start) (script : List Instruction) (place : ℕ) (is : List Instruction) (number : ℕ) (c : Cause) (hs : HeldSlots) (v w : View) (point : IsPointAt script place) → is ≡ point.front
     → (stopped : IsStopped s start is number c hs v) → ((p : ℕ) → seen w p ≡ seen v p)
-    → AreLeft start.first (courses_within s true stopped.instruction stopped.modules stopped.slot (run_behind s start stopped.front)) w → IsRefused s start script number c w
+    → AreLeft start.first (courses_within s true stopped.instruction stopped.modules stopped.slot (run_behind s start [] stopped.front)) w → IsRefused s start script number c w
 refused_well s start script place is number c hs v w point same stopped kept left =
     let parts : point.front ≡ stopped.front ++ (stopped.instruction ∷ stopped.at.rest) = sym same ∙ stopped.at.is in
     let early : AllByRecursion IsEarly stopped.front = all_front IsEarly stopped.front (stopped.instruction ∷ stopped.at.rest) (subst (AllByRecursion IsEarly) parts point.early) in
@@ -93,9 +105,9 @@ refused_well s start script place is number c hs v w point same stopped kept lef
       };
       early = early;
       ran = stopped.ran;
-      fails = fault_later start.first s v w (run_behind s start stopped.front) stopped.instruction c kept stopped.fails;
-      untouched = no_block_is_nothing start.first (courses_within s true stopped.instruction stopped.modules stopped.slot (run_behind s start stopped.front)) w left
-          (λ p _. within_adds_no_block s stopped.instruction stopped.modules stopped.slot (run_behind s start stopped.front) p ∙ early_quiet s start stopped.front early p);
+      fails = fault_later start.first s v w (run_behind s start [] stopped.front) stopped.instruction c kept stopped.fails;
+      untouched = no_block_is_nothing start.first (courses_within s true stopped.instruction stopped.modules stopped.slot (run_behind s start [] stopped.front)) w left
+          (λ p _. within_adds_no_block s stopped.instruction stopped.modules stopped.slot (run_behind s start [] stopped.front) p ∙ early_quiet s start stopped.front early p);
     }
 
 -- what is so before the first instruction
@@ -121,7 +133,7 @@ refused_at_first s apps script v runnable free = go runnable.before runnable.is
       instruction = point_of_no_return;
       at = record { rest = runnable.after; is = e; counted = refl };
       early = tt;
-      ran = tt;
+      ran = refl;
       fails = tt;
       untouched = nothing_held v free;
     }
@@ -130,7 +142,7 @@ refused_at_first s apps script v runnable free = go runnable.before runnable.is
       instruction = b;
       at = record { rest = bs ++ (point_of_no_return ∷ runnable.after); is = e; counted = refl };
       early = tt;
-      ran = tt;
+      ran = refl;
       fails = tt;
       untouched = nothing_held v free;
     }

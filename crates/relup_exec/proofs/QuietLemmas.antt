@@ -28,8 +28,8 @@ right_true true b e = e
 right_true false b e = absurd (cc e)
 
 -- a call that raises an error does nothing
-errors_do_nothing : (s : Site) (c : CallForm) (r : Run) → IsEarly (instruction.Instruction.apply c) → call_after s c r ≡ r
-errors_do_nothing s c r early =
+errors_do_nothing : (s : Site) (c : CallForm) (b : Bool) (r : Run) → IsEarly (instruction.Instruction.apply c) → call_after s c b r ≡ r
+errors_do_nothing s c stays r early =
     let raises : is_error c ≡ true = right_true (is_supported_call c) (is_error c) early in
     let named : c.name ≡ codes "erlang" =
     (bytes_eq-Decides c.name (codes "erlang")).0 (left_true (bytes_eq c.name (codes "erlang")) (bytes_eq c.function (codes "error") && has_one c.args) raises) in
@@ -37,7 +37,7 @@ errors_do_nothing s c r early =
     let idles : app_call c ≡ idle =
     ap (λ (b : Bool). if b then (if bytes_eq c.function (codes "start") then starts (first_atom c.args) else if bytes_eq c.function (codes "stop") then stops (first_atom c.args) else idle) else idle) other in
     let child : is_on_child c ≡ false = ap (λ (n : List ℕ). bytes_eq n (codes "supervisor")) named in
-    ap (λ (b : Bool). if b then child_after (child_call c) r else called_after s (app_call c) r) child ∙ ap (λ (k : AppCall). called_after s k r) idles
+    ap (λ (b : Bool). if b then child_after (child_call c) stays r else called_after s (app_call c) r) child ∙ ap (λ (k : AppCall). called_after s k r) idles
 
 each_same : (names : List (List ℕ)) (users : Users) (cs : Courses) → SameBlocks cs (on_each suspend names users cs)
 each_same [] users cs p = refl
@@ -57,20 +57,20 @@ changed_same s mode (c ∷ cs) r p =
     changed_same s mode cs (changed_once s mode c r) p ∙ change_same c.name (old_version s mode c.name r) c (users_in r) r.courses p
 
 -- what an instruction does that may stand before the point
-step_same : (s : Site) (i : Instruction) → IsEarly i → (r : Run) → SameBlocks r.courses (run_after s true i r).courses
+step_same : (s : Site) (i : Instruction) → IsEarly i → (r : Run) → SameBlocks r.courses (run_after s true false i r).courses
 step_same s (instruction.Instruction.load_object_code f) early r p = refl
 step_same s (instruction.Instruction.suspend ss) early r p = each_same (suspended_in ss) (users_in r) r.courses p
 step_same s (instruction.Instruction.load f) early r p = loads_same f.name (worker_in (module_named f.name r.fetched)) (users_in r) r.courses p
 step_same s (instruction.Instruction.code_change c) early r p = changed_same s (mode_of c.mode) c.changes r p
-step_same s (instruction.Instruction.apply c) early r p = ap (λ (q : Run). (q.courses p).blocks) (errors_do_nothing s c r early)
+step_same s (instruction.Instruction.apply c) early r p = ap (λ (q : Run). (q.courses p).blocks) (errors_do_nothing s c false r early)
 step_same s i early r p = absurd (cc early)
 
-through_same : (s : Site) (is : List Instruction) → AllByRecursion IsEarly is → (r : Run) → SameBlocks r.courses (run_through s true is r).courses
+through_same : (s : Site) (is : List Instruction) → AllByRecursion IsEarly is → (r : Run) → SameBlocks r.courses (run_through s true [] is r).courses
 through_same s [] early r p = refl
 through_same s (i ∷ is) early r p =
-    ap (λ e. ((run_through s e is (run_after s true i r)).courses p).blocks) (ap not (not_the_point i early.0))
-    ∙ (through_same s is early.1 (run_after s true i r) p ∙ step_same s i early.0 r p)
+    ap (λ e. ((run_through s e [] is (run_after s true false i r)).courses p).blocks) (ap not (not_the_point i early.0))
+    ∙ (through_same s is early.1 (run_after s true false i r) p ∙ step_same s i early.0 r p)
 
 -- no block stands in a history
-pub early_quiet : (s : Site) (start : Start) (is : List Instruction) → AllByRecursion IsEarly is → (p : ℕ) → ((run_behind s start is).courses p).blocks ≡ []
+pub early_quiet : (s : Site) (start : Start) (is : List Instruction) → AllByRecursion IsEarly is → (p : ℕ) → ((run_behind s start [] is).courses p).blocks ≡ []
 early_quiet s start is early p = through_same s is early (began_at s start) p

@@ -1,5 +1,5 @@
 -- Instructions of a script one after another, the point of no return among them.
-use Rattle.std.proofs.Common.{◌≡◌, Bool, true, false, ◌&&◌, not, List, [], ◌∷◌, ◌++◌, length, ◌<◌, arith, refl, sym, ap, subst, ◌∙◌, ◌⊎◌, inl, inr, ⊎_elim, Option, Some, None, is_some, if◌then◌else◌}
+use Rattle.std.proofs.Common.{◌≡◌, ℕ, Bool, true, false, ◌&&◌, not, List, [], ◌∷◌, ◌++◌, length, ◌<◌, arith, refl, sym, ap, subst, ◌∙◌, ◌⊎◌, inl, inr, ⊎_elim, Option, Some, None, is_some, if◌then◌else◌}
 use Rattle.std.specs.List.{AllByRecursion}
 use Rattle.proc_table.specs.declared.view.View.{View}
 use Rattle.relup_instruction.specs.Instruction.{CallForm, ChangeForm, Instruction}
@@ -8,26 +8,57 @@ use Rattle.relup_script.specs.Script.{IsRunnable, is_point}
 use Rattle.relup_script.proofs.ScriptLemmas.{are_early}
 use Rattle.library.specs.Library.{Library}
 use Rattle.relup_instruction.specs.declared.instruction.Direction.{Direction}
+use Rattle.sup_tree.specs.Children.{Place, child_place}
 use Rattle.sup_tree.specs.Tree.{app_named}
 use Rattle.held_processes.specs.Applications.{with_started}
+use Rattle.held_processes.specs.Children.{with_deleted}
 use Rattle.held_processes.specs.Operations.{Values}
 use Rattle.script_steps.specs.Calls.{AppCall, ChildCall, app_call, child_call, is_on_child}
 use Rattle.script_steps.specs.Calls.AppCall.{starts, stops, idle}
-use Rattle.script_steps.specs.Calls.ChildCall.{terminates, nothing}
-use Rattle.script_steps.specs.Script.{Run, Site, call_after, called_after, changed, changed_once, child_after, mode_of, run_after, scene_of, started_from, tables_among, target_library, with_scene}
+use Rattle.script_steps.specs.Calls.ChildCall.{terminates, deletes, restarts, nothing}
+use Rattle.script_steps.specs.Script.{Run, Site, call_after, called_after, changed, changed_once, child_after, mode_of, restarted_at, run_after, scene_of, started_from, tables_among, target_library, with_scene}
 use Rattle.relup_exec.specs.Outcome.{RanAll, run_through, still_early}
-use Rattle.script_steps.specs.Steps.{IsLate}
-use Rattle.script_steps.specs.Steps.{HasNoFault, IsEarly}
+use Rattle.script_steps.specs.Steps.{HasNoFault, IsEarly, IsLate}
 use Rattle.script_steps.proofs.RowLemmas.{all_middle}
 
--- one instruction more
-pub run_push : (s : Site) (e : Bool) (is : List Instruction) (i : Instruction) (r : Run) → run_through s e (is ++ i ∷ []) r ≡ run_after s (still_early e is) i (run_through s e is r)
-run_push s e [] i r = refl
-run_push s e (k ∷ is) i r = run_push s (e && not (is_point k)) is i (run_after s e k r)
+-- behind the point
+pub still_behind : (is : List Instruction) → still_early false is ≡ false
+still_behind [] = refl
+still_behind (i ∷ is) = still_behind is
 
-pub ran_push : (s : Site) (first : View) (e : Bool) (is : List Instruction) (i : Instruction) (r : Run) → RanAll s first e is r → HasNoFault s first (run_through s e is r) i → RanAll s first e (is ++ i ∷ []) r
-ran_push s first e [] i r ran one = (one, tt)
-ran_push s first e (k ∷ is) i r ran one = (ran.0, ran_push s first (e && not (is_point k)) is i (run_after s e k r) ran.1 one)
+-- one instruction more, before the point
+pub run_push_early : (s : Site) (e : Bool) (told : List Bool) (is : List Instruction) (i : Instruction) (r : Run) → still_early e is ≡ true
+    → run_through s e told (is ++ i ∷ []) r ≡ run_after s true false i (run_through s e told is r)
+run_push_early s true told [] i r early = refl
+run_push_early s false told [] i r early = absurd (cc early)
+run_push_early s true told (k ∷ is) i r early = run_push_early s (not (is_point k)) told is i (run_after s true false k r) early
+run_push_early s false told (k ∷ is) i r early = absurd (let no = sym (still_behind is) ∙ early in cc no)
+
+pub ran_push_early : (s : Site) (first : View) (e : Bool) (told : List Bool) (is : List Instruction) (i : Instruction) (r : Run) → still_early e is ≡ true → RanAll s first e told is r
+    → HasNoFault s first (run_through s e told is r) false i → RanAll s first e told (is ++ i ∷ []) r
+ran_push_early s first true told [] i r early ran one = (one, ran)
+ran_push_early s first false told [] i r early ran one = absurd (cc early)
+ran_push_early s first true told (k ∷ is) i r early ran one = (ran.0, ran_push_early s first (not (is_point k)) told is i (run_after s true false k r) early ran.1 one)
+ran_push_early s first false told (k ∷ is) i r early ran one = absurd (let no = sym (still_behind is) ∙ early in cc no)
+
+-- one instruction more, of which this is told, behind the point
+pub run_push_late : (s : Site) (first : View) (e : Bool) (told : List Bool) (is : List Instruction) (b : Bool) (i : Instruction) (r : Run) → still_early e is ≡ false → RanAll s first e told is r
+    → run_through s e (told ++ b ∷ []) (is ++ i ∷ []) r ≡ run_after s false b i (run_through s e told is r)
+run_push_late s first true told [] b i r late ran = absurd (cc late)
+run_push_late s first false [] [] b i r late ran = refl
+run_push_late s first false (t ∷ ts) [] b i r late ran = absurd (cc ran)
+run_push_late s first true told (k ∷ is) b i r late ran = run_push_late s first (not (is_point k)) told is b i (run_after s true false k r) late ran.1
+run_push_late s first false [] (k ∷ is) b i r late ran = absurd ran
+run_push_late s first false (t ∷ ts) (k ∷ is) b i r late ran = run_push_late s first false ts is b i (run_after s false t k r) late ran.1
+
+pub ran_push_late : (s : Site) (first : View) (e : Bool) (told : List Bool) (is : List Instruction) (b : Bool) (i : Instruction) (r : Run) → still_early e is ≡ false → RanAll s first e told is r
+    → HasNoFault s first (run_through s e told is r) b i → RanAll s first e (told ++ b ∷ []) (is ++ i ∷ []) r
+ran_push_late s first true told [] b i r late ran one = absurd (cc late)
+ran_push_late s first false [] [] b i r late ran one = (one, refl)
+ran_push_late s first false (t ∷ ts) [] b i r late ran one = absurd (cc ran)
+ran_push_late s first true told (k ∷ is) b i r late ran one = (ran.0, ran_push_late s first (not (is_point k)) told is b i (run_after s true false k r) late ran.1 one)
+ran_push_late s first false [] (k ∷ is) b i r late ran one = absurd ran
+ran_push_late s first false (t ∷ ts) (k ∷ is) b i r late ran one = (ran.0, ran_push_late s first false ts is b i (run_after s false t k r) late ran.1 one)
 
 pub still_push : (e : Bool) (is : List Instruction) (i : Instruction) → still_early e (is ++ i ∷ []) ≡ (still_early e is && not (is_point i))
 still_push e [] i = refl
@@ -41,11 +72,6 @@ not_the_point i early = refl
 pub still_before : (is : List Instruction) → AllByRecursion IsEarly is → still_early true is ≡ true
 still_before [] early = refl
 still_before (i ∷ is) early = ap (λ b. still_early (not b) is) (not_the_point i early.0) ∙ still_before is early.1
-
--- behind the point
-pub still_behind : (is : List Instruction) → still_early false is ≡ false
-still_behind [] = refl
-still_behind (i ∷ is) = still_behind is
 
 pub behind_point : (front rest : List Instruction) (e : Bool) → still_early e (front ++ (point_of_no_return ∷ rest)) ≡ false
 behind_point [] rest true = still_behind rest
@@ -113,24 +139,32 @@ called_values s (starts name) r = started_values (target_library s name) r
 called_values s (stops name) r = refl
 called_values s idle r = refl
 
-child_values : (c : ChildCall) (r : Run) → (child_after c r).values ≡ r.values
-child_values (terminates super id) r = refl
-child_values nothing r = refl
+restarted_values : (super id : List ℕ) (o : Option Place) (r : Run) → (restarted_at super id o r).values ≡ r.values
+restarted_values super id None r = refl
+restarted_values super id (Some p) r = refl
+
+child_values : (c : ChildCall) (b : Bool) (r : Run) → (child_after c b r).values ≡ r.values
+child_values (terminates super id) b r = refl
+child_values (deletes super id) b r = either_values b r (with_scene r (with_deleted super id (scene_of r))) refl
+child_values (restarts super id) b r = either_values b r (restarted_at super id (child_place super id r.apps) r) (restarted_values super id (child_place super id r.apps) r)
+child_values nothing b r = refl
 
 one_of_values : (b : Bool) (q q' : Run) (values : Values) → q.values ≡ values → q'.values ≡ values → (if b then q else q').values ≡ values
 one_of_values true q q' values same same' = same
 one_of_values false q q' values same same' = same'
 
-call_values : (s : Site) (c : CallForm) (r : Run) → (call_after s c r).values ≡ r.values
-call_values s c r =
-    one_of_values (is_on_child c) (child_after (child_call c) r) (called_after s (app_call c) r) r.values (child_values (child_call c) r) (called_values s (app_call c) r)
+call_values : (s : Site) (c : CallForm) (b : Bool) (r : Run) → (call_after s c b r).values ≡ r.values
+call_values s c b r =
+    one_of_values (is_on_child c) (child_after (child_call c) b r) (called_after s (app_call c) r) r.values (child_values (child_call c) b r) (called_values s (app_call c) r)
 
-pub step_values : (s : Site) (e : Bool) (i : Instruction) (r : Run) → (run_after s e i r).values ≡ r.values
-step_values s e (code_change c) r = changed_values s (mode_of c.mode) c.changes r
-step_values s e (apply c) r = call_values s c r
-step_values s e i r = refl
+pub step_values : (s : Site) (e : Bool) (b : Bool) (i : Instruction) (r : Run) → (run_after s e b i r).values ≡ r.values
+step_values s e b (code_change c) r = changed_values s (mode_of c.mode) c.changes r
+step_values s e b (apply c) r = call_values s c b r
+step_values s e b i r = refl
 
 -- what stood in the slots at first is kept
-pub through_values : (s : Site) (e : Bool) (is : List Instruction) (r : Run) → (run_through s e is r).values ≡ r.values
-through_values s e [] r = refl
-through_values s e (i ∷ is) r = through_values s (e && not (is_point i)) is (run_after s e i r) ∙ step_values s e i r
+pub through_values : (s : Site) (e : Bool) (told : List Bool) (is : List Instruction) (r : Run) → (run_through s e told is r).values ≡ r.values
+through_values s e told [] r = refl
+through_values s true told (i ∷ is) r = through_values s (not (is_point i)) told is (run_after s true false i r) ∙ step_values s true false i r
+through_values s false [] (i ∷ is) r = refl
+through_values s false (b ∷ told) (i ∷ is) r = through_values s false told is (run_after s false b i r) ∙ step_values s false b i r

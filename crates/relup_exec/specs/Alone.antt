@@ -8,7 +8,7 @@ use Rattle.loaded_modules.specs.Loaded.{NamedModules}
 use Rattle.sup_tree.specs.Tree.{App}
 use Rattle.held_processes.specs.Course.{added}
 use Rattle.held_processes.specs.Operations.{Values}
-use Rattle.script_steps.specs.Script.{Site, Run, run_after}
+use Rattle.script_steps.specs.Script.{Site, Run, run_after, stays_at}
 use Rattle.script_steps.specs.Fault.{Cause, fault}
 use Rattle.script_steps.specs.Fault.Cause.{no_memory}
 use Rattle.relup_exec.specs.Outcome.{Start, IsBroken, IsFinished, IsRefused, began_at, run_behind}
@@ -31,11 +31,15 @@ abbrev pub unless_fault : Option Cause → Bool → ℕ → Outcome → Outcome
 unless_fault None early n more = more
 unless_fault (Some c) early n more = fails_at early n c
 
+-- what an instruction does, by what the blocks leave
+abbrev pub step_alone : Site → Bool → Instruction → Run → Run
+step_alone s early i r = run_after s early (stays_at (values_alone r) i r) i r
+
 -- what comes of these instructions, behind so many others
 abbrev pub outcome_from : Site → Bool → ℕ → List Instruction → Run → Outcome
 outcome_from s early n [] r = ends r
 outcome_from s early n (i ∷ is) r =
-    unless_fault (fault s (values_alone r) r i) early (n + 1) (outcome_from s (early && not (is_point i)) (n + 1) is (run_after s early i r))
+    unless_fault (fault s (values_alone r) r i) early (n + 1) (outcome_from s (early && not (is_point i)) (n + 1) is (step_alone s early i r))
 
 -- what comes of a script
 abbrev pub outcome : Site → Run → List Instruction → Outcome
@@ -44,7 +48,7 @@ outcome s r script = outcome_from s true 0 script r
 -- Each outcome of a script that the handler carries out alone is this one, memory aside.
 pub record HasOneOutcome : Type 0 where
   pub finished : (s : Site) (start : Start) (script : List Instruction) (loaded : NamedModules) (apps : List App) (v : View)
-      → start.first.lent ≡ [] → IsFinished s start script loaded apps v → outcome s (began_at s start) script ≡ ends (run_behind s start script)
+      → start.first.lent ≡ [] → (f : IsFinished s start script loaded apps v) → outcome s (began_at s start) script ≡ ends (run_behind s start f.told script)
   pub refused : (s : Site) (start : Start) (script : List Instruction) (number : ℕ) (c : Cause) (v : View)
       → start.first.lent ≡ [] → c ≢ no_memory → IsRefused s start script number c v → outcome s (began_at s start) script ≡ refuses number c
   pub broken : (s : Site) (start : Start) (script : List Instruction) (number : ℕ) (c : Cause) (v : View)

@@ -1,7 +1,8 @@
 -- A script that has come to its point of no return, as it lies in memory.
+use Rattle.std.specs.Prelude.{vec_capacity}
 use Rattle.relup_exec.specs.declared.armed.Armed.{Armed}
 use Rattle.relup_exec.specs.Outcome.{ArmedForm}
 use Rattle.loaded_modules.specs.Loaded.{listed_in}
 
 abbrev pub armed_of : Armed → ArmedForm
-armed_of a = record { place = a.place; held = a.progress.held; fetched = listed_in a.progress.fetched; next = listed_in a.progress.next; apps = a.progress.tree }
+armed_of a = record { place = a.place; told = a.told.items; room = vec_capacity a.told; held = a.progress.held; fetched = listed_in a.progress.fetched; next = listed_in a.progress.next; apps = a.progress.tree }

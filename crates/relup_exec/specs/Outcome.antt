@@ -1,9 +1,7 @@
 -- What comes of a script: up to its point of no return, and behind it.
-use Rattle.std.specs.Prelude.{◌≡◌, ℕ, ◌+◌, Bool, true, false, ◌&&◌, not, List, [], ◌∷◌, ◌++◌, length}
+use Rattle.std.specs.Prelude.{◌≡◌, ℕ, ◌+◌, ◌≤◌, Bool, true, false, ◌&&◌, not, List, [], ◌∷◌, ◌++◌, length}
 use Rattle.std.specs.List.{AllByRecursion}
-use mathlib.Core.List.{IsPrefix}
 use Rattle.proc_table.specs.declared.view.View.{View}
-use Rattle.proc_table.specs.Views.{seen}
 use Rattle.relup_instruction.specs.Instruction.{Instruction}
 use Rattle.relup_instruction.specs.Instruction.Instruction.{point_of_no_return}
 use Rattle.relup_script.specs.Script.{is_point}
@@ -11,7 +9,7 @@ use Rattle.loaded_modules.specs.Loaded.{NamedModules}
 use Rattle.sup_tree.specs.Tree.{App}
 use Rattle.held_processes.specs.Course.{Courses, on_all}
 use Rattle.held_processes.specs.Course.Operation.{finish}
-use Rattle.held_processes.specs.Following.{HeldSlots, AllFollow, AreLeft, AreUntouched}
+use Rattle.held_processes.specs.Following.{AllFollow, AreLeft, AreLonger, AreUntouched, HeldSlots}
 use Rattle.held_processes.specs.Operations.{values_seen}
 use Rattle.script_steps.specs.Script.{Site, Run, began, courses_within, run_after}
 use Rattle.script_steps.specs.Fault.{Cause}
@@ -31,30 +29,38 @@ abbrev pub still_early : Bool → List Instruction → Bool
 still_early early [] = early
 still_early early (i ∷ is) = still_early (early && not (is_point i)) is
 
--- what instructions do one after another, the point of no return among them
-abbrev pub run_through : Site → Bool → List Instruction → Run → Run
-run_through s early [] r = r
-run_through s early (i ∷ is) r = run_through s (early && not (is_point i)) is (run_after s early i r)
+-- What instructions do one after another, the point of no return among them. told: of each behind the point, whether it leaves the
+-- child that it is on as it is.
+abbrev pub run_through : Site → Bool → List Bool → List Instruction → Run → Run
+run_through s early told [] r = r
+run_through s true told (i ∷ is) r = run_through s (not (is_point i)) told is (run_after s true false i r)
+run_through s false [] (i ∷ is) r = r
+run_through s false (b ∷ told) (i ∷ is) r = run_through s false told is (run_after s false b i r)
 
 -- what was done behind these, from the first instruction on
-abbrev pub run_behind : Site → Start → List Instruction → Run
-run_behind s start is = run_through s true is (began_at s start)
+abbrev pub run_behind : Site → Start → List Bool → List Instruction → Run
+run_behind s start told is = run_through s true told is (began_at s start)
 
-abbrev pub past_behind : Site → Start → List Instruction → Past
-past_behind s start is = record { first = start.first; run = run_behind s start is }
+abbrev pub past_behind : Site → Start → List Bool → List Instruction → Past
+past_behind s start told is = record { first = start.first; run = run_behind s start told is }
 
--- None of these failed.
-abbrev pub RanAll : Site → View → Bool → List Instruction → Run → Type 0
-RanAll s first early [] r = Unit {0}
-RanAll s first early (i ∷ is) r = HasNoFault s first r i × RanAll s first (early && not (is_point i)) is (run_after s early i r)
+-- None of these failed, and of each behind the point this is told.
+abbrev pub RanAll : Site → View → Bool → List Bool → List Instruction → Run → Type 0
+RanAll s first early told [] r = told ≡ []
+RanAll s first true told (i ∷ is) r =
+    HasNoFault s first r false i × RanAll s first (not (is_point i)) told is (run_after s true false i r)
+RanAll s first false [] (i ∷ is) r = ⊥
+RanAll s first false (b ∷ told) (i ∷ is) r = HasNoFault s first r b i × RanAll s first false told is (run_after s false b i r)
 
-abbrev pub Ran : Site → Start → List Instruction → Type 0
-Ran s start is = RanAll s start.first true is (began_at s start)
+abbrev pub Ran : Site → Start → List Bool → List Instruction → Type 0
+Ran s start told is = RanAll s start.first true told is (began_at s start)
 
 -- A script that has come to its point of no return. place: how many instructions stand before the point. next and apps: what is
--- loaded, and what is started, once the script has ended well.
+-- loaded, and what is started, once the script has ended well. told, room: nothing is told yet, and of how many instructions can be.
 pub record ArmedForm : Type 0 where
   pub place : ℕ
+  pub told : List Bool
+  pub room : ℕ
   pub held : HeldSlots
   pub fetched : NamedModules
   pub next : NamedModules
@@ -76,12 +82,14 @@ CanGoBack first hs v = (courses : Courses) × AllFollow first courses hs v × ((
 -- All before the point was done, and nothing of it stands in a history yet.
 pub record IsArmed (s : Site) (start : Start) (script : List Instruction) (a : ArmedForm) (v : View) : Type 0 where
   pub point : IsPointAt script a.place
-  pub ran : Ran s start point.front
-  pub fetched : a.fetched ≡ (run_behind s start point.front).fetched
-  pub next : a.next ≡ (run_behind s start point.front).modules
-  pub apps : a.apps ≡ (run_behind s start point.front).apps
-  pub follow : AllFollow start.first (run_behind s start point.front).courses a.held v
-  pub quiet : (p : ℕ) → ((run_behind s start point.front).courses p).blocks ≡ []
+  pub told : a.told ≡ []
+  pub room : length script ≤ a.room
+  pub ran : Ran s start [] point.front
+  pub fetched : a.fetched ≡ (run_behind s start [] point.front).fetched
+  pub next : a.next ≡ (run_behind s start [] point.front).modules
+  pub apps : a.apps ≡ (run_behind s start [] point.front).apps
+  pub follow : AllFollow start.first (run_behind s start [] point.front).courses a.held v
+  pub quiet : (p : ℕ) → ((run_behind s start [] point.front).courses p).blocks ≡ []
 
 -- the instruction with this number, and those in front of it
 pub record IsInstructionAt (script : List Instruction) (number : ℕ) (front : List Instruction) (i : Instruction) : Type 0 where
@@ -95,16 +103,17 @@ pub record IsRefused (s : Site) (start : Start) (script : List Instruction) (num
   pub instruction : Instruction
   pub at : IsInstructionAt script number front instruction
   pub early : AllByRecursion IsEarly front
-  pub ran : Ran s start front
-  pub fails : IsFault start.first s v (run_behind s start front) instruction c
+  pub ran : Ran s start [] front
+  pub fails : IsFault start.first s v (run_behind s start [] front) instruction c
   pub untouched : AreUntouched start.first v
 
 -- The whole script was carried out: its blocks stand in the histories, and this is loaded and started.
 pub record IsFinished (s : Site) (start : Start) (script : List Instruction) (loaded : NamedModules) (apps : List App) (v : View) : Type 0 where
-  pub ran : Ran s start script
-  pub loaded_is : loaded ≡ (run_behind s start script).modules
-  pub apps_are : apps ≡ (run_behind s start script).apps
-  pub left : AreLeft start.first (on_all finish (run_behind s start script).courses) v
+  pub told : List Bool
+  pub ran : Ran s start told script
+  pub loaded_is : loaded ≡ (run_behind s start told script).modules
+  pub apps_are : apps ≡ (run_behind s start told script).apps
+  pub left : AreLeft start.first (on_all finish (run_behind s start told script).courses) v
 
 -- An instruction behind the point is the first that fails. What was held is let go with what was done to it by then: by those in
 -- front, and by this one for so many of its modules and for the next in the slots below this.
@@ -113,10 +122,11 @@ pub record IsBroken (s : Site) (start : Start) (script : List Instruction) (numb
   pub instruction : Instruction
   pub at : IsInstructionAt script number front instruction
   pub late : still_early true front ≡ false
-  pub ran : Ran s start front
+  pub told : List Bool
+  pub ran : Ran s start told front
   pub then_view : View
-  pub fails : IsFault start.first s then_view (run_behind s start front) instruction c
+  pub fails : IsFault start.first s then_view (run_behind s start told front) instruction c
   pub modules : ℕ
   pub slot : ℕ
-  pub left : AreLeft start.first (on_all finish (courses_within s false instruction modules slot (run_behind s start front))) v
-  pub longer : (p : ℕ) → IsPrefix (seen then_view p) (seen v p)
+  pub left : AreLeft start.first (on_all finish (courses_within s false instruction modules slot (run_behind s start told front))) v
+  pub longer : AreLonger then_view v

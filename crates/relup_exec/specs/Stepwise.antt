@@ -16,20 +16,20 @@ start_at v apps = record { first = v; apps = apps }
 
 -- nothing was done yet
 abbrev pub HasBegun : Site → Start → ProgressForm → List App → View → Type 0
-HasBegun s start a tree v = HasDone (past_behind s start []) a tree v
+HasBegun s start a tree v = HasDone (past_behind s start [] []) a tree v
 
 -- Of these instructions the one with this number is the first that fails. It was done in part.
 pub record IsStopped (s : Site) (start : Start) (is : List Instruction) (number : ℕ) (c : Cause) (hs : HeldSlots) (v : View) : Type 0 where
   pub front : List Instruction
   pub instruction : Instruction
   pub at : IsInstructionAt is number front instruction
-  pub ran : Ran s start front
-  pub fails : IsFault start.first s v (run_behind s start front) instruction c
+  pub ran : Ran s start [] front
+  pub fails : IsFault start.first s v (run_behind s start [] front) instruction c
   pub modules : ℕ
   pub slot : ℕ
-  pub partly : AllFollow start.first (courses_within s true instruction modules slot (run_behind s start front)) hs v
+  pub partly : AllFollow start.first (courses_within s true instruction modules slot (run_behind s start [] front)) hs v
 
 -- All were carried out, or one fails.
 abbrev pub RunsAll : {X : Type 0} → Site → Start → List Instruction → Result X Refused → ProgressForm → List App → View → Type 0
-RunsAll s start is (Ok x) a tree v = Ran s start is × HasDone (past_behind s start is) a tree v
+RunsAll s start is (Ok x) a tree v = Ran s start [] is × HasDone (past_behind s start [] is) a tree v
 RunsAll s start is (Err e) a tree v = IsStopped s start is e.instr (cause_of e.cause) a.held v

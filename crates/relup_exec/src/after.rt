@@ -1,10 +1,8 @@
 //! A script behind its point of no return.
-ghost use Rattle.std.specs.Prelude.{◌≡◌, ℕ, IfErr, IfOk, OnErr};
-ghost use mathlib.Core.List.{IsPrefix};
+ghost use Rattle.std.specs.Prelude.{◌≡◌, IfErr, IfOk, OnErr};
 ghost use Rattle.held_processes.specs.Course.{on_all};
 ghost use Rattle.held_processes.specs.Course.Operation.{finish, pass_point};
-ghost use Rattle.held_processes.specs.Following.{AllFollow, AreLeft, Followed};
-ghost use Rattle.proc_table.specs.Views.{seen};
+ghost use Rattle.held_processes.specs.Following.{AllFollow, AreLeft, AreLonger, Followed};
 ghost use Rattle.script_steps.specs.InMemory.{cause_of, site_of};
 ghost use Rattle.relup_exec.specs.Outcome.{IsArmed, IsBroken, IsFinished, Start};
 ghost use Rattle.relup_exec.specs.InMemory.{armed_of};
@@ -56,25 +54,37 @@ impl Armed {
         let Armed {
             place,
             mut progress,
+            mut told,
         } = self;
         let_pass(site, seat, &mut progress.held, &script[..place]);
         for i in place + 1..script.len() {
             let before = &script[..i];
             let instr = &script[i];
-            let done = progress.carry_out_late(rt, alloc, site, seat, before, instr);
-            if let Err(failure) = done {
-                let Progress {
-                    held,
-                    fetched: _fetched,
-                    next: _next,
-                    tree: _tree,
-                } = progress;
-                close(held, site, seat, before, instr, &failure);
-                let Failure { cause, .. } = failure;
-                return Err(Failed {
-                    instr: i + 1,
-                    cause,
-                });
+            let done = progress.carry_out_late(
+                rt,
+                alloc,
+                site,
+                seat,
+                before,
+                told.as_slice(),
+                instr,
+            );
+            match done {
+                Ok(stays) => told.push_reserved(stays),
+                Err(failure) => {
+                    let Progress {
+                        held,
+                        fetched: _fetched,
+                        next: _next,
+                        tree: _tree,
+                    } = progress;
+                    close(held, site, seat, before, told.as_slice(), instr, &failure);
+                    let Failure { cause, .. } = failure;
+                    return Err(Failed {
+                        instr: i + 1,
+                        cause,
+                    });
+                }
             }
         }
         let Progress {
@@ -83,7 +93,7 @@ impl Armed {
             next,
             tree: started,
         } = progress;
-        end(held, site, seat, script);
+        end(held, site, seat, script, told.as_slice());
         *tree = started;
         Ok(next)
     }
@@ -108,6 +118,7 @@ fn close(
     site: &Site<'_>,
     seat: &mut HandlerSeat,
     _before: &[Instr],
+    _told: &[bool],
     _instr: &Instr,
     _failure: &Failure,
 )
@@ -116,13 +127,19 @@ fn close(
     requires follow { AllFollow followed.first followed.courses held seat.old.view }
     ensures table { seat.new.table ≡ seat.old.table }
     ensures left { AreLeft followed.first (on_all finish followed.courses) seat.new.view }
-    ensures longer { (p : ℕ) → IsPrefix (seen seat.old.view p) (seen seat.new.view p) }
+    ensures longer { AreLonger seat.old.view seat.new.view }
 {
     held.finish(site.table, seat);
 }
 
 // The script has ended: what is still held is let go.
-fn end(held: HeldProcesses, site: &Site<'_>, seat: &mut HandlerSeat, _script: &[Instr])
+fn end(
+    held: HeldProcesses,
+    site: &Site<'_>,
+    seat: &mut HandlerSeat,
+    _script: &[Instr],
+    _told: &[bool],
+)
     ghost followed: { Followed }
     requires table { seat.old.table ≡ site.now.table.now }
     requires follow { AllFollow followed.first followed.courses held seat.old.view }

@@ -47,6 +47,12 @@ pub fn run_before<R: Wait>(
         e.instr (cause_of e.cause) seat.new.view) }
 {
     let place = point_in(script);
+    let Ok(told) = Vec::with_capacity(alloc, script.len()) else {
+        return Err(Refused {
+            instr: 1,
+            cause: Cause::NoMemory,
+        });
+    };
     let Ok(mut progress) = Progress::new(alloc, site, tree) else {
         return Err(Refused {
             instr: 1,
@@ -54,7 +60,11 @@ pub fn run_before<R: Wait>(
         });
     };
     match run_early(rt, alloc, site, seat, &mut progress, &script[..place]) {
-        Ok(()) => Ok(Armed { place, progress }),
+        Ok(()) => Ok(Armed {
+            place,
+            progress,
+            told,
+        }),
         Err(refused) => {
             progress.roll_back(site.table, seat);
             Err(refused)

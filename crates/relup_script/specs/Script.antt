@@ -49,9 +49,12 @@ abbrev pub is_child : Values → Bool
 is_child (value (atom super) (value (atom id) no_values)) = true
 is_child vs = false
 
--- supervisor:terminate_child/2
+-- supervisor:terminate_child/2, delete_child/2 and restart_child/2
+abbrev pub is_child_word : List ℕ → Bool
+is_child_word s = bytes_eq s (codes "terminate_child") || bytes_eq s (codes "delete_child") || bytes_eq s (codes "restart_child")
+
 abbrev pub is_child_call : CallForm → Bool
-is_child_call c = bytes_eq c.name (codes "supervisor") && (bytes_eq c.function (codes "terminate_child") && is_child c.args)
+is_child_call c = bytes_eq c.name (codes "supervisor") && (is_child_word c.function && is_child c.args)
 
 -- a call that a script can make
 abbrev pub is_supported_call : CallForm → Bool

@@ -2,7 +2,7 @@
 ghost use Rattle.std.specs.Prelude.{◌≡◌};
 ghost use Rattle.erl_term.specs.Value.{members_of};
 ghost use Rattle.relup_instruction.specs.Instruction.{call_of};
-ghost use Rattle.relup_script.specs.Script.{is_app, is_start_word, is_typed_app, has_one, is_error, is_one_app_word, is_application, is_child, is_child_call, is_supported_call};
+ghost use Rattle.relup_script.specs.Script.{is_app, is_start_word, is_typed_app, has_one, is_error, is_one_app_word, is_application, is_child, is_child_call, is_child_word, is_supported_call};
 
 use erl_term::Term;
 use relup_instruction::Call;
@@ -64,12 +64,18 @@ fn is_child(args: &[Term]) -> bool
     }
 }
 
-// `supervisor:terminate_child/2`.
+fn is_child_word(word: &str) -> bool
+    ensures { result ≡ is_child_word word.now }
+{
+    matches!(word, "terminate_child" | "delete_child" | "restart_child")
+}
+
+// `supervisor:terminate_child/2`, `delete_child/2` and `restart_child/2`.
 fn is_child_call(call: &Call) -> bool
     ensures { result ≡ is_child_call (call_of call.now) }
 {
     call.name.as_str() == "supervisor"
-        && call.function.as_str() == "terminate_child"
+        && is_child_word(call.function.as_str())
         && is_child(&call.args)
 }
 

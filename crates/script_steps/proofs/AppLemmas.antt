@@ -18,12 +18,12 @@ use Rattle.script_steps.specs.Script.{Run, scene_of, started_from, tables_among,
 use Rattle.script_steps.specs.Steps.{HasDone, IsCause, Past, ProgressForm, followed_in}
 
 -- what is loaded is found as it is listed
-tables_are : (past : Past) (a : ProgressForm) (tree : List App) (v : View) (next : Modules) → HasDone past a tree v → ((name : List ℕ) → next name ≡ module_named name a.next)
+pub tables_are : (past : Past) (a : ProgressForm) (tree : List App) (v : View) (next : Modules) → HasDone past a tree v → ((name : List ℕ) → next name ≡ module_named name a.next)
     → tables_of next ≡ tables_among past.run.modules
 tables_are past a tree v next done listed = λ j name. option_and_then (λ (m : Module). m.table) ((listed name ∙ ap (module_named name) done.next) j)
 
 -- the applications and processes are those of the script
-scene_is : (past : Past) (a : ProgressForm) (tree : List App) (v : View) → HasDone past a tree v → scene_at (followed_in past) tree ≡ scene_of past.run
+pub scene_is : (past : Past) (a : ProgressForm) (tree : List App) (v : View) → HasDone past a tree v → scene_at (followed_in past) tree ≡ scene_of past.run
 scene_is past a tree v done =
     let values = sym done.values in
     λ j. record { values = values j; apps = done.apps j; courses = past.run.courses }
@@ -36,7 +36,7 @@ sound_fault : (top : Option (List ℕ)) (tables : Tables) (r : Run) (f : Option 
     → app_start_fault top tables r ≡ start_fault_or f (length (app_starts tables top)) (room_in r.values r.courses)
 sound_fault top tables r f is = ap (λ (g : Option StartFault). start_fault_or g (length (app_starts tables top)) (room_in r.values r.courses)) is
 
-room_fault : (need room : ℕ) (b : Bool) → nat_lt room need ≡ b → start_fault_or None need room ≡ (if b then Some no_slot else None)
+pub room_fault : (need room : ℕ) (b : Bool) → nat_lt room need ≡ b → start_fault_or None need room ≡ (if b then Some no_slot else None)
 room_fault need room b is = ap (λ (c : Bool). if c then Some no_slot else None) is
 
 -- the application is started

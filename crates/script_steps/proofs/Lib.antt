@@ -4,4 +4,6 @@ pub mod StepLemmas
 pub mod PlainLemmas
 pub mod RemoveLemmas
 pub mod AppLemmas
+pub mod FailLemmas
+pub mod ChildLemmas
 pub mod CallLemmas

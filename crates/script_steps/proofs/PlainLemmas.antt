@@ -4,7 +4,7 @@ use Rattle.std.specs.declared.alloc.Global.{Global}
 use Rattle.proc_table.specs.declared.view.View.{View}
 use Rattle.held_processes.specs.Course.{Courses, Operation, Users, on_module}
 use Rattle.held_processes.specs.Following.{AllFollow, HeldSlots}
-use Rattle.held_processes.specs.Operations.{users_of, values_seen}
+use Rattle.held_processes.specs.Operations.{Values, users_of, values_seen}
 use Rattle.relup_instruction.specs.Instruction.{Instruction}
 use Rattle.relup_instruction.specs.Instruction.Instruction.{purge, restart_emulator}
 use Rattle.sup_tree.specs.Tree.{App}
@@ -12,7 +12,7 @@ use Rattle.script_steps.specs.declared.release.Plain.{Plain}
 use Rattle.script_steps.specs.declared.release.Plain.TheVariants.{Resume, Stop, Start}
 use Rattle.script_steps.specs.Fault.{fault}
 use Rattle.script_steps.specs.Plain.{plain_instruction, plain_operation}
-use Rattle.script_steps.specs.Script.{Run, Site, on_each, run_after, with_courses}
+use Rattle.script_steps.specs.Script.{Run, Site, on_each, run_after, stays_at, with_courses}
 use Rattle.script_steps.specs.Steps.{CarriesOut, HasDone, Past, ProgressForm}
 use Rattle.script_steps.proofs.CourseLemmas.{each_push}
 use Rattle.script_steps.proofs.RowLemmas.{more}
@@ -32,7 +32,12 @@ plain_is_sound s Resume names v r = refl
 plain_is_sound s Stop names v r = refl
 plain_is_sound s Start names v r = refl
 
-plain_run : (s : Site) (plain : Plain) (names : List (List ℕ)) (r : Run) → run_after s false (plain_instruction plain names) r ≡ with_courses r (on_each (plain_operation plain) names)
+plain_stays : (plain : Plain) (names : List (List ℕ)) (seen : Values) (r : Run) → stays_at seen (plain_instruction plain names) r ≡ false
+plain_stays Resume names seen r = refl
+plain_stays Stop names seen r = refl
+plain_stays Start names seen r = refl
+
+plain_run : (s : Site) (plain : Plain) (names : List (List ℕ)) (r : Run) → run_after s false false (plain_instruction plain names) r ≡ with_courses r (on_each (plain_operation plain) names)
 plain_run s Resume names r = refl
 plain_run s Stop names r = refl
 plain_run s Start names r = refl
@@ -41,7 +46,7 @@ pub plain_carried : (s : Site) (past : Past) (plain : Plain) (names : List (List
     → AllFollow past.first (on_each (plain_operation plain) names (users_of tree) past.run.courses) hs w
     → CarriesOut {X = Unit {0}} s past false (plain_instruction plain names) (Ok tt) (record a { held = hs }) tree w
 plain_carried s past plain names a hs tree v w done follow = (
-  (v, seen_in past a tree v done, plain_is_sound s plain names v past.run),
+  (v, seen_in past a tree v done, plain_is_sound s plain names v past.run, sym (plain_stays plain names (values_seen v) past.run)),
   subst (λ (r : Run). HasDone (record past { run = r }) (record a { held = hs }) tree w) (sym (plain_run s plain names past.run))
       (record {
         follow = subst (λ (apps : List App). AllFollow past.first (on_each (plain_operation plain) names (users_of apps) past.run.courses) hs w) done.apps follow;
@@ -60,6 +65,6 @@ is_idle i = false
 
 pub nothing_done : (s : Site) (past : Past) (i : Instruction) (a : ProgressForm) (tree : List App) (v : View) → is_idle i ≡ true → HasDone past a tree v
     → CarriesOut {X = Unit {0}} s past false i (Ok tt) a tree v
-nothing_done s past (purge names) a tree v idle done = ((v, seen_in past a tree v done, refl), done)
-nothing_done s past restart_emulator a tree v idle done = ((v, seen_in past a tree v done, refl), done)
+nothing_done s past (purge names) a tree v idle done = ((v, seen_in past a tree v done, refl, refl), done)
+nothing_done s past restart_emulator a tree v idle done = ((v, seen_in past a tree v done, refl, refl), done)
 nothing_done s past i a tree v idle done = absurd cc

@@ -45,7 +45,7 @@ pub suspended : (s : Site) (past : Past) (early : Bool) (ss : List SuspensionFor
     → AreDone (followed_in past) (users_of tree) course.Operation.suspend (suspended_in ss) r hs w
     → CarriesOut s past early (suspend ss) r (record a { held = hs }) tree w
 suspended s past early ss (Ok x) a tree hs v w done did = (
-  (v, seen_in past a tree v done, refl),
+  (v, seen_in past a tree v done, refl, refl),
   record {
     follow = subst (λ (as' : List App). AllFollow past.first (on_each course.Operation.suspend (suspended_in ss) (users_of as') past.run.courses) hs w) done.apps did;
     fetched = done.fetched;
@@ -94,7 +94,7 @@ pub fetched_well : (s : Site) (past : Past) (early : Bool) (f : FetchForm) (a : 
     → (fetch_fault (library_for s f) f.modules ≡ None) × (ms ≡ fetched_from (library_for s f) f.modules a.fetched)
     → CarriesOut {X = Unit {0}} s past early (load_object_code f) (Ok tt) (record a { fetched = ms }) tree v
 fetched_well s past early f a ms tree v done did = (
-  (v, seen_in past a tree v done, did.0),
+  (v, seen_in past a tree v done, did.0, refl),
   record {
     follow = done.follow;
     fetched = did.1 ∙ ap (fetched_from (library_for s f) f.modules) done.fetched;
@@ -117,7 +117,7 @@ pub loaded_well : (s : Site) (past : Past) (early : Bool) (p : PurgingForm) (a :
 loaded_well s past early p a n hs got before next tree tree' v w named there done given same kept stays loaded =
     let fetched : got ≡ past.run.fetched = same ∙ done.fetched in
     let modules : before ≡ past.run.modules = kept ∙ done.next in (
-      (v, seen_in past a tree v done, load_fault_is (module_named p.name past.run.fetched) (users_in past.run) p.name there ∙ given.0),
+      (v, seen_in past a tree v done, load_fault_is (module_named p.name past.run.fetched) (users_in past.run) p.name there ∙ given.0, refl),
       record {
         follow = given.1;
         fetched = fetched;
@@ -317,7 +317,7 @@ pub all_changed : (s : Site) (past : Past) (early : Bool) (conversion : Conversi
     → cs ≡ conversion.changes → HasDone past b before v → (change_fault s mode cs (values_seen v) past.run ≡ None) × HasDone (past_changes s mode cs past) a tree v
     → CarriesOut {X = Unit {0}} s past early (code_change conversion) (Ok tt) a tree v
 all_changed s past early conversion mode cs b a before tree v moded whole done did = (
-  (v, seen_in past b before v done, sym (λ j. change_fault s (moded j) (whole j) (values_seen v) past.run) ∙ did.0),
+  (v, seen_in past b before v done, sym (λ j. change_fault s (moded j) (whole j) (values_seen v) past.run) ∙ did.0, refl),
   subst (λ (m : Direction). HasDone (record past { run = changed s m conversion.changes past.run }) a tree v) moded
       (subst (λ (ds : List ChangeForm). HasDone (record past { run = changed s mode ds past.run }) a tree v) whole did.1),
 )

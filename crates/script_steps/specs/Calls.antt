@@ -12,9 +12,12 @@ pub data AppCall : Type 0 where
   stops : List ℕ → AppCall
   idle : AppCall
 
--- What a call does to children: that of this id of the supervisor of this module is terminated. All others do nothing.
+-- What a call does to the child of this id of the supervisor of this module: it is terminated, or deleted, or begins again. All
+-- others do nothing.
 pub data ChildCall : Type 0 where
   terminates : List ℕ → List ℕ → ChildCall
+  deletes : List ℕ → List ℕ → ChildCall
+  restarts : List ℕ → List ℕ → ChildCall
   nothing : ChildCall
 
 abbrev pub first_atom : Terms → List ℕ
@@ -38,4 +41,7 @@ is_on_child c = bytes_eq c.name (codes "supervisor")
 
 abbrev pub child_call : CallForm → ChildCall
 child_call c =
-    if bytes_eq c.function (codes "terminate_child") then terminates (first_atom c.args) (second_atom c.args) else nothing
+    if bytes_eq c.function (codes "terminate_child") then terminates (first_atom c.args) (second_atom c.args)
+    else if bytes_eq c.function (codes "delete_child") then deletes (first_atom c.args) (second_atom c.args)
+    else if bytes_eq c.function (codes "restart_child") then restarts (first_atom c.args) (second_atom c.args)
+    else nothing

@@ -12,17 +12,19 @@ use Rattle.relup_instruction.specs.Instruction.{ChangeForm, CallForm, Instructio
 use Rattle.relup_instruction.specs.Instruction.Instruction.{load_object_code, load, code_change, remove, apply}
 use Rattle.relup_script.specs.Script.{is_error}
 use Rattle.loaded_modules.specs.Loaded.{Module, library_modules, module_named}
-use Rattle.sup_tree.specs.Children.{has_one_supervisor}
+use Rattle.sup_tree.specs.Children.{Place, child_place, has_one_supervisor}
+use Rattle.sup_tree.specs.Restarts.{restart_fault}
 use Rattle.sup_tree.specs.Tree.{app_named, supervises}
 use Rattle.app_members.specs.Walk.{StartFault, app_fault, app_starts}
 use Rattle.app_members.specs.Walk as walk
 use Rattle.held_processes.specs.Course.{Users}
 use Rattle.held_processes.specs.Applications.{room_in}
 use Rattle.held_processes.specs.Operations.{Values, holds_user, is_used, lacks_row, uses_up}
-use Rattle.script_steps.specs.Script.{Site, Run, changed_once, library_for, mode_of, old_version, tables_among, target_library, users_in, worker_in}
+use Rattle.held_processes.specs.Restarts.{child_ended, restart_starts}
+use Rattle.script_steps.specs.Script.{Site, Run, changed_once, child_stays_at, library_for, mode_of, old_version, scene_of, tables_among, target_library, users_in, worker_in}
 use Rattle.script_steps.specs.Calls.{AppCall, ChildCall, app_call, child_call, is_on_child}
 use Rattle.script_steps.specs.Calls.AppCall.{starts, stops, idle}
-use Rattle.script_steps.specs.Calls.ChildCall.{terminates, nothing}
+use Rattle.script_steps.specs.Calls.ChildCall.{terminates, deletes, restarts, nothing}
 
 -- why a script isn't carried out
 pub data Cause : Type 0 where
@@ -112,20 +114,35 @@ app_call_fault s (starts name) r = start_fault (target_library s name) r
 app_call_fault s (stops name) r = None
 app_call_fault s idle r = None
 
--- Not exactly one supervisor of the module is started.
-abbrev pub child_call_fault : ChildCall → Run → Option Cause
-child_call_fault (terminates super id) r = if has_one_supervisor super r.apps then None else Some no_super
-child_call_fault nothing r = None
+-- Not exactly one supervisor of the module is started, or there is another fault.
+abbrev pub super_fault_or : List ℕ → Run → Option Cause → Option Cause
+super_fault_or super r o = if has_one_supervisor super r.apps then o else Some no_super
+
+-- what is wrong with a child that begins again, or below it, or that there are too few slots, once what stands for it is given up
+abbrev pub restart_fault_at : Option Place → Tables → Run → Option Cause
+restart_fault_at None tables r = None
+restart_fault_at (Some p) tables r =
+    start_fault_or (restart_fault tables p.child) (length (restart_starts tables p)) (room_in r.values (child_ended (scene_of r) (Some p)))
+
+-- A child that stays has no fault.
+abbrev pub restart_call_fault : Bool → List ℕ → List ℕ → Run → Option Cause
+restart_call_fault stays super id r = if stays then None else restart_fault_at (child_place super id r.apps) (tables_among r.modules) r
+
+abbrev pub child_call_fault : Values → ChildCall → Run → Option Cause
+child_call_fault seen (terminates super id) r = super_fault_or super r None
+child_call_fault seen (deletes super id) r = super_fault_or super r None
+child_call_fault seen (restarts super id) r = super_fault_or super r (restart_call_fault (child_stays_at seen (restarts super id) r) super id r)
+child_call_fault seen nothing r = None
 
 abbrev pub error_cause : Terms → Option Cause
 error_cause (value x vs) = Some (raised x)
 error_cause vs = None
 
 -- it raises an error, or is on a child of a supervisor, or on an application
-abbrev pub call_fault : Site → CallForm → Run → Option Cause
-call_fault s c r =
+abbrev pub call_fault : Site → Values → CallForm → Run → Option Cause
+call_fault s seen c r =
     if is_error c then error_cause c.args
-    else if is_on_child c then child_call_fault (child_call c) r else app_call_fault s (app_call c) r
+    else if is_on_child c then child_call_fault seen (child_call c) r else app_call_fault s (app_call c) r
 
 -- Why an instruction fails behind what was done, where the histories that the handler has seen leave this; memory aside.
 abbrev pub fault : Site → Values → Run → Instruction → Option Cause
@@ -133,5 +150,5 @@ fault s seen r (load_object_code f) = fetch_fault (library_for s f) f.modules
 fault s seen r (load p) = load_fault (module_named p.name r.fetched) (users_in r) p.name
 fault s seen r (code_change c) = change_fault s (mode_of c.mode) c.changes seen r
 fault s seen r (remove p) = remove_fault p.name seen r
-fault s seen r (apply c) = call_fault s c r
+fault s seen r (apply c) = call_fault s seen c r
 fault s seen r i = None

@@ -1,6 +1,6 @@
 -- What the instructions of a script do, one after another (OTP: appup(4), low-level instructions): which modules are fetched, which
 -- are loaded, which applications are started, and the course of each process.
-use Rattle.std.specs.Prelude.{ℕ, zero, suc, Bool, List, [], ◌∷◌, map, is_some, Option, Some, None, if◌then◌else◌}
+use Rattle.std.specs.Prelude.{ℕ, zero, suc, Bool, false, List, [], ◌∷◌, map, is_some, Option, Some, None, if◌then◌else◌}
 use Rattle.std.specs.List.{find}
 use Rattle.std.specs.Option.{option_map, option_and_then, option_or}
 use Rattle.std.specs.Str.{bytes_eq}
@@ -16,16 +16,19 @@ use Rattle.relup_instruction.specs.declared.instruction.Direction.TheVariants.{U
 use Rattle.relup_instruction.specs.Instruction.{FetchForm, SuspensionForm, ChangeForm, CallForm, Instruction}
 use Rattle.relup_instruction.specs.Instruction.Instruction.{load_object_code, point_of_no_return, suspend, load, code_change, resume, remove, stop, start, apply}
 use Rattle.loaded_modules.specs.Loaded.{Module, NamedModules, library_modules, module_named, with_loaded, without_module}
+use Rattle.sup_tree.specs.declared.looks.Stay.TheVariants as stay
 use Rattle.sup_tree.specs.Changes.{apps_changed}
+use Rattle.sup_tree.specs.Children.{Place, child_place}
 use Rattle.sup_tree.specs.Tree.{App, app_named}
 use Rattle.held_processes.specs.Applications.{Scene, with_started, with_stopped}
-use Rattle.held_processes.specs.Children.{with_terminated}
+use Rattle.held_processes.specs.Children.{child_stays, with_deleted, with_terminated}
 use Rattle.held_processes.specs.Course as course
 use Rattle.held_processes.specs.Course.{Courses, Operation, Users, opening, on_module, on_all}
-use Rattle.held_processes.specs.Operations.{Values, part_way, users_of}
+use Rattle.held_processes.specs.Operations.{Values, now_in, part_way, users_of}
+use Rattle.held_processes.specs.Restarts.{child_ended, with_restarted}
 use Rattle.script_steps.specs.Calls.{AppCall, ChildCall, app_call, child_call, is_on_child}
 use Rattle.script_steps.specs.Calls.AppCall.{starts, stops, idle}
-use Rattle.script_steps.specs.Calls.ChildCall.{terminates, nothing}
+use Rattle.script_steps.specs.Calls.ChildCall.{terminates, deletes, restarts, nothing}
 
 -- Where a script runs: the node's releases, from whose libraries modules are fetched; the libraries of the release to which it
 -- leads; and what was loaded when it began.
@@ -156,32 +159,48 @@ called_after s (starts name) r = started_from (target_library s name) r
 called_after s (stops name) r = with_scene r (with_stopped name (scene_of r))
 called_after s idle r = r
 
-abbrev pub child_after : ChildCall → Run → Run
-child_after (terminates super id) r = with_scene r (with_terminated super id (scene_of r))
-child_after nothing r = r
+-- whether a call leaves the child that it is on as it is, where the histories that the handler has seen leave this: it is up, or
+-- there is none
+abbrev pub child_stays_at : Values → ChildCall → Run → Bool
+child_stays_at seen (deletes super id) r = child_stays stay.Up (now_in seen r.courses) (child_place super id r.apps)
+child_stays_at seen (restarts super id) r = child_stays stay.UpOrTemporary (now_in seen r.courses) (child_place super id r.apps)
+child_stays_at seen c r = false
+
+-- the child at this place begins again
+abbrev pub restarted_at : List ℕ → List ℕ → Option Place → Run → Run
+restarted_at super id None r = r
+restarted_at super id (Some p) r = with_scene r (with_restarted super id (tables_among r.modules) p (scene_of r))
+
+-- a call on a child of a supervisor that stays, or doesn't
+abbrev pub child_after : ChildCall → Bool → Run → Run
+child_after (terminates super id) stays r = with_scene r (with_terminated super id (scene_of r))
+child_after (deletes super id) stays r = if stays then r else with_scene r (with_deleted super id (scene_of r))
+child_after (restarts super id) stays r = if stays then r else restarted_at super id (child_place super id r.apps) r
+child_after nothing stays r = r
 
 -- a call on an application, or on a child of a supervisor
-abbrev pub call_after : Site → CallForm → Run → Run
-call_after s c r = if is_on_child c then child_after (child_call c) r else called_after s (app_call c) r
+abbrev pub call_after : Site → CallForm → Bool → Run → Run
+call_after s c stays r = if is_on_child c then child_after (child_call c) stays r else called_after s (app_call c) r
 
--- What an instruction does that doesn't fail. Before the point of no return a load keeps what it holds until the point.
-abbrev pub run_after : Site → Bool → Instruction → Run → Run
-run_after s early (load_object_code f) r = record r { fetched = fetched_from (library_for s f) f.modules r.fetched }
-run_after s early point_of_no_return r = with_courses r (λ users. on_all course.Operation.pass_point)
-run_after s early (suspend ss) r = with_courses r (on_each course.Operation.suspend (suspended_in ss))
-run_after s early (load p) r = loaded_after early p.name (module_named p.name r.fetched) r
-run_after s early (code_change c) r = changed s (mode_of c.mode) c.changes r
-run_after s early (resume names) r = with_courses r (on_each course.Operation.resume names)
-run_after s early (remove p) r = record r { modules = without_module p.name r.modules }
-run_after s early (stop names) r = with_courses r (on_each course.Operation.stop names)
-run_after s early (start names) r = with_courses r (on_each course.Operation.start names)
-run_after s early (apply c) r = call_after s c r
-run_after s early i r = r
+-- whether an instruction leaves the child that it is on as it is
+abbrev pub stays_at : Values → Instruction → Run → Bool
+stays_at seen (apply c) r = if is_on_child c then child_stays_at seen (child_call c) r else false
+stays_at seen i r = false
 
--- these, one after another
-abbrev pub runs_after : Site → Bool → List Instruction → Run → Run
-runs_after s early [] r = r
-runs_after s early (i ∷ is) r = runs_after s early is (run_after s early i r)
+-- What an instruction does that doesn't fail. Before the point of no return a load keeps what it holds until the point. stays: the
+-- child that it is on is left as it is.
+abbrev pub run_after : Site → Bool → Bool → Instruction → Run → Run
+run_after s early stays (load_object_code f) r = record r { fetched = fetched_from (library_for s f) f.modules r.fetched }
+run_after s early stays point_of_no_return r = with_courses r (λ users. on_all course.Operation.pass_point)
+run_after s early stays (suspend ss) r = with_courses r (on_each course.Operation.suspend (suspended_in ss))
+run_after s early stays (load p) r = loaded_after early p.name (module_named p.name r.fetched) r
+run_after s early stays (code_change c) r = changed s (mode_of c.mode) c.changes r
+run_after s early stays (resume names) r = with_courses r (on_each course.Operation.resume names)
+run_after s early stays (remove p) r = record r { modules = without_module p.name r.modules }
+run_after s early stays (stop names) r = with_courses r (on_each course.Operation.stop names)
+run_after s early stays (start names) r = with_courses r (on_each course.Operation.start names)
+run_after s early stays (apply c) r = call_after s c stays r
+run_after s early stays i r = r
 
 -- an operation that was done to the processes of so many of these modules, and of the next one to those in the slots below this
 abbrev pub each_within : Operation → List (List ℕ) → ℕ → ℕ → Users → Courses → Courses
@@ -202,9 +221,19 @@ changed_within s mode [] n slot r = r.courses
 changed_within s mode (c ∷ cs) zero slot r = change_within c.name (old_version s mode c.name r) c slot (users_in r) r.courses
 changed_within s mode (c ∷ cs) (suc n) slot r = changed_within s mode cs n slot (changed_once s mode c r)
 
--- The courses where an instruction failed: it was done for so many of its modules, and for the next one in the slots below this.
+-- What stood for a child that doesn't begin again was given up, or nothing was done yet.
+abbrev pub child_within : ChildCall → ℕ → Run → Courses
+child_within (restarts super id) (suc n) r = child_ended (scene_of r) (child_place super id r.apps)
+child_within c n r = r.courses
+
+abbrev pub call_within : CallForm → ℕ → Run → Courses
+call_within c n r = if is_on_child c then child_within (child_call c) n r else r.courses
+
+-- The courses where an instruction failed: it was done for so many of its modules, and for the next one in the slots below this. A
+-- call that fails behind the point was done for one where what stood for its child was given up.
 abbrev pub courses_within : Site → Bool → Instruction → ℕ → ℕ → Run → Courses
 courses_within s early (suspend ss) n slot r = each_within course.Operation.suspend (suspended_in ss) n slot (users_in r) r.courses
 courses_within s early (load p) n slot r = load_within early p.name (worker_in (module_named p.name r.fetched)) slot (users_in r) r.courses
 courses_within s early (code_change c) n slot r = changed_within s (mode_of c.mode) c.changes n slot r
+courses_within s false (apply c) n slot r = call_within c n r
 courses_within s early i n slot r = r.courses

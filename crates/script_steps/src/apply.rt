@@ -1,5 +1,5 @@
-//! `apply`: applications are started and stopped, a child of a supervisor ends, or the script itself raises an error (OTP:
-//! application(3), supervisor(3), erlang:error/1).
+//! `apply`: applications are started and stopped, children of supervisors end, go or begin again, or the script itself raises an
+//! error (OTP: application(3), supervisor(3), erlang:error/1).
 ghost use Rattle.std.specs.Prelude.{◌≡◌, IsTrue, Some, false};
 ghost use Rattle.std.specs.Option.{option_map};
 ghost use Rattle.erl_term.specs.Value.{members_of};
@@ -12,7 +12,7 @@ ghost use Rattle.script_steps.specs.InMemory.{cause_of, site_of};
 ghost use Rattle.script_steps.specs.Calls.AppCall.{stops};
 ghost use Rattle.script_steps.specs.Calls.{app_call, first_atom};
 ghost use Rattle.script_steps.specs.Script.{called_after, target_library};
-ghost use Rattle.script_steps.specs.Steps.{CarriesOut, HasDone, Past, progress_of};
+ghost use Rattle.script_steps.specs.Steps.{CarriesOutLate, HasDone, Past, on_no_child, progress_of};
 
 use crate::child::child_call;
 use crate::progress::Progress;
@@ -36,7 +36,8 @@ enum AppCall<'a> {
 }
 
 impl Progress {
-    // A call on an application or on a child of a supervisor, or an error that the script raises.
+    // A call on an application or on a child of a supervisor, or an error that the script raises. It tells whether a child was
+    // left as it is.
     pub(crate) fn apply<R: Wait>(
         &mut self,
         rt: &R,
@@ -44,18 +45,18 @@ impl Progress {
         site: &Site<'_>,
         seat: &mut HandlerSeat,
         call: &Call,
-    ) -> Result<(), Failure>
+    ) -> Result<bool, Failure>
         ghost past: { Past }
         requires table { seat.old.table ≡ site.now.table.now }
         requires supported { IsTrue (is_supported_call (call_of call.now)) }
         requires done { HasDone past (progress_of self.old) self.old.tree seat.old.view }
         ensures table { seat.new.table ≡ seat.old.table }
-        ensures carried { CarriesOut (site_of site.now) past false (apply (call_of call.now))
+        ensures carried { CarriesOutLate (site_of site.now) past (apply (call_of call.now))
             result (progress_of self.new) self.new.tree seat.new.view }
     {
         match call.name.as_str() {
-            "application" => self.call_app(rt, alloc, site, seat, app_call(call)),
-            "supervisor" => self.call_child(rt, site, seat, child_call(call)),
+            "application" => on_no_child(self.call_app(rt, alloc, site, seat, app_call(call))),
+            "supervisor" => self.call_child(rt, alloc, site, seat, child_call(call)),
             _ => Err(raise(call)),
         }
     }
@@ -185,6 +186,16 @@ fn start_cause(error: StartError<'_>) -> Option<Cause>
         StartError::Unsupported => Some(Cause::Unsupported),
         StartError::NoSlot => Some(Cause::NoSlot),
         StartError::NoMemory => Some(Cause::NoMemory),
+    }
+}
+
+// What is told where an instruction is on no child.
+pub(crate) fn on_no_child(done: Result<(), Failure>) -> Result<bool, Failure>
+    ensures { result ≡ on_no_child done }
+{
+    match done {
+        Ok(()) => Ok(false),
+        Err(failure) => Err(failure),
     }
 }
 

@@ -25,9 +25,9 @@ pub enum Cause {
     InUse,
     /// The release has no such application.
     NoApp,
-    /// There are too few slots for the processes of an application.
+    /// There are too few slots for the processes of an application, or of a child that begins again.
     NoSlot,
-    /// An application starts in a way that isn't supported.
+    /// An application, or a child that begins again, starts in a way that isn't supported.
     Unsupported,
     /// Not exactly one supervisor of the module is started.
     NoSuper,
@@ -35,7 +35,8 @@ pub enum Cause {
     NoMemory,
 }
 
-/// An instruction that failed. It was done for so many of its modules, and for the next one in the slots below this one.
+/// An instruction that failed. It was done for so many of its modules, and for the next one in the slots below this one. Where a
+/// child didn't begin again, `modules` is 1 if what stood for it was given up.
 #[derive(Drop)]
 pub struct Failure {
     pub cause: Cause,

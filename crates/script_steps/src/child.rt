@@ -1,36 +1,42 @@
-//! Calls on children of supervisors (OTP: supervisor:terminate_child/2).
-ghost use Rattle.std.specs.Prelude.{◌≡◌};
+//! Calls on children of supervisors (OTP: supervisor:terminate_child/2, delete_child/2 and restart_child/2).
+ghost use Rattle.std.specs.Prelude.{◌≡◌, if◌then◌else◌};
 ghost use Rattle.erl_term.specs.Value.{members_of};
 ghost use Rattle.relup_instruction.specs.Instruction.{call_of};
-ghost use Rattle.script_steps.specs.Calls.ChildCall.{terminates};
+ghost use Rattle.script_steps.specs.Calls.ChildCall.{terminates, deletes, restarts};
 ghost use Rattle.script_steps.specs.Calls.{child_call, second_atom};
-ghost use Rattle.script_steps.specs.Children.{CallsChild, child_call_of};
+ghost use Rattle.script_steps.specs.Children.{CallsChild, child_call_of, restart_cause};
+ghost use Rattle.script_steps.specs.InMemory.{cause_of};
 ghost use Rattle.script_steps.specs.Steps.{HasDone, Past, progress_of};
 
 use crate::apply::{failed, first_atom};
 use crate::progress::Progress;
 use crate::{Cause, Failure, Site};
 use erl_term::Term;
-use held_processes::ChildName;
+use held_processes::{ChildName, NotRestarted};
 use proc_table::HandlerSeat;
 use relup_instruction::Call;
+use std::alloc::Global;
 use std::sync::Wait;
+use sup_tree::RestartError;
 
 // What a call does to a child of a supervisor.
 pub(crate) enum ChildCall<'a> {
     Terminates(ChildName<'a>),
+    Deletes(ChildName<'a>),
+    Restarts(ChildName<'a>),
     Nothing,
 }
 
 impl Progress {
-    // A call on a child of a supervisor.
+    // A call on a child of a supervisor, which tells whether the child was left as it is.
     pub(crate) fn call_child<R: Wait>(
         &mut self,
         rt: &R,
+        alloc: Global,
         site: &Site<'_>,
         seat: &mut HandlerSeat,
         call: ChildCall<'_>,
-    ) -> Result<(), Failure>
+    ) -> Result<bool, Failure>
         ghost past: { Past }
         requires table { seat.old.table ≡ site.now.table.now }
         requires done { HasDone past (progress_of self.old) self.old.tree seat.old.view }
@@ -40,7 +46,9 @@ impl Progress {
     {
         match call {
             ChildCall::Terminates(child) => self.terminate_child(rt, site, seat, &child),
-            ChildCall::Nothing => Ok(()),
+            ChildCall::Deletes(child) => self.delete_child(rt, site, seat, &child),
+            ChildCall::Restarts(child) => self.restart_child(rt, alloc, site, seat, &child),
+            ChildCall::Nothing => Ok(false),
         }
     }
 
@@ -51,7 +59,7 @@ impl Progress {
         site: &Site<'_>,
         seat: &mut HandlerSeat,
         child: &ChildName<'_>,
-    ) -> Result<(), Failure>
+    ) -> Result<bool, Failure>
         ghost past: { Past }
         requires table { seat.old.table ≡ site.now.table.now }
         requires done { HasDone past (progress_of self.old) self.old.tree seat.old.view }
@@ -63,9 +71,88 @@ impl Progress {
             .held
             .terminate_child(rt, site.table, seat, &mut self.tree, child)
         {
-            Ok(()) => Ok(()),
+            Ok(()) => Ok(false),
             Err(_) => Err(failed(Cause::NoSuper)),
         }
+    }
+
+    // The child is deleted, unless it is up.
+    fn delete_child<R: Wait>(
+        &mut self,
+        rt: &R,
+        site: &Site<'_>,
+        seat: &mut HandlerSeat,
+        child: &ChildName<'_>,
+    ) -> Result<bool, Failure>
+        ghost past: { Past }
+        requires table { seat.old.table ≡ site.now.table.now }
+        requires done { HasDone past (progress_of self.old) self.old.tree seat.old.view }
+        ensures table { seat.new.table ≡ seat.old.table }
+        ensures called { CallsChild past (deletes child.now.supervisor.now child.now.id.now)
+            result (progress_of self.new) self.new.tree seat.new.view }
+    {
+        match self
+            .held
+            .delete_child(rt, site.table, seat, &mut self.tree, child)
+        {
+            Ok(stays) => Ok(stays),
+            Err(_) => Err(failed(Cause::NoSuper)),
+        }
+    }
+
+    // The child begins again, with the tables that are loaded, unless it is up.
+    fn restart_child<R: Wait>(
+        &mut self,
+        rt: &R,
+        alloc: Global,
+        site: &Site<'_>,
+        seat: &mut HandlerSeat,
+        child: &ChildName<'_>,
+    ) -> Result<bool, Failure>
+        ghost past: { Past }
+        requires table { seat.old.table ≡ site.now.table.now }
+        requires done { HasDone past (progress_of self.old) self.old.tree seat.old.view }
+        ensures table { seat.new.table ≡ seat.old.table }
+        ensures called { CallsChild past (restarts child.now.supervisor.now child.now.id.now)
+            result (progress_of self.new) self.new.tree seat.new.view }
+    {
+        match self.held.restart_child(
+            rt,
+            alloc,
+            site.table,
+            seat,
+            &mut self.tree,
+            &self.next,
+            child,
+        ) {
+            Ok(stays) => Ok(stays),
+            Err(error) => Err(not_restarted(error)),
+        }
+    }
+}
+
+// How a call fails whose child didn't begin again.
+fn not_restarted(error: NotRestarted) -> Failure
+    ensures cause { cause_of result.cause ≡ restart_cause error.error }
+    ensures modules { result.modules ≡ (if error.given_up then 1 else 0) }
+{
+    Failure {
+        cause: restart_cause(error.error),
+        modules: if error.given_up { 1 } else { 0 },
+        slot: 0,
+    }
+}
+
+// Why a script fails where a child doesn't begin again.
+fn restart_cause(error: RestartError) -> Cause
+    ensures { cause_of result ≡ restart_cause error }
+{
+    match error {
+        RestartError::NoSuper => Cause::NoSuper,
+        RestartError::NoTable => Cause::NoTable,
+        RestartError::Unsupported => Cause::Unsupported,
+        RestartError::NoSlot => Cause::NoSlot,
+        RestartError::NoMemory => Cause::NoMemory,
     }
 }
 
@@ -74,11 +161,14 @@ pub(crate) fn child_call(call: &Call) -> ChildCall<'_>
     ensures { child_call_of result ≡ child_call (call_of call.now) }
 {
     let args = call.args.as_slice();
+    let child = ChildName {
+        supervisor: first_atom(args),
+        id: second_atom(args),
+    };
     match call.function.as_str() {
-        "terminate_child" => ChildCall::Terminates(ChildName {
-            supervisor: first_atom(args),
-            id: second_atom(args),
-        }),
+        "terminate_child" => ChildCall::Terminates(child),
+        "delete_child" => ChildCall::Deletes(child),
+        "restart_child" => ChildCall::Restarts(child),
         _ => ChildCall::Nothing,
     }
 }

@@ -1,7 +1,7 @@
-use Rattle.std.proofs.Common.{◌++◌, ◌∷◌, [], refl, ap, sym, subst, ◌∙◌, Option, append-nil}
-use Rattle.proc_history.proofs.Prefixes.{prefix_trans}
+use Rattle.std.proofs.Common.{◌++◌, ◌∷◌, [], refl, ap, sym, subst, ◌∙◌, Option}
 use Rattle.held_processes.specs.Following.{AllFollow, HeldForm, HeldSlots}
 use Rattle.held_processes.proofs.ReleaseLemmas.{all_going, all_ended, ends_free, ends_held, finish_keeps_free, finish_let_go, may_end}
+use Rattle.held_processes.proofs.SlotLemmas.{longer_both, longer_still}
 use Rattle.held_processes.proofs.processes.HeldProcesses.finish.Goals as goal
 
 pub loop-place-init : goal.loop-place-init
@@ -9,7 +9,7 @@ loop-place-init g c = (
   refl,
   all_going g.followed.first g.followed.courses _ c.self.inside.places.items c.args.seat.now.view
       (subst (λ (hs : HeldSlots). AllFollow g.followed.first g.followed.courses hs c.args.seat.now.view) (sym c.self.view_is) c.requires.1),
-  λ p. ([], append-nil _),
+  longer_still c.args.seat.now.view,
 )
 
 pub loop-place-preserved : goal.loop-place-preserved
@@ -35,7 +35,7 @@ loop-place-preserved-in-Some-place g c =
           c.loop-place.invariant.1
           (finish_let_go g.followed.first g.followed.courses c.loop-place.places.items c.pop.new.self.items c.in-Some-place.process c.loop-place.seat.view c.let_go.new.seat.view is c.loop-place.invariant.1
           c.let_go.ensures.gone),
-      λ p. prefix_trans _ _ _ (c.loop-place.invariant.2 p) (c.let_go.ensures.longer p),
+      longer_both c.args.seat.now.view c.loop-place.seat.view c.let_go.new.seat.view c.loop-place.invariant.2 c.let_go.ensures.longer,
     )
 
 pub returns-clause-left : goal.returns-clause-left

@@ -1,8 +1,7 @@
-use Rattle.std.proofs.Common.{◌≡◌, ℕ, vec_len}
-use mathlib.Core.List.{IsPrefix}
-use Rattle.proc_table.specs.Views.{seen}
+use Rattle.std.proofs.Common.{◌≡◌, vec_len}
 use Rattle.held_processes.specs.Course.{course_after}
 use Rattle.held_processes.specs.Course.Operation.{finish}
+use Rattle.held_processes.specs.Following.{AreLonger}
 use Rattle.held_processes.proofs.FollowLemmas.{past_of}
 use Rattle.held_processes.proofs.ReleaseLemmas.{IsEnding}
 use Rattle.held_processes.proofs.processes.HeldProcesses.finish.Given as goal
@@ -13,7 +12,7 @@ ghost-let_go g a = past_of g.followed.first g.followed.courses a.self.held.slot
 abbrev pub invariant-loop-place : goal.invariant-loop-place
 invariant-loop-place g l =
     (l.seat.table ≡ l.initial.seat.table) × IsEnding g.followed.first g.followed.courses (course_after finish) l.places.items l.seat.view
-    × ((p : ℕ) → IsPrefix (seen l.initial.seat.view p) (seen l.seat.view p))
+    × AreLonger l.initial.seat.view l.seat.view
 
 abbrev pub decreases-loop-place : goal.decreases-loop-place
 decreases-loop-place g l = vec_len l.places

@@ -26,7 +26,7 @@ returns-in-Ok g c =
       table = c.restart_child.ensures.table ∙ end.ensures.table;
       restarted = restarts_in g.followed c.args.self.now end.new.self c.args.seat.now.view end.new.seat.view c.restart_child.new.seat.view apps c.restart_child.new.self name id
           (tables_of (modules_in c.args.loaded.now)) end.result (told_not end.result c.in_default.not-Stays) (sym c.has_one_supervisor.ensures ∙ c.if-not-has_one_supervisor.false) c.requires.1.1
-          c.knows.ensures.known.legal (Ok c.in-Ok.stays) (end.ensures.ended (child_place name id apps) c.child_members-members.ensures) c.in-Ok.ensures.restarted;
+          c.knows.ensures.known.legal end.ensures.longer (Ok c.in-Ok.stays) (end.ensures.ended (child_place name id apps) c.child_members-members.ensures) c.in-Ok.ensures.restarted;
     }
 
 pub returns-in-Err : goal.returns-in-Err
@@ -41,6 +41,6 @@ returns-in-Err g c =
       table = c.restart_child.ensures.table ∙ end.ensures.table;
       restarted = subst (λ (b : Bool). RestartsIn g.followed.first name id tables (scene_at g.followed apps) (Err (record { error = c.in-Err.error; given_up = b })) w.self end.new.self w.seat.view) (sym c.was_given_up.ensures)
           (restarts_in g.followed c.args.self.now end.new.self c.args.seat.now.view end.new.seat.view w.seat.view apps w.self name id tables end.result (told_not end.result c.in_default.not-Stays)
-          (sym c.has_one_supervisor.ensures ∙ c.if-not-has_one_supervisor.false) c.requires.1.1 c.knows.ensures.known.legal (Err c.in-Err.error) (end.ensures.ended (child_place name id apps) c.child_members-members.ensures)
+          (sym c.has_one_supervisor.ensures ∙ c.if-not-has_one_supervisor.false) c.requires.1.1 c.knows.ensures.known.legal end.ensures.longer (Err c.in-Err.error) (end.ensures.ended (child_place name id apps) c.child_members-members.ensures)
           c.in-Err.ensures.restarted);
     }

@@ -1,18 +1,20 @@
-use Rattle.std.proofs.Common.{◌≡◌, ◌+◌, ◌∙◌, ◌∷◌, ◌++◌, ◌&&◌, not, [], true, false, List, ℕ, length, length-append, take, drop, sym, ap, subst, arith, append_assoc}
+use Rattle.std.proofs.Common.{◌≡◌, ◌+◌, ◌<◌, ◌≤◌, ◌∙◌, ◌∷◌, ◌++◌, ◌&&◌, not, [], Bool, true, false, List, ℕ, length, length-append, take, drop, sym, ap, subst, subst₂, arith, append_assoc}
 use Rattle.std.proofs.lemmas.List.{length-map, length-take-le, take_at, take-map}
 use Rattle.relup_instruction.specs.declared.instruction.Instr.{Instr}
 use Rattle.relup_instruction.specs.Instruction.{Instruction, instruction_of, script_of}
 use Rattle.relup_instruction.specs.Instruction.Instruction.{point_of_no_return}
 use Rattle.relup_script.specs.Script.{is_point}
 use Rattle.held_processes.specs.Course.{on_all}
-use Rattle.held_processes.specs.Course.Operation.{pass_point}
-use Rattle.held_processes.specs.Following.{AllFollow}
-use Rattle.script_steps.specs.InMemory.{site_of}
+use Rattle.held_processes.specs.Course.Operation.{finish, pass_point}
+use Rattle.held_processes.specs.Following.{AllFollow, AreLeft}
+use Rattle.held_processes.proofs.SlotLemmas.{longer_both}
+use Rattle.script_steps.specs.Script.{courses_within}
+use Rattle.script_steps.specs.InMemory.{cause_of, site_of}
 use Rattle.script_steps.specs.Steps.{IsLate}
 use Rattle.relup_exec.specs.Outcome.{IsPointAt, Ran, past_behind, run_behind, still_early}
 use Rattle.relup_exec.specs.InMemory.{armed_of}
-use Rattle.script_steps.specs.Steps.{HasDone, ProgressForm, progress_of}
-use Rattle.relup_exec.proofs.OutcomeLemmas.{point_passed, run_more}
+use Rattle.script_steps.specs.Steps.{HasDone, IsCarriedOut, IsFault, ProgressForm, progress_of}
+use Rattle.relup_exec.proofs.OutcomeLemmas.{point_passed, run_more_late}
 use Rattle.script_steps.proofs.RowLemmas.{more, parted}
 use Rattle.relup_exec.proofs.RunLemmas.{behind_point, late_at, still_push}
 use Rattle.relup_exec.proofs.armed.Armed.run_after.Goals as goal
@@ -33,7 +35,7 @@ pub let_pass-requires : goal.let_pass-requires
 let_pass-requires g c =
     let armed = c.requires.1.1 in (
       c.requires.1.0,
-      subst (λ (is : List Instruction). AllFollow g.start.first (run_behind (site_of c.args.site.now) g.start is).courses c.args.self.progress.held c.args.seat.now.view)
+      subst (λ (is : List Instruction). AllFollow g.start.first (run_behind (site_of c.args.site.now) g.start [] is).courses c.args.self.progress.held c.args.seat.now.view)
           (sym (front_is c.args.script.now c.args.self.place armed.point)) armed.follow,
     )
 
@@ -44,15 +46,17 @@ loop-i-init g c =
     let place = c.args.self.place in
     let armed = c.requires.1.1 in
     let front = point_is script place armed.point in
-    let follow = subst (λ (is : List Instruction). AllFollow g.start.first (on_all pass_point (run_behind s g.start is).courses) c.let_pass.new.held c.let_pass.new.seat.view) (front_is script place armed.point)
+    let follow = subst (λ (is : List Instruction). AllFollow g.start.first (on_all pass_point (run_behind s g.start [] is).courses) c.let_pass.new.held c.let_pass.new.seat.view) (front_is script place armed.point)
     c.let_pass.ensures.passed in
     let passed = point_passed s g.start (script_of script) (armed_of c.args.self) c.let_pass.new.held c.args.seat.now.view c.let_pass.new.seat.view armed follow in
     let a : ProgressForm = record { held = c.let_pass.new.held; fetched = (armed_of c.args.self).fetched; next = (armed_of c.args.self).next } in (
       c.let_pass.ensures.table ∙ c.requires.1.0,
       omega arith,
       ap (still_early true) front ∙ behind_point armed.point.front [] true,
-      subst (Ran s g.start) (sym front) passed.0,
-      subst (λ (is : List Instruction). HasDone (past_behind s g.start is) a (armed_of c.args.self).apps c.let_pass.new.seat.view) (sym front) passed.1,
+      subst (λ (told : List Bool). length told < place + 1) (sym armed.told) (omega arith),
+      armed.room,
+      subst₂ (Ran s g.start) (sym armed.told) (sym front) passed.0,
+      subst₂ (λ (told : List Bool) (is : List Instruction). HasDone (past_behind s g.start told is) a (armed_of c.args.self).apps c.let_pass.new.seat.view) (sym armed.told) (sym front) passed.1,
     )
 
 pub carry_out_late-done-requires : goal.carry_out_late-done-requires
@@ -65,7 +69,9 @@ carry_out_late-done-requires g c =
     let long : length so_far ≡ c.loop-i.i = length-map (take c.loop-i.i script) instruction_of ∙ length-take-le c.loop-i.i script (omega (arith, c.loop-i-test.true)) in
     let late : IsLate i = late_at armed.point.front armed.point.rest so_far (script_of (drop (c.loop-i.i + 1) script)) i armed.point.late (sym armed.point.is ∙ parts)
     (omega (arith, long, c.loop-i.invariant.1, armed.point.place_is)) in
-    λ κs live. (live, (c.loop-i.invariant.0, (late, c.loop-i.invariant.4)))
+    let done = subst (λ (told : List Bool). HasDone (past_behind (site_of c.args.site.now) g.start told so_far) (progress_of c.loop-i.progress) c.loop-i.progress.tree c.loop-i.seat.view)
+    (sym c.as_slice.ensures.value) c.loop-i.invariant.6 in
+    λ κs live. (live, (c.loop-i.invariant.0, (late, done)))
 
 pub loop-i-preserved : goal.loop-i-preserved
 loop-i-preserved g c =
@@ -74,30 +80,44 @@ loop-i-preserved g c =
     let so_far = script_of (take c.loop-i.i script) in
     let i = instruction_of c.index-script-i.result in
     let grown = more instruction_of script c.loop-i.i c.index-script-i.result c.loop-i-test.true c.index-script-i.is in
-    let done = run_more s g.start false so_far i (progress_of c.carry_out_late-done.new.self) c.carry_out_late-done.new.self.tree c.carry_out_late-done.new.seat.view c.loop-i.invariant.2 c.loop-i.invariant.3 c.in_default.ensures.carried in (
+    let w = c.carry_out_late-done.new in
+    let carried = subst (λ (told : List Bool). IsCarriedOut s (past_behind s g.start told so_far) false c.in-Ok.stays i (progress_of w.self) w.self.tree w.seat.view) c.as_slice.ensures.value c.in-Ok.ensures.carried in
+    let done = run_more_late s g.start c.loop-i.told.items so_far c.in-Ok.stays i (progress_of w.self) w.self.tree w.seat.view c.loop-i.invariant.2 c.loop-i.invariant.5 carried in (
       c.carry_out_late-done.ensures.table ∙ c.loop-i.invariant.0,
       omega (arith, c.loop-i.invariant.1),
       ap (still_early true) grown ∙ (still_push true so_far i ∙ ap (λ e. e && not (is_point i)) c.loop-i.invariant.2),
-      subst (Ran s g.start) (sym grown) done.0,
-      subst (λ (is : List Instruction). HasDone (past_behind s g.start is) (progress_of c.carry_out_late-done.new.self) c.carry_out_late-done.new.self.tree c.carry_out_late-done.new.seat.view) (sym grown) done.1,
+      subst (λ (bs : List Bool). length bs < c.loop-i.i + 1) (sym c.push_reserved.ensures.items) (omega (arith, length-append c.loop-i.told.items (c.in-Ok.stays ∷ []), c.loop-i.invariant.3)),
+      subst (λ (n : ℕ). length (script_of script) ≤ n) (sym c.push_reserved.ensures.capacity) c.loop-i.invariant.4,
+      subst₂ (Ran s g.start) (sym c.push_reserved.ensures.items) (sym grown) done.0,
+      subst₂ (λ (bs : List Bool) (is : List Instruction). HasDone (past_behind s g.start bs is) (progress_of w.self) w.self.tree w.seat.view)
+          (sym c.push_reserved.ensures.items) (sym grown) done.1,
     )
+
+pub push_reserved-requires : goal.push_reserved-requires
+push_reserved-requires g c =
+    let script = c.args.script.now in
+    omega (arith, c.loop-i-test.true, length-map script instruction_of, c.loop-i.invariant.3, c.loop-i.invariant.4)
 
 pub returns-in-Err-clause-broken : goal.returns-in-Err-clause-broken
 returns-in-Err-clause-broken g c =
+    let s = site_of c.args.site.now in
     let script = c.args.script.now in
     let so_far = script_of (take c.loop-i.i script) in
+    let i = instruction_of c.index-script-i.result in
     let parts = parted instruction_of script c.loop-i.i c.index-script-i.result c.loop-i-test.true c.index-script-i.is in
     let long : length so_far ≡ c.loop-i.i = length-map (take c.loop-i.i script) instruction_of ∙ length-take-le c.loop-i.i script (omega (arith, c.loop-i-test.true)) in
     record {
       front = so_far;
-      instruction = instruction_of c.index-script-i.result;
+      instruction = i;
       at = record { rest = script_of (drop (c.loop-i.i + 1) script); is = parts; counted = ap (λ n. n + 1) (sym long) };
       late = c.loop-i.invariant.2;
-      ran = c.loop-i.invariant.3;
-      then_view = c.carry_out_late-done.new.seat.view;
-      fails = c.in-Err.ensures.carried.0;
+      told = c.loop-i.told.items;
+      ran = c.loop-i.invariant.5;
+      then_view = c.in-Err.ensures.carried.then_view;
+      fails = subst (λ (told : List Bool). IsFault g.start.first s c.in-Err.ensures.carried.then_view (run_behind s g.start told so_far) i (cause_of c.in-Err.failure.cause)) c.as_slice.ensures.value c.in-Err.ensures.carried.fails;
       modules = c.in-Err.failure.modules;
       slot = c.in-Err.failure.slot;
-      left = c.close.ensures.left;
-      longer = c.close.ensures.longer;
+      left = subst (λ (bs : List Bool). AreLeft g.start.first (on_all finish (courses_within s false i c.in-Err.failure.modules c.in-Err.failure.slot (run_behind s g.start bs so_far))) c.close.new.seat.view)
+          c.as_slice-in-Err.ensures.value c.close.ensures.left;
+      longer = longer_both c.in-Err.ensures.carried.then_view c.carry_out_late-done.new.seat.view c.close.new.seat.view c.in-Err.ensures.carried.longer c.close.ensures.longer;
     }

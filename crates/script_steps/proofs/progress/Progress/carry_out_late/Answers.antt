@@ -1,16 +1,15 @@
-use Rattle.std.proofs.Common.{ap}
+use Rattle.std.proofs.Common.{Bool, Result, sym, subst}
 use Rattle.relup_instruction.specs.Instruction.{instruction_of}
+use Rattle.script_steps.specs.declared.cause.Failure.{Failure}
 use Rattle.script_steps.specs.InMemory.{site_of}
-use Rattle.script_steps.specs.Steps.{progress_of}
-use Rattle.script_steps.proofs.PlainLemmas.{is_idle, nothing_done}
+use Rattle.script_steps.specs.Steps.{CarriesOutLate, progress_of}
+use Rattle.script_steps.proofs.FailLemmas.{late_of}
 use Rattle.script_steps.proofs.progress.Progress.carry_out_late.Goals as goal
 
-pub returns-in-Purge-clause-carried : goal.returns-in-Purge-clause-carried
-returns-in-Purge-clause-carried g c =
-    nothing_done (site_of c.args.site.now) g.past (instruction_of c.args.instr.now) (progress_of c.args.self.now) c.args.self.now.tree c.args.seat.now.view
-    (ap (λ i. is_idle (instruction_of i)) c.in-Purge.is) c.requires.1.1.1
-
-pub returns-in-RestartEmulator-clause-carried : goal.returns-in-RestartEmulator-clause-carried
-returns-in-RestartEmulator-clause-carried g c =
-    nothing_done (site_of c.args.site.now) g.past (instruction_of c.args.instr.now) (progress_of c.args.self.now) c.args.self.now.tree c.args.seat.now.view
-    (ap (λ i. is_idle (instruction_of i)) c.in-RestartEmulator.is) c.requires.1.1.1
+pub returns-in_default-clause-carried : goal.returns-in_default-clause-carried
+returns-in_default-clause-carried g c =
+    let s = site_of c.args.site.now in
+    let i = instruction_of c.args.instr.now in
+    let w = c.carry_out_other.new in
+    subst (λ (r : Result Bool Failure). CarriesOutLate s g.past i r (progress_of w.self) w.self.tree w.seat.view) (sym c.on_no_child.ensures)
+    (late_of s g.past i c.carry_out_other.result (progress_of w.self) w.self.tree w.seat.view c.carry_out_other.ensures.carried)

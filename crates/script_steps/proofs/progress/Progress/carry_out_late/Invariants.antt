@@ -1,16 +1,7 @@
 use Rattle.script_steps.proofs.progress.Progress.carry_out_late.Given as goal
 
-abbrev pub ghost-suspend : goal.ghost-suspend
-ghost-suspend g a = g.past
-
-abbrev pub ghost-load : goal.ghost-load
-ghost-load g a = g.past
-
-abbrev pub ghost-do_plain : goal.ghost-do_plain
-ghost-do_plain g a = g.past
-
-abbrev pub ghost-remove : goal.ghost-remove
-ghost-remove g a = g.past
-
 abbrev pub ghost-apply : goal.ghost-apply
 ghost-apply g a = g.past
+
+abbrev pub ghost-carry_out_other : goal.ghost-carry_out_other
+ghost-carry_out_other g a = g.past
