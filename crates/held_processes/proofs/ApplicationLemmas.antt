@@ -26,11 +26,14 @@ use Rattle.proc_table.proofs.WaitLemmas.{held_and_released, since}
 use Rattle.rel_check.specs.Modules.{Tables}
 use Rattle.sup_tree.specs.declared.error.StartError.{StartError}
 use Rattle.sup_tree.specs.declared.error.StartError.TheVariants.{AlreadyStarted, NoTable, Unsupported, NoSlot, NoMemory}
-use Rattle.sup_tree.specs.declared.member.Member.{Member}
-use Rattle.sup_tree.specs.declared.member.StartedProcess.{StartedProcess}
-use Rattle.sup_tree.specs.Starts.{members_at, BeganInOrder, IsWhy, StartsApp, beginning_of}
-use Rattle.sup_tree.specs.Stops.{EndedAt, EndedInOrder, StopsApp, stands}
-use Rattle.sup_tree.specs.Tree.{App, app_pids, members_of, pids_of, process_and, process_in, processes_among}
+use Rattle.started_members.specs.declared.member.Member.{Member}
+use Rattle.started_members.specs.declared.member.StartedProcess.{StartedProcess}
+use Rattle.started_members.specs.Begins.{members_at, BeganInOrder, beginning_of}
+use Rattle.sup_tree.specs.Starts.{IsWhy, StartsApp}
+use Rattle.started_members.specs.Ends.{EndedAt, EndedInOrder, stands}
+use Rattle.sup_tree.specs.Stops.{StopsApp}
+use Rattle.sup_tree.specs.Tree.{App, app_pids, members_of}
+use Rattle.started_members.specs.Members.{pids_of, process_and, process_in, processes_among}
 use Rattle.app_members.specs.Walk.{Start, app_members, app_starts}
 use Rattle.held_processes.specs.Applications.{IsWhyNot, Scene, StartsIn, all_begun, all_ended, all_stopped, begun_at, ended_at, held_ended, known, match_pid, pids_for, state_ended, room_in, round_in, scene_at, taken_at, with_started, with_stopped, with_stopped_app}
 use Rattle.held_processes.specs.Course.{Course, Courses, Hold, add_alone, added, course_after, if_held, let_go, add}

@@ -1,5 +1,6 @@
 pub mod StandLemmas
 pub mod SlotLemmas
+pub mod LongerLemmas
 pub mod FollowLemmas
 pub mod ChangeLemmas
 pub mod ReleaseLemmas

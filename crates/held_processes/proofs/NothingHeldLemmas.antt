@@ -17,9 +17,11 @@ use Rattle.proc_table.proofs.WaitLemmas.{held_and_released}
 use Rattle.std.proofs.lemmas.List.{get_or-replicate}
 use Rattle.rel_check.specs.Modules.{Tables}
 use Rattle.sup_tree.specs.declared.error.StartError.{StartError}
-use Rattle.sup_tree.specs.declared.member.StartedProcess.{StartedProcess}
-use Rattle.sup_tree.specs.Starts.{AppStarted, BeganInOrder, StartsApp, beginning_of}
-use Rattle.sup_tree.specs.Stops.{EndedInOrder, StopsApp, ending}
+use Rattle.started_members.specs.declared.member.StartedProcess.{StartedProcess}
+use Rattle.sup_tree.specs.Starts.{AppStarted, StartsApp}
+use Rattle.started_members.specs.Begins.{BeganInOrder, beginning_of}
+use Rattle.started_members.specs.Ends.{EndedInOrder, ending}
+use Rattle.sup_tree.specs.Stops.{StopsApp}
 use Rattle.sup_tree.specs.Tree.{App, app_pids}
 use Rattle.app_members.specs.Walk.{Start, app_starts}
 use Rattle.held_processes.specs.Course.{Courses}

@@ -6,18 +6,20 @@ use Rattle.proc_table.specs.declared.view.View.{View}
 use Rattle.rel_check.specs.Modules.{Tables}
 use Rattle.sup_tree.specs.declared.error.RestartError.{RestartError}
 use Rattle.sup_tree.specs.declared.error.RestartError.TheVariants.{NoSuper, NoTable, Unsupported, NoSlot, NoMemory}
-use Rattle.sup_tree.specs.declared.looks.Stay.{Stay}
-use Rattle.sup_tree.specs.declared.looks.Stay.TheVariants.{UpOrTemporary}
-use Rattle.sup_tree.specs.declared.member.MemberState.{MemberState}
-use Rattle.sup_tree.specs.declared.member.MemberState.TheVariants.{Ended, Process, Supervisor}
-use Rattle.sup_tree.specs.declared.member.Member.{Member}
-use Rattle.sup_tree.specs.declared.member.StartedProcess.{StartedProcess}
-use Rattle.sup_tree.specs.Children.{ChildLookedAt, Place, apps_with, child_place, has_one_supervisor}
-use Rattle.sup_tree.specs.Looks.{LookedAt, StateLookedAt}
-use Rattle.sup_tree.specs.Restarts.{HasNoSlot, HasRestarted, RestartsChild, RestartsUnless, in_place, restart_members, super_app}
-use Rattle.sup_tree.specs.Starts.{members_at}
-use Rattle.sup_tree.specs.Stops.{MemberEnded, stands}
-use Rattle.sup_tree.specs.Tree.{App, pids_of, process_and, process_in, state_process}
+use Rattle.started_members.specs.declared.looks.Stay.{Stay}
+use Rattle.started_members.specs.declared.looks.Stay.TheVariants.{UpOrTemporary}
+use Rattle.started_members.specs.declared.member.MemberState.{MemberState}
+use Rattle.started_members.specs.declared.member.MemberState.TheVariants.{Ended, Process, Supervisor}
+use Rattle.started_members.specs.declared.member.Member.{Member}
+use Rattle.started_members.specs.declared.member.StartedProcess.{StartedProcess}
+use Rattle.started_members.specs.Places.{ChildLookedAt, Place, in_place}
+use Rattle.sup_tree.specs.Children.{apps_with, child_place, has_one_supervisor}
+use Rattle.started_members.specs.Looks.{LookedAt, StateLookedAt}
+use Rattle.sup_tree.specs.Restarts.{HasNoSlot, HasRestarted, RestartsChild, RestartsUnless, super_app}
+use Rattle.started_members.specs.Begins.{restart_members, members_at}
+use Rattle.started_members.specs.Ends.{MemberEnded, stands}
+use Rattle.sup_tree.specs.Tree.{App}
+use Rattle.started_members.specs.Members.{pids_of, process_and, process_in, state_process}
 use Rattle.held_processes.specs.declared.children.HeldEnd.{HeldEnd}
 use Rattle.held_processes.specs.declared.children.HeldEnd.TheVariants.{Stays, GivenUp, NotHeld}
 use Rattle.held_processes.specs.declared.restarts.NotRestarted.{NotRestarted}
@@ -28,10 +30,11 @@ use Rattle.held_processes.specs.Following.{AllFollow, AreLonger, Followed, HeldS
 use Rattle.held_processes.specs.Operations.{Values, give_up_at, now_in, values_seen}
 use Rattle.held_processes.specs.Restarts.{IsKeptIn, IsNotRestartedIn, IsRestartedIn, IsWhyItDidNot, RestartsIn, child_ended, restart_starts, was_given_up}
 use Rattle.held_processes.proofs.ApplicationLemmas.{began_all, began_in_room, free_there, is_slot, legal_behind}
-use Rattle.held_processes.proofs.ChildLemmas.{NotStaying, given, given_up_gone, looked_follow, seen_where}
+use Rattle.held_processes.proofs.ChildLemmas.{NotStaying, given, given_up_gone, later_stay, looked_follow, seen_where}
 use Rattle.held_processes.proofs.FollowLemmas.{follow_same}
+use Rattle.held_processes.proofs.LongerLemmas.{began_longer, look_longer}
 use Rattle.held_processes.proofs.RoundLemmas.{AllLegal, free_is}
-use Rattle.held_processes.proofs.SlotLemmas.{held_longer, longer_both, longer_still}
+use Rattle.held_processes.proofs.SlotLemmas.{longer_both, longer_still}
 
 -- an end adds nothing to a process that doesn't stand
 ended_nothing : (values : Values) (pid : Pid) (cs : Courses) → stands pid (known values cs pid.slot) ≡ false → (p : ℕ) → ended_at values pid cs p ≡ cs p
@@ -40,16 +43,6 @@ ended_nothing values pid cs gone p = by (p == pid.slot) refl
     by : (b : Bool) → (p == pid.slot) ≡ b → (if b then (if stands pid (known values cs p) then add_alone given_up (cs p) else cs p) else cs p) ≡ cs p
     by true is = ap (λ (c : Bool). if c then add_alone given_up (cs p) else cs p) (ap (λ q. stands pid (known values cs q)) (is_slot p pid.slot is) ∙ gone)
     by false is = refl
-
--- what was seen stays in front behind a look and an end
-look_longer : (stay : Stay) (m : MemberState) (b : Bool) (v w : View) → StateLookedAt stay m b v w → AreLonger v w
-look_longer stay Ended b v w is = subst (AreLonger v) (sym is.1) (longer_still v)
-look_longer stay (Process q) b v w (h, u, at, told, r) = held_longer q.pid.slot [] v h u w at r
-look_longer stay (Supervisor m) b v w is = subst (AreLonger v) (sym is.1) (longer_still v)
-
-end_longer : (o : Option StartedProcess) (v w : View) → MemberEnded o v w → AreLonger v w
-end_longer None v w is = subst (AreLonger v) (sym is) (longer_still v)
-end_longer (Some q) v w (h, u, at, r) = held_longer q.pid.slot _ v h u w at r
 
 -- whether what stood for a child was given up while it was held
 abbrev pub is_given_up : HeldEnd → Bool
@@ -104,31 +97,31 @@ legal_end (Some q) v w legal (h, u, at, r) = legal_behind q.pid.slot _ v h u w l
 
 -- a child that stays
 kept_in : (followed : Followed) (hs hs' : HeldSlots) (v u look w : View) (apps apps' : List App) (name id : List ℕ) (e : HeldEnd) → NotStaying e → has_one_supervisor name apps ≡ true
-    → AllFollow followed.first followed.courses hs v → ChildEndsHeld followed.first UpOrTemporary (child_place name id apps) followed.courses v e hs' u
+    → AllFollow followed.first followed.courses hs v → ChildEndsHeld followed.first UpOrTemporary (child_place name id apps) followed.courses v e hs' u → AreLonger v u
     → ChildLookedAt UpOrTemporary (child_place name id apps) true u look → w ≡ look → apps' ≡ apps → IsKeptIn followed.first name id (scene_at followed apps) apps' hs' w
-kept_in followed hs hs' v u look w apps apps' name id e not one before f looked ended same =
-    let is = given followed.first UpOrTemporary followed.courses (child_place name id apps) hs hs' v u look w e not before f true looked ended in
+kept_in followed hs hs' v u look w apps apps' name id e not one before f longer looked ended same =
+    let is = given followed.first UpOrTemporary followed.courses (child_place name id apps) hs hs' v u look w e not before f longer true looked ended in
     record { one = one; stay = is.stay_is; tree = same; follow = is.follow }
 
 -- a child that began again
 begun_in : (followed : Followed) (hs hs' : HeldSlots) (v u look w : View) (apps apps' : List App) (name id : List ℕ) (tables : Tables) (p : Place) (e : HeldEnd) → NotStaying e → has_one_supervisor name apps ≡ true
-    → child_place name id apps ≡ Some p → AllFollow followed.first followed.courses hs v → ChildEndsHeld followed.first UpOrTemporary (Some p) followed.courses v e hs' u → AllLegal u
+    → child_place name id apps ≡ Some p → AllFollow followed.first followed.courses hs v → ChildEndsHeld followed.first UpOrTemporary (Some p) followed.courses v e hs' u → AllLegal u → AreLonger v u
     → ChildLookedAt UpOrTemporary (Some p) false u look
     → HasRestarted tables (super_app name apps) p (λ (ms : List Member). apps_with (in_place ms) name id apps) look apps' w → IsRestartedIn followed.first name id tables (scene_at followed apps) apps' hs' w
-begun_in followed hs hs' v u look w apps apps' name id tables p e not one there before f legal looked t =
+begun_in followed hs hs' v u look w apps apps' name id tables p e not one there before f legal longer looked t =
     let first = followed.first in
     let s = scene_at followed apps in
     let cs = child_ended s (Some p) in
     let starts = restart_starts tables p in
     let app = super_app name apps in
-    let is = given first UpOrTemporary followed.courses (Some p) hs hs' v u look t.after_end e not before f false looked t.ended in
+    let is = given first UpOrTemporary followed.courses (Some p) hs hs' v u look t.after_end e not before f longer false looked t.ended in
     let legal_now = legal_end (process_in p.child) look t.after_end (legal_look UpOrTemporary p.child.state false u look legal looked) t.ended in
     let began = began_all first cs hs' app starts t.after_end t.processes w is.follow legal_now t.began in
     record {
       one = one;
       place = p;
       there = there;
-      stay = is.stay_is;
+      stay = later_stay first UpOrTemporary followed.courses (Some p) false t.after_end w (began_longer app starts t.after_end t.processes w t.began) is.stay_is;
       sound = t.sound;
       room = subst (λ n. length starts ≤ n) (free_is first cs hs' t.after_end is.follow legal_now) (began_in_room app starts t.after_end t.processes w t.began);
       tree = t.is ∙ ap (λ (pids : List Pid). apps_with (in_place (members_at (restart_members tables p.child) pids)) name id apps) began.places;
@@ -144,17 +137,13 @@ slotless_in followed hs hs' v u look w apps apps' name id tables p e not one the
     let first = followed.first in
     let s = scene_at followed apps in
     let cs = child_ended s (Some p) in
-    let is = given first UpOrTemporary followed.courses (Some p) hs hs' v u look w e not before f false looked t.ended in
-    let then_is = state_looked first UpOrTemporary followed.courses p.child.state hs hs' v u look e not before f longer looked in
+    let is = given first UpOrTemporary followed.courses (Some p) hs hs' v u look w e not before f longer false looked t.ended in
     let legal_now = legal_end (process_in p.child) look w (legal_look UpOrTemporary p.child.state false u look legal looked) t.ended in
     record {
       one = one;
       place = p;
       there = there;
-      then_view = then_is.seen;
-      seen = then_is.are_seen;
-      stay = then_is.told;
-      longer = longer_both then_is.seen look w then_is.longer (end_longer (process_in p.child) look w t.ended);
+      stay = is.stay_is;
       why = (t.sound, subst (λ n. n < length (restart_starts tables p)) (free_is first cs hs' w is.follow legal_now) t.few);
       tree = same;
       follow = by e is.follow;
@@ -178,10 +167,7 @@ faulty_in followed hs hs' v u look w apps apps' name id tables p e x not one the
       one = one;
       place = p;
       there = there;
-      then_view = is.seen;
-      seen = is.are_seen;
-      stay = is.told;
-      longer = subst (AreLonger is.seen) (sym ended) is.longer;
+      stay = (is.seen, is.are_seen, is.told, subst (AreLonger is.seen) (sym ended) is.longer);
       why = why;
       tree = same;
       follow = subst (λ b. AllFollow first (if b then child_ended (scene_at followed apps) (Some p) else followed.courses) hs' w) (sym given_so)
@@ -213,13 +199,13 @@ module _ (followed : Followed) (hs hs' : HeldSlots) (v u w : View) (apps apps' :
       → RestartsUnless stays tables (super_app name apps) o (λ (ms : List Member). apps_with (in_place ms) name id apps) apps look r apps' w
       → RestartsIn followed.first name id tables (scene_at followed apps) (told_of e r) apps' hs' w
   outcome_in o true look (Ok true) there f looked is =
-      kept_in followed hs hs' v u look w apps apps' name id e not one before (subst (λ q. ChildEndsHeld followed.first UpOrTemporary q followed.courses v e hs' u) (sym there) f)
+      kept_in followed hs hs' v u look w apps apps' name id e not one before (subst (λ q. ChildEndsHeld followed.first UpOrTemporary q followed.courses v e hs' u) (sym there) f) longer
       (subst (λ q. ChildLookedAt UpOrTemporary q true u look) (sym there) looked) is.2 is.1
   outcome_in o true look (Ok false) there f looked is = absurd (let no = is.0 in cc no)
   outcome_in o true look (Err x) there f looked is = absurd (let no = is.0 in cc no)
   outcome_in None false look r there f looked is = absurd is
   outcome_in (Some p) false look (Ok true) there f looked is = absurd is
-  outcome_in (Some p) false look (Ok false) there f looked is = begun_in followed hs hs' v u look w apps apps' name id tables p e not one there before f legal looked is
+  outcome_in (Some p) false look (Ok false) there f looked is = begun_in followed hs hs' v u look w apps apps' name id tables p e not one there before f legal longer looked is
   outcome_in (Some p) false look (Err NoSuper) there f looked is = absurd is.0.0
   outcome_in (Some p) false look (Err NoSlot) there f looked is = slotless_in followed hs hs' v u look w apps apps' name id tables p e not one there before f legal longer looked is.0 is.1
   outcome_in (Some p) false look (Err NoTable) there f looked is =

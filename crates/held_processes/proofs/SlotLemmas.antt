@@ -96,13 +96,19 @@ longer_there p es v w here elsewhere = λ q. dite (ℕ_discrete q p)
     (λ is. subst (λ z. IsPrefix (seen v z) (seen w z)) (sym is) (es, sym here))
     (λ ne. ([], append-nil (seen v q) ∙ sym (ap (λ (x : Part). x.seen) (elsewhere.others q ne))))
 
+-- so it does where a slot is taken
+pub taken_longer : (p : ℕ) (v : View) (h : Holding) (u : View) → HeldAtLast p v h u → AreLonger v u
+taken_longer p v h u at = let s = since p v h u at in longer_there p s.between v u s.seen_is s.elsewhere
+
 -- so it does where a slot is given back, also if it was held for that
 pub released_longer : (p : ℕ) (es : List HistoryEntry) (v w : View) → Released p es v w → AreLonger v w
 released_longer p es v w r = longer_there p es v w r.seen_is (elsewhere_left p es v w r)
 
+pub alone_longer : (p q : ℕ) (es : List HistoryEntry) (v : View) (h : Holding) (u w : View) → HeldAtLast p v h u → Released q es u w → AreLonger v w
+alone_longer p q es v h u w at r = longer_both v u w (taken_longer p v h u at) (released_longer q es u w r)
+
 pub held_longer : (p : ℕ) (es : List HistoryEntry) (v : View) (h : Holding) (u w : View) → HeldAtLast p v h u → Released p es u w → AreLonger v w
-held_longer p es v h u w at r =
-    let s = since p v h u at in longer_both v u w (longer_there p s.between v u s.seen_is s.elsewhere) (released_longer p es u w r)
+held_longer p es v h u w at r = alone_longer p p es v h u w at r
 
 -- a process is given back as it was
 pub drops : (past : SlotPast) (p : ℕ) (c : Course) (v w : View) (h : HeldForm) → IsFollowed past p c v (Some h) → Released p [] v w → Steps past p (dropped c) v None w

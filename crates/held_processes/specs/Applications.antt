@@ -13,9 +13,9 @@ use Rattle.proc_table.specs.Agrees.{slots}
 use Rattle.rel_check.specs.Modules.{Tables}
 use Rattle.sup_tree.specs.declared.error.StartError.{StartError}
 use Rattle.sup_tree.specs.declared.error.StartError.TheVariants.{AlreadyStarted, NoTable, Unsupported, NoSlot, NoMemory}
-use Rattle.sup_tree.specs.declared.member.StartedProcess.{StartedProcess}
-use Rattle.sup_tree.specs.Starts.{beginning_of, members_at}
-use Rattle.sup_tree.specs.Stops.{stands}
+use Rattle.started_members.specs.declared.member.StartedProcess.{StartedProcess}
+use Rattle.started_members.specs.Begins.{beginning_of, members_at}
+use Rattle.started_members.specs.Ends.{stands}
 use Rattle.sup_tree.specs.Tree.{App, app_named, app_pids, without}
 use Rattle.app_members.specs.Walk.StartFault.{no_table, unsupported}
 use Rattle.app_members.specs.Walk.{Start, app_fault, app_members, app_starts}

@@ -6,19 +6,21 @@ use Rattle.proc_table.specs.declared.pid.Pid.{Pid}
 use Rattle.proc_table.specs.declared.view.View.{View}
 use Rattle.proc_table.specs.Agrees.{slots}
 use Rattle.proc_table.specs.Views.{seen}
-use Rattle.sup_tree.specs.declared.looks.Stay.{Stay}
-use Rattle.sup_tree.specs.declared.looks.Stay.TheVariants.{Up}
-use Rattle.sup_tree.specs.declared.member.MemberState.{MemberState}
-use Rattle.sup_tree.specs.declared.member.MemberState.TheVariants.{Ended, Process, Supervisor}
-use Rattle.sup_tree.specs.Children.{Place, child_deleted, child_members, child_place, child_terminated, has_one_supervisor}
-use Rattle.sup_tree.specs.Looks.{process_stays}
-use Rattle.sup_tree.specs.Tree.{App, pids_of, processes_among}
+use Rattle.started_members.specs.declared.looks.Stay.{Stay}
+use Rattle.started_members.specs.declared.looks.Stay.TheVariants.{Up}
+use Rattle.started_members.specs.declared.member.MemberState.{MemberState}
+use Rattle.started_members.specs.declared.member.MemberState.TheVariants.{Ended, Process, Supervisor}
+use Rattle.started_members.specs.Places.{Place}
+use Rattle.sup_tree.specs.Children.{child_deleted, child_members, child_place, child_terminated, has_one_supervisor}
+use Rattle.started_members.specs.Looks.{process_stays}
+use Rattle.sup_tree.specs.Tree.{App}
+use Rattle.started_members.specs.Members.{pids_of, processes_among}
 use Rattle.held_processes.specs.Applications.{Scene, all_stopped}
 use Rattle.held_processes.specs.declared.children.HeldEnd.{HeldEnd}
 use Rattle.held_processes.specs.declared.children.HeldEnd.TheVariants.{Stays, GivenUp, NotHeld}
 use Rattle.held_processes.specs.Course.{Courses, if_held}
 use Rattle.held_processes.specs.Course.Hold.{not_held}
-use Rattle.held_processes.specs.Following.{AllFollow, HeldSlots, Stand}
+use Rattle.held_processes.specs.Following.{AllFollow, AreLonger, HeldSlots, Stand}
 use Rattle.held_processes.specs.Operations.{Values, give_up_at, now_in, values_seen}
 
 -- the child of this id of the supervisor of this module is terminated, if it has such a child
@@ -54,9 +56,9 @@ child_stays stay values (Some p) = state_stays stay values p.child.state
 abbrev pub AreSeen : View → Courses → View → Type 0
 AreSeen first cs v = (p : ℕ) → p < slots → Stand first.lent (seen first p) (cs p).blocks (seen v p)
 
--- So it is in histories that the handler has seen.
-abbrev pub IsStay : View → Stay → Courses → Option Place → Bool → Type 0
-IsStay first stay cs o stays = (u : View) × AreSeen first cs u × (stays ≡ child_stays stay (now_in (values_seen u) cs) o)
+-- So it is in histories that the handler has seen, and which are in front of those that it has seen now.
+abbrev pub IsStay : View → Stay → Courses → Option Place → Bool → View → Type 0
+IsStay first stay cs o stays w = (u : View) × AreSeen first cs u × (stays ≡ child_stays stay (now_in (values_seen u) cs) o) × AreLonger u w
 
 -- where the process of a child is, if one stands for it
 abbrev pub child_pids : Option Place → List Pid
@@ -72,7 +74,7 @@ with_deleted name id s = record s {
 -- The child stays, or it is deleted.
 pub record IsDeletedIn (first : View) (name id : List ℕ) (s : Scene) (stays : Bool) (apps : List App) (hs : HeldSlots) (w : View) : Type 0 where
   pub one : has_one_supervisor name s.apps ≡ true
-  pub stay : IsStay first Up s.courses (child_place name id s.apps) stays
+  pub stay : IsStay first Up s.courses (child_place name id s.apps) stays w
   pub tree : apps ≡ (if stays then s.apps else (with_deleted name id s).apps)
   pub follow : AllFollow first (if stays then s.courses else (with_deleted name id s).courses) hs w
 

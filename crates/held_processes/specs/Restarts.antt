@@ -6,19 +6,19 @@ use Rattle.rel_check.specs.Modules.{Tables}
 use Rattle.app_members.specs.Walk.{Start, starts_among}
 use Rattle.sup_tree.specs.declared.error.RestartError.{RestartError}
 use Rattle.sup_tree.specs.declared.error.RestartError.TheVariants.{NoSuper, NoSlot}
-use Rattle.sup_tree.specs.declared.looks.Stay.TheVariants.{UpOrTemporary}
-use Rattle.sup_tree.specs.Children.{Place, apps_with, child_place, has_one_supervisor}
-use Rattle.sup_tree.specs.Restarts.{RestartFaultIs, in_place, restart_fault, restart_members, super_app}
-use Rattle.sup_tree.specs.Starts.{members_at}
+use Rattle.started_members.specs.declared.looks.Stay.TheVariants.{UpOrTemporary}
+use Rattle.started_members.specs.Places.{Place, in_place}
+use Rattle.sup_tree.specs.Children.{apps_with, child_place, has_one_supervisor}
+use Rattle.sup_tree.specs.Restarts.{RestartFaultIs, super_app}
+use Rattle.started_members.specs.Begins.{restart_fault, restart_members, members_at}
 use Rattle.sup_tree.specs.Tree.{App}
 use Rattle.held_processes.specs.declared.children.HeldEnd.{HeldEnd}
 use Rattle.held_processes.specs.declared.children.HeldEnd.TheVariants.{GivenUp}
 use Rattle.held_processes.specs.declared.restarts.NotRestarted.{NotRestarted}
 use Rattle.held_processes.specs.Applications.{Scene, all_begun, all_stopped, pids_for, room_in, round_in}
-use Rattle.held_processes.specs.Children.{AreSeen, IsStay, child_pids, child_stays}
+use Rattle.held_processes.specs.Children.{IsStay, child_pids}
 use Rattle.held_processes.specs.Course.{Courses}
-use Rattle.held_processes.specs.Following.{AllFollow, AreLonger, HeldSlots}
-use Rattle.held_processes.specs.Operations.{now_in, values_seen}
+use Rattle.held_processes.specs.Following.{AllFollow, HeldSlots}
 
 -- whether what stood for a child was given up: it was held, or it was given up for want of slots
 abbrev pub was_given_up : HeldEnd → RestartError → Bool
@@ -48,7 +48,7 @@ with_restarted name id tables p s = record s {
 -- The child stays, or there is none.
 pub record IsKeptIn (first : View) (name id : List ℕ) (s : Scene) (apps : List App) (hs : HeldSlots) (w : View) : Type 0 where
   pub one : has_one_supervisor name s.apps ≡ true
-  pub stay : IsStay first UpOrTemporary s.courses (child_place name id s.apps) true
+  pub stay : IsStay first UpOrTemporary s.courses (child_place name id s.apps) true w
   pub tree : apps ≡ s.apps
   pub follow : AllFollow first s.courses hs w
 
@@ -57,7 +57,7 @@ pub record IsRestartedIn (first : View) (name id : List ℕ) (tables : Tables) (
   pub one : has_one_supervisor name s.apps ≡ true
   pub place : Place
   pub there : child_place name id s.apps ≡ Some place
-  pub stay : IsStay first UpOrTemporary s.courses (Some place) false
+  pub stay : IsStay first UpOrTemporary s.courses (Some place) false w
   pub sound : restart_fault tables place.child ≡ None
   pub room : length (restart_starts tables place) ≤ room_in s.values (child_ended s (Some place))
   pub tree : apps ≡ (with_restarted name id tables place s).apps
@@ -73,10 +73,7 @@ pub record IsNotRestartedIn (first : View) (name id : List ℕ) (tables : Tables
   pub one : has_one_supervisor name s.apps ≡ true
   pub place : Place
   pub there : child_place name id s.apps ≡ Some place
-  pub then_view : View
-  pub seen : AreSeen first s.courses then_view
-  pub stay : false ≡ child_stays UpOrTemporary (now_in (values_seen then_view) s.courses) (Some place)
-  pub longer : AreLonger then_view w
+  pub stay : IsStay first UpOrTemporary s.courses (Some place) false w
   pub why : IsWhyItDidNot e.error tables place s
   pub tree : apps ≡ s.apps
   pub follow : AllFollow first (if e.given_up then child_ended s (Some place) else s.courses) hs w

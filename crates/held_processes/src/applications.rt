@@ -2,10 +2,10 @@
 ghost use Rattle.std.specs.Prelude.{◌≡◌, ◌<◌, length, slice_index_or};
 ghost use Rattle.app_file.specs.InMemory.{specification_of};
 ghost use Rattle.held_processes.specs.Applications.{StartsIn, held_ended, scene_at, state_ended, with_stopped};
-ghost use Rattle.held_processes.specs.Following.{AllFollow, Followed};
+ghost use Rattle.held_processes.specs.Following.{AllFollow, AreLonger, Followed};
 ghost use Rattle.loaded_modules.specs.Loaded.{modules_in, tables_of};
-ghost use Rattle.sup_tree.specs.Tree.{pids_of, process_in, processes_among};
-ghost use Rattle.sup_tree.specs.declared.member.Member.{Member as Part};
+ghost use Rattle.started_members.specs.Members.{pids_of, process_in, processes_among};
+ghost use Rattle.started_members.specs.declared.member.Member.{Member as Part};
 
 use crate::{AppName, HeldProcesses};
 use app_file::App;
@@ -35,6 +35,7 @@ impl HeldProcesses {
         ensures started { StartsIn followed.first (specification_of app.now).name
             (specification_of app.now).top (tables_of (modules_in loaded.now))
             (scene_at followed tree.old) result tree.new self.now seat.new.view }
+        ensures longer { AreLonger seat.old.view seat.new.view }
     {
         seat.knows();
         tree.start_app(rt, alloc, table, seat, app, loaded)
@@ -59,6 +60,7 @@ impl HeldProcesses {
         ensures stopped { AllFollow followed.first
             (with_stopped app.now.name.now (scene_at followed tree.old)).courses
             self.new seat.new.view }
+        ensures longer { AreLonger seat.old.view seat.new.view }
     {
         self.give_up_all(table, seat, tree.members(app.name));
         let _ = tree.stop_app(rt, table, seat, app.name);
@@ -77,6 +79,7 @@ impl HeldProcesses {
         ensures table { seat.new.table ≡ seat.old.table }
         ensures done { AllFollow followed.first (held_ended
             (pids_of (processes_among members.now)) followed.courses) self.new seat.new.view }
+        ensures longer { AreLonger seat.old.view seat.new.view }
     {
         for place in 0..members.len() {
             self.give_up_one(table, seat, members, place);
@@ -99,6 +102,7 @@ impl HeldProcesses {
         ensures done { (d : Part) → AllFollow followed.first
             (state_ended (process_in (slice_index_or members.now place d)) followed.courses)
             self.new seat.new.view }
+        ensures longer { AreLonger seat.old.view seat.new.view }
     {
         if let Some(process) = members[place].process() {
             self.give_up_slot(table, seat, process.pid.slot);

@@ -3,7 +3,7 @@ ghost use Rattle.std.specs.Prelude.{◌≡◌, [], Option};
 ghost use Rattle.held_processes.specs.Applications.{scene_at};
 ghost use Rattle.held_processes.specs.Children.{ChildEndsHeld, DeletesIn, TellsStay, TerminatesIn};
 ghost use Rattle.held_processes.specs.Following.{AllFollow, AreLonger, Followed};
-ghost use Rattle.sup_tree.specs.Children.{Place, with_below};
+ghost use Rattle.started_members.specs.Places.{Place, with_below};
 ghost use Rattle.std.specs.Option.{option_map_or};
 
 use crate::{ChildName, HeldProcesses};
@@ -40,6 +40,7 @@ impl HeldProcesses {
         ensures table { seat.new.table ≡ seat.old.table }
         ensures terminated { TerminatesIn followed.first child.now.supervisor.now child.now.id.now
             (scene_at followed tree.old) result tree.new self.new seat.new.view }
+        ensures longer { AreLonger seat.old.view seat.new.view }
     {
         if !tree.has_one_supervisor(child.supervisor) {
             return Err(NoSuper);
@@ -65,6 +66,7 @@ impl HeldProcesses {
         ensures table { seat.new.table ≡ seat.old.table }
         ensures deleted { DeletesIn followed.first child.now.supervisor.now child.now.id.now
             (scene_at followed tree.old) result tree.new self.new seat.new.view }
+        ensures longer { AreLonger seat.old.view seat.new.view }
     {
         if !tree.has_one_supervisor(child.supervisor) {
             return Err(NoSuper);

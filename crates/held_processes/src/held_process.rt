@@ -56,6 +56,7 @@ impl HeldProcess {
         requires free { IsFollowed past pid.slot past.course seat.old.view None }
         ensures table { seat.new.table ≡ seat.old.table }
         ensures taken { Takes past pid.slot (hold_of hold) seat.old.view result seat.new.view }
+        ensures longer { AreLonger seat.old.view seat.new.view }
     {
         let held = table.hold(rt, seat, pid);
         match held.value().copy(alloc) {

@@ -9,7 +9,7 @@
 //! [`HeldProcesses::finish`] lets all go, and [`HeldProcesses::roll_back`] gives all back as they were when they were taken:
 //! the blocks stay, and what was pending is gone. Both take no memory, and the way back adds no entry.
 //! Where memory is refused, or a change of code finds no row, the operation was done in the slots below one of them, and
-//! everything still follows.
+//! everything still follows. Whatever an operation does, what the handler had seen of each slot stays in front (`longer`).
 //!
 //! [`HeldProcesses::start_app`] and [`HeldProcesses::stop_app`] start and stop an application meanwhile (specs/Applications). Where
 //! its processes begin is told by the courses alone: calls of others leave the round of a slot, and whether a process stands there.

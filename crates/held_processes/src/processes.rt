@@ -77,6 +77,7 @@ impl HeldProcesses {
         ensures table { seat.new.table ≡ seat.old.table }
         ensures done { IsDone followed.first (users_of users.now.tree.now) users.now.module.now
             suspend followed.courses result self.new seat.new.view }
+        ensures longer { AreLonger seat.old.view seat.new.view }
     {
         self.perform(rt, table, seat, users, Step::Suspend(alloc))
     }
@@ -99,6 +100,7 @@ impl HeldProcesses {
         ensures table { seat.new.table ≡ seat.old.table }
         ensures done { IsDone followed.first (users_of users.now.tree.now) users.now.module.now
             (load keep worker.now) followed.courses result self.new seat.new.view }
+        ensures longer { AreLonger seat.old.view seat.new.view }
     {
         self.perform(rt, table, seat, users, Step::Load(alloc, worker, keep))
     }
@@ -144,6 +146,7 @@ impl HeldProcesses {
         ensures follow { AllFollow followed.first followed.courses self.now seat.new.view }
         ensures told { result ≡ uses_up (values_seen seat.new.view)
             (users_of users.now.tree.now) users.now.module.now followed.courses }
+        ensures longer { AreLonger seat.old.view seat.new.view }
     {
         for slot in 0..self.places.len() {
             if users.include(slot) {
@@ -164,6 +167,7 @@ impl HeldProcesses {
         ensures table { seat.new.table ≡ seat.old.table }
         ensures done { AllFollow followed.first (on_module (users_of users.now.tree.now)
             users.now.module.now resume followed.courses) self.new seat.new.view }
+        ensures longer { AreLonger seat.old.view seat.new.view }
     {
         self.release(table, seat, Which::Of(*users));
     }
@@ -176,6 +180,7 @@ impl HeldProcesses {
         ensures table { seat.new.table ≡ seat.old.table }
         ensures done { AllFollow followed.first (on_all pass_point followed.courses)
             self.new seat.new.view }
+        ensures longer { AreLonger seat.old.view seat.new.view }
     {
         self.release(table, seat, Which::UntilPoint);
     }
@@ -194,6 +199,7 @@ impl HeldProcesses {
         ensures table { seat.new.table ≡ seat.old.table }
         ensures done { AllFollow followed.first (on_module (users_of users.now.tree.now)
             users.now.module.now stop followed.courses) self.new seat.new.view }
+        ensures longer { AreLonger seat.old.view seat.new.view }
     {
         let Ok(()) = self.perform(rt, table, seat, users, Step::Stop) else {
             unreachable!();
@@ -214,6 +220,7 @@ impl HeldProcesses {
         ensures table { seat.new.table ≡ seat.old.table }
         ensures done { AllFollow followed.first (on_module (users_of users.now.tree.now)
             users.now.module.now start followed.courses) self.new seat.new.view }
+        ensures longer { AreLonger seat.old.view seat.new.view }
     {
         let Ok(()) = self.perform(rt, table, seat, users, Step::Start) else {
             unreachable!();
@@ -300,6 +307,7 @@ impl HeldProcesses {
         ensures done { IsDone followed.first (users_of users.now.tree.now) users.now.module.now
             (operation_of step.entry) followed.courses result self.new seat.new.view }
         ensures failed { OnErr result (takes_memory step.entry ≡ true) }
+        ensures longer { AreLonger seat.old.view seat.new.view }
     {
         for slot in 0..self.places.len() {
             if users.include(slot) {
@@ -320,6 +328,7 @@ impl HeldProcesses {
         ensures table { seat.new.table ≡ seat.old.table }
         ensures done { AllFollow followed.first (behind_release which.entry followed.courses)
             self.new seat.new.view }
+        ensures longer { AreLonger seat.old.view seat.new.view }
     {
         for slot in 0..self.places.len() {
             if which.includes(slot, &self.places[slot]) {

@@ -1,7 +1,7 @@
 //! Children of supervisors that begin again while processes are held.
 ghost use Rattle.std.specs.Prelude.{◌≡◌};
 ghost use Rattle.held_processes.specs.Applications.{scene_at};
-ghost use Rattle.held_processes.specs.Following.{AllFollow, Followed};
+ghost use Rattle.held_processes.specs.Following.{AllFollow, AreLonger, Followed};
 ghost use Rattle.held_processes.specs.Restarts.{RestartsIn, was_given_up};
 ghost use Rattle.loaded_modules.specs.Loaded.{modules_in, tables_of};
 
@@ -41,6 +41,7 @@ impl HeldProcesses {
         ensures restarted { RestartsIn followed.first child.now.supervisor.now child.now.id.now
             (tables_of (modules_in loaded.now)) (scene_at followed tree.old)
             result tree.new self.new seat.new.view }
+        ensures longer { AreLonger seat.old.view seat.new.view }
     {
         if !tree.has_one_supervisor(child.supervisor) {
             return Err(NotRestarted {

@@ -52,6 +52,7 @@ pub(crate) fn perform<R: Wait>(
     ensures done { StepsBy past pid.slot (operation_of step.entry)
         seat.old.view result place.new seat.new.view }
     ensures failed { OnErr result (takes_memory step.entry ≡ true) }
+    ensures longer { AreLonger seat.old.view seat.new.view }
 {
     match step {
         Step::Suspend(alloc) => suspend(rt, alloc, table, seat, pid, place),
@@ -74,6 +75,7 @@ fn suspend<R: Wait>(
     requires followed { IsFollowed past pid.slot past.course seat.old.view place.old }
     ensures table { seat.new.table ≡ seat.old.table }
     ensures done { StepsBy past pid.slot suspend seat.old.view result place.new seat.new.view }
+    ensures longer { AreLonger seat.old.view seat.new.view }
 {
     match place {
         Some(process) => process.hold = Hold::UntilResumed,
@@ -101,6 +103,7 @@ fn load<R: Wait>(
     ensures table { seat.new.table ≡ seat.old.table }
     ensures done { StepsBy past pid.slot (load keep worker.now)
         seat.old.view result place.new seat.new.view }
+    ensures longer { AreLonger seat.old.view seat.new.view }
 {
     let copy = worker.copy(alloc)?;
     match place {
@@ -131,6 +134,7 @@ fn load_alone<R: Wait>(
     ensures table { seat.new.table ≡ seat.old.table }
     ensures done { Steps past pid.slot (add_alone (loaded worker.now) past.course)
         seat.old.view None seat.new.view }
+    ensures longer { AreLonger seat.old.view seat.new.view }
 {
     let mut held = table.hold(rt, seat, pid);
     held.load(copy);
@@ -150,6 +154,7 @@ fn stop<R: Wait>(
     ensures table { seat.new.table ≡ seat.old.table }
     ensures done { Steps past pid.slot (course_after stop past.course)
         seat.old.view place.new seat.new.view }
+    ensures longer { AreLonger seat.old.view seat.new.view }
 {
     match place {
         Some(process) => process.held.stop(),
@@ -174,6 +179,7 @@ fn start<R: Wait>(
     ensures table { seat.new.table ≡ seat.old.table }
     ensures done { Steps past pid.slot (course_after start past.course)
         seat.old.view place.new seat.new.view }
+    ensures longer { AreLonger seat.old.view seat.new.view }
 {
     match place {
         Some(process) => process.held.start(),
@@ -210,6 +216,7 @@ pub(crate) fn is_up<R: Wait>(
     ensures followed { Steps past pid.slot past.course seat.old.view place.now seat.new.view }
     ensures told { result ≡ is_some
         (up_at (value_with (seen seat.new.view pid.slot) past.course).now) }
+    ensures longer { AreLonger seat.old.view seat.new.view }
 {
     match place {
         Some(process) => is_up_in(process.held.value()),
@@ -244,6 +251,7 @@ pub(crate) fn let_go(
     ensures table { seat.new.table ≡ seat.old.table }
     ensures done { Steps past slot (course_after resume past.course)
         seat.old.view place.new seat.new.view }
+    ensures longer { AreLonger seat.old.view seat.new.view }
 {
     match place.take() {
         Some(process) => process.let_go(table, seat),

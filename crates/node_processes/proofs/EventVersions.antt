@@ -6,7 +6,7 @@ use Rattle.rel_files.specs.Name.{IsVersion}
 use Rattle.mod_table.specs.declared.table.Table.{Table}
 use Rattle.mod_table.specs.declared.table.Table.TheVariants.{Worker, Super}
 use Rattle.mod_table.specs.Table.{OldVersion, WorkerTable}
-use Rattle.sup_tree.specs.Starts.{beginning_of}
+use Rattle.started_members.specs.Begins.{beginning_of}
 use Rattle.app_members.specs.Walk.{Start}
 use Rattle.proc_history.specs.declared.beginning.Beginning.{Beginning}
 use Rattle.proc_history.specs.declared.value.Now.{Now}
@@ -22,7 +22,7 @@ use Rattle.proc_table.specs.declared.pid.Pid.{Pid}
 use Rattle.node_processes.specs.ModuleVersions.{HasModuleVersion, HasTableVersion}
 use Rattle.relup_instruction.specs.Instruction.{ChangeForm}
 use Rattle.proc_history.specs.Histories.{replay_from}
-use Rattle.sup_tree.specs.Stops.{stands}
+use Rattle.started_members.specs.Ends.{stands}
 use Rattle.held_processes.specs.Applications.{all_begun, all_ended, begun_at, ended_at, held_ended, known}
 use Rattle.held_processes.specs.Course.{Course, Courses, Hold, Operation, Users, add, add_alone, added, at_point, course_after, if_held, let_go, load_free, on_module, runs}
 use Rattle.held_processes.specs.Course.Hold.{not_held, until_point, until_resumed}

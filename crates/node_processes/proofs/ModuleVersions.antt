@@ -7,7 +7,7 @@ use Rattle.rel_list.specs.Releases.{Releases, Entry}
 use Rattle.library.specs.Library.{Library, IsLibrary}
 use Rattle.rel_check.specs.Modules.{Part, Tables, parts}
 use Rattle.loaded_modules.specs.Loaded.{Module, NamedModules, module_named}
-use Rattle.sup_tree.specs.Starts.{beginning_of}
+use Rattle.started_members.specs.Begins.{beginning_of, specification}
 use Rattle.app_members.specs.Walk.{app_starts}
 use Rattle.proc_history.specs.declared.beginning.Beginning.{Beginning}
 use Rattle.proc_history.specs.declared.value.Now.{Now}
@@ -27,9 +27,11 @@ use Rattle.relup_instruction.specs.declared.instruction.Direction.{Direction}
 use Rattle.relup_instruction.specs.Instruction.{CallForm, ChangeForm, Instruction}
 use Rattle.relup_instruction.specs.Instruction as relup
 use Rattle.relup_script.specs.Script.{is_point}
-use Rattle.sup_tree.specs.Children.{Place, child_members, child_place}
-use Rattle.sup_tree.specs.Restarts.{specification, super_app}
-use Rattle.sup_tree.specs.Tree.{App, app_named, app_pids, pids_of, processes_among}
+use Rattle.started_members.specs.Places.{Place}
+use Rattle.sup_tree.specs.Children.{child_members, child_place}
+use Rattle.sup_tree.specs.Restarts.{super_app}
+use Rattle.sup_tree.specs.Tree.{App, app_named, app_pids}
+use Rattle.started_members.specs.Members.{pids_of, processes_among}
 use Rattle.held_processes.specs.Applications.{all_stopped, held_ended, places_for, with_started, with_stopped_app}
 use Rattle.held_processes.specs.Children.{child_pids, with_deleted}
 use Rattle.held_processes.specs.Restarts.{child_ended, restart_pids, restart_starts}

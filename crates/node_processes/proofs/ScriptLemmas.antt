@@ -24,12 +24,14 @@ use Rattle.relup_instruction.specs.Instruction.Instruction.{apply, code_change, 
 use Rattle.relup_script.specs.Script.{is_error, is_point}
 use Rattle.rel_check.specs.Modules.{Tables}
 use Rattle.loaded_modules.specs.Loaded.{NamedModules}
-use Rattle.sup_tree.specs.declared.looks.Stay.TheVariants as stay
-use Rattle.sup_tree.specs.Children.{Place, apps_with, child_deleted, child_members, child_place, child_terminated}
-use Rattle.sup_tree.specs.Restarts.{in_place, restart_fault, restart_members, super_app}
-use Rattle.sup_tree.specs.Starts.{members_at}
-use Rattle.sup_tree.specs.Stops.{stands}
-use Rattle.sup_tree.specs.Tree.{App, app_named, app_pids, pids_of, processes_among, supervises, without}
+use Rattle.started_members.specs.declared.looks.Stay.TheVariants as stay
+use Rattle.started_members.specs.Places.{Place, in_place}
+use Rattle.sup_tree.specs.Children.{apps_with, child_deleted, child_members, child_place, child_terminated}
+use Rattle.started_members.specs.Begins.{restart_fault, restart_members, members_at}
+use Rattle.sup_tree.specs.Restarts.{super_app}
+use Rattle.started_members.specs.Ends.{stands}
+use Rattle.sup_tree.specs.Tree.{App, app_named, app_pids, supervises, without}
+use Rattle.started_members.specs.Members.{pids_of, processes_among}
 use Rattle.app_members.specs.Walk.{app_fault, app_members, app_starts}
 use Rattle.held_processes.specs.Applications.{all_begun, all_ended, ended_at, held_ended, known, lowest, lowest_below, match_pid, pid_at, pids_for, room_in, round_in, rounds_below, taken_at, with_started, with_stopped_app}
 use Rattle.held_processes.specs.Children.{child_pids, with_deleted}

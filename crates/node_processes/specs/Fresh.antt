@@ -18,7 +18,7 @@ use Rattle.proc_history.specs.Values.{nothing, begun}
 use Rattle.proc_table.specs.Agrees.{slots}
 use Rattle.loaded_modules.specs.Loaded.{modules_of, tables_of, listed_modules}
 use Rattle.proc_table.specs.declared.pid.Pid.{Pid}
-use Rattle.sup_tree.specs.Starts.{beginning_of, members_at}
+use Rattle.started_members.specs.Begins.{beginning_of, members_at}
 use Rattle.sup_tree.specs.Tree.{App}
 use Rattle.app_members.specs.Walk.{Start, app_members, app_starts}
 use Rattle.held_processes.specs.Applications.{match_pid}

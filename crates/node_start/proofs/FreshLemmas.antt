@@ -19,12 +19,13 @@ use Rattle.proc_table.specs.Views.{seen, handler_view}
 use Rattle.proc_table.proofs.BeginLemmas.{began_elsewhere, began_there}
 use Rattle.library.specs.Library.{Library}
 use Rattle.rel_check.specs.Modules.{Part, Tables}
-use Rattle.sup_tree.specs.declared.member.StartedProcess.{StartedProcess}
-use Rattle.sup_tree.specs.Laws.{FreeFrom}
-use Rattle.sup_tree.specs.Starts.{beginning_of, members_at, process_of, BeganInOrder}
-use Rattle.sup_tree.specs.Tree.{App, pids_of}
+use Rattle.started_members.specs.declared.member.StartedProcess.{StartedProcess}
+use Rattle.started_members.specs.Laws.{FreeFrom}
+use Rattle.started_members.specs.Begins.{beginning_of, members_at, process_of, BeganInOrder}
+use Rattle.sup_tree.specs.Tree.{App}
+use Rattle.started_members.specs.Members.{pids_of}
 use Rattle.app_members.specs.Walk.{Start, app_members}
-use Rattle.sup_tree.proofs.BeginLemmas.{first_slots}
+use Rattle.started_members.proofs.BeginLemmas.{first_slots}
 use Rattle.held_processes.specs.Applications.{match_pid}
 use Rattle.node_processes.specs.Fresh.{first_value, first_values, first_pid, pid_if, pids_from, app_from, apps_from, beginnings, part_beginnings, part_starts, tables_in}
 use Rattle.node_processes.specs.InMemory.{values_in}

@@ -25,7 +25,7 @@ use Rattle.rel_check.specs.Walk as walk
 use Rattle.rel_check.proofs.Members.{both, first_member, later_member, member_cases}
 use Rattle.app_members.specs.Walk.{StartFault, app_fault, app_starts, children_fault, crowd_fault, members_at_top, starts_among, super_children, top_fault}
 use Rattle.app_members.proofs.AppLemmas.{no_children, none_wrong}
-use Rattle.sup_tree.proofs.BeginLemmas.{first_slots}
+use Rattle.started_members.proofs.BeginLemmas.{first_slots}
 use Rattle.app_members.proofs.CheckLemmas.{checked_starts}
 use Rattle.node_processes.specs.Fresh.{part_starts, started_parts, tables_in}
 use Rattle.node_start.specs.Starting.{AreReady, HasNoFault, IsNew, part_name, starts_in_all}

@@ -22,9 +22,10 @@ use Rattle.library.specs.Library.{Library}
 use Rattle.rel_check.specs.Modules.{Part, Tables, parts}
 use Rattle.rel_check.specs.Walk.{is_started}
 use Rattle.rel_check.proofs.Members.{first_member, later_member}
-use Rattle.sup_tree.specs.declared.member.StartedProcess.{StartedProcess}
+use Rattle.started_members.specs.declared.member.StartedProcess.{StartedProcess}
 use Rattle.loaded_modules.specs.Loaded.{modules_in, tables_of}
-use Rattle.sup_tree.specs.Starts.{beginning_of, BeganInOrder, AppStarted}
+use Rattle.started_members.specs.Begins.{beginning_of, BeganInOrder}
+use Rattle.sup_tree.specs.Starts.{AppStarted}
 use Rattle.sup_tree.specs.Tree.{App, app_named, is_named}
 use Rattle.app_members.specs.Walk.{Start, app_fault, app_starts}
 use Rattle.node_processes.specs.Fresh.{part_starts, started_parts}

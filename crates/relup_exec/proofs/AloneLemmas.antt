@@ -12,12 +12,13 @@ use Rattle.relup_instruction.specs.declared.instruction.Direction.{Direction}
 use Rattle.relup_instruction.specs.Instruction.{ChangeForm, Instruction}
 use Rattle.relup_instruction.specs.Instruction.Instruction.{apply, code_change, remove}
 use Rattle.relup_script.specs.Script.{is_error, is_point}
-use Rattle.sup_tree.specs.declared.looks.Stay.{Stay}
-use Rattle.sup_tree.specs.declared.looks.Stay.TheVariants.{Up, UpOrTemporary}
-use Rattle.sup_tree.specs.declared.member.MemberState.{MemberState}
-use Rattle.sup_tree.specs.declared.member.MemberState.TheVariants.{Ended, Process, Supervisor}
-use Rattle.sup_tree.specs.Children.{Place, child_place}
-use Rattle.sup_tree.specs.Looks.{process_stays}
+use Rattle.started_members.specs.declared.looks.Stay.{Stay}
+use Rattle.started_members.specs.declared.looks.Stay.TheVariants.{Up, UpOrTemporary}
+use Rattle.started_members.specs.declared.member.MemberState.{MemberState}
+use Rattle.started_members.specs.declared.member.MemberState.TheVariants.{Ended, Process, Supervisor}
+use Rattle.started_members.specs.Places.{Place}
+use Rattle.sup_tree.specs.Children.{child_place}
+use Rattle.started_members.specs.Looks.{process_stays}
 use Rattle.sup_tree.specs.Tree.{supervises}
 use Rattle.held_processes.specs.Children.{child_stays, state_stays}
 use Rattle.held_processes.specs.Course.{Courses, added, runs}
@@ -102,29 +103,29 @@ fault_alone : (first : View) (s : Site) (r : Run) (v : View) (i : Instruction) �
 fault_alone first s r v i none values at = fault_alike s (values_seen v) (values_alone r) r i (seen_alone first r v none values at)
 
 -- one instruction that was carried out, of which this is told
-step_is : (s : Site) (first : View) (e b : Bool) (i : Instruction) (rest : List Instruction) (n : ℕ) (r : Run) → first.lent ≡ [] → r.values ≡ values_seen first → HasNoFault s first r b i
+step_is : (s : Site) (first now : View) (e b : Bool) (i : Instruction) (rest : List Instruction) (n : ℕ) (r : Run) → first.lent ≡ [] → r.values ≡ values_seen first → HasNoFault s first now r b i
     → outcome_from s e n (i ∷ rest) r ≡ outcome_from s (e && not (is_point i)) (n + 1) rest (run_after s e b i r)
-step_is s first e b i rest n r none values ran =
+step_is s first now e b i rest n r none values ran =
     let here : fault s (values_alone r) r i ≡ None = sym (fault_alone first s r ran.0 i none values ran.1) ∙ ran.2 in
     let told : stays_at (values_alone r) i r ≡ b = sym (ran.3 ∙ stays_alike (values_seen ran.0) (values_alone r) i r (seen_alone first r ran.0 none values ran.1)) in
     ap (λ f. unless_fault f e (n + 1) (outcome_from s (e && not (is_point i)) (n + 1) rest (step_alone s e i r))) here
     ∙ ap (λ (c : Bool). outcome_from s (e && not (is_point i)) (n + 1) rest (run_after s e c i r)) told
 
 -- instructions that were carried out
-ran_alone : (s : Site) (first : View) (e : Bool) (told : List Bool) (is rest : List Instruction) (n : ℕ) (r : Run) → first.lent ≡ [] → r.values ≡ values_seen first → RanAll s first e told is r
+ran_alone : (s : Site) (first now : View) (e : Bool) (told : List Bool) (is rest : List Instruction) (n : ℕ) (r : Run) → first.lent ≡ [] → r.values ≡ values_seen first → RanAll s first now e told is r
     → outcome_from s e n (is ++ rest) r ≡ outcome_from s (still_early e is) (n + length is) rest (run_through s e told is r)
-ran_alone s first e told [] rest n r none values ran = ap (λ m. outcome_from s e m rest r) (omega arith)
-ran_alone s first true told (i ∷ is) rest n r none values ran =
+ran_alone s first now e told [] rest n r none values ran = ap (λ m. outcome_from s e m rest r) (omega arith)
+ran_alone s first now true told (i ∷ is) rest n r none values ran =
     let e' = not (is_point i) in
     let r' = run_after s true false i r in
-    step_is s first true false i (is ++ rest) n r none values ran.0
-    ∙ (ran_alone s first e' told is rest (n + 1) r' none (step_values s true false i r ∙ values) ran.1
+    step_is s first now true false i (is ++ rest) n r none values ran.0
+    ∙ (ran_alone s first now e' told is rest (n + 1) r' none (step_values s true false i r ∙ values) ran.1
     ∙ ap (λ m. outcome_from s (still_early e' is) m rest (run_through s e' told is r')) (omega arith))
-ran_alone s first false [] (i ∷ is) rest n r none values ran = absurd ran
-ran_alone s first false (b ∷ told) (i ∷ is) rest n r none values ran =
+ran_alone s first now false [] (i ∷ is) rest n r none values ran = absurd ran
+ran_alone s first now false (b ∷ told) (i ∷ is) rest n r none values ran =
     let r' = run_after s false b i r in
-    step_is s first false b i (is ++ rest) n r none values ran.0
-    ∙ (ran_alone s first false told is rest (n + 1) r' none (step_values s false b i r ∙ values) ran.1
+    step_is s first now false b i (is ++ rest) n r none values ran.0
+    ∙ (ran_alone s first now false told is rest (n + 1) r' none (step_values s false b i r ∙ values) ran.1
     ∙ ap (λ m. outcome_from s (still_early false is) m rest (run_through s false told is r')) (omega arith))
 
 -- a cause that isn't memory
@@ -133,15 +134,15 @@ fault_is first s v r i no_memory other fails = absurd (other refl)
 fault_is first s v r i c other fails = fails
 
 -- the first instruction that fails
-failed_alone : (s : Site) (start : Start) (script : List Instruction) (number : ℕ) (c : Cause) (told : List Bool) (front : List Instruction) (i : Instruction) (v : View) → start.first.lent ≡ [] → c ≢ no_memory
-    → IsInstructionAt script number front i → RanAll s start.first true told front (began_at s start) → IsFault start.first s v (run_behind s start told front) i c
+failed_alone : (s : Site) (start : Start) (script : List Instruction) (number : ℕ) (c : Cause) (told : List Bool) (front : List Instruction) (i : Instruction) (now v : View) → start.first.lent ≡ [] → c ≢ no_memory
+    → IsInstructionAt script number front i → RanAll s start.first now true told front (began_at s start) → IsFault start.first s v (run_behind s start told front) i c
     → outcome s (began_at s start) script ≡ fails_at (still_early true front) number c
-failed_alone s start script number c told front i v none other at ran fails =
+failed_alone s start script number c told front i now v none other at ran fails =
     let r = run_behind s start told front in
     let is = fault_is start.first s v r i c other fails in
     let values : r.values ≡ values_seen start.first = through_values s true told front (began_at s start) in
     ap (outcome s (began_at s start)) at.is
-    ∙ (ran_alone s start.first true told front (i ∷ at.rest) 0 (began_at s start) none refl ran
+    ∙ (ran_alone s start.first now true told front (i ∷ at.rest) 0 (began_at s start) none refl ran
     ∙ (ap (λ f. unless_fault f (still_early true front) (0 + length front + 1) (outcome_from s (still_early true front && not (is_point i)) (0 + length front + 1) at.rest (step_alone s (still_early true front) i r)))
     (sym (fault_alone start.first s r v i none values is.1) ∙ is.0)
     ∙ ap (λ n. fails_at (still_early true front) n c) (omega (arith, at.counted))))
@@ -149,9 +150,9 @@ failed_alone s start script number c told front i v none other at ran fails =
 pub has_one_outcome : HasOneOutcome
 has_one_outcome = record {
   finished = λ s start script loaded apps v none done.
-      ap (outcome s (began_at s start)) (sym (append-nil script)) ∙ ran_alone s start.first true done.told script [] 0 (began_at s start) none refl done.ran;
+      ap (outcome s (began_at s start)) (sym (append-nil script)) ∙ ran_alone s start.first v true done.told script [] 0 (began_at s start) none refl done.ran;
   refused = λ s start script number c v none other is.
-      failed_alone s start script number c [] is.front is.instruction v none other is.at is.ran is.fails ∙ ap (λ e. fails_at e number c) (still_before is.front is.early);
+      failed_alone s start script number c [] is.front is.instruction v v none other is.at is.ran is.fails ∙ ap (λ e. fails_at e number c) (still_before is.front is.early);
   broken = λ s start script number c v none other is.
-      failed_alone s start script number c is.told is.front is.instruction is.then_view none other is.at is.ran is.fails ∙ ap (λ e. fails_at e number c) is.late;
+      failed_alone s start script number c is.told is.front is.instruction v is.then_view none other is.at is.ran is.fails ∙ ap (λ e. fails_at e number c) is.late;
 }

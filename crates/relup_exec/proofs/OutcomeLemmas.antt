@@ -7,7 +7,7 @@ use Rattle.proc_table.specs.Views.{seen}
 use Rattle.proc_table.specs.declared.view.View.{View}
 use Rattle.held_processes.specs.Course.{on_all}
 use Rattle.held_processes.specs.Course.Operation.{pass_point}
-use Rattle.held_processes.specs.Following.{AllFollow, AreLeft, AreUntouched, HeldSlots, HoldsNothing, Stand}
+use Rattle.held_processes.specs.Following.{AllFollow, AreLeft, AreLonger, AreUntouched, HeldSlots, HoldsNothing, Stand}
 use Rattle.held_processes.specs.Operations.{Values, values_seen}
 use Rattle.held_processes.proofs.CourseLemmas.{no_block_is_nothing}
 use Rattle.relup_instruction.specs.Instruction.{Instruction}
@@ -23,37 +23,38 @@ use Rattle.relup_exec.specs.Stepwise.{IsStopped, start_at}
 use Rattle.script_steps.proofs.RowLemmas.{all_front}
 use Rattle.script_steps.proofs.CourseLemmas.{within_adds_no_block}
 use Rattle.relup_exec.proofs.QuietLemmas.{early_quiet}
-use Rattle.relup_exec.proofs.RunLemmas.{ran_push_early, ran_push_late, run_push_early, run_push_late, still_before, through_values}
+use Rattle.relup_exec.proofs.RunLemmas.{ran_later, ran_push_early, ran_push_late, run_push_early, run_push_late, still_before, through_values}
 
 -- one instruction more was done, before the point
-pub run_more_early : (s : Site) (start : Start) (is : List Instruction) (i : Instruction) (a : ProgressForm) (tree : List App) (v : View) → still_early true is ≡ true → Ran s start [] is
-    → IsCarriedOut s (past_behind s start [] is) true false i a tree v
-    → Ran s start [] (is ++ i ∷ []) × HasDone (past_behind s start [] (is ++ i ∷ [])) a tree v
-run_more_early s start is i a tree v early ran carried = (
-  ran_push_early s start.first true [] is i (began_at s start) early ran carried.0,
-  subst (λ (r : Run). HasDone (record { first = start.first; run = r }) a tree v) (sym (run_push_early s true [] is i (began_at s start) early)) carried.1,
+pub run_more_early : (s : Site) (start : Start) (is : List Instruction) (i : Instruction) (a : ProgressForm) (tree : List App) (v w : View) → still_early true is ≡ true → Ran s start v [] is
+    → AreLonger v w → IsCarriedOut s (past_behind s start [] is) true false i a tree w
+    → Ran s start w [] (is ++ i ∷ []) × HasDone (past_behind s start [] (is ++ i ∷ [])) a tree w
+run_more_early s start is i a tree v w early ran longer carried = (
+  ran_push_early s start.first w true [] is i (began_at s start) early (ran_later s start.first v w true [] is (began_at s start) longer ran) carried.0,
+  subst (λ (r : Run). HasDone (record { first = start.first; run = r }) a tree w) (sym (run_push_early s true [] is i (began_at s start) early)) carried.1,
 )
 
 -- and behind it
-pub run_more_late : (s : Site) (start : Start) (told : List Bool) (is : List Instruction) (b : Bool) (i : Instruction) (a : ProgressForm) (tree : List App) (v : View) → still_early true is ≡ false
-    → Ran s start told is → IsCarriedOut s (past_behind s start told is) false b i a tree v
-    → Ran s start (told ++ b ∷ []) (is ++ i ∷ []) × HasDone (past_behind s start (told ++ b ∷ []) (is ++ i ∷ [])) a tree v
-run_more_late s start told is b i a tree v late ran carried = (
-  ran_push_late s start.first true told is b i (began_at s start) late ran carried.0,
-  subst (λ (r : Run). HasDone (record { first = start.first; run = r }) a tree v) (sym (run_push_late s start.first true told is b i (began_at s start) late ran)) carried.1,
+pub run_more_late : (s : Site) (start : Start) (told : List Bool) (is : List Instruction) (b : Bool) (i : Instruction) (a : ProgressForm) (tree : List App) (v w : View) → still_early true is ≡ false
+    → Ran s start v told is → AreLonger v w → IsCarriedOut s (past_behind s start told is) false b i a tree w
+    → Ran s start w (told ++ b ∷ []) (is ++ i ∷ []) × HasDone (past_behind s start (told ++ b ∷ []) (is ++ i ∷ [])) a tree w
+run_more_late s start told is b i a tree v w late ran longer carried = (
+  ran_push_late s start.first w true told is b i (began_at s start) late (ran_later s start.first v w true told is (began_at s start) longer ran) carried.0,
+  subst (λ (r : Run). HasDone (record { first = start.first; run = r }) a tree w) (sym (run_push_late s start.first v true told is b i (began_at s start) late ran)) carried.1,
 )
 
 -- the point of no return was passed
 pub point_passed : (s : Site) (start : Start) (script : List Instruction) (a : ArmedForm) (hs : HeldSlots) (v w : View) (armed : IsArmed s start script a v)
-    → AllFollow start.first (on_all pass_point (run_behind s start [] armed.point.front).courses) hs w
-    → Ran s start [] (armed.point.front ++ point_of_no_return ∷ [])
+    → AllFollow start.first (on_all pass_point (run_behind s start [] armed.point.front).courses) hs w → AreLonger v w
+    → Ran s start w [] (armed.point.front ++ point_of_no_return ∷ [])
     × HasDone (past_behind s start [] (armed.point.front ++ point_of_no_return ∷ [])) (record { held = hs; fetched = a.fetched; next = a.next }) a.apps w
-point_passed s start script a hs v w armed follow =
+point_passed s start script a hs v w armed follow longer =
     let front = armed.point.front in
     let r = run_behind s start [] front in
     let early = still_before front armed.point.early in
     let values : r.values ≡ values_seen start.first = through_values s true [] front (began_at s start) in (
-      ran_push_early s start.first true [] front point_of_no_return (began_at s start) early armed.ran (v, λ p inside. (armed.follow.each p inside).stand, refl, refl),
+      ran_push_early s start.first w true [] front point_of_no_return (began_at s start) early (ran_later s start.first v w true [] front (began_at s start) longer armed.ran)
+          (v, λ p inside. (armed.follow.each p inside).stand, refl, refl, longer),
       subst (λ (q : Run). HasDone (record { first = start.first; run = q }) (record { held = hs; fetched = a.fetched; next = a.next }) a.apps w)
           (sym (run_push_early s true [] front point_of_no_return (began_at s start) early))
           (record { follow = follow; fetched = armed.fetched; next = armed.next; apps = armed.apps; values = values }),
@@ -72,14 +73,14 @@ fault_later first s v w r i c same fails = (
 
 -- All before the point was carried out.
 pub armed_well : (s : Site) (start : Start) (script : List Instruction) (place room : ℕ) (told : List Bool) (is : List Instruction) (a : ProgressForm) (tree : List App) (v : View) (point : IsPointAt script place)
-    → told ≡ [] → length script ≤ room → is ≡ point.front → Ran s start [] is → HasDone (past_behind s start [] is) a tree v
+    → told ≡ [] → length script ≤ room → is ≡ point.front → Ran s start v [] is → HasDone (past_behind s start [] is) a tree v
     → IsArmed s start script (record { place = place; told = told; room = room; held = a.held; fetched = a.fetched; next = a.next; apps = tree }) v
 armed_well s start script place room told is a tree v point nothing enough same ran done =
     let done' : HasDone (past_behind s start [] point.front) a tree v = subst (λ (front : List Instruction). HasDone (past_behind s start [] front) a tree v) same done in record {
       point = point;
       told = nothing;
       room = enough;
-      ran = subst (Ran s start []) same ran;
+      ran = subst (Ran s start v []) same ran;
       fetched = done'.fetched;
       next = done'.next;
       apps = done'.apps;
@@ -104,7 +105,7 @@ refused_well s start script place is number c hs v w point same stopped kept lef
         counted = stopped.at.counted;
       };
       early = early;
-      ran = stopped.ran;
+      ran = ran_later s start.first v w true [] stopped.front (began_at s start) (λ p. ([], append-nil (seen v p) ∙ sym (kept p))) stopped.ran;
       fails = fault_later start.first s v w (run_behind s start [] stopped.front) stopped.instruction c kept stopped.fails;
       untouched = no_block_is_nothing start.first (courses_within s true stopped.instruction stopped.modules stopped.slot (run_behind s start [] stopped.front)) w left
           (λ p _. within_adds_no_block s stopped.instruction stopped.modules stopped.slot (run_behind s start [] stopped.front) p ∙ early_quiet s start stopped.front early p);

@@ -44,16 +44,17 @@ run_behind s start told is = run_through s true told is (began_at s start)
 abbrev pub past_behind : Site → Start → List Bool → List Instruction → Past
 past_behind s start told is = record { first = start.first; run = run_behind s start told is }
 
--- None of these failed, and of each behind the point this is told.
-abbrev pub RanAll : Site → View → Bool → List Bool → List Instruction → Run → Type 0
-RanAll s first early told [] r = told ≡ []
-RanAll s first true told (i ∷ is) r =
-    HasNoFault s first r false i × RanAll s first (not (is_point i)) told is (run_after s true false i r)
-RanAll s first false [] (i ∷ is) r = ⊥
-RanAll s first false (b ∷ told) (i ∷ is) r = HasNoFault s first r b i × RanAll s first false told is (run_after s false b i r)
+-- None of these failed, by histories in front of those that the handler has seen now; and of each behind the point this is told.
+abbrev pub RanAll : Site → View → View → Bool → List Bool → List Instruction → Run → Type 0
+RanAll s first now early told [] r = told ≡ []
+RanAll s first now true told (i ∷ is) r =
+    HasNoFault s first now r false i × RanAll s first now (not (is_point i)) told is (run_after s true false i r)
+RanAll s first now false [] (i ∷ is) r = ⊥
+RanAll s first now false (b ∷ told) (i ∷ is) r =
+    HasNoFault s first now r b i × RanAll s first now false told is (run_after s false b i r)
 
-abbrev pub Ran : Site → Start → List Bool → List Instruction → Type 0
-Ran s start told is = RanAll s start.first true told is (began_at s start)
+abbrev pub Ran : Site → Start → View → List Bool → List Instruction → Type 0
+Ran s start now told is = RanAll s start.first now true told is (began_at s start)
 
 -- A script that has come to its point of no return. place: how many instructions stand before the point. next and apps: what is
 -- loaded, and what is started, once the script has ended well. told, room: nothing is told yet, and of how many instructions can be.
@@ -84,7 +85,7 @@ pub record IsArmed (s : Site) (start : Start) (script : List Instruction) (a : A
   pub point : IsPointAt script a.place
   pub told : a.told ≡ []
   pub room : length script ≤ a.room
-  pub ran : Ran s start [] point.front
+  pub ran : Ran s start v [] point.front
   pub fetched : a.fetched ≡ (run_behind s start [] point.front).fetched
   pub next : a.next ≡ (run_behind s start [] point.front).modules
   pub apps : a.apps ≡ (run_behind s start [] point.front).apps
@@ -103,14 +104,14 @@ pub record IsRefused (s : Site) (start : Start) (script : List Instruction) (num
   pub instruction : Instruction
   pub at : IsInstructionAt script number front instruction
   pub early : AllByRecursion IsEarly front
-  pub ran : Ran s start [] front
+  pub ran : Ran s start v [] front
   pub fails : IsFault start.first s v (run_behind s start [] front) instruction c
   pub untouched : AreUntouched start.first v
 
 -- The whole script was carried out: its blocks stand in the histories, and this is loaded and started.
 pub record IsFinished (s : Site) (start : Start) (script : List Instruction) (loaded : NamedModules) (apps : List App) (v : View) : Type 0 where
   pub told : List Bool
-  pub ran : Ran s start told script
+  pub ran : Ran s start v told script
   pub loaded_is : loaded ≡ (run_behind s start told script).modules
   pub apps_are : apps ≡ (run_behind s start told script).apps
   pub left : AreLeft start.first (on_all finish (run_behind s start told script).courses) v
@@ -123,7 +124,7 @@ pub record IsBroken (s : Site) (start : Start) (script : List Instruction) (numb
   pub at : IsInstructionAt script number front instruction
   pub late : still_early true front ≡ false
   pub told : List Bool
-  pub ran : Ran s start told front
+  pub ran : Ran s start v told front
   pub then_view : View
   pub fails : IsFault start.first s then_view (run_behind s start told front) instruction c
   pub modules : ℕ

@@ -23,7 +23,7 @@ pub record IsStopped (s : Site) (start : Start) (is : List Instruction) (number 
   pub front : List Instruction
   pub instruction : Instruction
   pub at : IsInstructionAt is number front instruction
-  pub ran : Ran s start [] front
+  pub ran : Ran s start v [] front
   pub fails : IsFault start.first s v (run_behind s start [] front) instruction c
   pub modules : ℕ
   pub slot : ℕ
@@ -31,5 +31,5 @@ pub record IsStopped (s : Site) (start : Start) (is : List Instruction) (number 
 
 -- All were carried out, or one fails.
 abbrev pub RunsAll : {X : Type 0} → Site → Start → List Instruction → Result X Refused → ProgressForm → List App → View → Type 0
-RunsAll s start is (Ok x) a tree v = Ran s start [] is × HasDone (past_behind s start [] is) a tree v
+RunsAll s start is (Ok x) a tree v = Ran s start v [] is × HasDone (past_behind s start [] is) a tree v
 RunsAll s start is (Err e) a tree v = IsStopped s start is e.instr (cause_of e.cause) a.held v

@@ -106,6 +106,7 @@ fn let_pass(site: &Site<'_>, seat: &mut HandlerSeat, held: &mut HeldProcesses, _
     requires table { seat.old.table ≡ site.now.table.now }
     requires follow { AllFollow followed.first followed.courses held.old seat.old.view }
     ensures table { seat.new.table ≡ seat.old.table }
+    ensures longer { AreLonger seat.old.view seat.new.view }
     ensures passed { AllFollow followed.first (on_all pass_point followed.courses)
         held.new seat.new.view }
 {
@@ -144,6 +145,7 @@ fn end(
     requires table { seat.old.table ≡ site.now.table.now }
     requires follow { AllFollow followed.first followed.courses held seat.old.view }
     ensures table { seat.new.table ≡ seat.old.table }
+    ensures longer { AreLonger seat.old.view seat.new.view }
     ensures left { AreLeft followed.first (on_all finish followed.courses) seat.new.view }
 {
     held.finish(site.table, seat);

@@ -4,7 +4,7 @@ use Rattle.std.proofs.lemmas.Slice.Eq.{bytes_eq-Decides}
 use Rattle.std.specs.Str.{bytes_eq}
 use Rattle.proc_table.specs.declared.view.View.{View}
 use Rattle.held_processes.specs.Course.{Courses}
-use Rattle.held_processes.specs.Following.{AllFollow}
+use Rattle.held_processes.specs.Following.{AllFollow, AreLonger}
 use Rattle.held_processes.specs.Operations.{Values, values_seen}
 use Rattle.relup_instruction.specs.Instruction.{CallForm}
 use Rattle.relup_instruction.specs.Instruction.Instruction.{apply}
@@ -96,14 +96,14 @@ raised s past call e a tree v done raises cause =
     }
 
 -- a call on an application was made, or fails
-pub app_called : {X : Type 0} (s : Site) (past : Past) (call : CallForm) (r : Result X Failure) (a a' : ProgressForm) (tree tree' : List App) (v w : View) → HasDone past a tree v
+pub app_called : {X : Type 0} (s : Site) (past : Past) (call : CallForm) (r : Result X Failure) (a a' : ProgressForm) (tree tree' : List App) (v w : View) → HasDone past a tree v → AreLonger v w
     → bytes_eq call.name (codes "application") ≡ true → CallsApp s past (app_call call) r a' tree' w → CarriesOutLate s past (apply call) (on_no_child r) a' tree' w
-app_called s past call (Ok x) a a' tree tree' v w done named called =
+app_called s past call (Ok x) a a' tree tree' v w done longer named called =
     let is = on_app s call past.run named in (
-      (v, seen_in past a tree v done, is.fault (values_seen v) ∙ called.0, sym (is.stay (values_seen v))),
+      (v, seen_in past a tree v done, is.fault (values_seen v) ∙ called.0, sym (is.stay (values_seen v)), longer),
       subst (λ (q : Run). HasDone (record past { run = q }) a' tree' w) (sym (is.run false)) called.1,
     )
-app_called s past call (Err e) a a' tree tree' v w done named called =
+app_called s past call (Err e) a a' tree tree' v w done longer named called =
     let is = on_app s call past.run named in
     record {
       then_view = w;
@@ -118,7 +118,7 @@ pub child_called : (s : Site) (past : Past) (call : CallForm) (r : Result Bool F
     → bytes_eq call.name (codes "supervisor") ≡ true → CallsChild past (child_call call) r a tree w → CarriesOutLate s past (apply call) r a tree w
 child_called s past call (Ok stays) a tree w named called =
     let is = on_child s call past.run named in (
-      (called.then_view, called.seen, is.fault (values_seen called.then_view) ∙ called.sound, called.told ∙ sym (is.stay (values_seen called.then_view))),
+      (called.then_view, called.seen, is.fault (values_seen called.then_view) ∙ called.sound, called.told ∙ sym (is.stay (values_seen called.then_view)), called.longer),
       subst (λ (q : Run). HasDone (record past { run = q }) a tree w) (sym (is.run stays)) called.done,
     )
 child_called s past call (Err e) a tree w named called =

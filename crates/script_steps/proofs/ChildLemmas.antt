@@ -8,9 +8,10 @@ use Rattle.app_members.specs.Walk as walk
 use Rattle.loaded_modules.specs.Loaded.{Modules, module_named, tables_of}
 use Rattle.sup_tree.specs.declared.error.RestartError.{RestartError}
 use Rattle.sup_tree.specs.declared.error.RestartError.TheVariants.{NoSuper, NoTable, Unsupported, NoSlot, NoMemory}
-use Rattle.sup_tree.specs.declared.looks.Stay.TheVariants.{UpOrTemporary}
-use Rattle.sup_tree.specs.Children.{Place, child_place, has_one_supervisor}
-use Rattle.sup_tree.specs.Restarts.{restart_fault}
+use Rattle.started_members.specs.declared.looks.Stay.TheVariants.{UpOrTemporary}
+use Rattle.started_members.specs.Places.{Place}
+use Rattle.sup_tree.specs.Children.{child_place, has_one_supervisor}
+use Rattle.started_members.specs.Begins.{restart_fault}
 use Rattle.sup_tree.specs.Tree.{App}
 use Rattle.held_processes.specs.declared.restarts.NotRestarted.{NotRestarted}
 use Rattle.held_processes.specs.Applications.{Scene, room_in, scene_at}
@@ -60,12 +61,12 @@ done_as past a tree tree' hs v w s done same follow = record { follow = follow; 
 
 -- any other call does nothing
 pub nothing_called : (past : Past) (a : ProgressForm) (tree : List App) (v : View) → HasDone past a tree v → IsMade past nothing false a tree v
-nothing_called past a tree v done = record { then_view = v; seen = seen_in past a tree v done; sound = refl; told = refl; done = done }
+nothing_called past a tree v done = record { then_view = v; seen = seen_in past a tree v done; sound = refl; told = refl; longer = longer_still v; done = done }
 
 -- a child was terminated
-pub terminated : (past : Past) (name id : List ℕ) (a : ProgressForm) (tree tree' : List App) (hs : HeldSlots) (v w : View) → HasDone past a tree v
+pub terminated : (past : Past) (name id : List ℕ) (a : ProgressForm) (tree tree' : List App) (hs : HeldSlots) (v w : View) → HasDone past a tree v → AreLonger v w
     → IsTerminatedIn past.first name id (scene_at (followed_in past) tree) tree' hs w → IsMade past (terminates name id) false (record a { held = hs }) tree' w
-terminated past name id a tree tree' hs v w done is =
+terminated past name id a tree tree' hs v w done longer is =
     let r = past.run in
     let here = subst (λ (s : Scene). IsTerminatedIn past.first name id s tree' hs w) (scene_is past a tree v done) is in
     record {
@@ -73,6 +74,7 @@ terminated past name id a tree tree' hs v w done is =
       seen = seen_in past a tree v done;
       sound = one_super name r None here.one;
       told = refl;
+      longer = longer;
       done = done_as past a tree tree' hs v w (with_terminated name id (scene_of r)) done here.tree here.follow;
     }
 
@@ -87,6 +89,7 @@ deleted past name id stays a tree tree' hs v w done is =
       seen = here.stay.1;
       sound = one_super name r None here.one;
       told = here.stay.2;
+      longer = here.stay.3;
       done = by stays here.tree here.follow;
     }
   where
@@ -131,6 +134,7 @@ kept past name id a tree tree' hs v w done is = record {
   seen = is.stay.1;
   sound = stays_sound (values_seen is.stay.0) name id past.run is.one (sym is.stay.2);
   told = is.stay.2;
+  longer = is.stay.3;
   done = done_as past a tree tree' hs v w (scene_of past.run) done is.tree is.follow;
 }
 
@@ -149,6 +153,7 @@ begun past name id a tree tree' hs v w done is =
       seen = is.stay.1;
       sound = begins_fault seen name id r p None is.one (sym goes) is.there is.sound ∙ room;
       told = goes;
+      longer = is.stay.3;
       done = subst (λ (o : Option Place). HasDone (record past { run = restarted_at name id o r }) (record a { held = hs }) tree' w) (sym is.there)
           (done_as past a tree tree' hs v w (with_restarted name id tables p (scene_of r)) done is.tree is.follow);
     }
@@ -200,8 +205,9 @@ not_restarted past name id x e a tree tree' hs v w next done listed caused count
 
     gone : IsNotRestartedIn past.first name id (tables_among past.run.modules) (scene_of past.run) x tree' hs w → IsNotMade past (restarts name id) e hs w
     gone f =
-        let goes : false ≡ child_stays_at (values_seen f.then_view) (restarts name id) past.run = f.stay ∙ ap (child_stays UpOrTemporary (now_in (values_seen f.then_view) past.run.courses)) (sym f.there) in
-        its (restart_cause x.error) (if x.given_up then 1 else 0) (sym caused) (sym counted) f.then_view f.seen (why_not past name id (values_seen f.then_view) f.place x.error f.one (sym goes) f.there f.why) f.longer
+        let u = f.stay.0 in
+        let goes : false ≡ child_stays_at (values_seen u) (restarts name id) past.run = f.stay.2 ∙ ap (child_stays UpOrTemporary (now_in (values_seen u) past.run.courses)) (sym f.there) in
+        its (restart_cause x.error) (if x.given_up then 1 else 0) (sym caused) (sym counted) u f.stay.1 (why_not past name id (values_seen u) f.place x.error f.one (sym goes) f.there f.why) f.stay.3
         (given_up_as past name id f.place x.given_up hs w f.there f.follow)
 
     by : (k : RestartError) → x.error ≡ k → FailsToRestart k past.first name id (tables_among past.run.modules) (scene_of past.run) x tree' hs w → IsNotMade past (restarts name id) e hs w

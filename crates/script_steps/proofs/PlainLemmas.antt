@@ -3,7 +3,7 @@ use Rattle.std.proofs.Common.{◌≡◌, ℕ, ◌<◌, ◌+◌, List, String, ma
 use Rattle.std.specs.declared.alloc.Global.{Global}
 use Rattle.proc_table.specs.declared.view.View.{View}
 use Rattle.held_processes.specs.Course.{Courses, Operation, Users, on_module}
-use Rattle.held_processes.specs.Following.{AllFollow, HeldSlots}
+use Rattle.held_processes.specs.Following.{AllFollow, AreLonger, HeldSlots}
 use Rattle.held_processes.specs.Operations.{Values, users_of, values_seen}
 use Rattle.relup_instruction.specs.Instruction.{Instruction}
 use Rattle.relup_instruction.specs.Instruction.Instruction.{purge, restart_emulator}
@@ -14,6 +14,7 @@ use Rattle.script_steps.specs.Fault.{fault}
 use Rattle.script_steps.specs.Plain.{plain_instruction, plain_operation}
 use Rattle.script_steps.specs.Script.{Run, Site, on_each, run_after, stays_at, with_courses}
 use Rattle.script_steps.specs.Steps.{CarriesOut, HasDone, Past, ProgressForm}
+use Rattle.held_processes.proofs.SlotLemmas.{longer_still}
 use Rattle.script_steps.proofs.CourseLemmas.{each_push}
 use Rattle.script_steps.proofs.RowLemmas.{more}
 use Rattle.script_steps.proofs.StepLemmas.{seen_in}
@@ -42,11 +43,11 @@ plain_run s Resume names r = refl
 plain_run s Stop names r = refl
 plain_run s Start names r = refl
 
-pub plain_carried : (s : Site) (past : Past) (plain : Plain) (names : List (List ℕ)) (a : ProgressForm) (hs : HeldSlots) (tree : List App) (v w : View) → HasDone past a tree v
+pub plain_carried : (s : Site) (past : Past) (plain : Plain) (names : List (List ℕ)) (a : ProgressForm) (hs : HeldSlots) (tree : List App) (v w : View) → HasDone past a tree v → AreLonger v w
     → AllFollow past.first (on_each (plain_operation plain) names (users_of tree) past.run.courses) hs w
     → CarriesOut {X = Unit {0}} s past false (plain_instruction plain names) (Ok tt) (record a { held = hs }) tree w
-plain_carried s past plain names a hs tree v w done follow = (
-  (v, seen_in past a tree v done, plain_is_sound s plain names v past.run, sym (plain_stays plain names (values_seen v) past.run)),
+plain_carried s past plain names a hs tree v w done longer follow = (
+  (v, seen_in past a tree v done, plain_is_sound s plain names v past.run, sym (plain_stays plain names (values_seen v) past.run), longer),
   subst (λ (r : Run). HasDone (record past { run = r }) (record a { held = hs }) tree w) (sym (plain_run s plain names past.run))
       (record {
         follow = subst (λ (apps : List App). AllFollow past.first (on_each (plain_operation plain) names (users_of apps) past.run.courses) hs w) done.apps follow;
@@ -65,6 +66,6 @@ is_idle i = false
 
 pub nothing_done : (s : Site) (past : Past) (i : Instruction) (a : ProgressForm) (tree : List App) (v : View) → is_idle i ≡ true → HasDone past a tree v
     → CarriesOut {X = Unit {0}} s past false i (Ok tt) a tree v
-nothing_done s past (purge names) a tree v idle done = ((v, seen_in past a tree v done, refl, refl), done)
-nothing_done s past restart_emulator a tree v idle done = ((v, seen_in past a tree v done, refl, refl), done)
+nothing_done s past (purge names) a tree v idle done = ((v, seen_in past a tree v done, refl, refl, longer_still v), done)
+nothing_done s past restart_emulator a tree v idle done = ((v, seen_in past a tree v done, refl, refl, longer_still v), done)
 nothing_done s past i a tree v idle done = absurd cc

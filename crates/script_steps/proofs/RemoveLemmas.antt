@@ -11,6 +11,7 @@ use Rattle.script_steps.specs.Fault.{remove_fault}
 use Rattle.script_steps.specs.Fault.Cause.{in_use}
 use Rattle.script_steps.specs.Script.{Site}
 use Rattle.script_steps.specs.Steps.{CarriesOut, HasDone, Past, ProgressForm}
+use Rattle.held_processes.proofs.SlotLemmas.{longer_still}
 use Rattle.script_steps.proofs.CourseLemmas.{seen_of}
 
 -- whether the module runs somewhere, as it was told, is as the script knows it
@@ -29,7 +30,7 @@ pub removed_well : (s : Site) (past : Past) (p : PurgingForm) (m : List ℕ) (a 
     → AllFollow past.first past.run.courses a.held w → m ≡ p.name → b ≡ (supervises p.name tree || uses_up (values_seen w) (users_of tree) p.name past.run.courses) → b ≡ false → next ≡ without_module m a.next
     → CarriesOut {X = Unit {0}} s past false (remove p) (Ok tt) (record a { next = next }) tree w
 removed_well s past p m a next tree v w b done follow named is unused removed = (
-  (w, seen_of past.first past.run past.run.courses a.held w (λ p. refl) follow, nothing_told past p.name a tree v w b done is unused, refl),
+  (w, seen_of past.first past.run past.run.courses a.held w (λ p. refl) follow, nothing_told past p.name a tree v w b done is unused, refl, longer_still w),
   record {
     follow = follow;
     fetched = done.fetched;

@@ -9,7 +9,7 @@ use Rattle.std.proofs.lemmas.List.{length-map, length-take-le}
 use Rattle.held_processes.specs.Course as course
 use Rattle.held_processes.specs.Course.{Courses, Operation, Users, on_module}
 use Rattle.held_processes.specs.declared.steps.Undone.{Undone}
-use Rattle.held_processes.specs.Following.{AllFollow, HeldSlots}
+use Rattle.held_processes.specs.Following.{AllFollow, AreLonger, HeldSlots}
 use Rattle.held_processes.specs.Operations.{Changes, IsDone, TellsHeldUser, Values, holds_user, lacks_row, part_way, users_of, values_seen}
 use Rattle.relup_instruction.specs.declared.instruction.Direction.{Direction}
 use Rattle.relup_instruction.specs.declared.instruction.Direction.TheVariants.{Up}
@@ -26,6 +26,7 @@ use Rattle.script_steps.specs.Script.{Run, Site, change_courses, change_within, 
 use Rattle.script_steps.specs.Steps.{AreDone, CarriesOut, ChangesOnce, ChangesProcesses, FailsToChange, GivesTable, HasDone, IsCause, IsCauseIn, IsSeen, Past, ProgressForm, followed_in}
 use Rattle.script_steps.proofs.CourseLemmas.{change_none_within, changed_push, changed_stopped, changed_within_same, each_push, each_stopped, seen_of}
 use Rattle.held_processes.proofs.FollowLemmas.{follow_same}
+use Rattle.held_processes.proofs.SlotLemmas.{longer_still}
 use Rattle.script_steps.proofs.RowLemmas.{more, parted}
 
 -- what was done was seen
@@ -41,11 +42,11 @@ pub memory_in : (first v : View) (r : Run) (o : Option Cause) (c : Cause) → c 
 memory_in first v r o c is = subst (λ (k : Cause). IsCauseIn first v r o k) (sym is) tt
 
 -- the processes of all modules are suspended, or memory was refused
-pub suspended : (s : Site) (past : Past) (early : Bool) (ss : List SuspensionForm) (r : Result (Unit {0}) Failure) (a : ProgressForm) (tree : List App) (hs : HeldSlots) (v w : View) → HasDone past a tree v
+pub suspended : (s : Site) (past : Past) (early : Bool) (ss : List SuspensionForm) (r : Result (Unit {0}) Failure) (a : ProgressForm) (tree : List App) (hs : HeldSlots) (v w : View) → HasDone past a tree v → AreLonger v w
     → AreDone (followed_in past) (users_of tree) course.Operation.suspend (suspended_in ss) r hs w
     → CarriesOut s past early (suspend ss) r (record a { held = hs }) tree w
-suspended s past early ss (Ok x) a tree hs v w done did = (
-  (v, seen_in past a tree v done, refl, refl),
+suspended s past early ss (Ok x) a tree hs v w done longer did = (
+  (v, seen_in past a tree v done, refl, refl, longer),
   record {
     follow = subst (λ (as' : List App). AllFollow past.first (on_each course.Operation.suspend (suspended_in ss) (users_of as') past.run.courses) hs w) done.apps did;
     fetched = done.fetched;
@@ -54,7 +55,7 @@ suspended s past early ss (Ok x) a tree hs v w done did = (
     values = done.values;
   },
 )
-suspended s past early ss (Err e) a tree hs v w done did = (
+suspended s past early ss (Err e) a tree hs v w done longer did = (
   memory_in past.first w past.run None (cause_of e.cause) did.0,
   subst (λ (as' : List App). AllFollow past.first (each_within course.Operation.suspend (suspended_in ss) e.modules e.slot (users_of as') past.run.courses) hs w) done.apps did.1,
 )
@@ -94,7 +95,7 @@ pub fetched_well : (s : Site) (past : Past) (early : Bool) (f : FetchForm) (a : 
     → (fetch_fault (library_for s f) f.modules ≡ None) × (ms ≡ fetched_from (library_for s f) f.modules a.fetched)
     → CarriesOut {X = Unit {0}} s past early (load_object_code f) (Ok tt) (record a { fetched = ms }) tree v
 fetched_well s past early f a ms tree v done did = (
-  (v, seen_in past a tree v done, did.0, refl),
+  (v, seen_in past a tree v done, did.0, refl, longer_still v),
   record {
     follow = done.follow;
     fetched = did.1 ∙ ap (fetched_from (library_for s f) f.modules) done.fetched;
@@ -111,13 +112,13 @@ load_fault_is (Some m) users name there = refl
 
 -- its processes got its table
 pub loaded_well : (s : Site) (past : Past) (early : Bool) (p : PurgingForm) (a : ProgressForm) (n : List ℕ) (hs : HeldSlots) (got before next : NamedModules) (tree tree' : List App) (v w : View)
-    → n ≡ p.name → IsSome (module_named p.name past.run.fetched) → HasDone past a tree v → GivesTable {X = Unit {0}} past early p.name (Ok tt) hs w
+    → n ≡ p.name → IsSome (module_named p.name past.run.fetched) → HasDone past a tree v → AreLonger v w → GivesTable {X = Unit {0}} past early p.name (Ok tt) hs w
     → got ≡ a.fetched → before ≡ a.next → tree' ≡ tree → next ≡ with_loaded (module_named n got) n before
     → CarriesOut {X = Unit {0}} s past early (load p) (Ok tt) (record { held = hs; fetched = got; next = next }) tree' w
-loaded_well s past early p a n hs got before next tree tree' v w named there done given same kept stays loaded =
+loaded_well s past early p a n hs got before next tree tree' v w named there done longer given same kept stays loaded =
     let fetched : got ≡ past.run.fetched = same ∙ done.fetched in
     let modules : before ≡ past.run.modules = kept ∙ done.next in (
-      (v, seen_in past a tree v done, load_fault_is (module_named p.name past.run.fetched) (users_in past.run) p.name there ∙ given.0, refl),
+      (v, seen_in past a tree v done, load_fault_is (module_named p.name past.run.fetched) (users_in past.run) p.name there ∙ given.0, refl, longer),
       record {
         follow = given.1;
         fetched = fetched;
@@ -317,7 +318,7 @@ pub all_changed : (s : Site) (past : Past) (early : Bool) (conversion : Conversi
     → cs ≡ conversion.changes → HasDone past b before v → (change_fault s mode cs (values_seen v) past.run ≡ None) × HasDone (past_changes s mode cs past) a tree v
     → CarriesOut {X = Unit {0}} s past early (code_change conversion) (Ok tt) a tree v
 all_changed s past early conversion mode cs b a before tree v moded whole done did = (
-  (v, seen_in past b before v done, sym (λ j. change_fault s (moded j) (whole j) (values_seen v) past.run) ∙ did.0, refl),
+  (v, seen_in past b before v done, sym (λ j. change_fault s (moded j) (whole j) (values_seen v) past.run) ∙ did.0, refl, longer_still v),
   subst (λ (m : Direction). HasDone (record past { run = changed s m conversion.changes past.run }) a tree v) moded
       (subst (λ (ds : List ChangeForm). HasDone (record past { run = changed s mode ds past.run }) a tree v) whole did.1),
 )

@@ -31,12 +31,14 @@ restart_cause Unsupported = unsupported
 restart_cause NoSlot = no_slot
 restart_cause NoMemory = no_memory
 
--- A call on a child of a supervisor was made, by histories that the handler had seen; by these the child stays as it is, or doesn't.
+-- A call on a child of a supervisor was made, by histories that are in front of those that the handler has seen now; by these the
+-- child stays as it is, or doesn't.
 pub record IsMade (past : Past) (c : ChildCall) (stays : Bool) (a : ProgressForm) (tree : List App) (v : View) : Type 0 where
   pub then_view : View
   pub seen : IsSeen past.first past.run then_view
   pub sound : child_call_fault (values_seen then_view) c past.run ≡ None
   pub told : stays ≡ child_stays_at (values_seen then_view) c past.run
+  pub longer : AreLonger then_view v
   pub done : HasDone (record past { run = child_after c stays past.run }) a tree v
 
 -- It fails. What stood for the child may be given up.

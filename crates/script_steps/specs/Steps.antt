@@ -54,11 +54,11 @@ followed_in past = record { first = past.first; courses = past.run.courses }
 abbrev pub IsSeen : View → Run → View → Type 0
 IsSeen first r v = AreSeen first r.courses v
 
--- Nothing makes the instruction fail, in histories that the handler had seen. By these it leaves the child that it is on as it is,
--- or doesn't.
-abbrev pub HasNoFault : Site → View → Run → Bool → Instruction → Type 0
-HasNoFault s first r stays i =
-    (v : View) × IsSeen first r v × (fault s (values_seen v) r i ≡ None) × (stays ≡ stays_at (values_seen v) i r)
+-- Nothing makes the instruction fail, in histories that are in front of those that the handler has seen now. By these it leaves the
+-- child that it is on as it is, or doesn't.
+abbrev pub HasNoFault : Site → View → View → Run → Bool → Instruction → Type 0
+HasNoFault s first now r stays i =
+    (v : View) × IsSeen first r v × (fault s (values_seen v) r i ≡ None) × (stays ≡ stays_at (values_seen v) i r) × AreLonger v now
 
 -- The cause is this one, if any; or it is out of memory.
 abbrev pub IsCause : Option Cause → Cause → Type 0
@@ -85,7 +85,7 @@ pub record HasDone (past : Past) (a : ProgressForm) (tree : List App) (v : View)
 -- The instruction was carried out.
 abbrev pub IsCarriedOut : Site → Past → Bool → Bool → Instruction → ProgressForm → List App → View → Type 0
 IsCarriedOut s past early stays i a tree v =
-    HasNoFault s past.first past.run stays i × HasDone (record past { run = run_after s early stays i past.run }) a tree v
+    HasNoFault s past.first v past.run stays i × HasDone (record past { run = run_after s early stays i past.run }) a tree v
 
 -- It was carried out, or fails; then it was done in part. It leaves no child as it is.
 abbrev pub CarriesOut : {X : Type 0} → Site → Past → Bool → Instruction → Result X Failure → ProgressForm → List App → View → Type 0

@@ -13,6 +13,7 @@ ghost use Rattle.script_steps.specs.Calls.AppCall.{stops};
 ghost use Rattle.script_steps.specs.Calls.{app_call, first_atom};
 ghost use Rattle.script_steps.specs.Script.{called_after, target_library};
 ghost use Rattle.script_steps.specs.Steps.{CarriesOutLate, HasDone, Past, on_no_child, progress_of};
+ghost use Rattle.held_processes.specs.Following.{AreLonger};
 
 use crate::child::child_call;
 use crate::progress::Progress;
@@ -51,6 +52,7 @@ impl Progress {
         requires supported { IsTrue (is_supported_call (call_of call.now)) }
         requires done { HasDone past (progress_of self.old) self.old.tree seat.old.view }
         ensures table { seat.new.table ≡ seat.old.table }
+        ensures longer { AreLonger seat.old.view seat.new.view }
         ensures carried { CarriesOutLate (site_of site.now) past (apply (call_of call.now))
             result (progress_of self.new) self.new.tree seat.new.view }
     {
@@ -74,6 +76,7 @@ impl Progress {
         requires table { seat.old.table ≡ site.now.table.now }
         requires done { HasDone past (progress_of self.old) self.old.tree seat.old.view }
         ensures table { seat.new.table ≡ seat.old.table }
+        ensures longer { AreLonger seat.old.view seat.new.view }
         ensures called { CallsApp (site_of site.now) past (app_call_of call.entry)
             result (progress_of self.new) self.new.tree seat.new.view }
     {
@@ -103,6 +106,7 @@ impl Progress {
         requires table { seat.old.table ≡ site.now.table.now }
         requires done { HasDone past (progress_of self.old) self.old.tree seat.old.view }
         ensures table { seat.new.table ≡ seat.old.table }
+        ensures longer { AreLonger seat.old.view seat.new.view }
         ensures started { StartsFrom (Some (library_of library.now)) past
             result (progress_of self.new) self.new.tree seat.new.view }
     {
@@ -128,6 +132,7 @@ impl Progress {
         requires table { seat.old.table ≡ site.now.table.now }
         requires done { HasDone past (progress_of self.old) self.old.tree seat.old.view }
         ensures table { seat.new.table ≡ seat.old.table }
+        ensures longer { AreLonger seat.old.view seat.new.view }
         ensures done { HasDone (record past {
           run = called_after (site_of site.now)
               (stops app.now.name.now) past.run;

@@ -7,6 +7,7 @@ ghost use Rattle.script_steps.specs.Calls.{child_call, second_atom};
 ghost use Rattle.script_steps.specs.Children.{CallsChild, child_call_of, restart_cause};
 ghost use Rattle.script_steps.specs.InMemory.{cause_of};
 ghost use Rattle.script_steps.specs.Steps.{HasDone, Past, progress_of};
+ghost use Rattle.held_processes.specs.Following.{AreLonger};
 
 use crate::apply::{failed, first_atom};
 use crate::progress::Progress;
@@ -41,6 +42,7 @@ impl Progress {
         requires table { seat.old.table ≡ site.now.table.now }
         requires done { HasDone past (progress_of self.old) self.old.tree seat.old.view }
         ensures table { seat.new.table ≡ seat.old.table }
+        ensures longer { AreLonger seat.old.view seat.new.view }
         ensures called { CallsChild past (child_call_of call.entry)
             result (progress_of self.new) self.new.tree seat.new.view }
     {
@@ -64,6 +66,7 @@ impl Progress {
         requires table { seat.old.table ≡ site.now.table.now }
         requires done { HasDone past (progress_of self.old) self.old.tree seat.old.view }
         ensures table { seat.new.table ≡ seat.old.table }
+        ensures longer { AreLonger seat.old.view seat.new.view }
         ensures called { CallsChild past (terminates child.now.supervisor.now child.now.id.now)
             result (progress_of self.new) self.new.tree seat.new.view }
     {
@@ -88,6 +91,7 @@ impl Progress {
         requires table { seat.old.table ≡ site.now.table.now }
         requires done { HasDone past (progress_of self.old) self.old.tree seat.old.view }
         ensures table { seat.new.table ≡ seat.old.table }
+        ensures longer { AreLonger seat.old.view seat.new.view }
         ensures called { CallsChild past (deletes child.now.supervisor.now child.now.id.now)
             result (progress_of self.new) self.new.tree seat.new.view }
     {
@@ -113,6 +117,7 @@ impl Progress {
         requires table { seat.old.table ≡ site.now.table.now }
         requires done { HasDone past (progress_of self.old) self.old.tree seat.old.view }
         ensures table { seat.new.table ≡ seat.old.table }
+        ensures longer { AreLonger seat.old.view seat.new.view }
         ensures called { CallsChild past (restarts child.now.supervisor.now child.now.id.now)
             result (progress_of self.new) self.new.tree seat.new.view }
     {

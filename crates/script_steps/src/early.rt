@@ -3,6 +3,7 @@ ghost use Rattle.relup_instruction.specs.Instruction.{instruction_of};
 ghost use Rattle.script_steps.specs.InMemory.{site_of};
 ghost use Rattle.script_steps.specs.Steps.{CarriesOut, HasDone, IsEarly, Past, progress_of};
 ghost use Rattle.std.specs.Prelude.{◌≡◌, true};
+ghost use Rattle.held_processes.specs.Following.{AreLonger};
 
 use crate::progress::Progress;
 use crate::raise::raise;
@@ -29,6 +30,7 @@ impl Progress {
         requires early { IsEarly (instruction_of instr.now) }
         requires done { HasDone past (progress_of self.old) self.old.tree seat.old.view }
         ensures table { seat.new.table ≡ seat.old.table }
+        ensures longer { AreLonger seat.old.view seat.new.view }
         ensures carried { CarriesOut (site_of site.now) past true (instruction_of instr.now)
             result (progress_of self.new) self.new.tree seat.new.view }
     {

@@ -3,6 +3,7 @@ ghost use Rattle.std.specs.Prelude.{◌≡◌, false};
 ghost use Rattle.relup_instruction.specs.Instruction.{instruction_of};
 ghost use Rattle.script_steps.specs.InMemory.{site_of};
 ghost use Rattle.script_steps.specs.Steps.{CarriesOut, CarriesOutLate, HasDone, IsLate, Past, is_call, progress_of};
+ghost use Rattle.held_processes.specs.Following.{AreLonger};
 
 use crate::apply::on_no_child;
 use crate::progress::Progress;
@@ -32,6 +33,7 @@ impl Progress {
         requires late { IsLate (instruction_of instr.now) }
         requires done { HasDone past (progress_of self.old) self.old.tree seat.old.view }
         ensures table { seat.new.table ≡ seat.old.table }
+        ensures longer { AreLonger seat.old.view seat.new.view }
         ensures carried { CarriesOutLate (site_of site.now) past (instruction_of instr.now)
             result (progress_of self.new) self.new.tree seat.new.view }
     {
@@ -56,6 +58,7 @@ impl Progress {
         requires other { is_call (instruction_of instr.now) ≡ false }
         requires done { HasDone past (progress_of self.old) self.old.tree seat.old.view }
         ensures table { seat.new.table ≡ seat.old.table }
+        ensures longer { AreLonger seat.old.view seat.new.view }
         ensures carried { CarriesOut (site_of site.now) past false (instruction_of instr.now)
             result (progress_of self.new) self.new.tree seat.new.view }
     {

@@ -8,6 +8,7 @@ ghost use Rattle.script_steps.specs.Steps.{CarriesOut, GivesTable, HasDone, Past
 ghost use Rattle.std.specs.Option.{option_map};
 ghost use Rattle.std.specs.Prelude.{◌≡◌, IsSome};
 ghost use Rattle.loaded_modules.specs.Loaded.{listed_in, module_named};
+ghost use Rattle.held_processes.specs.Following.{AreLonger};
 
 use crate::progress::Progress;
 use crate::{Cause, Failure, Site};
@@ -34,6 +35,7 @@ impl Progress {
         requires table { seat.old.table ≡ site.now.table.now }
         requires done { HasDone past (progress_of self.old) self.old.tree seat.old.view }
         ensures table { seat.new.table ≡ seat.old.table }
+        ensures longer { AreLonger seat.old.view seat.new.view }
         ensures carried { CarriesOut (site_of site.now) past early (load (purging_of purging.now))
             result (progress_of self.new) self.new.tree seat.new.view }
     {
@@ -62,6 +64,7 @@ impl Progress {
         requires done { HasDone past (progress_of self.old) self.old.tree seat.old.view }
         requires fetched { IsSome (module_named (purging_of purging.now).name past.run.fetched) }
         ensures table { seat.new.table ≡ seat.old.table }
+        ensures longer { AreLonger seat.old.view seat.new.view }
         ensures carried { CarriesOut (site_of site.now) past early (load (purging_of purging.now))
             result (progress_of self.new) self.new.tree seat.new.view }
     {
@@ -91,6 +94,7 @@ impl Progress {
         requires table { seat.old.table ≡ site.now.table.now }
         requires done { HasDone past (progress_of self.old) self.old.tree seat.old.view }
         ensures table { seat.new.table ≡ seat.old.table }
+        ensures longer { AreLonger seat.old.view seat.new.view }
         ensures fetched { self.new.fetched ≡ self.old.fetched }
         ensures next { self.new.next ≡ self.old.next }
         ensures tree { self.new.tree ≡ self.old.tree }

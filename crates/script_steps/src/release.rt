@@ -1,7 +1,7 @@
 //! `resume`, `stop` and `start`: operations on the processes of some modules that take no memory and don't fail.
 ghost use Rattle.std.specs.Prelude.{◌≡◌, Ok, false, map, string_bytes};
 ghost use Rattle.held_processes.specs.Course.{on_module};
-ghost use Rattle.held_processes.specs.Following.{AllFollow, Followed};
+ghost use Rattle.held_processes.specs.Following.{AllFollow, AreLonger, Followed};
 ghost use Rattle.held_processes.specs.Operations.{users_of};
 ghost use Rattle.script_steps.specs.InMemory.{site_of};
 ghost use Rattle.script_steps.specs.Plain.{plain_instruction, plain_operation};
@@ -37,6 +37,7 @@ impl Progress {
         requires table { seat.old.table ≡ site.now.table.now }
         requires done { HasDone past (progress_of self.old) self.old.tree seat.old.view }
         ensures table { seat.new.table ≡ seat.old.table }
+        ensures longer { AreLonger seat.old.view seat.new.view }
         ensures carried { CarriesOut {X = Unit {0}} (site_of site.now) past false
             (plain_instruction plain (map string_bytes names.now)) (Ok tt)
             (progress_of self.new) self.new.tree seat.new.view }
@@ -67,6 +68,7 @@ fn do_all<R: Wait>(
     requires table { seat.old.table ≡ table.now }
     requires follow { AllFollow followed.first followed.courses held.old seat.old.view }
     ensures table { seat.new.table ≡ seat.old.table }
+    ensures longer { AreLonger seat.old.view seat.new.view }
     ensures done { AllFollow followed.first (on_each (plain_operation plain)
         (map string_bytes names.now) (users_of tree.now) followed.courses) held.new seat.new.view }
 {
@@ -99,6 +101,7 @@ fn do_next<R: Wait>(
     requires table { seat.old.table ≡ table.now }
     requires follow { AllFollow followed.first followed.courses held.old seat.old.view }
     ensures table { seat.new.table ≡ seat.old.table }
+    ensures longer { AreLonger seat.old.view seat.new.view }
     ensures done { AllFollow followed.first (on_module (users_of users.now.tree.now)
         users.now.module.now (plain_operation plain) followed.courses) held.new seat.new.view }
 {

@@ -1,6 +1,6 @@
 //! `remove`: a module isn't loaded any more.
 ghost use Rattle.std.specs.Prelude.{◌≡◌, ◌||◌, false};
-ghost use Rattle.held_processes.specs.Following.{AllFollow, Followed};
+ghost use Rattle.held_processes.specs.Following.{AllFollow, AreLonger, Followed};
 ghost use Rattle.held_processes.specs.Operations.{uses_up, users_of, values_seen};
 ghost use Rattle.relup_instruction.specs.Instruction.{purging_of};
 ghost use Rattle.relup_instruction.specs.Instruction.Instruction.{remove};
@@ -28,6 +28,7 @@ impl Progress {
         requires table { seat.old.table ≡ site.now.table.now }
         requires done { HasDone past (progress_of self.old) self.old.tree seat.old.view }
         ensures table { seat.new.table ≡ seat.old.table }
+        ensures longer { AreLonger seat.old.view seat.new.view }
         ensures carried { CarriesOut (site_of site.now) past false (remove (purging_of purging.now))
             result (progress_of self.new) self.new.tree seat.new.view }
     {
@@ -54,6 +55,7 @@ impl Progress {
         requires table { seat.old.table ≡ site.now.table.now }
         requires follow { AllFollow followed.first followed.courses self.now.held seat.old.view }
         ensures table { seat.new.table ≡ seat.old.table }
+        ensures longer { AreLonger seat.old.view seat.new.view }
         ensures told { result ≡ (supervises (purging_of purging.now).name self.now.tree
             || uses_up (values_seen seat.new.view) (users_of self.now.tree)
             (purging_of purging.now).name followed.courses) }

@@ -1,6 +1,6 @@
 //! `suspend`: processes are held until they are resumed.
 ghost use Rattle.held_processes.specs.Course.Operation.{suspend};
-ghost use Rattle.held_processes.specs.Following.{AllFollow, Followed};
+ghost use Rattle.held_processes.specs.Following.{AllFollow, AreLonger, Followed};
 ghost use Rattle.held_processes.specs.Operations.{IsDone, users_of};
 ghost use Rattle.relup_instruction.specs.Instruction as instruction;
 ghost use Rattle.relup_instruction.specs.Instruction.{suspension_of};
@@ -32,6 +32,7 @@ impl Progress {
         requires table { seat.old.table ≡ site.now.table.now }
         requires done { HasDone past (progress_of self.old) self.old.tree seat.old.view }
         ensures table { seat.new.table ≡ seat.old.table }
+        ensures longer { AreLonger seat.old.view seat.new.view }
         ensures carried { (early : Bool) → CarriesOut (site_of site.now) past early
             (instruction.Instruction.suspend (map suspension_of suspensions.now))
             result (progress_of self.new) self.new.tree seat.new.view }
@@ -55,6 +56,7 @@ fn hold_all<R: Wait>(
     requires table { seat.old.table ≡ table.now }
     requires follow { AllFollow followed.first followed.courses held.old seat.old.view }
     ensures table { seat.new.table ≡ seat.old.table }
+    ensures longer { AreLonger seat.old.view seat.new.view }
     ensures done { AreDone followed (users_of tree.now) suspend
         (suspended_in (map suspension_of suspensions.now)) result held.new seat.new.view }
 {
@@ -86,6 +88,7 @@ fn hold_next<R: Wait>(
     requires table { seat.old.table ≡ table.now }
     requires follow { AllFollow followed.first followed.courses held.old seat.old.view }
     ensures table { seat.new.table ≡ seat.old.table }
+    ensures longer { AreLonger seat.old.view seat.new.view }
     ensures done { IsDone followed.first (users_of tree.now) (suspension_of suspension.now).name
         suspend followed.courses result held.new seat.new.view }
 {

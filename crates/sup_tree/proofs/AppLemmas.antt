@@ -1,7 +1,7 @@
 -- An application that is started.
 use Rattle.std.proofs.Common.{◌≡◌, false, List, [], ◌∷◌, ◌++◌, map, is_some, Option, Some, None, refl, ap, ◌∙◌}
 use Rattle.std.proofs.lemmas.List.{map_push}
-use Rattle.sup_tree.specs.declared.member.StartedApp.{StartedApp}
+use Rattle.sup_tree.specs.declared.tree.StartedApp.{StartedApp}
 use Rattle.sup_tree.specs.Tree.{App, app_of}
 
 pub not_there : {X : Type 0} (o : Option X) → is_some o ≡ false → o ≡ None

@@ -1,21 +1,19 @@
 -- A child that begins again, or why it doesn't.
-use Rattle.std.proofs.Common.{◌≡◌, ℕ, suc, ◌+◌, ◌≤◌, Bool, true, false, List, [], ◌∷◌, ◌++◌, length, take, drop, Option, Some, None, Result, Ok, Err, slice_index_or, refl, ap, sym, subst, ◌∙◌, arith, length-append}
-use Rattle.std.specs.List.{remove_range}
-use Rattle.std.proofs.Math.Seq.{drop-append_seam, take-append_seam}
+use Rattle.std.proofs.Common.{◌≡◌, ℕ, Bool, true, false, List, Option, Some, None, Result, Ok, Err, slice_index_or, refl, sym, subst}
 use Rattle.proc_table.specs.declared.view.View.{View}
 use Rattle.rel_check.specs.Modules.{Tables}
-use Rattle.sup_tree.specs.declared.begins.Preparation.{Preparation}
 use Rattle.sup_tree.specs.declared.error.RestartError.{RestartError}
 use Rattle.sup_tree.specs.declared.error.RestartError.TheVariants.{NoSuper, NoTable, Unsupported, NoSlot, NoMemory}
-use Rattle.sup_tree.specs.declared.looks.Stay.TheVariants.{UpOrTemporary}
-use Rattle.sup_tree.specs.declared.member.Member.{Member}
-use Rattle.sup_tree.specs.Begins.{AllBegan}
-use Rattle.sup_tree.specs.Children.{AreAt, IsRange, Place, apps_with, child_place, has_one_supervisor, replaced, with_below}
-use Rattle.sup_tree.specs.Looks.{StateLookedAt}
-use Rattle.sup_tree.specs.Restarts.{HasNoSlot, HasRestarted, RestartFaultIs, Restarts, RestartsChild, RestartsUnless, in_place, restart_fault, restart_members, super_app}
-use Rattle.sup_tree.specs.Starts.{members_at}
-use Rattle.sup_tree.specs.Tree.{App, pids_of}
-use Rattle.sup_tree.proofs.ChildLemmas.{around, first_is, range_there}
+use Rattle.started_members.specs.declared.looks.Stay.TheVariants.{UpOrTemporary}
+use Rattle.started_members.specs.declared.member.Member.{Member}
+use Rattle.started_members.specs.Places.{AreAt, IsRange, Place, in_place}
+use Rattle.sup_tree.specs.Children.{apps_with, child_place, has_one_supervisor}
+use Rattle.started_members.specs.Looks.{StateLookedAt}
+use Rattle.sup_tree.specs.Restarts.{HasNoSlot, HasRestarted, RestartFaultIs, Restarts, RestartsChild, RestartsUnless, super_app}
+use Rattle.started_members.specs.Begins.{restart_fault, restart_members, members_at}
+use Rattle.sup_tree.specs.Tree.{App}
+use Rattle.started_members.specs.Members.{pids_of}
+use Rattle.started_members.proofs.PlaceLemmas.{first_is, range_there}
 
 -- a child that doesn't stay, by a look at what stands for it
 pub record IsLookedAt (o : Option Place) (p : Place) (v look : View) : Type 0 where
@@ -56,38 +54,6 @@ pub has_begun : {A : Type 0} (tables : Tables) (app : List ℕ) (o : Option Plac
     → HasRestarted tables app p change look new w → Restarts tables app o change old v (Ok false) new w
 has_begun tables app o p change old new v look w at begun =
     subst (λ (q : Option Place). Restarts tables app q change old v (Ok false) new w) (sym at.is) (record { stays = false; look = look; looked = at.looked; outcome = begun })
-
--- as many stand as began
-pub all_stand : (ps : List Preparation) (v : View) (ms : List Member) (w : View) → AllBegan ps v ms w → length ms ≡ length ps
-all_stand [] v [] w is = refl
-all_stand [] v (m ∷ ms) w is = absurd is
-all_stand (p ∷ ps) v [] w is = absurd is
-all_stand (p ∷ ps) v (m ∷ ms) w (u, begun, later) = ap suc (all_stand ps u ms w later)
-
--- what is left around a range that was taken out
-pub record IsLeft (p : Place) (start : ℕ) (ms : List Member) : Type 0 where
-  pub is : ms ≡ p.before ++ p.behind
-  pub start_is : start ≡ length p.before
-
-pub left_around : (p : Place) (ms : List Member) (start end : ℕ) → IsRange ms p start end → IsLeft p start (remove_range ms start end)
-left_around p ms start end at = let parts = around p ms start end at in record { is = λ j. parts.before j ++ parts.behind j; start_is = at.start_is }
-
--- others were put in there
-pub put_there : (p : Place) (start : ℕ) (ms new all : List Member) → IsLeft p start ms → all ≡ take start ms ++ (new ++ drop start ms) → all ≡ replaced (in_place new) p
-put_there p start ms new all left put =
-    put ∙ (λ j. ((λ k. take (left.start_is k) (left.is k)) ∙ take-append_seam p.before p.behind) j ++ (new ++ ((λ k. drop (left.start_is k) (left.is k)) ∙ drop-append_seam p.before p.behind) j))
-
-pub fewer_left : (p : Place) (ms left : List Member) (start end : ℕ) → IsRange ms p start end → left ≡ remove_range ms start end → length left ≤ length ms
-fewer_left p ms left start end at is =
-    let long : length ms ≡ length p.before + length (with_below p ++ p.behind) = ap length at.is ∙ length-append p.before (with_below p ++ p.behind) in
-    let behind : length (with_below p ++ p.behind) ≡ length (with_below p) + length p.behind = length-append (with_below p) p.behind in
-    let short : length left ≡ length p.before + length p.behind = ap length (is ∙ (left_around p ms start end at).is) ∙ length-append p.before p.behind in
-    omega (arith, long, behind, short)
-
-pub left_length : (p : Place) (start : ℕ) (ms : List Member) → IsLeft p start ms → start ≤ length ms
-left_length p start ms left =
-    let long : length ms ≡ length p.before + length p.behind = ap length left.is ∙ length-append p.before p.behind in
-    omega (arith, long, left.start_is)
 
 -- what is said of an application is said of the tree, where that changes with it
 pub lifted : {A B : Type 0} (tables : Tables) (app : List ℕ) (o : Option Place) (change : List Member → A) (change' : List Member → B) (old new : A) (old' new' : B) (v : View) (r : Result Bool RestartError) (w : View)

@@ -3,8 +3,9 @@ use Rattle.std.proofs.Common.{◌≡◌, ◌==◌, ℕ, List, ◌∷◌, ◌++�
 use Rattle.std.specs.List.{find}
 use Rattle.std.specs.Option.{option_map, option_or}
 use Rattle.std.proofs.lemmas.List.Folds.{find-append}
-use Rattle.sup_tree.specs.declared.member.StartedProcess.{StartedProcess}
-use Rattle.sup_tree.specs.Tree.{App, all_processes, app_processes, module_among, module_in}
+use Rattle.started_members.specs.declared.member.StartedProcess.{StartedProcess}
+use Rattle.sup_tree.specs.Tree.{App, all_processes, app_processes, module_in}
+use Rattle.started_members.specs.Members.{module_among}
 
 option_map-option_or : {X Y : Type 0} (f : X → Y) (o p : Option X) → option_map f (option_or o p) ≡ option_or (option_map f o) (option_map f p)
 option_map-option_or f None p = refl

@@ -1,9 +1,6 @@
 pub mod Tree
 pub mod Starts
-pub mod Begins
 pub mod Stops
 pub mod Changes
-pub mod Looks
 pub mod Children
 pub mod Restarts
-pub mod Laws

@@ -3,25 +3,26 @@ use Rattle.std.specs.Prelude.{◌≡◌, ℕ, ◌<◌, Bool, true, false, List, 
 use Rattle.std.specs.List.{find}
 use Rattle.std.specs.Option.{option_map_or}
 use Rattle.std.specs.declared.alloc.Global.{Global}
-use Rattle.mod_table.specs.Table.{ChildSpec}
 use Rattle.proc_table.specs.declared.view.View.{View}
 use Rattle.proc_table.specs.Free.{free_count}
 use Rattle.rel_check.specs.Modules.{Tables}
 use Rattle.app_members.specs.declared.error.MembersError.{MembersError}
 use Rattle.app_members.specs.declared.error.MembersError.TheVariants as members
-use Rattle.app_members.specs.Walk.{NewMember, StartFault, lone_fault, lone_members, starts_among}
+use Rattle.app_members.specs.Walk.{StartFault, starts_among}
 use Rattle.app_members.specs.Walk.StartFault.{no_table, unsupported}
-use Rattle.sup_tree.specs.declared.begins.Preparation.{Preparation}
+use Rattle.started_members.specs.declared.begins.Preparation.{Preparation}
 use Rattle.sup_tree.specs.declared.error.RestartError.{RestartError}
 use Rattle.sup_tree.specs.declared.error.RestartError.TheVariants.{NoSuper, NoTable, Unsupported, NoSlot, NoMemory}
-use Rattle.sup_tree.specs.declared.looks.Stay.TheVariants.{UpOrTemporary}
-use Rattle.sup_tree.specs.declared.member.Member.{Member}
-use Rattle.sup_tree.specs.declared.member.StartedProcess.{StartedProcess}
-use Rattle.sup_tree.specs.Begins.{preparation_of}
-use Rattle.sup_tree.specs.Children.{Change, ChildLookedAt, Place, app_with, apps_with, child_in, child_place, has_one_supervisor}
-use Rattle.sup_tree.specs.Starts.{BeganInOrder, members_at}
-use Rattle.sup_tree.specs.Stops.{MemberEnded}
-use Rattle.sup_tree.specs.Tree.{App, pids_of, process_in, supervises_in}
+use Rattle.started_members.specs.declared.looks.Stay.TheVariants.{UpOrTemporary}
+use Rattle.started_members.specs.declared.member.Member.{Member}
+use Rattle.started_members.specs.declared.member.StartedProcess.{StartedProcess}
+use Rattle.started_members.specs.Preparations.{preparation_of}
+use Rattle.started_members.specs.Places.{ChildLookedAt, Place, child_in, in_place}
+use Rattle.sup_tree.specs.Children.{app_with, apps_with, child_place, has_one_supervisor}
+use Rattle.started_members.specs.Begins.{BeganInOrder, members_at, restart_fault, restart_members}
+use Rattle.started_members.specs.Ends.{MemberEnded}
+use Rattle.sup_tree.specs.Tree.{App}
+use Rattle.started_members.specs.Members.{pids_of, process_in, supervises_in}
 
 abbrev pub restart_error_text : RestartError → List ℕ
 restart_error_text NoSuper = codes "NoSuper"
@@ -43,25 +44,10 @@ RestartFaultIs Unsupported f = f ≡ Some unsupported
 RestartFaultIs NoMemory f = Unit {0}
 RestartFaultIs e f = ⊥
 
--- the child specification of a member
-abbrev pub specification : Member → ChildSpec
-specification m = record { id = m.id; start = m.«module»; restart = m.restart; kind = m.kind }
-
--- what is wrong with it, and the members with which it begins again
-abbrev pub restart_fault : Tables → Member → Option StartFault
-restart_fault tables m = lone_fault tables m.depth (specification m)
-
-abbrev pub restart_members : Tables → Member → List NewMember
-restart_members tables m = lone_members tables m.depth (specification m)
-
 -- All memory is there, or the child has a fault.
 abbrev pub Prepares : Tables → List ℕ → Member → Result (Vec Preparation Global) RestartError → Type 0
 Prepares tables app m (Ok ps) = (restart_fault tables m ≡ None) × (ps.items ≡ map (preparation_of app) (restart_members tables m))
 Prepares tables app m (Err e) = RestartFaultIs e (restart_fault tables m)
-
--- these in place of a child and of those below it
-abbrev pub in_place : List Member → Change
-in_place ms p = ms
 
 -- What stood for the child was given up, and it began again with all below it, for the application of this name. What was made of
 -- the members is a change of this.

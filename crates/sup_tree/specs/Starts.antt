@@ -1,13 +1,8 @@
 -- What start_app answers, and what it leaves.
 use Rattle.std.specs.Prelude.{◌≡◌, ℕ, ◌<◌, ◌≤◌, List, [], ◌∷◌, ◌++◌, length, codes, Option, Some, None, IsSome, Result, Ok, Err, Vec}
 use Rattle.std.specs.declared.alloc.Global.{Global}
-use Rattle.mod_table.specs.declared.table.Table.{Table}
-use Rattle.mod_table.specs.declared.table.Table.TheVariants.{Worker, Super}
-use Rattle.mod_table.specs.Table.{ChildSpec}
-use Rattle.proc_history.specs.declared.beginning.Beginning.{Beginning}
 use Rattle.proc_table.specs.declared.view.View.{View}
-use Rattle.proc_table.specs.declared.pid.Pid.{Pid}
-use Rattle.proc_table.specs.Free.{free_count, BeganLowest}
+use Rattle.proc_table.specs.Free.{free_count}
 use Rattle.rel_check.specs.Modules.{Tables}
 use Rattle.app_members.specs.declared.error.MembersError.{MembersError}
 use Rattle.app_members.specs.declared.error.MembersError.TheVariants as members
@@ -15,13 +10,12 @@ use Rattle.app_members.specs.declared.walk.NewMember as lent
 use Rattle.app_members.specs.InMemory.{new_members_of}
 use Rattle.sup_tree.specs.declared.error.StartError.{StartError}
 use Rattle.sup_tree.specs.declared.error.StartError.TheVariants.{AlreadyStarted, NoTable, Unsupported, NoSlot, NoMemory}
-use Rattle.sup_tree.specs.declared.member.Member.{Member}
-use Rattle.sup_tree.specs.declared.member.MemberState.{MemberState}
-use Rattle.sup_tree.specs.declared.member.MemberState.TheVariants.{Ended, Process, Supervisor}
-use Rattle.sup_tree.specs.declared.member.StartedProcess.{StartedProcess}
-use Rattle.app_members.specs.Walk.{NewMember, Start, StartFault, app_fault, app_members, app_starts}
+use Rattle.started_members.specs.declared.member.StartedProcess.{StartedProcess}
+use Rattle.app_members.specs.Walk.{StartFault, app_fault, app_members, app_starts}
 use Rattle.app_members.specs.Walk.StartFault.{no_table, unsupported}
-use Rattle.sup_tree.specs.Tree.{App, app_named, pids_of}
+use Rattle.sup_tree.specs.Tree.{App, app_named}
+use Rattle.started_members.specs.Members.{pids_of}
+use Rattle.started_members.specs.Begins.{BeganInOrder, members_at}
 
 abbrev pub start_error_text : StartError → List ℕ
 start_error_text AlreadyStarted = codes "AlreadyStarted"
@@ -48,44 +42,6 @@ abbrev pub AnswersMembers : ℕ → Tables → Option (List ℕ) → Result (Vec
 AnswersMembers most tables top (Ok ms) = (app_fault tables top ≡ None) × (new_members_of ms.items ≡ app_members tables top) × (length (app_starts tables top) ≤ most)
 AnswersMembers most tables top (Err NoSlot) = (app_fault tables top ≡ None) × (most < length (app_starts tables top))
 AnswersMembers most tables top (Err e) = StartFaultIs e (app_fault tables top)
-
--- what a process of this application begins with
-abbrev pub beginning_of : List ℕ → Start → Beginning
-beginning_of app s = record { app = app; id = s.child.id; restart = s.child.restart; table = s.table }
-
-abbrev pub process_of : Start → Pid → StartedProcess
-process_of s pid = record { id = s.child.id; «module» = s.child.start; pid = pid }
-
--- They began one after another, each in the lowest slot in which one could.
-abbrev pub BeganInOrder : List ℕ → List Start → View → List StartedProcess → View → Type 0
-BeganInOrder app [] v [] w = w ≡ v
-BeganInOrder app (s ∷ ss) v (p ∷ ps) w = (u : View) × BeganLowest (beginning_of app s) v (Ok p.pid) u × (p ≡ process_of s p.pid) × BeganInOrder app ss u ps w
-BeganInOrder app ss v ps w = ⊥
-
--- a member for which this stands
-abbrev pub member_with : NewMember → MemberState → Member
-member_with m s = record { depth = m.depth; id = m.child.id; «module» = m.child.start; restart = m.child.restart; kind = m.child.kind; state = s }
-
--- what stands for a child whose module has this table, where processes have these places: the first, if it is a process
-abbrev pub state_at : Table → ChildSpec → List Pid → MemberState
-state_at (Worker w) c [] = Ended
-state_at (Worker w) c (pid ∷ pids) = Process (process_of (record { child = c; table = w }) pid)
-state_at (Super s) c pids = Supervisor c.start
-
--- the places that are left to those behind it
-abbrev pub left_behind : Table → List Pid → List Pid
-left_behind (Worker w) [] = []
-left_behind (Worker w) (pid ∷ pids) = pids
-left_behind (Super s) pids = pids
-
--- what stands for a member before its process begins
-abbrev pub state_before : NewMember → MemberState
-state_before m = state_at m.table m.child []
-
--- the members where their processes have these places, in their order
-abbrev pub members_at : List NewMember → List Pid → List Member
-members_at [] pids = []
-members_at (m ∷ ms) pids = member_with m (state_at m.table m.child pids) ∷ members_at ms (left_behind m.table pids)
 
 -- All that the application starts began, and it is started, behind those that were, with its members.
 pub record AppStarted (name : List ℕ) (top : Option (List ℕ)) (tables : Tables) (apps : List App) (v : View) (apps' : List App) (w : View) : Type 0 where

@@ -1,8 +1,8 @@
 //! The supervision tree: the processes of started applications (OTP: supervisor, application).
 //!
-//! A [`Tree`] holds which applications are started, each with its members (specs/Tree): its supervisors and their children, what
-//! stands for each, and of a process its id, its module and its [`Pid`]. [`Tree::start_app`] begins a process for each worker
-//! below the application's top: children in the order of their list, those of a supervisor before its next sibling
+//! A [`Tree`] holds which applications are started, each with its members (`started_members`): its supervisors and their children,
+//! what stands for each, and of a process its id, its module and its [`Pid`] (specs/Tree). [`Tree::start_app`] begins a process for
+//! each worker below the application's top: children in the order of their list, those of a supervisor before its next sibling
 //! (`app_members`), each in the lowest slot in which one can begin (specs/Starts). It starts all of them, or nothing.
 //! [`Tree::stop_app`] gives them up, the last first, but for those that were given up before (specs/Stops). Both wait for the
 //! slots. [`Tree::find`], [`Tree::processes_using`] and [`Tree::module_in`] look processes up, and [`Tree::supervises`] a
@@ -10,11 +10,7 @@
 //!
 //! Children change as well. [`Tree::change_children`] gives the supervisors of a module the children of another table
 //! (specs/Changes). [`Tree::terminate_child`] ends one child of the one supervisor of a module, and [`Tree::delete_child`] takes one
-//! away (specs/Children); [`Tree::restart_child`] begins one again (specs/Restarts). The last two leave a child that is up as it is
-//! (specs/Looks).
-//!
-//! The functions of `laws` say of these definitions where the processes of a new table stand, and what stands there once they
-//! began.
+//! away (specs/Children); [`Tree::restart_child`] begins one again (specs/Restarts). The last two leave a child that is up as it is.
 //!
 //! Only tested: that an application starts where memory is there. Trusted: the toolchain alone.
 #![tactic(auto)]
@@ -23,15 +19,11 @@ mod begins;
 mod changes;
 mod children;
 mod error;
-pub mod laws;
-mod looks;
-mod member;
 mod restarts;
 mod stops;
 mod tree;
 
 pub use error::{NoSuchApp, NoSuper, RestartError, StartError};
-pub use looks::Stay;
-pub use member::{Member, MemberState, StartedApp, StartedProcess};
 pub use proc_table::Pid;
-pub use tree::Tree;
+pub use started_members::{Member, MemberState, StartedProcess, Stay};
+pub use tree::{StartedApp, Tree};

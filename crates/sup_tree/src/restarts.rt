@@ -1,19 +1,20 @@
 //! Children of started supervisors that begin again.
-ghost use Rattle.std.specs.Prelude.{◌≡◌, ◌+◌, ◌≤◌, ◌++◌, IfOk, OnErr, drop, length, take, vec_capacity};
+ghost use Rattle.std.specs.Prelude.{◌≡◌, IfOk, OnErr};
 ghost use Rattle.loaded_modules.specs.Loaded.{modules_in, tables_of};
-ghost use Rattle.sup_tree.specs.Begins.{to_begin};
-ghost use Rattle.sup_tree.specs.Restarts.{Prepares, RestartsChild, RestartsIn, specification};
+ghost use Rattle.sup_tree.specs.Restarts.{Prepares, RestartsChild, RestartsIn};
+ghost use Rattle.started_members.specs.Begins.{specification};
 ghost use Rattle.sup_tree.specs.Tree.{app_of};
 
-use crate::begins::{Preparation, begin_all, prepare_all};
-use crate::children::{place_of_super, range_of_child, take_out};
-use crate::looks::{Stay, member_stays};
-use crate::stops::end_member;
-use crate::{Member, RestartError, StartedApp, Tree};
+use crate::children::place_of_super;
+use crate::{RestartError, StartedApp, Tree};
 use app_members::{NewChild, members_of_child};
 use loaded_modules::Loaded;
 use proc_table::{HandlerSeat, ProcTable};
-use std::alloc::{AllocError, Global};
+use started_members::{
+    Member, Preparation, Stay, begin_all, end_member, member_stays, prepare_all, process_count,
+    put_in, range_of_child, take_out,
+};
+use std::alloc::Global;
 use std::sync::Wait;
 
 impl Tree {
@@ -112,31 +113,4 @@ fn prepare_child(
         },
     )?;
     Ok(prepare_all(alloc, app, new.as_slice())?)
-}
-
-// How many processes are to begin.
-fn process_count(prepared: &[Preparation]) -> usize
-    ensures { result ≡ length (to_begin prepared.now) }
-{
-    let mut count = 0;
-    for preparation in prepared {
-        if preparation.process.is_some() {
-            count += 1;
-        }
-    }
-    count
-}
-
-// Puts members in from this place on. There is room for them.
-fn put_in(members: &mut Vec<Member>, place: usize, mut new: Vec<Member>)
-    requires inside { place ≤ length members.old.items }
-    requires room { length members.old.items + length new.items ≤ vec_capacity members.old }
-    ensures { members.new.items ≡ take place members.old.items
-        ++ (new.items ++ drop place members.old.items) }
-{
-    while let Some(member) = new.pop() {
-        let Ok(()) = members.insert(place, member) else {
-            unreachable!();
-        };
-    }
 }

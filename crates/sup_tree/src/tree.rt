@@ -1,12 +1,19 @@
 //! The tree of started applications.
-ghost use Rattle.std.specs.Prelude.{◌≡◌, ◌++◌, IfOk, OnOk, Some, is_some, []};
+ghost use Rattle.std.specs.Prelude.{◌≡◌, IfOk, Some, is_some, []};
 ghost use Rattle.std.specs.Option.{option_map};
-ghost use Rattle.sup_tree.specs.Tree.{app_of, app_named, find_process, lower, lowest_with, members_of, module_among, module_in, processes_among, processes_using, supervises, supervises_in, using_among};
+ghost use Rattle.sup_tree.specs.Tree.{app_of, app_named, find_process, members_of, module_in, processes_using, supervises};
 
-use crate::member::{Member, StartedApp};
-use proc_table::Pid;
+use proc_table::{Name, Pid};
+use started_members::{Member, add_using, module_among, process_with, supervises_in};
 use std::alloc::{AllocError, Global};
 use std::marker::Model;
+
+/// An application that is started, with its members.
+#[derive(Drop)]
+pub struct StartedApp {
+    pub name: Name,
+    pub members: Vec<Member>,
+}
 
 /// The applications that are started, with their members. Contracts see them in the order of their starts.
 #[derive(Drop)]
@@ -16,7 +23,7 @@ pub struct Tree {
 
 impl Model for Tree {
     ghost use Rattle.std.specs.Prelude.{List, map};
-    ghost use Rattle.sup_tree.specs.contracts.member.Member as stored;
+    ghost use Rattle.started_members.specs.contracts.member.Member as stored;
     ghost use Rattle.sup_tree.specs.Tree.{App, app_of, apps_code};
 
     ghost Value = { List App };
@@ -107,70 +114,4 @@ impl Tree {
         }
         None
     }
-}
-
-// The process with this id among those of these members.
-fn process_with(members: &[Member], id: &str) -> Option<Pid>
-    ensures { result ≡ lowest_with id.now (processes_among members.now) }
-{
-    let mut found = None;
-    for member in members {
-        if let Some(process) = member.process() {
-            if process.id.as_str() == id {
-                found = Some(lower(found, process.pid));
-            }
-        }
-    }
-    found
-}
-
-// What was found, or a further place where its slot is lower.
-fn lower(found: Option<Pid>, pid: Pid) -> Pid
-    ensures { Some result ≡ lower found (Some pid) }
-{
-    match found {
-        Some(lowest) if lowest.slot <= pid.slot => lowest,
-        Some(_) | None => pid,
-    }
-}
-
-// Those of these members that run this module, behind those that are there.
-fn add_using(pids: &mut Vec<Pid>, members: &[Member], module: &str) -> Result<(), AllocError>
-    ensures { OnOk result (pids.new.items
-        ≡ pids.old.items ++ using_among «module».now (processes_among members.now)) }
-{
-    for member in members {
-        if let Some(process) = member.process() {
-            if process.module.as_str() == module {
-                pids.push(process.pid)?;
-            }
-        }
-    }
-    Ok(())
-}
-
-// The module of the process among those of these members that began in this slot.
-fn module_among(members: &[Member], slot: usize) -> Option<&str>
-    ensures { option_map (λ m. m.now) result ≡ module_among slot (processes_among members.now) }
-{
-    for member in members {
-        if let Some(process) = member.process() {
-            if process.pid.slot == slot {
-                return Some(process.module.as_str());
-            }
-        }
-    }
-    None
-}
-
-/// Whether a supervisor of this module stands for one of these members.
-pub(crate) fn supervises_in(members: &[Member], module: &str) -> bool
-    ensures { result ≡ supervises_in «module».now members.now }
-{
-    for member in members {
-        if member.is_supervisor(module) {
-            return true;
-        }
-    }
-    false
 }

@@ -5,7 +5,7 @@ use Rattle.proc_table.specs.Holds.{Released}
 use Rattle.held_processes.specs.Following.{HeldForm, IsHeld}
 use Rattle.held_processes.specs.Slots.{IsFollowed, Steps}
 use Rattle.held_processes.proofs.ChangeLemmas.{held_value}
-use Rattle.held_processes.proofs.SlotLemmas.{gives_back, looked_value}
+use Rattle.held_processes.proofs.SlotLemmas.{alone_longer, gives_back, looked_value}
 use Rattle.held_processes.proofs.steps.is_up.Goals as goal
 
 pub returns-in-Some-clause-told : goal.returns-in-Some-clause-told
@@ -29,3 +29,6 @@ returns-in-None-clause-told g c =
     let looked = looked_value g.past c.args.pid.slot c.args.seat.now.view c.hold-held.result c.hold-held.new.seat.view c.release.new.seat.view free at
     (subst (λ p. Released p [] c.hold-held.new.seat.view c.release.new.seat.view) at.held.slot c.release.ensures.released) in
     c.is_up_in-up.ensures ∙ (ap (λ (x : Value). is_some (up_at x.now)) c.value-in-None.ensures ∙ ap (λ (x : Value). is_some (up_at x.now)) looked)
+
+pub returns-in-None-clause-longer : goal.returns-in-None-clause-longer
+returns-in-None-clause-longer g c = alone_longer _ _ _ _ _ _ _ c.hold-held.ensures.held c.release.ensures.released

@@ -1,6 +1,6 @@
 use Rattle.std.proofs.Common.{Some, ap, sym, ◌∙◌}
 use Rattle.proc_history.specs.Events.Event.{started}
-use Rattle.held_processes.proofs.SlotLemmas.{one_event, alone, held_adds}
+use Rattle.held_processes.proofs.SlotLemmas.{one_event, alone, alone_longer, held_adds}
 use Rattle.held_processes.proofs.steps.start.Goals as goal
 
 pub let_go-requires : goal.let_go-requires
@@ -17,3 +17,6 @@ pub returns-in-None-clause-done : goal.returns-in-None-clause-done
 returns-in-None-clause-done g c =
     rw c.in-None.is (alone g.past c.args.pid.slot c.args.seat.now.view c.args.place.now c.hold-held.result c.start-in-None.new.self c.hold-held.new.seat.view _ started _ c.requires.1.1 c.in-None.is
     c.hold-held.ensures.held (λ k. k) tt c.start-in-None.ensures c.let_go.ensures.released)
+
+pub returns-in-None-clause-longer : goal.returns-in-None-clause-longer
+returns-in-None-clause-longer g c = alone_longer _ _ _ _ _ _ _ c.hold-held.ensures.held c.let_go.ensures.released

@@ -1,12 +1,12 @@
-use Rattle.std.proofs.Common.{◌≡◌, [], ◌+◌, ◌∙◌, ◌∷◌, List, length, take, drop, sym, ap, subst, arith}
+use Rattle.std.proofs.Common.{◌≡◌, [], true, ◌+◌, ◌∙◌, ◌∷◌, List, length, take, drop, sym, ap, subst, arith}
 use Rattle.std.proofs.lemmas.List.{length-map, length-take-le, take_all}
 use Rattle.std.specs.List.{AllByRecursion}
 use Rattle.relup_instruction.specs.Instruction.{Instruction, instruction_of, script_of}
 use Rattle.script_steps.specs.InMemory.{site_of}
-use Rattle.relup_exec.specs.Outcome.{Ran, past_behind}
+use Rattle.relup_exec.specs.Outcome.{Ran, began_at, past_behind}
 use Rattle.script_steps.specs.Steps.{HasDone, IsEarly, progress_of}
 use Rattle.relup_exec.proofs.OutcomeLemmas.{run_more_early}
-use Rattle.relup_exec.proofs.RunLemmas.{still_before}
+use Rattle.relup_exec.proofs.RunLemmas.{ran_later, still_before}
 use Rattle.script_steps.proofs.RowLemmas.{all_front, all_middle, more, parted}
 use Rattle.relup_exec.proofs.before.run_early.Goals as goal
 
@@ -28,7 +28,7 @@ returns-in-Err-clause-ran g c =
       front = so_far;
       instruction = instruction_of c.index-instrs-i.result;
       at = record { rest = script_of (drop (c.loop-i.i + 1) instrs); is = parts; counted = ap (λ n. n + 1) (sym long) };
-      ran = c.loop-i.invariant.1;
+      ran = ran_later (site_of c.args.site.now) g.start.first c.loop-i.seat.view c.carry_out_early-done.new.seat.view true [] so_far (began_at (site_of c.args.site.now) g.start) c.carry_out_early-done.ensures.longer c.loop-i.invariant.1;
       fails = c.in-Err.ensures.carried.0;
       modules = c.in-Err.field-0.modules;
       slot = c.in-Err.field-0.slot;
@@ -43,9 +43,10 @@ loop-i-preserved g c =
     let parts = parted instruction_of c.args.instrs.now c.loop-i.i c.index-instrs-i.result c.loop-i-test.true c.index-instrs-i.is in
     let early : AllByRecursion IsEarly so_far = all_front IsEarly so_far (i ∷ script_of (drop (c.loop-i.i + 1) c.args.instrs.now)) (subst (AllByRecursion IsEarly) parts c.requires.1.1.0) in
     let grown = more instruction_of c.args.instrs.now c.loop-i.i c.index-instrs-i.result c.loop-i-test.true c.index-instrs-i.is in
-    let done = run_more_early s g.start so_far i (progress_of c.carry_out_early-done.new.self) c.carry_out_early-done.new.self.tree c.carry_out_early-done.new.seat.view (still_before so_far early) c.loop-i.invariant.1 c.in_default.ensures.carried in (
+    let done = run_more_early s g.start so_far i (progress_of c.carry_out_early-done.new.self) c.carry_out_early-done.new.self.tree c.loop-i.seat.view c.carry_out_early-done.new.seat.view (still_before so_far early)
+    c.loop-i.invariant.1 c.carry_out_early-done.ensures.longer c.in_default.ensures.carried in (
       c.carry_out_early-done.ensures.table ∙ c.loop-i.invariant.0,
-      subst (Ran s g.start []) (sym grown) done.0,
+      subst (Ran s g.start c.carry_out_early-done.new.seat.view []) (sym grown) done.0,
       subst (λ (is : List Instruction). HasDone (past_behind s g.start [] is) (progress_of c.carry_out_early-done.new.self) c.carry_out_early-done.new.self.tree c.carry_out_early-done.new.seat.view) (sym grown) done.1,
     )
 
@@ -53,6 +54,6 @@ pub returns-clause-ran : goal.returns-clause-ran
 returns-clause-ran g c =
     let s = site_of c.args.site.now in
     let whole : script_of (take c.loop-i.i c.args.instrs.now) ≡ script_of c.args.instrs.now = ap script_of (take_all c.loop-i.i c.args.instrs.now c.loop-i-test.false) in (
-      subst (Ran s g.start []) whole c.loop-i.invariant.1,
+      subst (Ran s g.start c.loop-i.seat.view []) whole c.loop-i.invariant.1,
       subst (λ (is : List Instruction). HasDone (past_behind s g.start [] is) (progress_of c.loop-i.progress) c.loop-i.progress.tree c.loop-i.seat.view) whole c.loop-i.invariant.2,
     )

@@ -13,5 +13,5 @@ abbrev pub invariant-loop-i : goal.invariant-loop-i
 invariant-loop-i g l =
     let so_far = script_of (take l.i l.instrs) in
     (l.seat.table ≡ l.site.table.now)
-    × Ran (site_of l.site) g.start [] so_far
+    × Ran (site_of l.site) g.start l.seat.view [] so_far
     × HasDone (past_behind (site_of l.site) g.start [] so_far) (progress_of l.progress) l.progress.tree l.seat.view

@@ -1,5 +1,5 @@
 use Rattle.std.proofs.Common.{◌≡◌, map, string_bytes, take}
-use Rattle.held_processes.specs.Following.{AllFollow}
+use Rattle.held_processes.specs.Following.{AllFollow, AreLonger}
 use Rattle.held_processes.specs.Operations.{users_of}
 use Rattle.script_steps.specs.Plain.{plain_operation}
 use Rattle.script_steps.specs.Script.{on_each}
@@ -9,6 +9,7 @@ use Rattle.script_steps.proofs.release.do_all.Given as goal
 abbrev pub invariant-loop-i : goal.invariant-loop-i
 invariant-loop-i g l =
     (l.seat.table ≡ l.initial.seat.table)
+    × AreLonger l.initial.seat.view l.seat.view
     × AllFollow g.followed.first (on_each (plain_operation l.plain) (map string_bytes (take l.i l.names)) (users_of l.tree) g.followed.courses) l.held l.seat.view
 
 abbrev pub ghost-do_next : goal.ghost-do_next

@@ -2,6 +2,7 @@ use Rattle.std.proofs.Common.{◌∙◌, refl, sym, subst}
 use Rattle.held_processes.specs.Course.{Courses}
 use Rattle.held_processes.specs.Following.{AllFollow}
 use Rattle.held_processes.specs.Operations.{users_of}
+use Rattle.held_processes.proofs.SlotLemmas.{longer_both, longer_still}
 use Rattle.script_steps.proofs.StepLemmas.{suspended_more, suspended_within}
 use Rattle.script_steps.proofs.suspend.hold_all.Goals as goal
 
@@ -13,9 +14,16 @@ returns-in-Err-clause-done g c = (
       c.in-Err.ensures.done,
 )
 
+pub returns-in-Err-clause-longer : goal.returns-in-Err-clause-longer
+returns-in-Err-clause-longer g c = longer_both c.args.seat.now.view c.loop-i.seat.view c.hold_next.new.seat.view c.loop-i.invariant.1 c.hold_next.ensures.longer
+
+pub loop-i-init : goal.loop-i-init
+loop-i-init g c = (refl, longer_still c.args.seat.now.view, c.requires.1.1)
+
 pub loop-i-preserved : goal.loop-i-preserved
 loop-i-preserved g c = (
   c.hold_next.ensures.table ∙ c.loop-i.invariant.0,
+  longer_both c.args.seat.now.view c.loop-i.seat.view c.hold_next.new.seat.view c.loop-i.invariant.1 c.hold_next.ensures.longer,
   subst (λ (cs : Courses). AllFollow g.followed.first cs c.hold_next.new.held c.hold_next.new.seat.view)
       (sym (suspended_more c.args.suspensions.now c.loop-i.i c.index-suspensions-i.result (users_of c.args.tree.now) g.followed.courses c.loop-i-test.true c.index-suspensions-i.is))
       c.in_default.ensures.done,

@@ -1,5 +1,5 @@
 use Rattle.std.proofs.Common.{◌∙◌, ap, sym}
-use Rattle.sup_tree.specs.Tree.{supervises_in}
+use Rattle.started_members.specs.Members.{supervises_in}
 use Rattle.sup_tree.proofs.ChildLemmas.{super_here}
 use Rattle.sup_tree.proofs.children.place_of_super.Goals as goal
 

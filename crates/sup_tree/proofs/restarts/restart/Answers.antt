@@ -5,16 +5,18 @@ use Rattle.loaded_modules.specs.Loaded.{modules_in, tables_of}
 use Rattle.app_members.specs.Walk.{starts_among}
 use Rattle.app_members.proofs.WalkLemmas.{passed_on}
 use Rattle.sup_tree.specs.declared.error.RestartError.TheVariants.{NoMemory}
-use Rattle.sup_tree.specs.declared.member.Member.{Member}
-use Rattle.sup_tree.specs.Begins.{AllBegan, preparation_of, to_begin}
-use Rattle.sup_tree.specs.Children.{AreAt, app_with, child_in, replaced}
-use Rattle.sup_tree.specs.Restarts.{RestartFaultIs, RestartsIn, in_place, restart_fault, restart_members}
-use Rattle.sup_tree.specs.Starts.{members_at}
-use Rattle.sup_tree.specs.Stops.{MemberEnded}
-use Rattle.sup_tree.specs.Tree.{App, app_of, pids_of, process_in}
-use Rattle.sup_tree.proofs.BeginLemmas.{as_many, in_order}
-use Rattle.sup_tree.proofs.ChildLemmas.{first_is}
-use Rattle.sup_tree.proofs.RestartLemmas.{IsLeft, all_stand, fewer_left, has_begun, left_around, left_length, looked_at, no_slot_left, not_begun, put_there}
+use Rattle.started_members.specs.declared.member.Member.{Member}
+use Rattle.started_members.specs.Preparations.{AllBegan, preparation_of, to_begin}
+use Rattle.started_members.specs.Places.{AreAt, child_in, replaced, in_place}
+use Rattle.sup_tree.specs.Children.{app_with}
+use Rattle.sup_tree.specs.Restarts.{RestartFaultIs, RestartsIn}
+use Rattle.started_members.specs.Begins.{restart_fault, restart_members, members_at}
+use Rattle.started_members.specs.Ends.{MemberEnded}
+use Rattle.sup_tree.specs.Tree.{App, app_of}
+use Rattle.started_members.specs.Members.{pids_of, process_in}
+use Rattle.started_members.proofs.BeginLemmas.{as_many, in_order, all_stand}
+use Rattle.started_members.proofs.PlaceLemmas.{first_is, IsLeft, fewer_left, left_around, left_length, put_there}
+use Rattle.sup_tree.proofs.RestartLemmas.{has_begun, looked_at, no_slot_left, not_begun}
 use Rattle.sup_tree.proofs.restarts.restart.Goals as goal
 
 pub returns-in_err-prepared-clause-restarted : goal.returns-in_err-prepared-clause-restarted

@@ -4,7 +4,7 @@ use Rattle.held_processes.specs.declared.held_process.Hold.{Hold}
 use Rattle.held_processes.specs.declared.held_process.Hold.TheVariants.{UntilPoint, UntilResumed}
 use Rattle.held_processes.specs.Course.Hold.{not_held}
 use Rattle.held_processes.specs.InMemory.{hold_of}
-use Rattle.held_processes.proofs.SlotLemmas.{takes, gives_back}
+use Rattle.held_processes.proofs.SlotLemmas.{alone_longer, gives_back, taken_longer, takes}
 use Rattle.held_processes.proofs.held_process.HeldProcess.take.Goals as goal
 
 is_held : (k : Hold) → (hold_of k ≡ not_held) → ⊥
@@ -21,3 +21,9 @@ returns-in-Err-clause-taken g c =
     let at = c.hold-held.ensures.held in
     gives_back g.past c.args.pid.slot c.args.seat.now.view c.hold-held.result c.hold-held.new.seat.view c.release.new.seat.view c.requires.1.1 at
     (subst (λ p. Released p [] c.hold-held.new.seat.view c.release.new.seat.view) at.held.slot c.release.ensures.released)
+
+pub returns-in-Ok-clause-longer : goal.returns-in-Ok-clause-longer
+returns-in-Ok-clause-longer g c = taken_longer _ _ _ _ c.hold-held.ensures.held
+
+pub returns-in-Err-clause-longer : goal.returns-in-Err-clause-longer
+returns-in-Err-clause-longer g c = alone_longer _ _ _ _ _ _ _ c.hold-held.ensures.held c.release.ensures.released

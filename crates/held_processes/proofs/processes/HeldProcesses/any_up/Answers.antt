@@ -6,6 +6,7 @@ use Rattle.held_processes.specs.Operations.{is_up_user, users_of, values_seen}
 use Rattle.held_processes.proofs.AnyLemmas.{any_found, any_none}
 use Rattle.held_processes.proofs.FollowLemmas.{at_slot}
 use Rattle.held_processes.proofs.LookLemmas.{looked_at, looked_none, not_user}
+use Rattle.held_processes.proofs.SlotLemmas.{longer_both, longer_still}
 use Rattle.held_processes.proofs.processes.HeldProcesses.any_up.Goals as goal
 use Rattle.held_processes.proofs.processes.HeldProcesses.any_up.Goals.{then-include+else-is_up, else-include}
 
@@ -20,6 +21,7 @@ loop-slot-init g c = (
   c.len-slot-end.ensures ∙ (c.self.inside.places.ok.0 ∙ (ap (λ (l : HeldSlots). length l) c.self.view_is ∙ c.requires.1.1.long)),
   c.requires.1.1,
   λ p below. absurd (omega (arith, below)),
+  longer_still c.args.seat.now.view,
 )
 
 pub is_up-requires : goal.is_up-requires
@@ -64,12 +66,14 @@ loop-slot-preserved g c =
             (there c.args.self.now c.self.inside.places.items slot w.index.result.now c.self.view_is inside all.long w.index.ensures) w.if-is_up.ensures.followed,
         looked_none users name cs c.loop-slot.seat.view w.is_up.new.seat.view slot w.if-is_up.ensures.followed.elsewhere.others none
             (ap₂ (λ (a b : Bool). a && b) (sym w.if-include.ensures) (sym w.if-is_up.ensures.told)),
+        longer_both c.args.seat.now.view c.loop-slot.seat.view w.is_up.new.seat.view c.loop-slot.invariant.4 w.if-is_up.ensures.longer,
       )
       | else-include w ↦ rw w.seat-is (
         c.loop-slot.invariant.0,
         c.loop-slot.invariant.1,
         all,
         looked_none users name cs c.loop-slot.seat.view c.loop-slot.seat.view slot (λ q ne. refl) none (not_user users name cs c.loop-slot.seat.view slot (sym w.if-include.ensures)),
+        c.loop-slot.invariant.4,
       )
     ]
 
@@ -78,3 +82,6 @@ returns-clause-told g c =
     let far : slots ≤ c.loop-slot.slot = omega (arith, c.loop-slot-test.false, c.loop-slot.invariant.1) in
     sym (any_none (is_up_user (values_seen c.loop-slot.seat.view) (users_of c.args.users.now.tree.now) c.args.users.now.module.now g.followed.courses) slots
     (λ p inside. c.loop-slot.invariant.3 p (omega (arith, inside, far))))
+
+pub returns-then-is_up-clause-longer : goal.returns-then-is_up-clause-longer
+returns-then-is_up-clause-longer g c = longer_both c.args.seat.now.view c.loop-slot.seat.view c.is_up.new.seat.view c.loop-slot.invariant.4 c.if-is_up.ensures.longer

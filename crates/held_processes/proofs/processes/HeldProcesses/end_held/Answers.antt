@@ -1,6 +1,6 @@
 use Rattle.std.proofs.Common.{◌∙◌, ap, sym}
 use Rattle.std.specs.Option.{option_copied, option_map}
-use Rattle.sup_tree.specs.declared.member.StartedProcess.{StartedProcess}
+use Rattle.started_members.specs.declared.member.StartedProcess.{StartedProcess}
 use Rattle.held_processes.specs.declared.children.HeldEnd.TheVariants.{Stays, GivenUp, NotHeld}
 use Rattle.held_processes.specs.Children.{held_stays}
 use Rattle.held_processes.specs.Operations.{values_seen}

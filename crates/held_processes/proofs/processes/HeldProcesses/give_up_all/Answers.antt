@@ -1,5 +1,6 @@
 use Rattle.std.proofs.Common.{refl, ◌∙◌}
 use Rattle.held_processes.proofs.ApplicationLemmas.{one_more_given_up}
+use Rattle.held_processes.proofs.SlotLemmas.{longer_both}
 use Rattle.held_processes.proofs.processes.HeldProcesses.give_up_all.Goals as goal
 
 pub loop-place-preserved : goal.loop-place-preserved
@@ -7,4 +8,5 @@ loop-place-preserved g c = (
   c.give_up_one.ensures.table ∙ c.loop-place.invariant.0,
   refl,
   one_more_given_up g.followed.first c.give_up_one.new.self c.give_up_one.new.seat.view c.args.members.now c.loop-place.place g.followed.courses c.loop-place-test.true c.give_up_one.ensures.done,
+  longer_both c.args.seat.now.view c.loop-place.seat.view c.give_up_one.new.seat.view c.loop-place.invariant.3 c.give_up_one.ensures.longer,
 )

@@ -1,6 +1,6 @@
 use Rattle.std.proofs.Common.{◌∙◌, Some, ap, sym}
 use Rattle.std.specs.Option.{option_map}
-use Rattle.sup_tree.specs.Looks.{process_stays}
+use Rattle.started_members.specs.Looks.{process_stays}
 use Rattle.held_processes.proofs.ChildLemmas.{tells_stay}
 use Rattle.held_processes.proofs.processes.HeldProcesses.held_stays.Goals as goal
 

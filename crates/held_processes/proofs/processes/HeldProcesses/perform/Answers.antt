@@ -7,14 +7,19 @@ use Rattle.held_processes.specs.InMemory.{operation_of}
 use Rattle.held_processes.specs.Operations.{up_to, users_of}
 use Rattle.held_processes.specs.Slots.{Steps}
 use Rattle.held_processes.proofs.FollowLemmas.{past_of, at_slot, step_over, step_none, pass_over, none_reached, all_reached, on_user, on_other, up_to_here}
+use Rattle.held_processes.proofs.SlotLemmas.{longer_both, longer_still}
 use Rattle.held_processes.proofs.processes.HeldProcesses.perform.Goals as goal
 use Rattle.held_processes.proofs.processes.HeldProcesses.perform.Goals.{then-include+in-Ok, else-include}
 
 pub loop-slot-init : goal.loop-slot-init
 loop-slot-init g c =
     let all : AllFollow g.followed.first g.followed.courses c.self.inside.places.items c.args.seat.now.view =
-    subst (λ (hs : HeldSlots). AllFollow g.followed.first g.followed.courses hs c.args.seat.now.view) (sym c.self.view_is) c.requires.1.1 in
-    (c.requires.1.0, c.len-slot-end.ensures ∙ (c.self.inside.places.ok.0 ∙ all.long), none_reached g.followed.first _ g.followed.courses _ c.args.seat.now.view all)
+    subst (λ (hs : HeldSlots). AllFollow g.followed.first g.followed.courses hs c.args.seat.now.view) (sym c.self.view_is) c.requires.1.1 in (
+      c.requires.1.0,
+      c.len-slot-end.ensures ∙ (c.self.inside.places.ok.0 ∙ all.long),
+      none_reached g.followed.first _ g.followed.courses _ c.args.seat.now.view all,
+      longer_still c.args.seat.now.view,
+    )
 
 pub perform-requires : goal.perform-requires
 perform-requires g c κs lives =
@@ -48,15 +53,20 @@ loop-slot-preserved g c =
             (subst (λ n. slot < n) c.loop-slot.invariant.1 c.loop-slot-test.true) c.loop-slot.invariant.2
             (subst (λ d. Steps (past_of g.followed.first cs slot) slot d c.loop-slot.seat.view w.perform.new.place w.perform.new.seat.view) (on_user users name op cs slot (sym w.if-include.ensures))
             w.in-Ok.ensures.done),
+        longer_both c.args.seat.now.view c.loop-slot.seat.view w.perform.new.seat.view c.loop-slot.invariant.3 w.in-Ok.ensures.longer,
       )
       | else-include w ↦ rw (w.self-inside-is, w.seat-is) (
         c.loop-slot.invariant.0,
         c.loop-slot.invariant.1,
         pass_over g.followed.first (on_module users name op cs) cs c.loop-slot.self-inside.places.items c.loop-slot.seat.view slot (on_other users name op cs slot (sym w.if-include.ensures))
             c.loop-slot.invariant.2,
+        c.loop-slot.invariant.3,
       )
     ]
 
 pub returns-clause-done : goal.returns-clause-done
 returns-clause-done g c =
     all_reached g.followed.first _ g.followed.courses _ c.loop-slot.seat.view c.loop-slot.slot (omega (arith, c.loop-slot.invariant.1, c.loop-slot-test.false)) c.loop-slot.invariant.2
+
+pub returns-in-Err-clause-longer : goal.returns-in-Err-clause-longer
+returns-in-Err-clause-longer g c = longer_both c.args.seat.now.view c.loop-slot.seat.view c.perform.new.seat.view c.loop-slot.invariant.3 c.in-Err.ensures.longer

@@ -1,6 +1,6 @@
 use Rattle.std.proofs.Common.{◌≡◌}
 use Rattle.proc_table.specs.Agrees.{slots}
-use Rattle.held_processes.specs.Following.{AllFollow}
+use Rattle.held_processes.specs.Following.{AllFollow, AreLonger}
 use Rattle.held_processes.specs.InMemory.{operation_of}
 use Rattle.held_processes.specs.Operations.{part_way, users_of}
 use Rattle.held_processes.proofs.FollowLemmas.{past_of}
@@ -14,3 +14,4 @@ invariant-loop-slot g l =
     (l.seat.table ≡ l.table)
     × (l.slot-end ≡ slots)
     × AllFollow g.followed.first (part_way l.slot (users_of l.users.tree.now) l.users.module.now (operation_of l.step) g.followed.courses) l.self-inside.places.items l.seat.view
+    × AreLonger l.initial.seat.view l.seat.view

@@ -7,6 +7,7 @@ use Rattle.held_processes.specs.Operations.{up_to}
 use Rattle.held_processes.specs.Slots.{Steps}
 use Rattle.held_processes.proofs.FollowLemmas.{past_of, at_slot, step_over, pass_over, up_to_here}
 use Rattle.held_processes.proofs.ReleaseLemmas.{is_let_go, is_kept}
+use Rattle.held_processes.proofs.SlotLemmas.{longer_both}
 use Rattle.held_processes.proofs.processes.HeldProcesses.release.Goals as goal
 use Rattle.held_processes.proofs.processes.HeldProcesses.release.Goals.{then-includes, else-includes}
 
@@ -30,11 +31,13 @@ loop-slot-preserved g c =
         step_over first ds cs hs v w.let_go.new.seat.view slot w.let_go.new.place inside all
             (subst (λ d. Steps (past_of first cs slot) slot d v w.let_go.new.place w.let_go.new.seat.view)
             (is_let_go which cs first.lent slot (part_of first.parts slot) (part_of v.parts slot) c.index.result.now here.follows (sym c.includes.ensures ∙ w.if-includes.true)) w.let_go.ensures.done),
+        longer_both c.args.seat.now.view v w.let_go.new.seat.view c.loop-slot.invariant.3 w.let_go.ensures.longer,
       )
       | else-includes w ↦ rw (w.self-inside-is, w.seat-is) (
         c.loop-slot.invariant.0,
         c.loop-slot.invariant.1,
         pass_over first ds cs hs v slot
             (is_kept which cs first.lent slot (part_of first.parts slot) (part_of v.parts slot) c.index.result.now here.follows (sym c.includes.ensures ∙ w.if-includes.false)) all,
+        c.loop-slot.invariant.3,
       )
     ]

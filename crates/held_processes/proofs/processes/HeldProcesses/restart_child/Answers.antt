@@ -1,11 +1,13 @@
 use Rattle.std.proofs.Common.{◌∙◌, Bool, Err, Ok, refl, subst, sym}
 use Rattle.loaded_modules.specs.Loaded.{modules_in, tables_of}
-use Rattle.sup_tree.specs.declared.looks.Stay.TheVariants.{UpOrTemporary}
+use Rattle.started_members.specs.declared.looks.Stay.TheVariants.{UpOrTemporary}
 use Rattle.sup_tree.specs.Children.{child_place}
 use Rattle.held_processes.specs.Applications.{scene_at}
 use Rattle.held_processes.specs.Restarts.{RestartsIn}
 use Rattle.held_processes.proofs.ChildLemmas.{held_on, told_not}
+use Rattle.held_processes.proofs.LongerLemmas.{restart_longer}
 use Rattle.held_processes.proofs.RestartLemmas.{restarts_in}
+use Rattle.held_processes.proofs.SlotLemmas.{longer_both}
 use Rattle.held_processes.proofs.processes.HeldProcesses.restart_child.Goals as goal
 
 pub returns-in-Stays-clause-restarted : goal.returns-in-Stays-clause-restarted
@@ -13,7 +15,7 @@ returns-in-Stays-clause-restarted g c =
     let o = child_place c.args.child.now.supervisor.now c.args.child.now.id.now c.args.tree.now in
     let w = c.end_held-end.new.seat.view in
     let is = held_on g.followed.first UpOrTemporary g.followed.courses o c.args.self.now c.end_held-end.new.self c.args.seat.now.view w c.requires.1.1
-    (c.in-Stays.ensures.ended o c.child_members-members.ensures) in
+    (c.in-Stays.ensures.ended o c.child_members-members.ensures) c.in-Stays.ensures.longer in
     record { one = sym c.has_one_supervisor.ensures ∙ c.if-not-has_one_supervisor.false; stay = is.stay_is; tree = refl; follow = is.follow }
 
 pub returns-in-Ok : goal.returns-in-Ok
@@ -27,6 +29,8 @@ returns-in-Ok g c =
       restarted = restarts_in g.followed c.args.self.now end.new.self c.args.seat.now.view end.new.seat.view c.restart_child.new.seat.view apps c.restart_child.new.self name id
           (tables_of (modules_in c.args.loaded.now)) end.result (told_not end.result c.in_default.not-Stays) (sym c.has_one_supervisor.ensures ∙ c.if-not-has_one_supervisor.false) c.requires.1.1
           c.knows.ensures.known.legal end.ensures.longer (Ok c.in-Ok.stays) (end.ensures.ended (child_place name id apps) c.child_members-members.ensures) c.in-Ok.ensures.restarted;
+      longer = longer_both c.args.seat.now.view end.new.seat.view c.restart_child.new.seat.view end.ensures.longer
+          (restart_longer name id (tables_of (modules_in c.args.loaded.now)) apps end.new.seat.view (Ok c.in-Ok.stays) c.restart_child.new.self c.restart_child.new.seat.view c.in-Ok.ensures.restarted);
     }
 
 pub returns-in-Err : goal.returns-in-Err
@@ -43,4 +47,6 @@ returns-in-Err g c =
           (restarts_in g.followed c.args.self.now end.new.self c.args.seat.now.view end.new.seat.view w.seat.view apps w.self name id tables end.result (told_not end.result c.in_default.not-Stays)
           (sym c.has_one_supervisor.ensures ∙ c.if-not-has_one_supervisor.false) c.requires.1.1 c.knows.ensures.known.legal end.ensures.longer (Err c.in-Err.error) (end.ensures.ended (child_place name id apps) c.child_members-members.ensures)
           c.in-Err.ensures.restarted);
+      longer = longer_both c.args.seat.now.view end.new.seat.view w.seat.view end.ensures.longer
+          (restart_longer name id tables apps end.new.seat.view (Err c.in-Err.error) w.self w.seat.view c.in-Err.ensures.restarted);
     }

@@ -1,5 +1,5 @@
 use Rattle.std.proofs.Common.{◌≡◌, ◌+◌, ◌<◌, ◌≤◌, ◌∙◌, ◌∷◌, ◌++◌, ◌&&◌, not, [], Bool, true, false, List, ℕ, length, length-append, take, drop, sym, ap, subst, subst₂, arith, append_assoc}
-use Rattle.std.proofs.lemmas.List.{length-map, length-take-le, take_at, take-map}
+use Rattle.std.proofs.lemmas.List.{length-map, length-take-le, take_all, take_at, take-map}
 use Rattle.relup_instruction.specs.declared.instruction.Instr.{Instr}
 use Rattle.relup_instruction.specs.Instruction.{Instruction, instruction_of, script_of}
 use Rattle.relup_instruction.specs.Instruction.Instruction.{point_of_no_return}
@@ -11,12 +11,12 @@ use Rattle.held_processes.proofs.SlotLemmas.{longer_both}
 use Rattle.script_steps.specs.Script.{courses_within}
 use Rattle.script_steps.specs.InMemory.{cause_of, site_of}
 use Rattle.script_steps.specs.Steps.{IsLate}
-use Rattle.relup_exec.specs.Outcome.{IsPointAt, Ran, past_behind, run_behind, still_early}
+use Rattle.relup_exec.specs.Outcome.{IsPointAt, Ran, began_at, past_behind, run_behind, still_early}
 use Rattle.relup_exec.specs.InMemory.{armed_of}
 use Rattle.script_steps.specs.Steps.{HasDone, IsCarriedOut, IsFault, ProgressForm, progress_of}
 use Rattle.relup_exec.proofs.OutcomeLemmas.{point_passed, run_more_late}
 use Rattle.script_steps.proofs.RowLemmas.{more, parted}
-use Rattle.relup_exec.proofs.RunLemmas.{behind_point, late_at, still_push}
+use Rattle.relup_exec.proofs.RunLemmas.{behind_point, late_at, ran_later, still_push}
 use Rattle.relup_exec.proofs.armed.Armed.run_after.Goals as goal
 
 -- what stands in front of the point, and that with it
@@ -48,14 +48,14 @@ loop-i-init g c =
     let front = point_is script place armed.point in
     let follow = subst (λ (is : List Instruction). AllFollow g.start.first (on_all pass_point (run_behind s g.start [] is).courses) c.let_pass.new.held c.let_pass.new.seat.view) (front_is script place armed.point)
     c.let_pass.ensures.passed in
-    let passed = point_passed s g.start (script_of script) (armed_of c.args.self) c.let_pass.new.held c.args.seat.now.view c.let_pass.new.seat.view armed follow in
+    let passed = point_passed s g.start (script_of script) (armed_of c.args.self) c.let_pass.new.held c.args.seat.now.view c.let_pass.new.seat.view armed follow c.let_pass.ensures.longer in
     let a : ProgressForm = record { held = c.let_pass.new.held; fetched = (armed_of c.args.self).fetched; next = (armed_of c.args.self).next } in (
       c.let_pass.ensures.table ∙ c.requires.1.0,
       omega arith,
       ap (still_early true) front ∙ behind_point armed.point.front [] true,
       subst (λ (told : List Bool). length told < place + 1) (sym armed.told) (omega arith),
       armed.room,
-      subst₂ (Ran s g.start) (sym armed.told) (sym front) passed.0,
+      subst₂ (Ran s g.start c.let_pass.new.seat.view) (sym armed.told) (sym front) passed.0,
       subst₂ (λ (told : List Bool) (is : List Instruction). HasDone (past_behind s g.start told is) a (armed_of c.args.self).apps c.let_pass.new.seat.view) (sym armed.told) (sym front) passed.1,
     )
 
@@ -82,13 +82,13 @@ loop-i-preserved g c =
     let grown = more instruction_of script c.loop-i.i c.index-script-i.result c.loop-i-test.true c.index-script-i.is in
     let w = c.carry_out_late-done.new in
     let carried = subst (λ (told : List Bool). IsCarriedOut s (past_behind s g.start told so_far) false c.in-Ok.stays i (progress_of w.self) w.self.tree w.seat.view) c.as_slice.ensures.value c.in-Ok.ensures.carried in
-    let done = run_more_late s g.start c.loop-i.told.items so_far c.in-Ok.stays i (progress_of w.self) w.self.tree w.seat.view c.loop-i.invariant.2 c.loop-i.invariant.5 carried in (
+    let done = run_more_late s g.start c.loop-i.told.items so_far c.in-Ok.stays i (progress_of w.self) w.self.tree c.loop-i.seat.view w.seat.view c.loop-i.invariant.2 c.loop-i.invariant.5 c.carry_out_late-done.ensures.longer carried in (
       c.carry_out_late-done.ensures.table ∙ c.loop-i.invariant.0,
       omega (arith, c.loop-i.invariant.1),
       ap (still_early true) grown ∙ (still_push true so_far i ∙ ap (λ e. e && not (is_point i)) c.loop-i.invariant.2),
       subst (λ (bs : List Bool). length bs < c.loop-i.i + 1) (sym c.push_reserved.ensures.items) (omega (arith, length-append c.loop-i.told.items (c.in-Ok.stays ∷ []), c.loop-i.invariant.3)),
       subst (λ (n : ℕ). length (script_of script) ≤ n) (sym c.push_reserved.ensures.capacity) c.loop-i.invariant.4,
-      subst₂ (Ran s g.start) (sym c.push_reserved.ensures.items) (sym grown) done.0,
+      subst₂ (Ran s g.start w.seat.view) (sym c.push_reserved.ensures.items) (sym grown) done.0,
       subst₂ (λ (bs : List Bool) (is : List Instruction). HasDone (past_behind s g.start bs is) (progress_of w.self) w.self.tree w.seat.view)
           (sym c.push_reserved.ensures.items) (sym grown) done.1,
     )
@@ -112,7 +112,8 @@ returns-in-Err-clause-broken g c =
       at = record { rest = script_of (drop (c.loop-i.i + 1) script); is = parts; counted = ap (λ n. n + 1) (sym long) };
       late = c.loop-i.invariant.2;
       told = c.loop-i.told.items;
-      ran = c.loop-i.invariant.5;
+      ran = ran_later s g.start.first c.loop-i.seat.view c.close.new.seat.view true c.loop-i.told.items so_far (began_at s g.start)
+          (longer_both c.loop-i.seat.view c.carry_out_late-done.new.seat.view c.close.new.seat.view c.carry_out_late-done.ensures.longer c.close.ensures.longer) c.loop-i.invariant.5;
       then_view = c.in-Err.ensures.carried.then_view;
       fails = subst (λ (told : List Bool). IsFault g.start.first s c.in-Err.ensures.carried.then_view (run_behind s g.start told so_far) i (cause_of c.in-Err.failure.cause)) c.as_slice.ensures.value c.in-Err.ensures.carried.fails;
       modules = c.in-Err.failure.modules;
@@ -120,4 +121,20 @@ returns-in-Err-clause-broken g c =
       left = subst (λ (bs : List Bool). AreLeft g.start.first (on_all finish (courses_within s false i c.in-Err.failure.modules c.in-Err.failure.slot (run_behind s g.start bs so_far))) c.close.new.seat.view)
           c.as_slice-in-Err.ensures.value c.close.ensures.left;
       longer = longer_both c.in-Err.ensures.carried.then_view c.carry_out_late-done.new.seat.view c.close.new.seat.view c.in-Err.ensures.carried.longer c.close.ensures.longer;
+    }
+
+pub returns-clause-finished : goal.returns-clause-finished
+returns-clause-finished g c =
+    let s = site_of c.args.site.now in
+    let script = c.args.script.now in
+    let told = c.loop-i.told.items in
+    let whole : script_of (take c.loop-i.i script) ≡ script_of script = ap script_of (take_all c.loop-i.i script c.loop-i-test.false) in
+    let done = subst (λ (is : List Instruction). HasDone (past_behind s g.start told is) (progress_of c.loop-i.progress) c.loop-i.progress.tree c.loop-i.seat.view) whole c.loop-i.invariant.6 in
+    record {
+      told = told;
+      ran = ran_later s g.start.first c.loop-i.seat.view c.end.new.seat.view true told (script_of script) (began_at s g.start) c.end.ensures.longer
+          (subst (Ran s g.start c.loop-i.seat.view told) whole c.loop-i.invariant.5);
+      loaded_is = done.next;
+      apps_are = done.apps;
+      left = subst (λ (bs : List Bool). AreLeft g.start.first (on_all finish (run_behind s g.start bs (script_of script)).courses) c.end.new.seat.view) c.as_slice-2.ensures.value c.end.ensures.left;
     }

@@ -31,5 +31,5 @@ invariant-loop-i g l =
     × (still_early true so_far ≡ false)
     × (length l.told.items < l.i)
     × (length (script_of l.script) ≤ vec_capacity l.told)
-    × Ran (site_of l.site) g.start l.told.items so_far
+    × Ran (site_of l.site) g.start l.seat.view l.told.items so_far
     × HasDone (past_behind (site_of l.site) g.start l.told.items so_far) (progress_of l.progress) l.progress.tree l.seat.view

@@ -17,7 +17,7 @@ returns-in-application-clause-carried g c =
     let w = c.call_app.new in
     subst (λ (r : Result Bool Failure). CarriesOutLate s g.past (apply (call_of c.args.call.now)) r (progress_of w.self) w.self.tree w.seat.view) (sym c.on_no_child.ensures)
     (app_called s g.past (call_of c.args.call.now) c.call_app.result (progress_of c.args.self.now) (progress_of w.self) c.args.self.now.tree w.self.tree c.args.seat.now.view w.seat.view
-    c.requires.1.1.1
+    c.requires.1.1.1 c.call_app.ensures.longer
     (ap (λ (n : List ℕ). bytes_eq n (codes "application")) (sym c.as_str.ensures.value ∙ c.in-application.is))
     (subst (λ (k : AppCall). CallsApp s g.past k c.call_app.result (progress_of w.self) w.self.tree w.seat.view) c.app_call.ensures c.call_app.ensures.called))
 

@@ -7,4 +7,4 @@ use Rattle.script_steps.proofs.progress.Progress.do_plain.Goals as goal
 pub returns-clause-carried : goal.returns-clause-carried
 returns-clause-carried g c =
     plain_carried (site_of c.args.site.now) g.past c.args.plain (map string_bytes c.args.names.now) (progress_of c.args.self.now) c.do_all.new.held c.args.self.now.tree c.args.seat.now.view c.do_all.new.seat.view
-    c.requires.1.1 c.do_all.ensures.done
+    c.requires.1.1 c.do_all.ensures.longer c.do_all.ensures.done

@@ -10,4 +10,4 @@ pub returns-in-Ok-clause-carried : goal.returns-in-Ok-clause-carried
 returns-in-Ok-clause-carried g c =
     loaded_well (site_of c.args.site.now) g.past c.args.early (purging_of c.args.purging.now) (progress_of c.args.self.now) c.as_str-module.result.now
     c.give_table.new.self.held (listed_in c.give_table.new.self.fetched) (listed_in c.give_table.new.self.next) (listed_in c.load_from.new.self) c.args.self.now.tree c.give_table.new.self.tree c.args.seat.now.view c.give_table.new.seat.view
-    c.as_str-module.ensures.value c.requires.1.1.1 c.requires.1.1.0 c.in_ok-give_table.ensures.given (ap listed_in c.give_table.ensures.fetched) (ap listed_in c.give_table.ensures.next) c.give_table.ensures.tree c.in-Ok.ensures.loaded
+    c.as_str-module.ensures.value c.requires.1.1.1 c.requires.1.1.0 c.give_table.ensures.longer c.in_ok-give_table.ensures.given (ap listed_in c.give_table.ensures.fetched) (ap listed_in c.give_table.ensures.next) c.give_table.ensures.tree c.in-Ok.ensures.loaded

@@ -8,4 +8,4 @@ use Rattle.script_steps.proofs.progress.Progress.suspend.Goals as goal
 pub returns-clause-carried : goal.returns-clause-carried
 returns-clause-carried g c = λ early.
     suspended (site_of c.args.site.now) g.past early (map suspension_of c.args.suspensions.now) c.hold_all.result (progress_of c.args.self.now) c.args.self.now.tree c.hold_all.new.held c.args.seat.now.view c.hold_all.new.seat.view
-    c.requires.1.1 c.hold_all.ensures.done
+    c.requires.1.1 c.hold_all.ensures.longer c.hold_all.ensures.done

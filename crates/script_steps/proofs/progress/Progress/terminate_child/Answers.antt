@@ -10,7 +10,7 @@ pub returns-in-Ok-clause-called : goal.returns-in-Ok-clause-called
 returns-in-Ok-clause-called g c =
     let w = c.terminate_child.new in
     terminated g.past c.args.child.now.supervisor.now c.args.child.now.id.now (progress_of c.args.self.now) c.args.self.now.tree w.tree w.self c.args.seat.now.view w.seat.view
-    c.requires.1.1 c.in-Ok.ensures.terminated
+    c.requires.1.1 c.terminate_child.ensures.longer c.in-Ok.ensures.terminated
 
 pub returns-in-Err-clause-called : goal.returns-in-Err-clause-called
 returns-in-Err-clause-called g c =

@@ -1,7 +1,8 @@
 use Rattle.std.proofs.Common.{◌∙◌, List, ap, subst, sym, if◌then◌else◌}
-use Rattle.sup_tree.specs.declared.member.StartedApp.{StartedApp}
-use Rattle.sup_tree.specs.Children.{ChildEndedUnless, ChildLookedAt, SupervisesAt, child_deleted, child_place, nothing_kept}
-use Rattle.sup_tree.specs.declared.looks.Stay.TheVariants.{Up}
+use Rattle.sup_tree.specs.declared.tree.StartedApp.{StartedApp}
+use Rattle.started_members.specs.Places.{ChildEndedUnless, ChildLookedAt, nothing_kept}
+use Rattle.sup_tree.specs.Children.{SupervisesAt, child_deleted, child_place}
+use Rattle.started_members.specs.declared.looks.Stay.TheVariants.{Up}
 use Rattle.sup_tree.specs.Tree.{App}
 use Rattle.sup_tree.proofs.ChildLemmas.{changed_unless, child_there}
 use Rattle.sup_tree.proofs.tree.Tree.delete_child.Goals as goal

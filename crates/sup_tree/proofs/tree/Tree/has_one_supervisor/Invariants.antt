@@ -1,6 +1,6 @@
 use Rattle.std.proofs.Common.{◌≡◌, ◌+◌, ◌≤◌, drop, length, map}
 use Rattle.std.specs.List.{flat_map}
-use Rattle.sup_tree.specs.Children.{supervisors_in}
+use Rattle.started_members.specs.Members.{supervisors_in}
 use Rattle.sup_tree.specs.Tree.{App, app_of}
 use Rattle.sup_tree.proofs.tree.Tree.has_one_supervisor.Given as goal
 

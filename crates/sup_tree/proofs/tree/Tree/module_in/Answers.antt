@@ -1,7 +1,8 @@
 use Rattle.std.proofs.Common.{◌≡◌, ◌∷◌, ◌+◌, map, drop, ap, sym, ◌∙◌}
 use Rattle.std.specs.Option.{option_map}
 use Rattle.std.proofs.lemmas.List.{drop_more}
-use Rattle.sup_tree.specs.Tree.{app_of, module_among, module_in, processes_among}
+use Rattle.sup_tree.specs.Tree.{app_of, module_in}
+use Rattle.started_members.specs.Members.{module_among, processes_among}
 use Rattle.sup_tree.proofs.SlotLemmas.{not_here, found_here}
 use Rattle.sup_tree.proofs.tree.Tree.module_in.Goals as goal
 

@@ -2,10 +2,11 @@ use Rattle.std.proofs.Common.{◌∙◌, ◌≡◌, [], ℕ, List, map, Option, 
 use Rattle.std.specs.Option.{option_map_or}
 use Rattle.std.proofs.Math.Seq.{map-set_same}
 use Rattle.loaded_modules.specs.Loaded.{modules_in, tables_of}
-use Rattle.sup_tree.specs.declared.member.Member.{Member}
-use Rattle.sup_tree.specs.declared.member.StartedApp.{StartedApp}
-use Rattle.sup_tree.specs.Children.{Place, SupervisesAt, app_with, apps_with, child_in, child_place}
-use Rattle.sup_tree.specs.Restarts.{Restarts, in_place, super_app}
+use Rattle.started_members.specs.declared.member.Member.{Member}
+use Rattle.sup_tree.specs.declared.tree.StartedApp.{StartedApp}
+use Rattle.started_members.specs.Places.{Place, child_in, in_place}
+use Rattle.sup_tree.specs.Children.{SupervisesAt, app_with, apps_with, child_place}
+use Rattle.sup_tree.specs.Restarts.{Restarts, super_app}
 use Rattle.sup_tree.specs.Tree.{App, app_of}
 use Rattle.sup_tree.proofs.ChildLemmas.{app_changed, child_there}
 use Rattle.sup_tree.proofs.RestartLemmas.{lifted, with_one}

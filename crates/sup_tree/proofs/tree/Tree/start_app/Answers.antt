@@ -1,13 +1,14 @@
 use Rattle.std.proofs.Common.{◌≡◌, length, is_some, map, string_bytes, ap, sym, subst, ◌∙◌, arith}
 use Rattle.app_file.specs.InMemory.{specification_of}
-use Rattle.sup_tree.specs.Begins.{AllBegan, preparation_of, to_begin}
+use Rattle.started_members.specs.Preparations.{AllBegan, preparation_of, to_begin}
 use Rattle.app_members.specs.InMemory.{new_members_of}
 use Rattle.loaded_modules.specs.Loaded.{modules_in, tables_of}
-use Rattle.sup_tree.specs.Starts.{members_at}
-use Rattle.sup_tree.specs.Tree.{app_named, pids_of}
+use Rattle.started_members.specs.Begins.{members_at}
+use Rattle.sup_tree.specs.Tree.{app_named}
+use Rattle.started_members.specs.Members.{pids_of}
 use Rattle.app_members.specs.Walk.{app_members}
 use Rattle.sup_tree.proofs.AppLemmas.{not_there, app_pushed}
-use Rattle.sup_tree.proofs.BeginLemmas.{as_many, in_order}
+use Rattle.started_members.proofs.BeginLemmas.{as_many, in_order}
 use Rattle.sup_tree.proofs.tree.Tree.start_app.Goals as goal
 
 pub begin_all-requires-clause-slots : goal.begin_all-requires-clause-slots

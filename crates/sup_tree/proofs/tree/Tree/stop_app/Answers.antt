@@ -1,7 +1,9 @@
 use Rattle.std.proofs.Common.{List, Some, map, reverse, ap, sym, subst, ◌∙◌}
-use Rattle.sup_tree.specs.declared.member.Member.{Member}
-use Rattle.sup_tree.specs.Tree.{app_of, app_named, pids_of, processes_among, without}
-use Rattle.sup_tree.specs.Stops.{EndedInOrder, StandsAt}
+use Rattle.started_members.specs.declared.member.Member.{Member}
+use Rattle.sup_tree.specs.Tree.{app_of, app_named, without}
+use Rattle.started_members.specs.Members.{pids_of, processes_among}
+use Rattle.started_members.specs.Ends.{EndedInOrder}
+use Rattle.sup_tree.specs.Stops.{StandsAt}
 use Rattle.sup_tree.proofs.tree.Tree.stop_app.Goals as goal
 
 pub returns-clause-stopped : goal.returns-clause-stopped

@@ -1,9 +1,10 @@
 use Rattle.std.proofs.Common.{◌∙◌, [], List, reverse, ap, subst, sym}
 use Rattle.std.specs.Option.{option_map_or}
-use Rattle.sup_tree.specs.declared.member.StartedApp.{StartedApp}
-use Rattle.sup_tree.specs.Children.{SupervisesAt, child_place, child_terminated, specification_kept, with_below}
-use Rattle.sup_tree.specs.Stops.{EndedInOrder}
-use Rattle.sup_tree.specs.Tree.{pids_of, processes_among}
+use Rattle.sup_tree.specs.declared.tree.StartedApp.{StartedApp}
+use Rattle.sup_tree.specs.Children.{SupervisesAt, child_place, child_terminated}
+use Rattle.started_members.specs.Places.{specification_kept, with_below}
+use Rattle.started_members.specs.Ends.{EndedInOrder}
+use Rattle.started_members.specs.Members.{pids_of, processes_among}
 use Rattle.sup_tree.proofs.ChildLemmas.{app_changed, child_there}
 use Rattle.sup_tree.proofs.tree.Tree.terminate_child.Goals as goal
 

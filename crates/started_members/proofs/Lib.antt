@@ -1,0 +1,4 @@
+pub mod BeginLemmas
+pub mod EndLemmas
+pub mod ChangeLemmas
+pub mod PlaceLemmas

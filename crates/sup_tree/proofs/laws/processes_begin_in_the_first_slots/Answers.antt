@@ -1,5 +1,0 @@
-use Rattle.sup_tree.proofs.BeginLemmas.{first_slots}
-use Rattle.sup_tree.proofs.laws.processes_begin_in_the_first_slots.Goals as goal
-
-pub returns : goal.returns
-returns c = first_slots
