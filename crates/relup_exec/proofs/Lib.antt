@@ -2,3 +2,4 @@ pub mod RunLemmas
 pub mod QuietLemmas
 pub mod OutcomeLemmas
 pub mod AloneLemmas
+pub mod PointLemmas

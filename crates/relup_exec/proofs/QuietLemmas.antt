@@ -1,5 +1,5 @@
 -- Before the point of no return no block is added to a course.
-use Rattle.std.proofs.Common.{◌≡◌, ℕ, Bool, true, false, ◌&&◌, IsTrue, if◌then◌else◌, codes, List, [], ◌∷◌, Option, Some, None, not, refl, ap, ◌∙◌}
+use Rattle.std.proofs.Common.{◌≡◌, ℕ, Bool, true, false, ◌&&◌, if◌then◌else◌, codes, List, [], ◌∷◌, Option, Some, None, not, refl, ap, ◌∙◌}
 use Rattle.std.specs.List.{AllByRecursion}
 use Rattle.mod_table.specs.Table.{OldVersion, WorkerTable}
 use Rattle.held_processes.specs.Course.{Courses, Users, on_module}
@@ -17,15 +17,8 @@ use Rattle.script_steps.specs.Calls.AppCall.{starts, stops, idle}
 use Rattle.script_steps.specs.Script.{Run, Site, call_after, called_after, child_after, change_courses, changed, changed_once, load_courses, mode_of, old_version, on_each, run_after, suspended_in, users_in, worker_in}
 use Rattle.relup_exec.specs.Outcome.{Start, began_at, run_behind, run_through}
 use Rattle.script_steps.specs.Steps.{IsEarly, SameBlocks}
+use Rattle.script_steps.proofs.CallLemmas.{left_true, right_true}
 use Rattle.relup_exec.proofs.RunLemmas.{not_the_point}
-
-left_true : (a b : Bool) → (a && b) ≡ true → a ≡ true
-left_true true b e = refl
-left_true false b e = absurd (cc e)
-
-right_true : (a b : Bool) → IsTrue (a && b) → b ≡ true
-right_true true b e = e
-right_true false b e = absurd (cc e)
 
 -- a call that raises an error does nothing
 errors_do_nothing : (s : Site) (c : CallForm) (b : Bool) (r : Run) → IsEarly (instruction.Instruction.apply c) → call_after s c b r ≡ r

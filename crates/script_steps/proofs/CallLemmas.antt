@@ -22,9 +22,14 @@ use Rattle.script_steps.proofs.CourseLemmas.{seen_of}
 use Rattle.held_processes.proofs.SlotLemmas.{longer_still}
 use Rattle.script_steps.proofs.StepLemmas.{cause_seen, seen_in}
 
-left_true : (a b : Bool) → (a && b) ≡ true → a ≡ true
+-- each of two tests that hold
+pub left_true : (a b : Bool) → (a && b) ≡ true → a ≡ true
 left_true true b e = refl
 left_true false b e = absurd (cc e)
+
+pub right_true : (a b : Bool) → (a && b) ≡ true → b ≡ true
+right_true true b e = e
+right_true false b e = absurd (cc e)
 
 -- What a call does, how it fails, and whether it leaves a child as it is, is what is said of its kind.
 record IsCall (s : Site) (call : CallForm) (r : Run) (o : Values → Option Cause) (stays : Values → Bool) (after : Bool → Run) (within : ℕ → Courses) : Type 0 where

@@ -1,23 +1,17 @@
-use Rattle.std.proofs.Common.{◌≡◌, [], ◌∷◌, ◌∙◌, true, List, take, sym, ap, subst, arith}
-use Rattle.std.proofs.lemmas.List.{length-map, take-map, take_at}
+use Rattle.std.proofs.Common.{[], true, List, take, sym, subst, arith}
+use Rattle.std.proofs.lemmas.List.{length-map}
 use Rattle.std.specs.Prelude.{vec_capacity}
 use Rattle.std.specs.List.{AllByRecursion}
-use Rattle.relup_instruction.specs.declared.instruction.Instr.{Instr}
 use Rattle.relup_instruction.specs.Instruction.{instruction_of, script_of}
-use Rattle.relup_instruction.specs.Instruction.Instruction.{point_of_no_return}
 use Rattle.script_steps.specs.InMemory.{cause_of, site_of}
-use Rattle.relup_exec.specs.Outcome.{IsPointAt, Ran, past_behind, run_behind}
+use Rattle.relup_exec.specs.Outcome.{Ran, past_behind, run_behind}
 use Rattle.script_steps.specs.Script.{courses_within}
 use Rattle.script_steps.specs.Steps.{HasDone, IsEarly, progress_of}
 use Rattle.relup_exec.specs.Stepwise.{HasBegun, IsStopped, start_at}
 use Rattle.sup_tree.specs.Tree.{App}
+use Rattle.relup_exec.proofs.PointLemmas.{front_is}
 use Rattle.relup_exec.proofs.OutcomeLemmas.{armed_well, refused_at_first, refused_well}
 use Rattle.relup_exec.proofs.before.run_before.Goals as goal
-
--- what stands in front of the point
-front_is : (script : List Instr) (place : _) (point : IsPointAt (script_of script) place) → script_of (take place script) ≡ point.front
-front_is script place point =
-    sym (take-map instruction_of place script) ∙ (ap (take place) point.is ∙ take_at point.front (point_of_no_return ∷ point.rest) place (sym point.place_is))
 
 pub run_early-requires : goal.run_early-requires
 run_early-requires g c =

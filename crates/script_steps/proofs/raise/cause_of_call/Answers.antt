@@ -1,4 +1,4 @@
-use Rattle.std.proofs.Common.{◌≡◌, ◌∙◌, ◌&&◌, Bool, true, false, List, [], ◌∷◌, Some, sym, ap, refl, codes}
+use Rattle.std.proofs.Common.{◌≡◌, ◌∙◌, ◌&&◌, true, List, [], ◌∷◌, Some, sym, ap, refl, codes}
 use Rattle.std.specs.List.{slice_get}
 use Rattle.std.specs.Option.{option_copied}
 use Rattle.std.specs.Str.{bytes_eq}
@@ -8,16 +8,13 @@ use Rattle.relup_instruction.specs.Instruction.{CallForm, call_of}
 use Rattle.relup_script.specs.Script.{has_one, is_error}
 use Rattle.script_steps.specs.Fault.{error_cause}
 use Rattle.script_steps.specs.Fault.Cause.{raised}
+use Rattle.script_steps.proofs.CallLemmas.{right_true}
 use Rattle.script_steps.proofs.raise.cause_of_call.Goals as goal
-
-right_of : (a b : Bool) → (a && b) ≡ true → b ≡ true
-right_of true b e = e
-right_of false b e = absurd (cc e)
 
 error_has_one : (call : CallForm) → is_error call ≡ true → has_one call.args ≡ true
 error_has_one call e =
-    right_of (bytes_eq call.function (codes "error")) (has_one call.args)
-    (right_of (bytes_eq call.name (codes "erlang")) (bytes_eq call.function (codes "error") && has_one call.args) e)
+    right_true (bytes_eq call.function (codes "error")) (has_one call.args)
+    (right_true (bytes_eq call.name (codes "erlang")) (bytes_eq call.function (codes "error") && has_one call.args) e)
 
 one_member : (items : List Term) → has_one (members_of items) ≡ true → (t : Term) × (items ≡ t ∷ [])
 one_member [] e = absurd (cc e)

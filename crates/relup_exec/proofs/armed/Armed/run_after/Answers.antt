@@ -1,8 +1,6 @@
-use Rattle.std.proofs.Common.{◌≡◌, ◌+◌, ◌<◌, ◌≤◌, ◌∙◌, ◌∷◌, ◌++◌, ◌&&◌, not, [], Bool, true, false, List, ℕ, length, length-append, take, drop, sym, ap, subst, subst₂, arith, append_assoc}
-use Rattle.std.proofs.lemmas.List.{length-map, length-take-le, take_all, take_at, take-map}
-use Rattle.relup_instruction.specs.declared.instruction.Instr.{Instr}
+use Rattle.std.proofs.Common.{◌≡◌, ◌+◌, ◌<◌, ◌≤◌, ◌∙◌, ◌∷◌, ◌&&◌, not, [], Bool, true, false, List, ℕ, length, length-append, take, drop, sym, ap, subst, subst₂, arith}
+use Rattle.std.proofs.lemmas.List.{length-map, length-take-le, take_all}
 use Rattle.relup_instruction.specs.Instruction.{Instruction, instruction_of, script_of}
-use Rattle.relup_instruction.specs.Instruction.Instruction.{point_of_no_return}
 use Rattle.relup_script.specs.Script.{is_point}
 use Rattle.held_processes.specs.Course.{on_all}
 use Rattle.held_processes.specs.Course.Operation.{finish, pass_point}
@@ -11,25 +9,14 @@ use Rattle.held_processes.proofs.SlotLemmas.{longer_both}
 use Rattle.script_steps.specs.Script.{courses_within}
 use Rattle.script_steps.specs.InMemory.{cause_of, site_of}
 use Rattle.script_steps.specs.Steps.{IsLate}
-use Rattle.relup_exec.specs.Outcome.{IsPointAt, Ran, began_at, past_behind, run_behind, still_early}
+use Rattle.relup_exec.specs.Outcome.{Ran, began_at, past_behind, run_behind, still_early}
 use Rattle.relup_exec.specs.InMemory.{armed_of}
 use Rattle.script_steps.specs.Steps.{HasDone, IsCarriedOut, IsFault, ProgressForm, progress_of}
+use Rattle.relup_exec.proofs.PointLemmas.{front_is, point_is}
 use Rattle.relup_exec.proofs.OutcomeLemmas.{point_passed, run_more_late}
 use Rattle.script_steps.proofs.RowLemmas.{more, parted}
 use Rattle.relup_exec.proofs.RunLemmas.{behind_point, late_at, ran_later, still_push}
 use Rattle.relup_exec.proofs.armed.Armed.run_after.Goals as goal
-
--- what stands in front of the point, and that with it
-front_is : (script : List Instr) (place : ℕ) (point : IsPointAt (script_of script) place) → script_of (take place script) ≡ point.front
-front_is script place point =
-    sym (take-map instruction_of place script) ∙ (ap (take place) point.is ∙ take_at point.front (point_of_no_return ∷ point.rest) place (sym point.place_is))
-
-point_is : (script : List Instr) (place : ℕ) (point : IsPointAt (script_of script) place) → script_of (take (place + 1) script) ≡ point.front ++ point_of_no_return ∷ []
-point_is script place point =
-    let front = point.front ++ point_of_no_return ∷ [] in
-    sym (take-map instruction_of (place + 1) script)
-    ∙ (ap (take (place + 1)) (point.is ∙ sym (append_assoc point.front (point_of_no_return ∷ []) point.rest))
-    ∙ take_at front point.rest (place + 1) (length-append point.front (point_of_no_return ∷ []) ∙ ap (λ n. n + 1) (sym point.place_is)))
 
 pub let_pass-requires : goal.let_pass-requires
 let_pass-requires g c =
