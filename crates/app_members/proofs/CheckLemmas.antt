@@ -6,7 +6,8 @@ use Rattle.std.proofs.lemmas.List.Sums.{sum_by-cons}
 use Rattle.std.proofs.lemmas.List.Concat.{flat_map-append}
 use Rattle.mod_table.specs.declared.table.Table.{Table}
 use Rattle.mod_table.specs.declared.table.Table.TheVariants.{Worker, Super}
-use Rattle.mod_table.specs.Table.{ChildSpec, SuperTable, WorkerTable}
+use Rattle.worker_table.specs.Table.{WorkerTable}
+use Rattle.mod_table.specs.Table.{ChildSpec, SuperTable}
 use Rattle.rel_check.specs.Modules.{Tables}
 use Rattle.rel_check.specs.Walk.{first_of, missing_at, child_table, missing_below, processes_from, members_from, is_within}
 use Rattle.rel_check.proofs.Members.{both}

@@ -7,7 +7,8 @@ use Rattle.mod_table.specs.declared.child.ChildKind.TheVariants as kind
 use Rattle.mod_table.specs.declared.child.Restart.TheVariants as restart
 use Rattle.mod_table.specs.declared.table.Table.{Table}
 use Rattle.mod_table.specs.declared.table.Table.TheVariants.{Worker, Super}
-use Rattle.mod_table.specs.Table.{ChildSpec, WorkerTable}
+use Rattle.worker_table.specs.Table.{WorkerTable}
+use Rattle.mod_table.specs.Table.{ChildSpec}
 use Rattle.rel_check.specs.Modules.{Tables}
 use Rattle.rel_check.specs.Walk.{first_of, child_table}
 

@@ -1,7 +1,7 @@
 -- A change of code at one slot, and at all.
 use Rattle.std.proofs.Common.{◌≡◌, ℕ, Bool, ◌&&◌, not, true, false, List, Option, Some, None, refl, ap, ap₂, sym, subst, ◌∙◌, is_some}
 use Rattle.erl_term.specs.Value as term
-use Rattle.mod_table.specs.Table.{OldVersion}
+use Rattle.worker_table.specs.Table.{OldVersion}
 use Rattle.proc_history.specs.declared.value.Value.{Value}
 use Rattle.proc_history.specs.declared.value.Now.{Now}
 use Rattle.proc_history.specs.declared.value.Standing.{Standing}

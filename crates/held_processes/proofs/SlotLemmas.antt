@@ -4,7 +4,7 @@ use native.Mathlib.Decide.{ℕ_discrete}
 use mathlib.Core.List.{IsPrefix}
 use mathlib.Core.Logic.{dite}
 use Rattle.proc_history.specs.declared.value.Value.{Value}
-use Rattle.mod_table.specs.Table.{WorkerTable}
+use Rattle.worker_table.specs.Table.{WorkerTable}
 use Rattle.proc_history.specs.Events.Event.{given_up, loaded}
 use Rattle.proc_history.specs.Events.{Event, HistoryEntry, ByHandler, IsCall, entry, own}
 use Rattle.proc_history.specs.Histories.{replay, replay_from, IsLegal}

@@ -5,7 +5,7 @@ use Rattle.std.specs.Prelude.{ℕ, Bool, true, false, List, [], ◌∷◌, ◌++
 use Rattle.std.specs.Option.{option_map_or}
 use Rattle.std.specs.Str.{bytes_eq}
 use Rattle.erl_term.specs.Value as term
-use Rattle.mod_table.specs.Table.{OldVersion, WorkerTable}
+use Rattle.worker_table.specs.Table.{OldVersion, WorkerTable}
 use Rattle.proc_history.specs.Events as history
 use Rattle.proc_history.specs.Events.{HistoryEntry, entry}
 use Rattle.proc_history.specs.Events.Event.{loaded, changed, stopped, started, given_up}

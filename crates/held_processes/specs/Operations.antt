@@ -1,7 +1,7 @@
 -- What an operation on the processes of a module leaves.
 use Rattle.std.specs.Prelude.{◌≡◌, ℕ, zero, suc, ◌==◌, Bool, ◌&&◌, ◌||◌, not, true, false, List, nat_lt, is_ok, is_some, if◌then◌else◌, Result, Ok, Err}
 use Rattle.erl_term.specs.Value as term
-use Rattle.mod_table.specs.Table.{OldVersion}
+use Rattle.worker_table.specs.Table.{OldVersion}
 use Rattle.proc_history.specs.declared.value.Value.{Value}
 use Rattle.proc_history.specs.Changes.{finds_row}
 use Rattle.proc_history.specs.Histories.{replay, replay_from}

@@ -1,7 +1,7 @@
 -- What a step at one slot leaves.
 use Rattle.std.specs.Prelude.{◌≡◌, ℕ, Bool, true, List, [], Option, Some, None, Result, Ok, Err}
 use Rattle.erl_term.specs.Value as term
-use Rattle.mod_table.specs.Table.{OldVersion}
+use Rattle.worker_table.specs.Table.{OldVersion}
 use Rattle.proc_history.specs.declared.value.Value.{Value}
 use Rattle.proc_history.specs.Changes.{finds_row}
 use Rattle.proc_history.specs.Events.{HistoryEntry}

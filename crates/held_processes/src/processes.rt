@@ -2,7 +2,7 @@
 ghost use Rattle.std.specs.Prelude.{◌≡◌, ℕ, IfOk, None, OnErr, slice_index_or, true};
 ghost use Rattle.std.specs.Option.{option_map};
 ghost use Rattle.erl_term.specs.Value.{value_of};
-ghost use Rattle.mod_table.specs.InMemory.{old_of};
+ghost use Rattle.worker_table.specs.InMemory.{old_of};
 ghost use Rattle.proc_table.specs.declared.view.View.{View};
 ghost use Rattle.proc_table.specs.Views.{seen};
 ghost use Rattle.held_processes.specs.Course.{Courses, on_all, on_module, opening};

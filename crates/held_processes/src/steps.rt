@@ -1,7 +1,7 @@
 //! What is done to the process of one slot.
 ghost use Rattle.std.specs.Prelude.{◌≡◌, OnErr, None, Some, true, is_some};
 ghost use Rattle.erl_term.specs.Value.{value_of};
-ghost use Rattle.mod_table.specs.InMemory.{old_of};
+ghost use Rattle.worker_table.specs.InMemory.{old_of};
 ghost use Rattle.held_processes.specs.Course.{add_alone, if_held, course_after};
 ghost use Rattle.held_processes.specs.Course.Operation.{suspend, load, resume, stop, start, give_up};
 ghost use Rattle.held_processes.specs.Following.{AreLonger};

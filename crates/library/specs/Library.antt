@@ -10,7 +10,7 @@ use Rattle.rel_files.specs.Release.{Application}
 use Rattle.app_file.specs.File.{Specification, IsAppTerm}
 use Rattle.mod_table.specs.declared.table.Table.{Table}
 use Rattle.mod_table.specs.File.{IsTableTerm, name_of}
-use Rattle.mod_table.specs.Same.{is_same}
+use Rattle.worker_table.specs.Same.{is_same}
 
 -- what a `.mod` file says, and its whole term
 pub record TableTerm : Type 0 where

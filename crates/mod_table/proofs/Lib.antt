@@ -1,6 +1,2 @@
 pub mod MemberLemmas
-pub mod Sameness
-pub mod FirstChange
-pub mod IndexLemmas
 pub mod Readings
-pub mod HeadedLemmas

@@ -1,5 +1,5 @@
 -- Rows of another number of terms than they are to have.
-use Rattle.std.proofs.Common.{◌≡◌, ℕ, false, List, [], ◌∷◌, length, get_or, Option, Some, None, refl}
+use Rattle.std.proofs.Common.{◌≡◌, ℕ, false, List, [], ◌∷◌, length, get_or, Some, None, refl}
 use Rattle.erl_term.specs.declared.term.Term.{Term}
 use Rattle.erl_term.specs.Value.{Value, Values, value_of, members_of}
 use Rattle.erl_term.specs.Value.Value.{atom}

@@ -9,8 +9,9 @@ use Rattle.rel_files.specs.Name.{is_text}
 use Rattle.rel_files.specs.Kind.{Kind, TermSays, HasTermAt, HasTermFault, Says, HasFault}
 use Rattle.mod_table.specs.declared.table.Table.{Table}
 use Rattle.mod_table.specs.declared.table.Table.TheVariants.{Worker, Super}
-use Rattle.mod_table.specs.Parts.{tagged_in}
-use Rattle.mod_table.specs.Headed.{worker_in, super_in, has_versions, ids}
+use Rattle.worker_table.specs.Parts.{tagged_in}
+use Rattle.worker_table.specs.Headed.{worker_in, has_versions}
+use Rattle.mod_table.specs.Headed.{super_in, ids}
 
 -- {worker, Mod, Vsn, Init, Rows} or {supervisor, Mod, Vsn, [ChildSpec]}
 abbrev pub table_in : Value → Option Table

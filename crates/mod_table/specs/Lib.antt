@@ -1,10 +1,4 @@
 pub mod Table
-pub mod Codes
-pub mod Same
-pub mod Decide
-pub mod Indexed
-pub mod Parts
-pub mod Rows
 pub mod Children
 pub mod Headed
 pub mod InMemory

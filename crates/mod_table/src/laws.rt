@@ -1,6 +1,5 @@
-//! Laws of the files and terms themselves, whatever reads them. Each function does nothing: its contract is the law.
+//! Laws of the files themselves, whatever reads them. Each function does nothing: its contract is the law.
 ghost use Rattle.mod_table.specs.Laws.{SaysOneTable, HasOneFault, NeverBoth, SaysOrFails};
-ghost use Rattle.mod_table.specs.Same.{SameAreEqual};
 
 /// No file says two tables.
 pub fn no_file_says_two_tables()
@@ -20,9 +19,4 @@ pub fn no_file_says_a_table_and_has_a_fault()
 /// Each file says a table or has a fault.
 pub fn each_file_says_a_table_or_has_a_fault()
     ensures { SaysOrFails }
-{}
-
-/// Two terms are taken as the same exactly where they are equal.
-pub fn same_terms_are_equal()
-    ensures { SameAreEqual }
 {}

@@ -2,10 +2,10 @@
 ghost use Rattle.std.specs.Prelude.{◌≡◌, IfOk, MatchOption};
 ghost use Rattle.rel_files.specs.Name.{AreDistinct, IsFirstTwice};
 
-use crate::parts::tagged_in;
 use crate::{Super, Worker};
 use erl_term::Term;
 use std::alloc::{AllocError, Global};
+use worker_table::parts::tagged_in;
 
 /// The table of a module.
 #[derive(Drop)]

@@ -5,7 +5,7 @@ use Rattle.std.specs.Option.{option_map}
 use Rattle.rel_files.specs.Name.{IsVersion}
 use Rattle.mod_table.specs.declared.table.Table.{Table}
 use Rattle.mod_table.specs.declared.table.Table.TheVariants.{Worker, Super}
-use Rattle.mod_table.specs.Table.{OldVersion, WorkerTable}
+use Rattle.worker_table.specs.Table.{OldVersion, WorkerTable}
 use Rattle.started_members.specs.Begins.{beginning_of}
 use Rattle.app_members.specs.Walk.{Start}
 use Rattle.proc_history.specs.declared.beginning.Beginning.{Beginning}
@@ -13,8 +13,8 @@ use Rattle.proc_history.specs.declared.value.Now.{Now}
 use Rattle.proc_history.specs.declared.value.Standing.{Standing}
 use Rattle.proc_history.specs.declared.value.Standing.TheVariants.{Up, Down, Stopped}
 use Rattle.proc_history.specs.declared.value.Value.{Value}
-use Rattle.mod_table.specs.declared.step.Step.{Step}
-use Rattle.mod_table.specs.declared.step.Step.TheVariants.{Next, Ends, Crashes}
+use Rattle.worker_table.specs.declared.step.Step.{Step}
+use Rattle.worker_table.specs.declared.step.Step.TheVariants.{Next, Ends, Crashes}
 use Rattle.proc_history.specs.Events.{Event, HistoryEntry, entry}
 use Rattle.proc_history.specs.Events as history
 use Rattle.proc_history.specs.Values.{nothing, answer, begun, called as called_process, changes, ended, moved_to, restarted, starts_again, where_up, with_now, after}
@@ -28,7 +28,7 @@ use Rattle.held_processes.specs.Course.{Course, Courses, Hold, Operation, Users,
 use Rattle.held_processes.specs.Course.Hold.{not_held, until_point, until_resumed}
 use Rattle.held_processes.specs.Course as course
 use Rattle.held_processes.specs.Operations.{Values, give_up_at}
-use Rattle.script_steps.specs.Script.{change_courses, load_courses, on_each, worker_table}
+use Rattle.script_progress.specs.Script.{change_courses, load_courses, on_each, worker_table}
 use Rattle.node_processes.proofs.TableVersions.{OrNone, each_append, StartsVersion}
 
 pub begun_version : (b : Beginning) (n : Now) → IsVersion b.table.vsn → Some (begun b) ≡ Some n → IsVersion n.table.vsn

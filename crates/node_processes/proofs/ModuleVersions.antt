@@ -37,11 +37,11 @@ use Rattle.held_processes.specs.Children.{child_pids, with_deleted}
 use Rattle.held_processes.specs.Restarts.{child_ended, restart_pids, restart_starts}
 use Rattle.held_processes.specs.Course.{Courses, added, course_after}
 use Rattle.held_processes.specs.Course as course
-use Rattle.script_steps.specs.Fault.{Cause, fault}
-use Rattle.script_steps.specs.Script.{Run, Site, call_after, called_after, changed, changed_once, child_after, library_for, mode_of, old_version, restarted_at, run_after, scene_of, started_from, stays_at, suspended_in, tables_among, target_library, users_in, with_scene, worker_in}
-use Rattle.script_steps.specs.Calls.{AppCall, ChildCall, app_call, child_call, is_on_child}
-use Rattle.script_steps.specs.Calls.AppCall.{starts, stops, idle}
-use Rattle.script_steps.specs.Calls.ChildCall.{terminates, deletes, restarts, nothing as no_end}
+use Rattle.script_progress.specs.Fault.{Cause, fault}
+use Rattle.script_progress.specs.Script.{Run, Site, call_after, called_after, changed, changed_once, child_after, library_for, mode_of, old_version, restarted_at, run_after, scene_of, started_from, stays_at, suspended_in, tables_among, target_library, users_in, with_scene, worker_in}
+use Rattle.script_progress.specs.Calls.{AppCall, ChildCall, app_call, child_call, is_on_child}
+use Rattle.script_progress.specs.Calls.AppCall.{starts, stops, idle}
+use Rattle.script_progress.specs.Calls.ChildCall.{terminates, deletes, restarts, nothing as no_end}
 use Rattle.relup_exec.specs.Alone.{fails_at, outcome, outcome_from, step_alone, unless_fault, values_alone}
 use Rattle.relup_exec.specs.Alone.Outcome.{ends}
 use Rattle.node_processes.specs.Scripts.{behind_run, ended_run, run_on}

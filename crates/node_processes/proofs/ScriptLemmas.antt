@@ -6,7 +6,7 @@ use Rattle.std.proofs.lemmas.Bool.Decides.{nat_tests}
 use Rattle.std.proofs.lemmas.List.{ext_get_or}
 use Rattle.std.proofs.lemmas.List.FromFn.{get_or-map-range_with_len, length-map-range_with_len}
 use Rattle.library.specs.Library.{Library}
-use Rattle.mod_table.specs.Table.{OldVersion}
+use Rattle.worker_table.specs.Table.{OldVersion}
 use Rattle.proc_history.specs.declared.value.Value.{Value}
 use Rattle.proc_history.specs.Changes.{finds_row}
 use Rattle.proc_history.specs.Events.Event.{given_up}
@@ -42,12 +42,12 @@ use Rattle.held_processes.specs.Operations.{Values, is_held_user, now_in, uses_u
 use Rattle.held_processes.specs.Restarts.{child_ended, restart_pids, restart_starts}
 use Rattle.held_processes.proofs.AnyLemmas.{any_alike}
 use Rattle.held_processes.proofs.CourseLemmas.{blocks_alone}
-use Rattle.script_steps.specs.Script.{Run, Site, began, call_after, called_after, changed, changed_once, child_after, child_stays_at, mode_of, old_version, restarted_at, run_after, scene_of, started_from, stays_at, tables_among, target_library, users_in, with_scene}
-use Rattle.script_steps.specs.Calls.{AppCall, ChildCall, app_call, child_call, is_on_child}
-use Rattle.script_steps.specs.Calls.AppCall.{starts, stops, idle}
-use Rattle.script_steps.specs.Calls.ChildCall.{terminates, deletes, restarts, nothing as no_end}
-use Rattle.script_steps.specs.Fault.{Cause, app_call_fault, call_fault, change_fault, child_call_fault, error_cause, fault, is_stuck, restart_fault_at, start_fault, start_fault_or, super_fault_or}
-use Rattle.script_steps.specs.Fault.Cause.{in_use, no_change, no_memory}
+use Rattle.script_progress.specs.Script.{Run, Site, began, call_after, called_after, changed, changed_once, child_after, child_stays_at, mode_of, old_version, restarted_at, run_after, scene_of, started_from, stays_at, tables_among, target_library, users_in, with_scene}
+use Rattle.script_progress.specs.Calls.{AppCall, ChildCall, app_call, child_call, is_on_child}
+use Rattle.script_progress.specs.Calls.AppCall.{starts, stops, idle}
+use Rattle.script_progress.specs.Calls.ChildCall.{terminates, deletes, restarts, nothing as no_end}
+use Rattle.script_progress.specs.Fault.{Cause, app_call_fault, call_fault, change_fault, child_call_fault, error_cause, fault, is_stuck, restart_fault_at, start_fault, start_fault_or, super_fault_or}
+use Rattle.script_progress.specs.Fault.Cause.{in_use, no_change, no_memory}
 use Rattle.relup_exec.specs.Alone.{Outcome, outcome, outcome_from, step_alone, unless_fault, values_alone}
 use Rattle.relup_exec.specs.Alone.Outcome.{ends, refuses, breaks}
 use Rattle.relup_exec.specs.Outcome.{IsBroken, IsFinished, IsRefused, Start, began_at, run_behind}

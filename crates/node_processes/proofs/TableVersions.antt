@@ -15,7 +15,7 @@ use Rattle.mod_table.specs.declared.child.ChildKind.TheVariants as kind
 use Rattle.mod_table.specs.declared.table.Table.{Table}
 use Rattle.mod_table.specs.declared.table.Table.TheVariants.{Worker, Super}
 use Rattle.mod_table.specs.File.{versions_of}
-use Rattle.mod_table.specs.Headed.{row_has_version}
+use Rattle.worker_table.specs.Headed.{row_has_version}
 use Rattle.mod_table.specs.Table.{ChildSpec}
 use Rattle.library.specs.Library.{Library, TableTerm, HaveTables, IsLibrary, is_at}
 use Rattle.rel_check.specs.Modules.{Tables}
@@ -24,7 +24,7 @@ use Rattle.loaded_modules.specs.Loaded.{Module, NamedModules, libraries_behind, 
 use Rattle.app_members.specs.Walk.{NewMember, Start, app_members, app_starts, child_members, children_members, lone_members, members_at_top, members_from, start_in, starts_among}
 use Rattle.node_processes.specs.Fresh.{tables_in}
 use Rattle.node_processes.specs.ModuleVersions.{HasTableVersion}
-use Rattle.script_steps.specs.Script.{fetched_from, fetched_of}
+use Rattle.script_progress.specs.Script.{fetched_from, fetched_of}
 
 -- what holds of one, where there is one
 abbrev pub OrNone : {X : Type 0} → (X → Type 0) → Option X → Type 0

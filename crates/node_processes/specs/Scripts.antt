@@ -6,7 +6,7 @@ use Rattle.proc_table.specs.Agrees.{slots}
 use Rattle.held_processes.specs.Course.{on_all}
 use Rattle.held_processes.specs.Course.Operation.{finish}
 use Rattle.held_processes.specs.Operations.{Values}
-use Rattle.script_steps.specs.Script.{Run, Site, began}
+use Rattle.script_progress.specs.Script.{Run, Site, began}
 use Rattle.relup_exec.specs.Alone.{values_alone}
 use Rattle.node_processes.specs.Processes.{Processes}
 

@@ -4,8 +4,8 @@ use Rattle.erl_term.specs.Value.{value_of}
 use Rattle.proc_table.specs.declared.view.View.{View}
 use Rattle.held_processes.specs.Following.{AreUntouched}
 use Rattle.relup_exec.specs.Outcome.{IsBroken, IsFinished, IsRefused, Start}
-use Rattle.script_steps.specs.Fault.{Cause}
-use Rattle.script_steps.specs.Fault.Cause.{no_memory}
+use Rattle.script_progress.specs.Fault.{Cause}
+use Rattle.script_progress.specs.Fault.Cause.{no_memory}
 use Rattle.loaded_modules.specs.Loaded.{NamedModules}
 use Rattle.sup_tree.specs.Tree.{App}
 use Rattle.node_command.specs.declared.error.HandlerError.TheVariants as command

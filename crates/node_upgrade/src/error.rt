@@ -5,7 +5,7 @@ ghost use Rattle.node_upgrade.specs.declared.error.InstallError.TheVariants.{Com
 
 use node_command::HandlerError;
 use relup_script::ScriptFault;
-use script_steps::Cause;
+use script_progress::Cause;
 use std::alloc::{AllocError, Global};
 
 /// Why a script isn't carried out to its end.

@@ -12,7 +12,7 @@ ghost use Rattle.rel_files.specs.Release.{release_of};
 ghost use Rattle.relup_exec.specs.Outcome.{IsFinished, Start};
 ghost use Rattle.relup_script.specs.Script.{IsRunnable, restarts};
 ghost use Rattle.relup_script.specs.Search.{found_of};
-ghost use Rattle.script_steps.specs.InMemory.{cause_of};
+ghost use Rattle.script_progress.specs.InMemory.{cause_of};
 ghost use Rattle.loaded_modules.specs.Loaded.{listed_in};
 
 use crate::error::{InstallError, ScriptFailure, Why};
@@ -26,7 +26,7 @@ use rel_files::Rel;
 use rel_list::{ListedRelease, ReleaseList};
 use relup_exec::{Failed, Refused, Site, run_before};
 use relup_script::{Found, check, restarts};
-use script_steps::Cause;
+use script_progress::Cause;
 use std::alloc::Global;
 use std::rc::Rc;
 use std::sync::Wait;

@@ -46,8 +46,8 @@ use Rattle.rel_session.specs.Refusals.{Refusal, refusal_of, refusal_line, boot_l
 use Rattle.rel_session.specs.Refusals.Refusal.{no_such_release, existing_release, already_installed, bad_status, permanent, is_running, lib_differs, bad_file, missing_file, vsn_mismatch, no_table, too_many, no_matching_relup, script_refused, must_reboot, device, full, dead, no_memory, exists}
 use Rattle.node_upgrade.specs.Failure.{Failure, Why, failure_text, why_text}
 use Rattle.node_upgrade.specs.Failure.Why.{new_emulator, no_point, two_points, misplaced, fails}
-use Rattle.script_steps.specs.Fault as script
-use Rattle.script_steps.specs.Fault.{Cause, cause_text}
+use Rattle.script_progress.specs.Fault as script
+use Rattle.script_progress.specs.Fault.{Cause, cause_text}
 use Rattle.rel_session.specs.Installation.{installed_text, names_value}
 use Rattle.rel_session.specs.Transition.{ok_line, done_line, check_line, checked_line}
 

@@ -43,7 +43,7 @@ use Rattle.relup_exec.specs.Alone as script
 use Rattle.relup_script.specs.Search.{FoundForm}
 use Rattle.rel_session.specs.Installation.{Begins, Installs, IsInstallationReply, Leads, restarted_reply, upgrade_outcome}
 use Rattle.node_processes.specs.Scripts.{behind_run}
-use Rattle.script_steps.specs.Script.{Run}
+use Rattle.script_progress.specs.Script.{Run}
 use Rattle.rel_handler.specs.Installing.{install_room, install_size, installation_event, needs_restart}
 use Rattle.rel_handler.proofs.InstallLemmas.{installation_is_commanded}
 use Rattle.rel_session.proofs.SourceLemmas.{gives_each}

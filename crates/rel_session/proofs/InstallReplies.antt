@@ -11,8 +11,8 @@ use Rattle.held_processes.specs.Following.{HoldsNothing}
 use Rattle.relup_exec.specs.Alone.{Outcome, outcome}
 use Rattle.relup_exec.specs.Alone.Outcome.{ends, refuses, breaks}
 use Rattle.relup_exec.specs.Outcome.{IsFinished}
-use Rattle.script_steps.specs.Fault.Cause.{no_memory}
-use Rattle.script_steps.specs.Script.{Run}
+use Rattle.script_progress.specs.Fault.Cause.{no_memory}
+use Rattle.script_progress.specs.Script.{Run}
 use Rattle.loaded_modules.specs.Loaded.{listed_in}
 use Rattle.node_command.specs.Installing.{installation}
 use Rattle.node_command.specs.declared.error.HandlerError.{HandlerError}

@@ -16,7 +16,7 @@ use Rattle.rel_handler.specs.Image.{Extent}
 use Rattle.relup_exec.specs.Alone.{Outcome}
 use Rattle.relup_exec.specs.Alone.Outcome.{ends, refuses, breaks}
 use Rattle.relup_script.specs.Search.{FoundForm}
-use Rattle.script_steps.specs.Script.{Run}
+use Rattle.script_progress.specs.Script.{Run}
 use Rattle.rel_session.specs.Booting.{BootsStore}
 use Rattle.rel_session.specs.Installation.{Begins, Installs, IsInstallationReply, Leads, installed_reply, restarted, restarted_reply, upgrade_outcome}
 use Rattle.rel_handler.specs.Installing.{install_size, installation_event, needs_restart}

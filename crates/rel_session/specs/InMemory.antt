@@ -36,7 +36,7 @@ use Rattle.node_upgrade.specs.declared.upgrade.Installed.{Installed}
 use Rattle.node_upgrade.specs.Failure.{failure_of}
 use Rattle.node_upgrade.specs.Running.{NodeState, state}
 use Rattle.node_upgrade.specs.Failure.Why.{fails}
-use Rattle.script_steps.specs.Fault.Cause.{no_memory}
+use Rattle.script_progress.specs.Fault.Cause.{no_memory}
 use Rattle.rel_session.specs.Installation.{installed_text}
 use Rattle.rel_session.specs.Refusals.{refusal_of, refusal_line}
 use Rattle.rel_session.specs.Refusals.Refusal.{must_reboot, script_refused}

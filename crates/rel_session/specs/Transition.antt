@@ -21,7 +21,7 @@ use Rattle.rel_unpack.specs.Unpacking.{Brought}
 use Rattle.session_input.specs.Commands.{Command}
 use Rattle.relup_command.specs.Answer.{AnswerAt}
 use Rattle.node_upgrade.specs.Upgrade.{script_failure}
-use Rattle.script_steps.specs.Script.{Run}
+use Rattle.script_progress.specs.Script.{Run}
 use Rattle.relup_exec.specs.Alone.Outcome.{ends}
 use Rattle.relup_script.specs.Search.{FoundForm}
 use Rattle.session_input.specs.Commands.Command.{file, create, set_unpacked, check, install, permanent, remove, reboot_old, boot, start, releases, procs, modules, peek, call, flood, relup, quit, bad}

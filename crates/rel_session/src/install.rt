@@ -12,7 +12,7 @@ ghost use Rattle.rel_session.specs.Installation.{installed_text, names_value};
 ghost use Rattle.rel_session.specs.Refusals.{refusal_line};
 ghost use Rattle.rel_session.specs.Refusals.Refusal.{must_reboot, script_refused};
 ghost use Rattle.rel_session.specs.Transition.Action.{installs};
-ghost use Rattle.script_steps.specs.Fault.Cause.{no_memory};
+ghost use Rattle.script_progress.specs.Fault.Cause.{no_memory};
 
 use crate::booted_node::BootedNode;
 use crate::place::{Place, answer_of};
@@ -22,7 +22,7 @@ use node_listing::text_term;
 use node_upgrade::{InstallError, Installed, ScriptFailure, Why};
 use proc_history::Name;
 use rel_disk::Disk;
-use script_steps::Cause;
+use script_progress::Cause;
 use std::alloc::{AllocError, Global};
 use std::sync::Wait;
 

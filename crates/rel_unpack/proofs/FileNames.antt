@@ -19,8 +19,9 @@ use Rattle.mod_table.specs.declared.child.Restart.{Restart}
 use Rattle.mod_table.specs.declared.table.Table.TheVariants.{Worker, Super}
 use Rattle.mod_table.specs.Children.{ChildParts, atom_in, child_in, child_of_parts, child_parts, children_in, is_shutdown, kind_in, lists_only, restart_in, start_in}
 use Rattle.mod_table.specs.File.{table_in}
-use Rattle.mod_table.specs.Headed.{super_in, worker_in}
-use Rattle.mod_table.specs.Parts.{tagged_in}
+use Rattle.worker_table.specs.Headed.{worker_in}
+use Rattle.mod_table.specs.Headed.{super_in}
+use Rattle.worker_table.specs.Parts.{tagged_in}
 use Rattle.mod_table.specs.Table.{ChildSpec, SuperTable}
 
 -- what is read as a name is one

@@ -1,6 +1,6 @@
 -- The one outcome of a script that the handler carries out alone.
 use Rattle.std.proofs.Common.{◌≡◌, ◌≢◌, ℕ, ◌+◌, ◌<◌, Bool, true, false, ◌&&◌, ◌||◌, not, if◌then◌else◌, List, [], ◌∷◌, ◌++◌, length, Option, Some, None, is_some, refl, sym, ap, ap₂, ◌∙◌, arith, append-nil}
-use Rattle.mod_table.specs.Table.{OldVersion}
+use Rattle.worker_table.specs.Table.{OldVersion}
 use Rattle.proc_history.specs.Changes.{finds_row}
 use Rattle.proc_history.specs.Histories.{replay, replay_from}
 use Rattle.proc_history.specs.Values.{nothing, up_at}
@@ -25,12 +25,12 @@ use Rattle.held_processes.specs.Course.{Courses, added, runs}
 use Rattle.held_processes.specs.Operations.{Values, is_held_user, now_in, uses_up, values_seen}
 use Rattle.held_processes.proofs.AnyLemmas.{any_alike}
 use Rattle.held_processes.proofs.StandLemmas.{stand_alone}
-use Rattle.script_steps.specs.Calls.{ChildCall, app_call, child_call, is_on_child}
-use Rattle.script_steps.specs.Calls.ChildCall.{terminates, deletes, restarts, nothing as no_call}
-use Rattle.script_steps.specs.Script.{Run, Site, changed_once, child_stays_at, mode_of, old_version, run_after, stays_at, users_in}
-use Rattle.script_steps.specs.Fault.{Cause, app_call_fault, change_fault, child_call_fault, error_cause, fault, is_stuck, restart_call_fault, super_fault_or}
-use Rattle.script_steps.specs.Fault.Cause.{in_use, no_change, no_memory}
-use Rattle.script_steps.specs.Steps.{HasNoFault, IsFault, IsSeen}
+use Rattle.script_progress.specs.Calls.{ChildCall, app_call, child_call, is_on_child}
+use Rattle.script_progress.specs.Calls.ChildCall.{terminates, deletes, restarts, nothing as no_call}
+use Rattle.script_progress.specs.Script.{Run, Site, changed_once, child_stays_at, mode_of, old_version, run_after, stays_at, users_in}
+use Rattle.script_progress.specs.Fault.{Cause, app_call_fault, change_fault, child_call_fault, error_cause, fault, is_stuck, restart_call_fault, super_fault_or}
+use Rattle.script_progress.specs.Fault.Cause.{in_use, no_change, no_memory}
+use Rattle.script_progress.specs.Steps.{HasNoFault, IsFault, IsSeen}
 use Rattle.relup_exec.specs.Outcome.{IsInstructionAt, RanAll, Start, began_at, run_behind, run_through, still_early}
 use Rattle.relup_exec.specs.Alone.{HasOneOutcome, fails_at, outcome, outcome_from, step_alone, unless_fault, values_alone}
 use Rattle.relup_exec.proofs.RunLemmas.{step_values, still_before, through_values}

@@ -14,11 +14,11 @@ use Rattle.relup_instruction.specs.Instruction.{Instruction}
 use Rattle.relup_instruction.specs.Instruction.Instruction.{point_of_no_return}
 use Rattle.relup_script.specs.Script.{IsRunnable}
 use Rattle.sup_tree.specs.Tree.{App}
-use Rattle.script_steps.specs.Script.{Run, Site, courses_within}
-use Rattle.script_steps.specs.Fault.{Cause, fault}
-use Rattle.script_steps.specs.Fault.Cause.{no_memory}
+use Rattle.script_progress.specs.Script.{Run, Site, courses_within}
+use Rattle.script_progress.specs.Fault.{Cause, fault}
+use Rattle.script_progress.specs.Fault.Cause.{no_memory}
 use Rattle.relup_exec.specs.Outcome.{ArmedForm, IsArmed, IsPointAt, IsRefused, Ran, Start, began_at, past_behind, run_behind, still_early}
-use Rattle.script_steps.specs.Steps.{HasDone, IsCarriedOut, IsEarly, IsFault, ProgressForm}
+use Rattle.script_progress.specs.Steps.{HasDone, IsCarriedOut, IsEarly, IsFault, ProgressForm}
 use Rattle.relup_exec.specs.Stepwise.{IsStopped, start_at}
 use Rattle.script_steps.proofs.RowLemmas.{all_front}
 use Rattle.script_steps.proofs.CourseLemmas.{within_adds_no_block}

@@ -1,7 +1,7 @@
 -- Before the point of no return no block is added to a course.
 use Rattle.std.proofs.Common.{◌≡◌, ℕ, Bool, true, false, ◌&&◌, if◌then◌else◌, codes, List, [], ◌∷◌, Option, Some, None, not, refl, ap, ◌∙◌}
 use Rattle.std.specs.List.{AllByRecursion}
-use Rattle.mod_table.specs.Table.{OldVersion, WorkerTable}
+use Rattle.worker_table.specs.Table.{OldVersion, WorkerTable}
 use Rattle.held_processes.specs.Course.{Courses, Users, on_module}
 use Rattle.held_processes.specs.Course.Operation.{suspend, load, change}
 use Rattle.held_processes.proofs.CourseLemmas.{module_adds_no_block}
@@ -12,12 +12,12 @@ use Rattle.relup_script.specs.Script.{has_one, is_error, is_supported_call}
 use Rattle.loaded_modules.specs.Loaded.{module_named}
 use Rattle.std.specs.Str.{bytes_eq}
 use Rattle.std.proofs.lemmas.Slice.Eq.{bytes_eq-Decides}
-use Rattle.script_steps.specs.Calls.{AppCall, app_call, child_call, first_atom, is_on_child}
-use Rattle.script_steps.specs.Calls.AppCall.{starts, stops, idle}
-use Rattle.script_steps.specs.Script.{Run, Site, call_after, called_after, child_after, change_courses, changed, changed_once, load_courses, mode_of, old_version, on_each, run_after, suspended_in, users_in, worker_in}
+use Rattle.script_progress.specs.Calls.{AppCall, app_call, child_call, first_atom, is_on_child}
+use Rattle.script_progress.specs.Calls.AppCall.{starts, stops, idle}
+use Rattle.script_progress.specs.Script.{Run, Site, call_after, called_after, child_after, change_courses, changed, changed_once, load_courses, mode_of, old_version, on_each, run_after, suspended_in, users_in, worker_in}
 use Rattle.relup_exec.specs.Outcome.{Start, began_at, run_behind, run_through}
-use Rattle.script_steps.specs.Steps.{IsEarly, SameBlocks}
-use Rattle.script_steps.proofs.CallLemmas.{left_true, right_true}
+use Rattle.script_progress.specs.Steps.{IsEarly, SameBlocks}
+use Rattle.script_progress.proofs.CallLemmas.{left_true, right_true}
 use Rattle.relup_exec.proofs.RunLemmas.{not_the_point}
 
 -- a call that raises an error does nothing

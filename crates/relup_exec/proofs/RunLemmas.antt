@@ -16,12 +16,12 @@ use Rattle.held_processes.specs.Children.{with_deleted}
 use Rattle.held_processes.specs.Following.{AreLonger}
 use Rattle.held_processes.proofs.SlotLemmas.{longer_both}
 use Rattle.held_processes.specs.Operations.{Values}
-use Rattle.script_steps.specs.Calls.{AppCall, ChildCall, app_call, child_call, is_on_child}
-use Rattle.script_steps.specs.Calls.AppCall.{starts, stops, idle}
-use Rattle.script_steps.specs.Calls.ChildCall.{terminates, deletes, restarts, nothing}
-use Rattle.script_steps.specs.Script.{Run, Site, call_after, called_after, changed, changed_once, child_after, mode_of, restarted_at, run_after, scene_of, started_from, tables_among, target_library, with_scene}
+use Rattle.script_progress.specs.Calls.{AppCall, ChildCall, app_call, child_call, is_on_child}
+use Rattle.script_progress.specs.Calls.AppCall.{starts, stops, idle}
+use Rattle.script_progress.specs.Calls.ChildCall.{terminates, deletes, restarts, nothing}
+use Rattle.script_progress.specs.Script.{Run, Site, call_after, called_after, changed, changed_once, child_after, mode_of, restarted_at, run_after, scene_of, started_from, tables_among, target_library, with_scene}
 use Rattle.relup_exec.specs.Outcome.{RanAll, run_through, still_early}
-use Rattle.script_steps.specs.Steps.{HasNoFault, IsEarly, IsLate}
+use Rattle.script_progress.specs.Steps.{HasNoFault, IsEarly, IsLate}
 use Rattle.script_steps.proofs.RowLemmas.{all_middle}
 
 -- behind the point

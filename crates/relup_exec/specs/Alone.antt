@@ -8,9 +8,9 @@ use Rattle.loaded_modules.specs.Loaded.{NamedModules}
 use Rattle.sup_tree.specs.Tree.{App}
 use Rattle.held_processes.specs.Course.{added}
 use Rattle.held_processes.specs.Operations.{Values}
-use Rattle.script_steps.specs.Script.{Site, Run, run_after, stays_at}
-use Rattle.script_steps.specs.Fault.{Cause, fault}
-use Rattle.script_steps.specs.Fault.Cause.{no_memory}
+use Rattle.script_progress.specs.Script.{Site, Run, run_after, stays_at}
+use Rattle.script_progress.specs.Fault.{Cause, fault}
+use Rattle.script_progress.specs.Fault.Cause.{no_memory}
 use Rattle.relup_exec.specs.Outcome.{Start, IsBroken, IsFinished, IsRefused, began_at, run_behind}
 
 -- what the blocks of the courses leave of what stood in the slots

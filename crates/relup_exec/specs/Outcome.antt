@@ -11,10 +11,10 @@ use Rattle.held_processes.specs.Course.{Courses, on_all}
 use Rattle.held_processes.specs.Course.Operation.{finish}
 use Rattle.held_processes.specs.Following.{AllFollow, AreLeft, AreLonger, AreUntouched, HeldSlots}
 use Rattle.held_processes.specs.Operations.{values_seen}
-use Rattle.script_steps.specs.Script.{Site, Run, began, courses_within, run_after}
-use Rattle.script_steps.specs.Fault.{Cause}
-use Rattle.script_steps.specs.Steps.{IsLate}
-use Rattle.script_steps.specs.Steps.{HasNoFault, IsEarly, IsFault, Past}
+use Rattle.script_progress.specs.Script.{Site, Run, began, courses_within, run_after}
+use Rattle.script_progress.specs.Fault.{Cause}
+use Rattle.script_progress.specs.Steps.{IsLate}
+use Rattle.script_progress.specs.Steps.{HasNoFault, IsEarly, IsFault, Past}
 
 -- What the handler had seen when a script began, and which applications were started then.
 pub record Start : Type 0 where

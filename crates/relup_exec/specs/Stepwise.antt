@@ -5,11 +5,11 @@ use Rattle.relup_instruction.specs.Instruction.{Instruction}
 use Rattle.sup_tree.specs.Tree.{App}
 use Rattle.held_processes.specs.Following.{HeldSlots, AllFollow}
 use Rattle.relup_exec.specs.declared.before.Refused.{Refused}
-use Rattle.script_steps.specs.Script.{Site, courses_within}
-use Rattle.script_steps.specs.Fault.{Cause}
-use Rattle.script_steps.specs.InMemory.{cause_of}
+use Rattle.script_progress.specs.Script.{Site, courses_within}
+use Rattle.script_progress.specs.Fault.{Cause}
+use Rattle.script_progress.specs.InMemory.{cause_of}
 use Rattle.relup_exec.specs.Outcome.{IsInstructionAt, Ran, Start, past_behind, run_behind}
-use Rattle.script_steps.specs.Steps.{HasDone, IsFault, ProgressForm}
+use Rattle.script_progress.specs.Steps.{HasDone, IsFault, ProgressForm}
 
 abbrev pub start_at : View → List App → Start
 start_at v apps = record { first = v; apps = apps }

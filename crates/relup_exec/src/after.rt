@@ -3,7 +3,7 @@ ghost use Rattle.std.specs.Prelude.{◌≡◌, IfErr, IfOk, OnErr};
 ghost use Rattle.held_processes.specs.Course.{on_all};
 ghost use Rattle.held_processes.specs.Course.Operation.{finish, pass_point};
 ghost use Rattle.held_processes.specs.Following.{AllFollow, AreLeft, AreLonger, Followed};
-ghost use Rattle.script_steps.specs.InMemory.{cause_of, site_of};
+ghost use Rattle.script_progress.specs.InMemory.{cause_of, site_of};
 ghost use Rattle.relup_exec.specs.Outcome.{IsArmed, IsBroken, IsFinished, Start};
 ghost use Rattle.relup_exec.specs.InMemory.{armed_of};
 ghost use Rattle.relup_instruction.specs.Instruction.{script_of};
@@ -14,7 +14,7 @@ use held_processes::HeldProcesses;
 use loaded_modules::Loaded;
 use proc_table::HandlerSeat;
 use relup_instruction::Instr;
-use script_steps::{Cause, Failure, Progress, Site};
+use script_steps::{Cause, Failure, Progress, Site, carry_out_late};
 use std::alloc::Global;
 use std::sync::Wait;
 use sup_tree::Tree;
@@ -60,7 +60,8 @@ impl Armed {
         for i in place + 1..script.len() {
             let before = &script[..i];
             let instr = &script[i];
-            let done = progress.carry_out_late(
+            let done = carry_out_late(
+                &mut progress,
                 rt,
                 alloc,
                 site,

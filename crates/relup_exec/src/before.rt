@@ -2,18 +2,18 @@
 ghost use Rattle.std.specs.Prelude.{◌≡◌, IfErr, IfOk};
 ghost use Rattle.std.specs.List.{AllByRecursion};
 ghost use Rattle.held_processes.specs.Following.{HoldsNothing};
-ghost use Rattle.script_steps.specs.InMemory.{cause_of, site_of};
+ghost use Rattle.script_progress.specs.InMemory.{cause_of, site_of};
 ghost use Rattle.relup_exec.specs.Outcome.{IsArmed, IsPointAt, IsRefused, Start};
 ghost use Rattle.relup_exec.specs.InMemory.{armed_of};
 ghost use Rattle.relup_exec.specs.Stepwise.{HasBegun, RunsAll, start_at};
-ghost use Rattle.script_steps.specs.Steps.{IsEarly, progress_of};
+ghost use Rattle.script_progress.specs.Steps.{IsEarly, progress_of};
 ghost use Rattle.relup_instruction.specs.Instruction.{instruction_of, script_of};
 ghost use Rattle.relup_script.specs.Script.{IsRunnable, is_point};
 
 use crate::armed::Armed;
 use proc_table::HandlerSeat;
 use relup_instruction::Instr;
-use script_steps::{Cause, Failure, Progress, Site};
+use script_steps::{Cause, Failure, Progress, Site, carry_out_early};
 use std::alloc::Global;
 use std::sync::Wait;
 use sup_tree::Tree;
@@ -111,7 +111,7 @@ fn run_early<R: Wait>(
 {
     for (i, instr) in instrs.iter().enumerate() {
         let before = &instrs[..i];
-        let done = progress.carry_out_early(rt, alloc, site, seat, before, instr);
+        let done = carry_out_early(progress, rt, alloc, site, seat, before, instr);
         if let Err(Failure { cause, .. }) = done {
             return Err(Refused {
                 instr: i + 1,

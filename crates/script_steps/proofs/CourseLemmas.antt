@@ -1,13 +1,9 @@
 -- What steps make of the courses of processes, and where they fail.
-use Rattle.std.proofs.Common.{◌≡◌, ℕ, zero, suc, Bool, true, List, [], ◌∷◌, ◌++◌, length, if◌then◌else◌, refl, ap, subst, ◌∙◌, Option, Some, None, arith}
-use Rattle.mod_table.specs.Table.{OldVersion, WorkerTable}
-use Rattle.proc_history.specs.Events.{HistoryEntry}
-use Rattle.proc_table.specs.Views.{seen}
-use Rattle.proc_table.specs.declared.view.View.{View}
+use Rattle.std.proofs.Common.{◌≡◌, ℕ, zero, suc, Bool, true, List, [], ◌∷◌, ◌++◌, length, if◌then◌else◌, refl, ap, ◌∙◌, Option, Some, None, arith}
+use Rattle.worker_table.specs.Table.{OldVersion, WorkerTable}
 use Rattle.std.proofs.lemmas.Bool.{le-ltb}
 use Rattle.held_processes.specs.Course.{Courses, Operation, Users, on_module}
 use Rattle.held_processes.specs.Course.Operation.{suspend, load, change}
-use Rattle.held_processes.specs.Following.{AllFollow, HeldSlots, Stand}
 use Rattle.held_processes.specs.Laws.{IsPending}
 use Rattle.held_processes.specs.Operations.{part_way}
 use Rattle.held_processes.proofs.CourseLemmas.{module_adds_no_block, part_way_adds_no_block}
@@ -15,12 +11,8 @@ use Rattle.relup_instruction.specs.declared.instruction.Direction.{Direction}
 use Rattle.relup_instruction.specs.Instruction as instruction
 use Rattle.relup_instruction.specs.Instruction.{ChangeForm, Instruction}
 use Rattle.loaded_modules.specs.Loaded.{module_named}
-use Rattle.script_steps.specs.Script.{Run, Site, change_courses, change_within, changed, changed_once, changed_within, courses_within, each_within, load_within, mode_of, old_version, on_each, suspended_in, users_in, worker_in}
-use Rattle.script_steps.specs.Steps.{IsSeen, SameBlocks}
-
--- what was followed was seen
-pub seen_of : (first : View) (r : Run) (cs : Courses) (hs : HeldSlots) (v : View) → SameBlocks r.courses cs → AllFollow first cs hs v → IsSeen first r v
-seen_of first r cs hs v same f = λ p inside. subst (λ (bs : List (List HistoryEntry)). Stand first.lent (seen first p) bs (seen v p)) (same p) (f.each p inside).stand
+use Rattle.script_progress.specs.Script.{Run, Site, change_courses, change_within, changed, changed_once, changed_within, courses_within, each_within, load_within, mode_of, old_version, on_each, suspended_in, users_in, worker_in}
+use Rattle.script_progress.specs.Steps.{SameBlocks}
 
 -- in no slot yet
 pub none_within : (users : Users) (name : List ℕ) (op : Operation) (cs : Courses) → (p : ℕ) → part_way 0 users name op cs p ≡ cs p

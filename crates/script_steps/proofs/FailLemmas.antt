@@ -4,9 +4,9 @@ use Rattle.proc_table.specs.declared.view.View.{View}
 use Rattle.held_processes.proofs.SlotLemmas.{longer_still}
 use Rattle.relup_instruction.specs.Instruction.{Instruction}
 use Rattle.sup_tree.specs.Tree.{App}
-use Rattle.script_steps.specs.declared.cause.Failure.{Failure}
-use Rattle.script_steps.specs.Script.{Site}
-use Rattle.script_steps.specs.Steps.{CarriesOut, CarriesOutLate, Past, ProgressForm, on_no_child}
+use Rattle.script_progress.specs.declared.cause.Failure.{Failure}
+use Rattle.script_progress.specs.Script.{Site}
+use Rattle.script_progress.specs.Steps.{CarriesOut, CarriesOutLate, Past, ProgressForm, on_no_child}
 
 -- one that is on no child fails by what is seen now
 pub late_of : {X : Type 0} (s : Site) (past : Past) (i : Instruction) (r : Result X Failure) (a : ProgressForm) (tree : List App) (v : View) → CarriesOut s past false i r a tree v

@@ -3,7 +3,4 @@ pub mod CourseLemmas
 pub mod StepLemmas
 pub mod PlainLemmas
 pub mod RemoveLemmas
-pub mod AppLemmas
 pub mod FailLemmas
-pub mod ChildLemmas
-pub mod CallLemmas

@@ -10,14 +10,14 @@ use Rattle.relup_instruction.specs.Instruction.Instruction.{purge, restart_emula
 use Rattle.sup_tree.specs.Tree.{App}
 use Rattle.script_steps.specs.declared.release.Plain.{Plain}
 use Rattle.script_steps.specs.declared.release.Plain.TheVariants.{Resume, Stop, Start}
-use Rattle.script_steps.specs.Fault.{fault}
+use Rattle.script_progress.specs.Fault.{fault}
 use Rattle.script_steps.specs.Plain.{plain_instruction, plain_operation}
-use Rattle.script_steps.specs.Script.{Run, Site, on_each, run_after, stays_at, with_courses}
-use Rattle.script_steps.specs.Steps.{CarriesOut, HasDone, Past, ProgressForm}
+use Rattle.script_progress.specs.Script.{Run, Site, on_each, run_after, stays_at, with_courses}
+use Rattle.script_progress.specs.Steps.{CarriesOut, HasDone, Past, ProgressForm}
 use Rattle.held_processes.proofs.SlotLemmas.{longer_still}
 use Rattle.script_steps.proofs.CourseLemmas.{each_push}
 use Rattle.script_steps.proofs.RowLemmas.{more}
-use Rattle.script_steps.proofs.StepLemmas.{seen_in}
+use Rattle.script_progress.proofs.SeenLemmas.{seen_in}
 
 -- it is done to the processes of one module more
 pub done_more : (op : Operation) (names : List (String Global)) (i : ℕ) (n : String Global) (m : List ℕ) (users : Users) (cs : Courses) → i < length names → n ≡ get_or names i n → m ≡ string_bytes n

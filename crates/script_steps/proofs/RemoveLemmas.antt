@@ -7,12 +7,12 @@ use Rattle.relup_instruction.specs.Instruction.{PurgingForm}
 use Rattle.relup_instruction.specs.Instruction.Instruction.{remove}
 use Rattle.loaded_modules.specs.Loaded.{NamedModules, without_module}
 use Rattle.sup_tree.specs.Tree.{App, supervises}
-use Rattle.script_steps.specs.Fault.{remove_fault}
-use Rattle.script_steps.specs.Fault.Cause.{in_use}
-use Rattle.script_steps.specs.Script.{Site}
-use Rattle.script_steps.specs.Steps.{CarriesOut, HasDone, Past, ProgressForm}
+use Rattle.script_progress.specs.Fault.{remove_fault}
+use Rattle.script_progress.specs.Fault.Cause.{in_use}
+use Rattle.script_progress.specs.Script.{Site}
+use Rattle.script_progress.specs.Steps.{CarriesOut, HasDone, Past, ProgressForm}
 use Rattle.held_processes.proofs.SlotLemmas.{longer_still}
-use Rattle.script_steps.proofs.CourseLemmas.{seen_of}
+use Rattle.script_progress.proofs.SeenLemmas.{seen_of}
 
 -- whether the module runs somewhere, as it was told, is as the script knows it
 told_here : (past : Past) (name : List ℕ) (a : ProgressForm) (tree : List App) (v w : View) → HasDone past a tree v

@@ -1,7 +1,7 @@
 -- What a step leaves, of what its parts leave.
 use Rattle.std.proofs.Common.{◌≡◌, ℕ, ◌<◌, ◌+◌, Bool, true, false, not, List, [], ◌∷◌, ◌++◌, map, take, drop, length, get_or, if◌then◌else◌, refl, sym, ap, subst, ◌∙◌, Option, Some, None, IsSome, is_ok, unwrap_or, Result, Ok, Err, IsErrAnd, arith}
 use Rattle.library.specs.Library.{Library}
-use Rattle.mod_table.specs.Table.{OldVersion}
+use Rattle.worker_table.specs.Table.{OldVersion}
 use Rattle.proc_table.specs.declared.view.View.{View}
 use Rattle.proc_table.specs.Agrees.{slots}
 use Rattle.std.proofs.lemmas.Bool.{lt-ltb}
@@ -18,28 +18,18 @@ use Rattle.relup_instruction.specs.Instruction.{ChangeForm, ConversionForm, Fetc
 use Rattle.relup_instruction.specs.Instruction.Instruction.{load_object_code, suspend, load, code_change}
 use Rattle.loaded_modules.specs.Loaded.{Module, NamedModules, library_modules, module_named, with_loaded}
 use Rattle.sup_tree.specs.Tree.{App}
-use Rattle.script_steps.specs.declared.cause.Failure.{Failure}
-use Rattle.script_steps.specs.Fault.{Cause, change_fault, fetch_fault, is_stuck, load_fault, table_fault}
-use Rattle.script_steps.specs.Fault.Cause.{no_change, no_memory, not_fetched}
-use Rattle.script_steps.specs.InMemory.{cause_of}
-use Rattle.script_steps.specs.Script.{Run, Site, change_courses, change_within, changed, changed_once, changed_within, each_within, fetched_from, fetched_of, library_for, load_within, mode_of, old_version, on_each, processes_changed, supervisors_changed, suspended_in, tables_among, users_in, worker_in}
-use Rattle.script_steps.specs.Steps.{AreDone, CarriesOut, ChangesOnce, ChangesProcesses, FailsToChange, GivesTable, HasDone, IsCause, IsCauseIn, IsSeen, Past, ProgressForm, followed_in}
-use Rattle.script_steps.proofs.CourseLemmas.{change_none_within, changed_push, changed_stopped, changed_within_same, each_push, each_stopped, seen_of}
+use Rattle.script_progress.specs.declared.cause.Failure.{Failure}
+use Rattle.script_progress.specs.Fault.{Cause, change_fault, fetch_fault, is_stuck, load_fault, table_fault}
+use Rattle.script_progress.specs.Fault.Cause.{no_change, no_memory, not_fetched}
+use Rattle.script_progress.specs.InMemory.{cause_of}
+use Rattle.script_progress.specs.Script.{Run, Site, change_courses, change_within, changed, changed_once, changed_within, each_within, fetched_from, fetched_of, library_for, load_within, mode_of, old_version, on_each, processes_changed, supervisors_changed, suspended_in, tables_among, users_in, worker_in}
+use Rattle.script_progress.specs.Steps.{CarriesOut, HasDone, IsCause, IsCauseIn, Past, ProgressForm, followed_in}
+use Rattle.script_steps.specs.Steps.{AreDone, ChangesOnce, ChangesProcesses, FailsToChange, GivesTable}
+use Rattle.script_progress.proofs.SeenLemmas.{cause_seen, memory_in, seen_in, seen_of}
+use Rattle.script_steps.proofs.CourseLemmas.{change_none_within, changed_push, changed_stopped, changed_within_same, each_push, each_stopped}
 use Rattle.held_processes.proofs.FollowLemmas.{follow_same}
 use Rattle.held_processes.proofs.SlotLemmas.{longer_still}
 use Rattle.script_steps.proofs.RowLemmas.{more, parted}
-
--- what was done was seen
-pub seen_in : (past : Past) (a : ProgressForm) (tree : List App) (v : View) → HasDone past a tree v → IsSeen past.first past.run v
-seen_in past a tree v done = seen_of past.first past.run past.run.courses a.held v (λ p. refl) done.follow
-
-pub cause_seen : (first v : View) (r : Run) (o : Option Cause) (c : Cause) → IsCause o c → IsSeen first r v → IsCauseIn first v r o c
-cause_seen first v r o no_memory is all = tt
-cause_seen first v r o c is all = (is, all)
-
--- want of memory may be answered of anything
-pub memory_in : (first v : View) (r : Run) (o : Option Cause) (c : Cause) → c ≡ no_memory → IsCauseIn first v r o c
-memory_in first v r o c is = subst (λ (k : Cause). IsCauseIn first v r o k) (sym is) tt
 
 -- the processes of all modules are suspended, or memory was refused
 pub suspended : (s : Site) (past : Past) (early : Bool) (ss : List SuspensionForm) (r : Result (Unit {0}) Failure) (a : ProgressForm) (tree : List App) (hs : HeldSlots) (v w : View) → HasDone past a tree v → AreLonger v w

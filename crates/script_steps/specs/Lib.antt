@@ -1,8 +1,2 @@
-pub mod Calls
-pub mod Script
-pub mod Fault
-pub mod InMemory
 pub mod Steps
 pub mod Plain
-pub mod Apps
-pub mod Children

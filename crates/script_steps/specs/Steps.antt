@@ -1,124 +1,27 @@
--- What the steps of a script leave to each other.
-use Rattle.std.specs.Prelude.{◌≡◌, ℕ, Bool, true, false, ◌&&◌, IsTrue, List, [], ◌∷◌, Option, None, Some, Result, Ok, Err}
+-- What the parts of a step leave to each other.
+use Rattle.std.specs.Prelude.{◌≡◌, ℕ, Bool, true, false, List, [], ◌∷◌, Option, None, Result, Ok, Err}
 use Rattle.proc_table.specs.declared.view.View.{View}
 use Rattle.library.specs.Library.{Library}
 use Rattle.relup_instruction.specs.declared.instruction.Direction.{Direction}
 use Rattle.relup_instruction.specs.Instruction.{ChangeForm, Instruction}
 use Rattle.relup_instruction.specs.Instruction.Instruction.{apply}
-use Rattle.relup_script.specs.Script.{is_supported, may_follow, may_precede}
-use Rattle.loaded_modules.specs.Loaded.{NamedModules, listed_in, module_named}
+use Rattle.loaded_modules.specs.Loaded.{NamedModules, module_named}
 use Rattle.sup_tree.specs.Tree.{App}
-use Rattle.held_processes.specs.Course.{Courses, Operation, Users}
-use Rattle.held_processes.specs.Children.{AreSeen}
-use Rattle.held_processes.specs.Following.{AllFollow, AreLonger, Followed, HeldSlots}
+use Rattle.held_processes.specs.Course.{Operation, Users}
+use Rattle.held_processes.specs.Following.{AllFollow, Followed, HeldSlots}
 use Rattle.held_processes.specs.Operations.{values_seen}
-use Rattle.script_steps.specs.declared.cause.Cause as declared
-use Rattle.script_steps.specs.declared.cause.Failure.{Failure}
-use Rattle.script_steps.specs.declared.progress.Progress.{Progress}
-use Rattle.script_steps.specs.Script.{Site, Run, change_within, changed_once, courses_within, each_within, fetched_from, load_courses, load_within, old_version, on_each, processes_changed, run_after, stays_at, users_in, worker_in}
-use Rattle.script_steps.specs.Fault.{Cause, change_fault, fault, fetch_fault, table_fault}
-use Rattle.script_steps.specs.Fault.Cause.{no_memory}
-use Rattle.script_steps.specs.InMemory.{cause_of}
-
--- The instruction may stand before the point of no return.
-abbrev pub IsEarly : Instruction → Type 0
-IsEarly i = IsTrue (is_supported i && may_precede i)
-
--- It may stand behind it.
-abbrev pub IsLate : Instruction → Type 0
-IsLate i = IsTrue (is_supported i && may_follow i)
+use Rattle.script_progress.specs.declared.cause.Cause as declared
+use Rattle.script_progress.specs.declared.cause.Failure.{Failure}
+use Rattle.script_progress.specs.Script.{Site, change_within, changed_once, each_within, fetched_from, load_courses, load_within, old_version, on_each, processes_changed, users_in, worker_in}
+use Rattle.script_progress.specs.Fault.{change_fault, fetch_fault, table_fault}
+use Rattle.script_progress.specs.Fault.Cause.{no_memory}
+use Rattle.script_progress.specs.InMemory.{cause_of}
+use Rattle.script_progress.specs.Steps.{HasDone, IsCause, IsCauseIn, Past, ProgressForm}
 
 -- The instruction makes a call.
 abbrev pub is_call : Instruction → Bool
 is_call (apply c) = true
 is_call i = false
-
--- what a script holds and has fetched so far, and what is loaded once it has ended well
-pub record ProgressForm : Type 0 where
-  pub held : HeldSlots
-  pub fetched : NamedModules
-  pub next : NamedModules
-
-abbrev pub progress_of : Progress → ProgressForm
-progress_of p = record { held = p.held; fetched = listed_in p.fetched; next = listed_in p.next }
-
--- what the handler's view was when a script began, and what was done since
-pub record Past : Type 0 where
-  pub first : View
-  pub run : Run
-
-abbrev pub followed_in : Past → Followed
-followed_in past = record { first = past.first; courses = past.run.courses }
-
--- Of each slot the handler has seen the history up to here.
-abbrev pub IsSeen : View → Run → View → Type 0
-IsSeen first r v = AreSeen first r.courses v
-
--- Nothing makes the instruction fail, in histories that are in front of those that the handler has seen now. By these it leaves the
--- child that it is on as it is, or doesn't.
-abbrev pub HasNoFault : Site → View → View → Run → Bool → Instruction → Type 0
-HasNoFault s first now r stays i =
-    (v : View) × IsSeen first r v × (fault s (values_seen v) r i ≡ None) × (stays ≡ stays_at (values_seen v) i r) × AreLonger v now
-
--- The cause is this one, if any; or it is out of memory.
-abbrev pub IsCause : Option Cause → Cause → Type 0
-IsCause o no_memory = Unit {0}
-IsCause o c = o ≡ Some c
-
--- So it is, in histories that the handler has seen.
-abbrev pub IsCauseIn : View → View → Run → Option Cause → Cause → Type 0
-IsCauseIn first v r o no_memory = Unit {0}
-IsCauseIn first v r o c = (o ≡ Some c) × IsSeen first r v
-
--- The cause is that of the fault, in the histories that the handler has seen; or it is out of memory.
-abbrev pub IsFault : View → Site → View → Run → Instruction → Cause → Type 0
-IsFault first s v r i c = IsCauseIn first v r (fault s (values_seen v) r i) c
-
--- What is held, fetched and started is what was done.
-pub record HasDone (past : Past) (a : ProgressForm) (tree : List App) (v : View) : Type 0 where
-  pub follow : AllFollow past.first past.run.courses a.held v
-  pub fetched : a.fetched ≡ past.run.fetched
-  pub next : a.next ≡ past.run.modules
-  pub apps : tree ≡ past.run.apps
-  pub values : past.run.values ≡ values_seen past.first
-
--- The instruction was carried out.
-abbrev pub IsCarriedOut : Site → Past → Bool → Bool → Instruction → ProgressForm → List App → View → Type 0
-IsCarriedOut s past early stays i a tree v =
-    HasNoFault s past.first v past.run stays i × HasDone (record past { run = run_after s early stays i past.run }) a tree v
-
--- It was carried out, or fails; then it was done in part. It leaves no child as it is.
-abbrev pub CarriesOut : {X : Type 0} → Site → Past → Bool → Instruction → Result X Failure → ProgressForm → List App → View → Type 0
-CarriesOut s past early i (Ok x) a tree v = IsCarriedOut s past early false i a tree v
-CarriesOut s past early i (Err e) a tree v =
-    IsFault past.first s v past.run i (cause_of e.cause)
-    × AllFollow past.first (courses_within s early i e.modules e.slot past.run) a.held v
-
--- The instruction fails behind the point of no return, by histories that are in front of those that the handler has seen now.
-pub record IsFailed (s : Site) (past : Past) (i : Instruction) (e : Failure) (hs : HeldSlots) (v : View) : Type 0 where
-  pub then_view : View
-  pub fails : IsFault past.first s then_view past.run i (cause_of e.cause)
-  pub longer : AreLonger then_view v
-  pub partly : AllFollow past.first (courses_within s false i e.modules e.slot past.run) hs v
-
--- It was carried out behind the point of no return, and this is told of the child that it is on; or it fails.
-abbrev pub CarriesOutLate : Site → Past → Instruction → Result Bool Failure → ProgressForm → List App → View → Type 0
-CarriesOutLate s past i (Ok stays) a tree v = IsCarriedOut s past false stays i a tree v
-CarriesOutLate s past i (Err e) a tree v = IsFailed s past i e a.held v
-
--- what is told where an instruction is on no child
-abbrev pub on_no_child : {X : Type 0} → Result X Failure → Result Bool Failure
-on_no_child (Ok x) = Ok false
-on_no_child (Err e) = Err e
-
--- A call was made, so that this was done, or it fails with this cause, and nothing was done.
-abbrev pub MakesCall : {X : Type 0} → Past → Option Cause → Run → Result X Failure → ProgressForm → List App → View → Type 0
-MakesCall past o r (Ok x) a tree v = (o ≡ None) × HasDone (record past { run = r }) a tree v
-MakesCall past o r (Err e) a tree v = IsCause o (cause_of e.cause) × AllFollow past.first past.run.courses a.held v
-
--- The courses have the same blocks: nothing was added to a history.
-abbrev pub SameBlocks : Courses → Courses → Type 0
-SameBlocks cs ds = (p : ℕ) → (ds p).blocks ≡ (cs p).blocks
 
 -- The operation was done to the processes of all these modules, or to some of them, since memory was refused.
 abbrev pub AreDone : {X : Type 0} → Followed → Users → Operation → List (List ℕ) → Result X Failure → HeldSlots → View → Type 0

@@ -3,41 +3,39 @@ ghost use Rattle.library.specs.InMemory.{shared_of};
 ghost use Rattle.proc_table.specs.declared.view.View.{View};
 ghost use Rattle.relup_instruction.specs.Instruction.Instruction.{load_object_code};
 ghost use Rattle.relup_instruction.specs.Instruction.{fetch_of};
-ghost use Rattle.script_steps.specs.InMemory.{site_of};
-ghost use Rattle.script_steps.specs.Script.{library_for};
-ghost use Rattle.script_steps.specs.Steps.{CarriesOut, Fetches, HasDone, Past, progress_of};
+ghost use Rattle.script_progress.specs.InMemory.{site_of};
+ghost use Rattle.script_progress.specs.Script.{library_for};
+ghost use Rattle.script_progress.specs.Steps.{CarriesOut, HasDone, Past, progress_of};
+ghost use Rattle.script_steps.specs.Steps.{Fetches};
 ghost use Rattle.std.specs.Prelude.{Bool, Some, map, string_bytes};
 ghost use Rattle.loaded_modules.specs.Loaded.{listed_in};
 
-use crate::progress::Progress;
-use crate::{Cause, Failure, Site};
 use library::Library;
 use loaded_modules::Loaded;
 use relup_instruction::Fetch;
+use script_progress::{Cause, Failure, Progress, Site};
 use std::alloc::Global;
 use std::rc::Rc;
 
-impl Progress {
-    // Fetches the modules, in place of those of their names that were fetched before.
-    pub(crate) fn fetch(
-        &mut self,
-        alloc: Global,
-        site: &Site<'_>,
-        fetch: &Fetch,
-    ) -> Result<(), Failure>
-        ensures { (past : Past) (v : View) (early : Bool)
-            → HasDone past (progress_of self.old) self.old.tree v
-            → CarriesOut (site_of site.now) past early (load_object_code (fetch_of fetch.now))
-            result (progress_of self.new) self.new.tree v }
-    {
-        match fetch_from(alloc, site, &mut self.fetched, fetch) {
-            Ok(()) => Ok(()),
-            Err(cause) => Err(Failure {
-                cause,
-                modules: 0,
-                slot: 0,
-            }),
-        }
+// Fetches the modules, in place of those of their names that were fetched before.
+pub(crate) fn fetch(
+    progress: &mut Progress,
+    alloc: Global,
+    site: &Site<'_>,
+    fetch: &Fetch,
+) -> Result<(), Failure>
+    ensures { (past : Past) (v : View) (early : Bool)
+        → HasDone past (progress_of progress.old) progress.old.tree v
+        → CarriesOut (site_of site.now) past early (load_object_code (fetch_of fetch.now))
+        result (progress_of progress.new) progress.new.tree v }
+{
+    match fetch_from(alloc, site, &mut progress.fetched, fetch) {
+        Ok(()) => Ok(()),
+        Err(cause) => Err(Failure {
+            cause,
+            modules: 0,
+            slot: 0,
+        }),
     }
 }
 

@@ -3,15 +3,14 @@ ghost use Rattle.std.specs.Prelude.{◌≡◌, Ok, false, map, string_bytes};
 ghost use Rattle.held_processes.specs.Course.{on_module};
 ghost use Rattle.held_processes.specs.Following.{AllFollow, AreLonger, Followed};
 ghost use Rattle.held_processes.specs.Operations.{users_of};
-ghost use Rattle.script_steps.specs.InMemory.{site_of};
+ghost use Rattle.script_progress.specs.InMemory.{site_of};
 ghost use Rattle.script_steps.specs.Plain.{plain_instruction, plain_operation};
-ghost use Rattle.script_steps.specs.Script.{on_each};
-ghost use Rattle.script_steps.specs.Steps.{CarriesOut, HasDone, Past, progress_of};
+ghost use Rattle.script_progress.specs.Script.{on_each};
+ghost use Rattle.script_progress.specs.Steps.{CarriesOut, HasDone, Past, progress_of};
 
-use crate::Site;
-use crate::progress::Progress;
 use held_processes::{HeldProcesses, Users};
 use proc_table::{HandlerSeat, ProcTable};
+use script_progress::{Progress, Site};
 use std::sync::Wait;
 use sup_tree::Tree;
 
@@ -23,35 +22,33 @@ pub(crate) enum Plain {
     Start,
 }
 
-impl Progress {
-    // This is done to the processes of these modules.
-    pub(crate) fn do_plain<R: Wait>(
-        &mut self,
-        rt: &R,
-        site: &Site<'_>,
-        seat: &mut HandlerSeat,
-        plain: Plain,
-        names: &[String],
-    )
-        ghost past: { Past }
-        requires table { seat.old.table ≡ site.now.table.now }
-        requires done { HasDone past (progress_of self.old) self.old.tree seat.old.view }
-        ensures table { seat.new.table ≡ seat.old.table }
-        ensures longer { AreLonger seat.old.view seat.new.view }
-        ensures carried { CarriesOut {X = Unit {0}} (site_of site.now) past false
-            (plain_instruction plain (map string_bytes names.now)) (Ok tt)
-            (progress_of self.new) self.new.tree seat.new.view }
-    {
-        do_all(
-            rt,
-            site.table,
-            seat,
-            &self.tree,
-            &mut self.held,
-            plain,
-            names,
-        );
-    }
+// This is done to the processes of these modules.
+pub(crate) fn do_plain<R: Wait>(
+    progress: &mut Progress,
+    rt: &R,
+    site: &Site<'_>,
+    seat: &mut HandlerSeat,
+    plain: Plain,
+    names: &[String],
+)
+    ghost past: { Past }
+    requires table { seat.old.table ≡ site.now.table.now }
+    requires done { HasDone past (progress_of progress.old) progress.old.tree seat.old.view }
+    ensures table { seat.new.table ≡ seat.old.table }
+    ensures longer { AreLonger seat.old.view seat.new.view }
+    ensures carried { CarriesOut {X = Unit {0}} (site_of site.now) past false
+        (plain_instruction plain (map string_bytes names.now)) (Ok tt)
+        (progress_of progress.new) progress.new.tree seat.new.view }
+{
+    do_all(
+        rt,
+        site.table,
+        seat,
+        &progress.tree,
+        &mut progress.held,
+        plain,
+        names,
+    );
 }
 
 // It is done to the processes of these modules, one module after another.

@@ -4,42 +4,48 @@ ghost use Rattle.held_processes.specs.Following.{AllFollow, AreLonger, Followed}
 ghost use Rattle.held_processes.specs.Operations.{IsDone, users_of};
 ghost use Rattle.relup_instruction.specs.Instruction as instruction;
 ghost use Rattle.relup_instruction.specs.Instruction.{suspension_of};
-ghost use Rattle.script_steps.specs.InMemory.{site_of};
-ghost use Rattle.script_steps.specs.Script.{suspended_in};
-ghost use Rattle.script_steps.specs.Steps.{AreDone, CarriesOut, HasDone, Past, progress_of};
+ghost use Rattle.script_progress.specs.InMemory.{site_of};
+ghost use Rattle.script_progress.specs.Script.{suspended_in};
+ghost use Rattle.script_progress.specs.Steps.{CarriesOut, HasDone, Past, progress_of};
+ghost use Rattle.script_steps.specs.Steps.{AreDone};
 ghost use Rattle.std.specs.Prelude.{◌≡◌, Bool, map};
 
-use crate::progress::Progress;
-use crate::{Cause, Failure, Site};
 use held_processes::{HeldProcesses, Undone, Users};
 use proc_table::{HandlerSeat, ProcTable};
 use relup_instruction::Suspension;
+use script_progress::{Cause, Failure, Progress, Site};
 use std::alloc::Global;
 use std::sync::Wait;
 use sup_tree::Tree;
 
-impl Progress {
-    // The processes of these modules are held until they are resumed.
-    pub(crate) fn suspend<R: Wait>(
-        &mut self,
-        rt: &R,
-        alloc: Global,
-        site: &Site<'_>,
-        seat: &mut HandlerSeat,
-        suspensions: &[Suspension],
-    ) -> Result<(), Failure>
-        ghost past: { Past }
-        requires table { seat.old.table ≡ site.now.table.now }
-        requires done { HasDone past (progress_of self.old) self.old.tree seat.old.view }
-        ensures table { seat.new.table ≡ seat.old.table }
-        ensures longer { AreLonger seat.old.view seat.new.view }
-        ensures carried { (early : Bool) → CarriesOut (site_of site.now) past early
-            (instruction.Instruction.suspend (map suspension_of suspensions.now))
-            result (progress_of self.new) self.new.tree seat.new.view }
-    {
-        let held = &mut self.held;
-        hold_all(rt, alloc, site.table, seat, &self.tree, held, suspensions)
-    }
+// The processes of these modules are held until they are resumed.
+pub(crate) fn suspend<R: Wait>(
+    progress: &mut Progress,
+    rt: &R,
+    alloc: Global,
+    site: &Site<'_>,
+    seat: &mut HandlerSeat,
+    suspensions: &[Suspension],
+) -> Result<(), Failure>
+    ghost past: { Past }
+    requires table { seat.old.table ≡ site.now.table.now }
+    requires done { HasDone past (progress_of progress.old) progress.old.tree seat.old.view }
+    ensures table { seat.new.table ≡ seat.old.table }
+    ensures longer { AreLonger seat.old.view seat.new.view }
+    ensures carried { (early : Bool) → CarriesOut (site_of site.now) past early
+        (instruction.Instruction.suspend (map suspension_of suspensions.now))
+        result (progress_of progress.new) progress.new.tree seat.new.view }
+{
+    let held = &mut progress.held;
+    hold_all(
+        rt,
+        alloc,
+        site.table,
+        seat,
+        &progress.tree,
+        held,
+        suspensions,
+    )
 }
 
 // Holds the processes of these modules, one module after another.

@@ -1,5 +1,5 @@
 use Rattle.erl_term.specs.Value.{value_of}
-use Rattle.mod_table.specs.InMemory.{old_of}
+use Rattle.worker_table.specs.InMemory.{old_of}
 use Rattle.held_processes.specs.Course.Operation.{change}
 use Rattle.held_processes.specs.Operations.{part_way, users_of}
 use Rattle.held_cases.proofs.ways.change.Goals as goal

@@ -1,7 +1,7 @@
 use Rattle.held_processes.specs.Course.{on_module}
 use Rattle.held_processes.specs.Operations.{users_of}
 use Rattle.held_processes.specs.Course.Operation.{change}
-use Rattle.mod_table.specs.InMemory.{old_of}
+use Rattle.worker_table.specs.InMemory.{old_of}
 use Rattle.erl_term.specs.Value.{value_of}
 use Rattle.held_cases.proofs.ways.change.Given as goal
 

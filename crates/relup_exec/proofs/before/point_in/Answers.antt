@@ -3,7 +3,7 @@ use Rattle.std.proofs.lemmas.List.{length-map, length-take-le, take_all}
 use Rattle.std.specs.List.{AllByRecursion}
 use Rattle.relup_instruction.specs.Instruction.{Instruction, instruction_of, script_of}
 use Rattle.relup_instruction.specs.Instruction.Instruction.{point_of_no_return}
-use Rattle.script_steps.specs.Steps.{IsEarly}
+use Rattle.script_progress.specs.Steps.{IsEarly}
 use Rattle.script_steps.proofs.RowLemmas.{all_push, more, parted}
 use Rattle.relup_script.proofs.ScriptLemmas.{are_early, are_late}
 use Rattle.relup_exec.proofs.RunLemmas.{is_the_point, late_behind, next_is_early, not_all_early}

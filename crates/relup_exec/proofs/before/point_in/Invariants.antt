@@ -1,7 +1,7 @@
 use Rattle.std.proofs.Common.{take}
 use Rattle.std.specs.List.{AllByRecursion}
 use Rattle.relup_instruction.specs.Instruction.{script_of}
-use Rattle.script_steps.specs.Steps.{IsEarly}
+use Rattle.script_progress.specs.Steps.{IsEarly}
 use Rattle.relup_exec.proofs.before.point_in.Given as goal
 
 -- all so far may stand before the point

@@ -3,10 +3,10 @@ use Rattle.std.proofs.lemmas.List.{length-map}
 use Rattle.std.specs.Prelude.{vec_capacity}
 use Rattle.std.specs.List.{AllByRecursion}
 use Rattle.relup_instruction.specs.Instruction.{instruction_of, script_of}
-use Rattle.script_steps.specs.InMemory.{cause_of, site_of}
+use Rattle.script_progress.specs.InMemory.{cause_of, site_of}
 use Rattle.relup_exec.specs.Outcome.{Ran, past_behind, run_behind}
-use Rattle.script_steps.specs.Script.{courses_within}
-use Rattle.script_steps.specs.Steps.{HasDone, IsEarly, progress_of}
+use Rattle.script_progress.specs.Script.{courses_within}
+use Rattle.script_progress.specs.Steps.{HasDone, IsEarly, progress_of}
 use Rattle.relup_exec.specs.Stepwise.{HasBegun, IsStopped, start_at}
 use Rattle.sup_tree.specs.Tree.{App}
 use Rattle.relup_exec.proofs.PointLemmas.{front_is}

@@ -2,9 +2,9 @@ use Rattle.std.proofs.Common.{◌≡◌, [], true, ◌+◌, ◌∙◌, ◌∷◌
 use Rattle.std.proofs.lemmas.List.{length-map, length-take-le, take_all}
 use Rattle.std.specs.List.{AllByRecursion}
 use Rattle.relup_instruction.specs.Instruction.{Instruction, instruction_of, script_of}
-use Rattle.script_steps.specs.InMemory.{site_of}
+use Rattle.script_progress.specs.InMemory.{site_of}
 use Rattle.relup_exec.specs.Outcome.{Ran, began_at, past_behind}
-use Rattle.script_steps.specs.Steps.{HasDone, IsEarly, progress_of}
+use Rattle.script_progress.specs.Steps.{HasDone, IsEarly, progress_of}
 use Rattle.relup_exec.proofs.OutcomeLemmas.{run_more_early}
 use Rattle.relup_exec.proofs.RunLemmas.{ran_later, still_before}
 use Rattle.script_steps.proofs.RowLemmas.{all_front, all_middle, more, parted}
@@ -43,11 +43,11 @@ loop-i-preserved g c =
     let parts = parted instruction_of c.args.instrs.now c.loop-i.i c.index-instrs-i.result c.loop-i-test.true c.index-instrs-i.is in
     let early : AllByRecursion IsEarly so_far = all_front IsEarly so_far (i ∷ script_of (drop (c.loop-i.i + 1) c.args.instrs.now)) (subst (AllByRecursion IsEarly) parts c.requires.1.1.0) in
     let grown = more instruction_of c.args.instrs.now c.loop-i.i c.index-instrs-i.result c.loop-i-test.true c.index-instrs-i.is in
-    let done = run_more_early s g.start so_far i (progress_of c.carry_out_early-done.new.self) c.carry_out_early-done.new.self.tree c.loop-i.seat.view c.carry_out_early-done.new.seat.view (still_before so_far early)
+    let done = run_more_early s g.start so_far i (progress_of c.carry_out_early-done.new.progress) c.carry_out_early-done.new.progress.tree c.loop-i.seat.view c.carry_out_early-done.new.seat.view (still_before so_far early)
     c.loop-i.invariant.1 c.carry_out_early-done.ensures.longer c.in_default.ensures.carried in (
       c.carry_out_early-done.ensures.table ∙ c.loop-i.invariant.0,
       subst (Ran s g.start c.carry_out_early-done.new.seat.view []) (sym grown) done.0,
-      subst (λ (is : List Instruction). HasDone (past_behind s g.start [] is) (progress_of c.carry_out_early-done.new.self) c.carry_out_early-done.new.self.tree c.carry_out_early-done.new.seat.view) (sym grown) done.1,
+      subst (λ (is : List Instruction). HasDone (past_behind s g.start [] is) (progress_of c.carry_out_early-done.new.progress) c.carry_out_early-done.new.progress.tree c.carry_out_early-done.new.seat.view) (sym grown) done.1,
     )
 
 pub returns-clause-ran : goal.returns-clause-ran

@@ -1,8 +1,8 @@
 use Rattle.std.proofs.Common.{◌≡◌, [], take}
 use Rattle.relup_instruction.specs.Instruction.{script_of}
-use Rattle.script_steps.specs.InMemory.{site_of}
+use Rattle.script_progress.specs.InMemory.{site_of}
 use Rattle.relup_exec.specs.Outcome.{Ran, past_behind}
-use Rattle.script_steps.specs.Steps.{HasDone, progress_of}
+use Rattle.script_progress.specs.Steps.{HasDone, progress_of}
 use Rattle.relup_exec.proofs.before.run_early.Given as goal
 
 abbrev pub ghost-carry_out_early : goal.ghost-carry_out_early

@@ -3,7 +3,7 @@ use Rattle.relup_exec.specs.InMemory.{armed_of}
 use Rattle.relup_exec.specs.Outcome.{IsArmed, Start}
 use Rattle.relup_exec.specs.Stepwise.{start_at}
 use Rattle.relup_instruction.specs.Instruction.{script_of}
-use Rattle.script_steps.specs.InMemory.{site_of}
+use Rattle.script_progress.specs.InMemory.{site_of}
 use Rattle.script_cases.proofs.cases.push_whole.Goals as goal
 
 pub run_after-requires : goal.run_after-requires

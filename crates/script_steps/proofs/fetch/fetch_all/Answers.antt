@@ -4,9 +4,9 @@ use Rattle.std.proofs.lemmas.List.{take_all}
 use Rattle.std.proofs.lemmas.List.Folds.{list_all-append}
 use Rattle.library.specs.InMemory.{shared_of}
 use Rattle.loaded_modules.specs.Loaded.{NamedModules, library_modules, listed_in, with_loaded}
-use Rattle.script_steps.specs.Fault.{Cause}
-use Rattle.script_steps.specs.Fault.Cause.{no_module}
-use Rattle.script_steps.specs.Script.{fetched_of}
+use Rattle.script_progress.specs.Fault.{Cause}
+use Rattle.script_progress.specs.Fault.Cause.{no_module}
+use Rattle.script_progress.specs.Script.{fetched_of}
 use Rattle.script_steps.proofs.RowLemmas.{more, parted}
 use Rattle.script_steps.proofs.StepLemmas.{fetched_push}
 use Rattle.script_steps.proofs.fetch.fetch_all.Goals as goal

@@ -2,7 +2,7 @@ use Rattle.std.proofs.Common.{◌≡◌, true, map, string_bytes, take, is_some}
 use Rattle.std.specs.List.{list_all}
 use Rattle.library.specs.InMemory.{shared_of}
 use Rattle.loaded_modules.specs.Loaded.{library_modules, listed_in}
-use Rattle.script_steps.specs.Script.{fetched_of}
+use Rattle.script_progress.specs.Script.{fetched_of}
 use Rattle.script_steps.proofs.fetch.fetch_all.Given as goal
 
 -- the modules so far are there, and were fetched

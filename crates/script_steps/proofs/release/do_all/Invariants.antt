@@ -2,7 +2,7 @@ use Rattle.std.proofs.Common.{◌≡◌, map, string_bytes, take}
 use Rattle.held_processes.specs.Following.{AllFollow, AreLonger}
 use Rattle.held_processes.specs.Operations.{users_of}
 use Rattle.script_steps.specs.Plain.{plain_operation}
-use Rattle.script_steps.specs.Script.{on_each}
+use Rattle.script_progress.specs.Script.{on_each}
 use Rattle.script_steps.proofs.release.do_all.Given as goal
 
 -- it was done to the processes of the modules so far

@@ -2,7 +2,7 @@ use Rattle.std.proofs.Common.{◌≡◌, map, take}
 use Rattle.held_processes.specs.Course as course
 use Rattle.held_processes.specs.Following.{AllFollow, AreLonger}
 use Rattle.held_processes.specs.Operations.{users_of}
-use Rattle.script_steps.specs.Script.{on_each, suspended_in}
+use Rattle.script_progress.specs.Script.{on_each, suspended_in}
 use Rattle.relup_instruction.specs.Instruction.{suspension_of}
 use Rattle.script_steps.proofs.suspend.hold_all.Given as goal
 

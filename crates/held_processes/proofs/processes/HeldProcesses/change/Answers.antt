@@ -1,7 +1,7 @@
 use Rattle.std.proofs.Common.{◌<◌, ◌≤◌, not, true, false, refl, ap, sym, subst, arith, None}
 use Rattle.std.proofs.lemmas.List.{get_or_read_under}
 use Rattle.erl_term.specs.Value.{value_of}
-use Rattle.mod_table.specs.InMemory.{old_of}
+use Rattle.worker_table.specs.InMemory.{old_of}
 use Rattle.proc_table.specs.Agrees.{slots}
 use Rattle.held_processes.specs.Course.{on_module}
 use Rattle.held_processes.specs.Course.Operation.{change}

@@ -1,6 +1,6 @@
 use Rattle.std.proofs.Common.{◌≡◌, ℕ, ◌<◌, false, vec_len}
 use Rattle.erl_term.specs.Value.{value_of}
-use Rattle.mod_table.specs.InMemory.{old_of}
+use Rattle.worker_table.specs.InMemory.{old_of}
 use Rattle.proc_table.specs.declared.view.View.{View}
 use Rattle.held_processes.specs.Course.{Courses}
 use Rattle.held_processes.specs.Course.Operation.{change}

@@ -6,12 +6,12 @@ use Rattle.held_processes.specs.Course.{on_all}
 use Rattle.held_processes.specs.Course.Operation.{finish, pass_point}
 use Rattle.held_processes.specs.Following.{AllFollow, AreLeft}
 use Rattle.held_processes.proofs.SlotLemmas.{longer_both}
-use Rattle.script_steps.specs.Script.{courses_within}
-use Rattle.script_steps.specs.InMemory.{cause_of, site_of}
-use Rattle.script_steps.specs.Steps.{IsLate}
+use Rattle.script_progress.specs.Script.{courses_within}
+use Rattle.script_progress.specs.InMemory.{cause_of, site_of}
+use Rattle.script_progress.specs.Steps.{IsLate}
 use Rattle.relup_exec.specs.Outcome.{Ran, began_at, past_behind, run_behind, still_early}
 use Rattle.relup_exec.specs.InMemory.{armed_of}
-use Rattle.script_steps.specs.Steps.{HasDone, IsCarriedOut, IsFault, ProgressForm, progress_of}
+use Rattle.script_progress.specs.Steps.{HasDone, IsCarriedOut, IsFault, ProgressForm, progress_of}
 use Rattle.relup_exec.proofs.PointLemmas.{front_is, point_is}
 use Rattle.relup_exec.proofs.OutcomeLemmas.{point_passed, run_more_late}
 use Rattle.script_steps.proofs.RowLemmas.{more, parted}
@@ -68,15 +68,15 @@ loop-i-preserved g c =
     let i = instruction_of c.index-script-i.result in
     let grown = more instruction_of script c.loop-i.i c.index-script-i.result c.loop-i-test.true c.index-script-i.is in
     let w = c.carry_out_late-done.new in
-    let carried = subst (λ (told : List Bool). IsCarriedOut s (past_behind s g.start told so_far) false c.in-Ok.stays i (progress_of w.self) w.self.tree w.seat.view) c.as_slice.ensures.value c.in-Ok.ensures.carried in
-    let done = run_more_late s g.start c.loop-i.told.items so_far c.in-Ok.stays i (progress_of w.self) w.self.tree c.loop-i.seat.view w.seat.view c.loop-i.invariant.2 c.loop-i.invariant.5 c.carry_out_late-done.ensures.longer carried in (
+    let carried = subst (λ (told : List Bool). IsCarriedOut s (past_behind s g.start told so_far) false c.in-Ok.stays i (progress_of w.progress) w.progress.tree w.seat.view) c.as_slice.ensures.value c.in-Ok.ensures.carried in
+    let done = run_more_late s g.start c.loop-i.told.items so_far c.in-Ok.stays i (progress_of w.progress) w.progress.tree c.loop-i.seat.view w.seat.view c.loop-i.invariant.2 c.loop-i.invariant.5 c.carry_out_late-done.ensures.longer carried in (
       c.carry_out_late-done.ensures.table ∙ c.loop-i.invariant.0,
       omega (arith, c.loop-i.invariant.1),
       ap (still_early true) grown ∙ (still_push true so_far i ∙ ap (λ e. e && not (is_point i)) c.loop-i.invariant.2),
       subst (λ (bs : List Bool). length bs < c.loop-i.i + 1) (sym c.push_reserved.ensures.items) (omega (arith, length-append c.loop-i.told.items (c.in-Ok.stays ∷ []), c.loop-i.invariant.3)),
       subst (λ (n : ℕ). length (script_of script) ≤ n) (sym c.push_reserved.ensures.capacity) c.loop-i.invariant.4,
       subst₂ (Ran s g.start w.seat.view) (sym c.push_reserved.ensures.items) (sym grown) done.0,
-      subst₂ (λ (bs : List Bool) (is : List Instruction). HasDone (past_behind s g.start bs is) (progress_of w.self) w.self.tree w.seat.view)
+      subst₂ (λ (bs : List Bool) (is : List Instruction). HasDone (past_behind s g.start bs is) (progress_of w.progress) w.progress.tree w.seat.view)
           (sym c.push_reserved.ensures.items) (sym grown) done.1,
     )
 

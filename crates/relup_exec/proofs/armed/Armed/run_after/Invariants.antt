@@ -1,10 +1,10 @@
 use Rattle.std.proofs.Common.{◌≡◌, ◌<◌, ◌≤◌, false, true, [], length, take}
 use Rattle.std.specs.Prelude.{vec_capacity}
 use Rattle.relup_instruction.specs.Instruction.{instruction_of, script_of}
-use Rattle.script_steps.specs.InMemory.{site_of}
+use Rattle.script_progress.specs.InMemory.{site_of}
 use Rattle.relup_exec.specs.Outcome.{Ran, past_behind, run_behind, still_early}
-use Rattle.script_steps.specs.Script.{courses_within}
-use Rattle.script_steps.specs.Steps.{HasDone, progress_of}
+use Rattle.script_progress.specs.Script.{courses_within}
+use Rattle.script_progress.specs.Steps.{HasDone, progress_of}
 use Rattle.relup_exec.proofs.armed.Armed.run_after.Given as goal
 
 abbrev pub ghost-let_pass : goal.ghost-let_pass

@@ -1,8 +1,0 @@
-use Rattle.std.proofs.Common.{◌≡◌, ◌++◌, map, drop}
-use Rattle.mod_table.specs.InMemory.{row_of}
-use Rattle.mod_table.proofs.IndexLemmas.{keyed}
-use Rattle.mod_table.proofs.keyed.Keyed.index.Given as goal
-
--- the rows so far that have a key, and behind them those that are left
-abbrev pub invariant-loop-number : goal.invariant-loop-number
-invariant-loop-number l = l.keyed.items ++ keyed l.self l.number (map row_of (drop l.number l.rows)) ≡ keyed l.self 0 (map row_of l.rows)

@@ -1,6 +1,0 @@
-use Rattle.std.proofs.Common.{◌≡◌, drop}
-use Rattle.mod_table.specs.Decide.{moved}
-use Rattle.mod_table.proofs.row.moved.Given as goal
-
-abbrev pub invariant-loop-from : goal.invariant-loop-from
-invariant-loop-from l = moved (drop l.from-index l.moves) l.state ≡ moved l.moves l.state

@@ -1,8 +1,0 @@
-use Rattle.std.proofs.Common.{◌≡◌, map, drop}
-use Rattle.std.specs.List.{list_all}
-use Rattle.mod_table.specs.Headed.{row_has_version}
-use Rattle.mod_table.specs.InMemory.{row_of}
-use Rattle.mod_table.proofs.rows.rows_have_versions.Given as goal
-
-abbrev pub invariant-loop-row : goal.invariant-loop-row
-invariant-loop-row l = list_all row_has_version (map row_of (drop l.row-index l.rows)) ≡ list_all row_has_version (map row_of l.rows)

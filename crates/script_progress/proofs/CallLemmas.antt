@@ -1,0 +1,135 @@
+-- Calls of a script, by what they are on.
+use Rattle.std.proofs.Common.{◌≡◌, ℕ, ◌&&◌, ◌||◌, Bool, true, false, List, if◌then◌else◌, refl, sym, ap, subst, ◌∙◌, Option, Result, Ok, Err, codes}
+use Rattle.std.proofs.lemmas.Slice.Eq.{bytes_eq-Decides}
+use Rattle.std.specs.Str.{bytes_eq}
+use Rattle.proc_table.specs.declared.view.View.{View}
+use Rattle.held_processes.specs.Course.{Courses}
+use Rattle.held_processes.specs.Following.{AllFollow, AreLonger}
+use Rattle.held_processes.specs.Operations.{Values, values_seen}
+use Rattle.relup_instruction.specs.Instruction.{CallForm}
+use Rattle.relup_instruction.specs.Instruction.Instruction.{apply}
+use Rattle.relup_script.specs.Script.{has_one, is_app, is_application, is_child, is_child_call, is_child_word, is_error, is_one_app_word, is_supported_call, is_typed_app}
+use Rattle.sup_tree.specs.Tree.{App}
+use Rattle.script_progress.specs.declared.cause.Failure.{Failure}
+use Rattle.script_progress.specs.Apps.{CallsApp}
+use Rattle.script_progress.specs.Calls.{app_call, child_call, is_on_child}
+use Rattle.script_progress.specs.Children.{CallsChild}
+use Rattle.script_progress.specs.Fault.{Cause, app_call_fault, call_fault, child_call_fault, error_cause}
+use Rattle.script_progress.specs.InMemory.{cause_of}
+use Rattle.script_progress.specs.Script.{Run, Site, call_after, call_within, called_after, child_after, child_stays_at, child_within, stays_at}
+use Rattle.script_progress.specs.Steps.{CarriesOutLate, HasDone, IsCause, IsCauseIn, IsFailed, Past, ProgressForm, on_no_child}
+use Rattle.script_progress.proofs.SeenLemmas.{cause_seen, seen_in, seen_of}
+use Rattle.held_processes.proofs.SlotLemmas.{longer_still}
+
+-- each of two tests that hold
+pub left_true : (a b : Bool) → (a && b) ≡ true → a ≡ true
+left_true true b e = refl
+left_true false b e = absurd (cc e)
+
+pub right_true : (a b : Bool) → (a && b) ≡ true → b ≡ true
+right_true true b e = e
+right_true false b e = absurd (cc e)
+
+-- What a call does, how it fails, and whether it leaves a child as it is, is what is said of its kind.
+record IsCall (s : Site) (call : CallForm) (r : Run) (o : Values → Option Cause) (stays : Values → Bool) (after : Bool → Run) (within : ℕ → Courses) : Type 0 where
+  fault : (seen : Values) → call_fault s seen call r ≡ o seen
+  stay : (seen : Values) → stays_at seen (apply call) r ≡ stays seen
+  run : (b : Bool) → call_after s call b r ≡ after b
+  courses : (n : ℕ) → call_within call n r ≡ within n
+
+-- a call by this name is neither an error, nor one on a child; or it is one on a child
+on_app : (s : Site) (call : CallForm) (r : Run) → bytes_eq call.name (codes "application") ≡ true
+    → IsCall s call r (λ seen. app_call_fault s (app_call call) r) (λ seen. false) (λ b. called_after s (app_call call) r) (λ n. r.courses)
+on_app s call r is =
+    let named : call.name ≡ codes "application" = (bytes_eq-Decides call.name (codes "application")).0 is in
+    let error : is_error call ≡ false = ap (λ (n : List ℕ). bytes_eq n (codes "erlang") && (bytes_eq call.function (codes "error") && has_one call.args)) named in
+    let child : is_on_child call ≡ false = ap (λ (n : List ℕ). bytes_eq n (codes "supervisor")) named in
+    record {
+      fault = λ seen. ap (λ (b : Bool). if b then error_cause call.args else if is_on_child call then child_call_fault seen (child_call call) r else app_call_fault s (app_call call) r) error
+          ∙ ap (λ (b : Bool). if b then child_call_fault seen (child_call call) r else app_call_fault s (app_call call) r) child;
+      stay = λ seen. ap (λ (b : Bool). if b then child_stays_at seen (child_call call) r else false) child;
+      run = λ stays. ap (λ (b : Bool). if b then child_after (child_call call) stays r else called_after s (app_call call) r) child;
+      courses = λ n. ap (λ (b : Bool). if b then child_within (child_call call) n r else r.courses) child;
+    }
+
+on_child : (s : Site) (call : CallForm) (r : Run) → bytes_eq call.name (codes "supervisor") ≡ true
+    → IsCall s call r (λ seen. child_call_fault seen (child_call call) r) (λ seen. child_stays_at seen (child_call call) r) (λ b. child_after (child_call call) b r) (λ n. child_within (child_call call) n r)
+on_child s call r is =
+    let named : call.name ≡ codes "supervisor" = (bytes_eq-Decides call.name (codes "supervisor")).0 is in
+    let error : is_error call ≡ false = ap (λ (n : List ℕ). bytes_eq n (codes "erlang") && (bytes_eq call.function (codes "error") && has_one call.args)) named in
+    record {
+      fault = λ seen. ap (λ (b : Bool). if b then error_cause call.args else if is_on_child call then child_call_fault seen (child_call call) r else app_call_fault s (app_call call) r) error
+          ∙ ap (λ (b : Bool). if b then child_call_fault seen (child_call call) r else app_call_fault s (app_call call) r) is;
+      stay = λ seen. ap (λ (b : Bool). if b then child_stays_at seen (child_call call) r else false) is;
+      run = λ stays. ap (λ (b : Bool). if b then child_after (child_call call) stays r else called_after s (app_call call) r) is;
+      courses = λ n. ap (λ (b : Bool). if b then child_within (child_call call) n r else r.courses) is;
+    }
+
+-- a call by another name is an error that the script raises
+unlike : (a b : List ℕ) → (a ≡ b → ⊥) → bytes_eq a b ≡ false
+unlike a b differ = by (bytes_eq a b) refl
+  where
+    by : (c : Bool) → bytes_eq a b ≡ c → bytes_eq a b ≡ false
+    by true is = absurd (differ ((bytes_eq-Decides a b).0 is))
+    by false is = is
+
+pub other_raises : (call : CallForm) → is_supported_call call ≡ true → (call.name ≡ codes "application" → ⊥) → (call.name ≡ codes "supervisor" → ⊥) → is_error call ≡ true
+other_raises call supported not_app not_child =
+    by (is_error call) (is_application call) (is_child_call call) supported
+    (ap (λ (b : Bool). b && ((is_one_app_word call.function && is_app call.args) || (bytes_eq call.function (codes "start") && is_typed_app call.args))) (unlike call.name (codes "application") not_app))
+    (ap (λ (b : Bool). b && (is_child_word call.function && is_child call.args)) (unlike call.name (codes "supervisor") not_child))
+  where
+    by : (a b c : Bool) → (a || (b || c)) ≡ true → b ≡ false → c ≡ false → a ≡ true
+    by true b c is not_b not_c = refl
+    by false true c is not_b not_c = absurd (cc not_b)
+    by false false c is not_b not_c = sym not_c ∙ is
+
+pub raised : (s : Site) (past : Past) (call : CallForm) (e : Failure) (a : ProgressForm) (tree : List App) (v : View) → HasDone past a tree v → is_error call ≡ true
+    → IsCause (error_cause call.args) (cause_of e.cause) → IsFailed s past (apply call) e a.held v
+raised s past call e a tree v done raises cause =
+    let r = past.run in
+    let named : call.name ≡ codes "erlang" = (bytes_eq-Decides call.name (codes "erlang")).0 (left_true (bytes_eq call.name (codes "erlang")) (bytes_eq call.function (codes "error") && has_one call.args) raises) in
+    let child : is_on_child call ≡ false = ap (λ (n : List ℕ). bytes_eq n (codes "supervisor")) named in
+    let fault : call_fault s (values_seen v) call r ≡ error_cause call.args =
+    ap (λ (b : Bool). if b then error_cause call.args else if is_on_child call then child_call_fault (values_seen v) (child_call call) r else app_call_fault s (app_call call) r) raises in
+    record {
+      then_view = v;
+      fails = cause_seen past.first v r (call_fault s (values_seen v) call r) (cause_of e.cause) (subst (λ (f : Option Cause). IsCause f (cause_of e.cause)) (sym fault) cause) (seen_in past a tree v done);
+      longer = longer_still v;
+      partly = subst (λ (cs : Courses). AllFollow past.first cs a.held v) (sym (ap (λ (b : Bool). if b then child_within (child_call call) e.modules r else r.courses) child)) done.follow;
+    }
+
+-- a call on an application was made, or fails
+pub app_called : {X : Type 0} (s : Site) (past : Past) (call : CallForm) (r : Result X Failure) (a a' : ProgressForm) (tree tree' : List App) (v w : View) → HasDone past a tree v → AreLonger v w
+    → bytes_eq call.name (codes "application") ≡ true → CallsApp s past (app_call call) r a' tree' w → CarriesOutLate s past (apply call) (on_no_child r) a' tree' w
+app_called s past call (Ok x) a a' tree tree' v w done longer named called =
+    let is = on_app s call past.run named in (
+      (v, seen_in past a tree v done, is.fault (values_seen v) ∙ called.0, sym (is.stay (values_seen v)), longer),
+      subst (λ (q : Run). HasDone (record past { run = q }) a' tree' w) (sym (is.run false)) called.1,
+    )
+app_called s past call (Err e) a a' tree tree' v w done longer named called =
+    let is = on_app s call past.run named in
+    record {
+      then_view = w;
+      fails = cause_seen past.first w past.run (call_fault s (values_seen w) call past.run) (cause_of e.cause) (subst (λ (f : Option Cause). IsCause f (cause_of e.cause)) (sym (is.fault (values_seen w))) called.0)
+          (seen_of past.first past.run past.run.courses a'.held w (λ p. refl) called.1);
+      longer = longer_still w;
+      partly = subst (λ (cs : Courses). AllFollow past.first cs a'.held w) (sym (is.courses e.modules)) called.1;
+    }
+
+-- a call on a child of a supervisor was made, or fails
+pub child_called : (s : Site) (past : Past) (call : CallForm) (r : Result Bool Failure) (a : ProgressForm) (tree : List App) (w : View)
+    → bytes_eq call.name (codes "supervisor") ≡ true → CallsChild past (child_call call) r a tree w → CarriesOutLate s past (apply call) r a tree w
+child_called s past call (Ok stays) a tree w named called =
+    let is = on_child s call past.run named in (
+      (called.then_view, called.seen, is.fault (values_seen called.then_view) ∙ called.sound, called.told ∙ sym (is.stay (values_seen called.then_view)), called.longer),
+      subst (λ (q : Run). HasDone (record past { run = q }) a tree w) (sym (is.run stays)) called.done,
+    )
+child_called s past call (Err e) a tree w named called =
+    let is = on_child s call past.run named in
+    record {
+      then_view = called.then_view;
+      fails = subst (λ (f : Option Cause). IsCauseIn past.first called.then_view past.run f (cause_of e.cause)) (sym (is.fault (values_seen called.then_view))) called.fails;
+      longer = called.longer;
+      partly = subst (λ (cs : Courses). AllFollow past.first cs a.held w) (sym (is.courses e.modules)) called.partly;
+    }

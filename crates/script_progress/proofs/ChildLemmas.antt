@@ -1,0 +1,219 @@
+-- Calls on children of supervisors.
+use Rattle.std.proofs.Common.{◌≡◌, ℕ, Bool, true, false, List, length, if◌then◌else◌, refl, sym, ap, subst, subst₂, ◌∙◌, Option, None, Some, Ok, Err}
+use Rattle.std.proofs.lemmas.Bool.{le-ltb, lt-ltb}
+use Rattle.proc_table.specs.declared.view.View.{View}
+use Rattle.rel_check.specs.Modules.{Tables}
+use Rattle.app_members.specs.Walk.{StartFault}
+use Rattle.app_members.specs.Walk as walk
+use Rattle.loaded_modules.specs.Loaded.{Modules, module_named, tables_of}
+use Rattle.sup_tree.specs.declared.error.RestartError.{RestartError}
+use Rattle.sup_tree.specs.declared.error.RestartError.TheVariants.{NoSuper, NoTable, Unsupported, NoSlot, NoMemory}
+use Rattle.started_members.specs.declared.looks.Stay.TheVariants.{UpOrTemporary}
+use Rattle.started_members.specs.Places.{Place}
+use Rattle.sup_tree.specs.Children.{child_place, has_one_supervisor}
+use Rattle.started_members.specs.Begins.{restart_fault}
+use Rattle.sup_tree.specs.Tree.{App}
+use Rattle.held_processes.specs.declared.restarts.NotRestarted.{NotRestarted}
+use Rattle.held_processes.specs.Applications.{Scene, room_in, scene_at}
+use Rattle.held_processes.specs.Children.{IsDeletedIn, IsTerminatedIn, child_stays, with_deleted, with_terminated}
+use Rattle.held_processes.specs.Following.{AllFollow, AreLonger, HeldSlots}
+use Rattle.held_processes.specs.Operations.{Values, now_in, values_seen}
+use Rattle.held_processes.specs.Restarts.{IsKeptIn, IsNotRestartedIn, IsRestartedIn, FailsToRestart, IsWhyItDidNot, RestartsIn, child_ended, restart_starts, with_restarted}
+use Rattle.script_progress.specs.declared.cause.Cause.TheVariants as declared
+use Rattle.script_progress.specs.declared.cause.Failure.{Failure}
+use Rattle.script_progress.specs.Calls.{ChildCall}
+use Rattle.script_progress.specs.Calls.ChildCall.{terminates, deletes, restarts, nothing}
+use Rattle.script_progress.specs.Children.{IsMade, IsNotMade, restart_cause}
+use Rattle.script_progress.specs.Fault.{Cause, child_call_fault, restart_call_fault, restart_fault_at, start_fault_or, super_fault_or}
+use Rattle.script_progress.specs.Fault.Cause.{no_super}
+use Rattle.script_progress.specs.InMemory.{cause_of}
+use Rattle.script_progress.specs.Script.{Run, child_after, child_stays_at, child_within, restarted_at, scene_of, tables_among}
+use Rattle.script_progress.specs.Steps.{HasDone, IsCause, IsSeen, Past, ProgressForm, followed_in}
+use Rattle.script_progress.proofs.AppLemmas.{room_fault, scene_is, tables_are}
+use Rattle.script_progress.proofs.SeenLemmas.{cause_seen, seen_in, seen_of}
+use Rattle.held_processes.proofs.SlotLemmas.{longer_still}
+
+-- with one supervisor of the module there is no other fault
+one_super : (super : List ℕ) (r : Run) (o : Option Cause) → has_one_supervisor super r.apps ≡ true → super_fault_or super r o ≡ o
+one_super super r o one = ap (λ (b : Bool). if b then o else Some no_super) one
+
+not_one_super : (super : List ℕ) (r : Run) (o : Option Cause) → has_one_supervisor super r.apps ≡ false → super_fault_or super r o ≡ Some no_super
+not_one_super super r o none = ap (λ (b : Bool). if b then o else Some no_super) none
+
+-- how a call fails that finds not exactly one supervisor of its module
+abbrev pub superless : Failure
+superless = record { cause = declared.NoSuper; modules = 0; slot = 0 }
+
+without_super : (past : Past) (c : ChildCall) (hs : HeldSlots) (w : View) → ((seen : Values) → child_call_fault seen c past.run ≡ Some no_super) → AllFollow past.first past.run.courses hs w
+    → AllFollow past.first (child_within c 0 past.run) hs w → IsNotMade past c superless hs w
+without_super past c hs w none follow partly =
+    record { then_view = w; fails = (none (values_seen w), seen_of past.first past.run past.run.courses hs w (λ p. refl) follow); longer = longer_still w; partly = partly }
+
+-- the supervisors that are started are those of the script
+none_in : (past : Past) (name : List ℕ) (a : ProgressForm) (tree : List App) (v : View) → HasDone past a tree v → has_one_supervisor name tree ≡ false → has_one_supervisor name past.run.apps ≡ false
+none_in past name a tree v done none = ap (has_one_supervisor name) (sym done.apps) ∙ none
+
+-- what was done follows the script that is run
+done_as : (past : Past) (a : ProgressForm) (tree tree' : List App) (hs : HeldSlots) (v w : View) (s : Scene) → HasDone past a tree v → tree' ≡ s.apps → AllFollow past.first s.courses hs w
+    → HasDone (record past { run = record past.run { apps = s.apps; courses = s.courses } }) (record a { held = hs }) tree' w
+done_as past a tree tree' hs v w s done same follow = record { follow = follow; fetched = done.fetched; next = done.next; apps = same; values = done.values }
+
+-- any other call does nothing
+pub nothing_called : (past : Past) (a : ProgressForm) (tree : List App) (v : View) → HasDone past a tree v → IsMade past nothing false a tree v
+nothing_called past a tree v done = record { then_view = v; seen = seen_in past a tree v done; sound = refl; told = refl; longer = longer_still v; done = done }
+
+-- a child was terminated
+pub terminated : (past : Past) (name id : List ℕ) (a : ProgressForm) (tree tree' : List App) (hs : HeldSlots) (v w : View) → HasDone past a tree v → AreLonger v w
+    → IsTerminatedIn past.first name id (scene_at (followed_in past) tree) tree' hs w → IsMade past (terminates name id) false (record a { held = hs }) tree' w
+terminated past name id a tree tree' hs v w done longer is =
+    let r = past.run in
+    let here = subst (λ (s : Scene). IsTerminatedIn past.first name id s tree' hs w) (scene_is past a tree v done) is in
+    record {
+      then_view = v;
+      seen = seen_in past a tree v done;
+      sound = one_super name r None here.one;
+      told = refl;
+      longer = longer;
+      done = done_as past a tree tree' hs v w (with_terminated name id (scene_of r)) done here.tree here.follow;
+    }
+
+-- a child was deleted, or stays
+pub deleted : (past : Past) (name id : List ℕ) (stays : Bool) (a : ProgressForm) (tree tree' : List App) (hs : HeldSlots) (v w : View) → HasDone past a tree v
+    → IsDeletedIn past.first name id (scene_at (followed_in past) tree) stays tree' hs w → IsMade past (deletes name id) stays (record a { held = hs }) tree' w
+deleted past name id stays a tree tree' hs v w done is =
+    let r = past.run in
+    let here = subst (λ (s : Scene). IsDeletedIn past.first name id s stays tree' hs w) (scene_is past a tree v done) is in
+    record {
+      then_view = here.stay.0;
+      seen = here.stay.1;
+      sound = one_super name r None here.one;
+      told = here.stay.2;
+      longer = here.stay.3;
+      done = by stays here.tree here.follow;
+    }
+  where
+    by : (b : Bool) → tree' ≡ (if b then past.run.apps else (with_deleted name id (scene_of past.run)).apps)
+        → AllFollow past.first (if b then past.run.courses else (with_deleted name id (scene_of past.run)).courses) hs w
+        → HasDone (record past { run = child_after (deletes name id) b past.run }) (record a { held = hs }) tree' w
+    by true same follow = done_as past a tree tree' hs v w (scene_of past.run) done same follow
+    by false same follow = done_as past a tree tree' hs v w (with_deleted name id (scene_of past.run)) done same follow
+
+-- no such call is made where the supervisor isn't there
+pub not_terminated : (past : Past) (name id : List ℕ) (a : ProgressForm) (tree : List App) (hs : HeldSlots) (v w : View) → HasDone past a tree v → has_one_supervisor name tree ≡ false
+    → AllFollow past.first past.run.courses hs w → IsNotMade past (terminates name id) superless hs w
+not_terminated past name id a tree hs v w done none follow =
+    without_super past (terminates name id) hs w (λ seen. not_one_super name past.run None (none_in past name a tree v done none)) follow follow
+
+pub not_deleted : (past : Past) (name id : List ℕ) (a : ProgressForm) (tree : List App) (hs : HeldSlots) (v w : View) → HasDone past a tree v → has_one_supervisor name tree ≡ false
+    → AllFollow past.first past.run.courses hs w → IsNotMade past (deletes name id) superless hs w
+not_deleted past name id a tree hs v w done none follow =
+    without_super past (deletes name id) hs w (λ seen. not_one_super name past.run None (none_in past name a tree v done none)) follow follow
+
+-- a child that stays has no fault
+stays_sound : (seen : Values) (name id : List ℕ) (r : Run) → has_one_supervisor name r.apps ≡ true → child_stays_at seen (restarts name id) r ≡ true
+    → child_call_fault seen (restarts name id) r ≡ None
+stays_sound seen name id r one stays =
+    one_super name r (restart_call_fault (child_stays_at seen (restarts name id) r) name id r) one ∙ ap (λ (b : Bool). restart_call_fault b name id r) stays
+
+-- one that doesn't fails by what is wrong with it, or for its room
+begins_fault : (seen : Values) (name id : List ℕ) (r : Run) (p : Place) (f : Option StartFault) → has_one_supervisor name r.apps ≡ true → child_stays_at seen (restarts name id) r ≡ false
+    → child_place name id r.apps ≡ Some p → restart_fault (tables_among r.modules) p.child ≡ f
+    → child_call_fault seen (restarts name id) r ≡ start_fault_or f (length (restart_starts (tables_among r.modules) p)) (room_in r.values (child_ended (scene_of r) (Some p)))
+begins_fault seen name id r p f one goes there is =
+    one_super name r (restart_call_fault (child_stays_at seen (restarts name id) r) name id r) one
+    ∙ (ap (λ (b : Bool). restart_call_fault b name id r) goes
+    ∙ (ap (λ (o : Option Place). restart_fault_at o (tables_among r.modules) r) there
+    ∙ ap (λ (g : Option StartFault). start_fault_or g (length (restart_starts (tables_among r.modules) p)) (room_in r.values (child_ended (scene_of r) (Some p)))) is))
+
+-- a child that stays
+kept : (past : Past) (name id : List ℕ) (a : ProgressForm) (tree tree' : List App) (hs : HeldSlots) (v w : View) → HasDone past a tree v
+    → IsKeptIn past.first name id (scene_of past.run) tree' hs w → IsMade past (restarts name id) true (record a { held = hs }) tree' w
+kept past name id a tree tree' hs v w done is = record {
+  then_view = is.stay.0;
+  seen = is.stay.1;
+  sound = stays_sound (values_seen is.stay.0) name id past.run is.one (sym is.stay.2);
+  told = is.stay.2;
+  longer = is.stay.3;
+  done = done_as past a tree tree' hs v w (scene_of past.run) done is.tree is.follow;
+}
+
+-- a child that began again
+begun : (past : Past) (name id : List ℕ) (a : ProgressForm) (tree tree' : List App) (hs : HeldSlots) (v w : View) → HasDone past a tree v
+    → IsRestartedIn past.first name id (tables_among past.run.modules) (scene_of past.run) tree' hs w → IsMade past (restarts name id) false (record a { held = hs }) tree' w
+begun past name id a tree tree' hs v w done is =
+    let r = past.run in
+    let tables = tables_among r.modules in
+    let p = is.place in
+    let seen = values_seen is.stay.0 in
+    let goes : false ≡ child_stays_at seen (restarts name id) r = is.stay.2 ∙ ap (child_stays UpOrTemporary (now_in seen r.courses)) (sym is.there) in
+    let room = room_fault (length (restart_starts tables p)) (room_in r.values (child_ended (scene_of r) (Some p))) false (le-ltb _ _ is.room) in
+    record {
+      then_view = is.stay.0;
+      seen = is.stay.1;
+      sound = begins_fault seen name id r p None is.one (sym goes) is.there is.sound ∙ room;
+      told = goes;
+      longer = is.stay.3;
+      done = subst (λ (o : Option Place). HasDone (record past { run = restarted_at name id o r }) (record a { held = hs }) tree' w) (sym is.there)
+          (done_as past a tree tree' hs v w (with_restarted name id tables p (scene_of r)) done is.tree is.follow);
+    }
+
+-- a child began again, or stays
+pub restarted : (past : Past) (name id : List ℕ) (stays : Bool) (a : ProgressForm) (tree tree' : List App) (hs : HeldSlots) (v w : View) (next : Modules) → HasDone past a tree v
+    → ((m : List ℕ) → next m ≡ module_named m a.next) → RestartsIn past.first name id (tables_of next) (scene_at (followed_in past) tree) (Ok stays) tree' hs w
+    → IsMade past (restarts name id) stays (record a { held = hs }) tree' w
+restarted past name id stays a tree tree' hs v w next done listed is =
+    by stays (subst₂ (λ (t : Tables) (s : Scene). RestartsIn past.first name id t s (Ok stays) tree' hs w) (tables_are past a tree v next done listed) (scene_is past a tree v done) is)
+  where
+    by : (b : Bool) → RestartsIn past.first name id (tables_among past.run.modules) (scene_of past.run) (Ok b) tree' hs w → IsMade past (restarts name id) b (record a { held = hs }) tree' w
+    by true here = kept past name id a tree tree' hs v w done here
+    by false here = begun past name id a tree tree' hs v w done here
+
+-- why it didn't is the fault of the call
+why_not : (past : Past) (name id : List ℕ) (seen : Values) (p : Place) (x : RestartError) → has_one_supervisor name past.run.apps ≡ true → child_stays_at seen (restarts name id) past.run ≡ false
+    → child_place name id past.run.apps ≡ Some p → IsWhyItDidNot x (tables_among past.run.modules) p (scene_of past.run) → IsCause (child_call_fault seen (restarts name id) past.run) (restart_cause x)
+why_not past name id seen p NoSuper one goes there why = absurd why
+why_not past name id seen p NoTable one goes there why = begins_fault seen name id past.run p (Some (walk.StartFault.no_table why.0)) one goes there why.1
+why_not past name id seen p Unsupported one goes there why = begins_fault seen name id past.run p (Some walk.StartFault.unsupported) one goes there why
+why_not past name id seen p NoSlot one goes there why =
+    begins_fault seen name id past.run p None one goes there why.0
+    ∙ room_fault (length (restart_starts (tables_among past.run.modules) p)) (room_in past.run.values (child_ended (scene_of past.run) (Some p))) true (lt-ltb _ _ why.1)
+why_not past name id seen p NoMemory one goes there why = tt
+
+-- what stood for it is given up, or not
+given_up_as : (past : Past) (name id : List ℕ) (p : Place) (given_up : Bool) (hs : HeldSlots) (w : View) → child_place name id past.run.apps ≡ Some p
+    → AllFollow past.first (if given_up then child_ended (scene_of past.run) (Some p) else past.run.courses) hs w → AllFollow past.first (child_within (restarts name id) (if given_up then 1 else 0) past.run) hs w
+given_up_as past name id p true hs w there follow = subst (λ (o : Option Place). AllFollow past.first (child_ended (scene_of past.run) o) hs w) (sym there) follow
+given_up_as past name id p false hs w there follow = follow
+
+-- a child didn't begin again
+pub not_restarted : (past : Past) (name id : List ℕ) (x : NotRestarted) (e : Failure) (a : ProgressForm) (tree tree' : List App) (hs : HeldSlots) (v w : View) (next : Modules) → HasDone past a tree v
+    → ((m : List ℕ) → next m ≡ module_named m a.next) → cause_of e.cause ≡ restart_cause x.error → e.modules ≡ (if x.given_up then 1 else 0)
+    → RestartsIn past.first name id (tables_of next) (scene_at (followed_in past) tree) (Err x) tree' hs w → IsNotMade past (restarts name id) e hs w
+not_restarted past name id x e a tree tree' hs v w next done listed caused counted is =
+    by x.error refl (subst₂ (λ (t : Tables) (s : Scene). RestartsIn past.first name id t s (Err x) tree' hs w) (tables_are past a tree v next done listed) (scene_is past a tree v done) is)
+  where
+    its : (c : Cause) (n : ℕ) → c ≡ cause_of e.cause → n ≡ e.modules → (u : View) → IsSeen past.first past.run u → IsCause (child_call_fault (values_seen u) (restarts name id) past.run) c → AreLonger u w
+        → AllFollow past.first (child_within (restarts name id) n past.run) hs w → IsNotMade past (restarts name id) e hs w
+    its c n same number u seen fails longer follow = record {
+      then_view = u;
+      fails = cause_seen past.first u past.run (child_call_fault (values_seen u) (restarts name id) past.run) (cause_of e.cause)
+          (subst (IsCause (child_call_fault (values_seen u) (restarts name id) past.run)) same fails) seen;
+      longer = longer;
+      partly = subst (λ (m : ℕ). AllFollow past.first (child_within (restarts name id) m past.run) hs w) number follow;
+    }
+
+    gone : IsNotRestartedIn past.first name id (tables_among past.run.modules) (scene_of past.run) x tree' hs w → IsNotMade past (restarts name id) e hs w
+    gone f =
+        let u = f.stay.0 in
+        let goes : false ≡ child_stays_at (values_seen u) (restarts name id) past.run = f.stay.2 ∙ ap (child_stays UpOrTemporary (now_in (values_seen u) past.run.courses)) (sym f.there) in
+        its (restart_cause x.error) (if x.given_up then 1 else 0) (sym caused) (sym counted) u f.stay.1 (why_not past name id (values_seen u) f.place x.error f.one (sym goes) f.there f.why) f.stay.3
+        (given_up_as past name id f.place x.given_up hs w f.there f.follow)
+
+    by : (k : RestartError) → x.error ≡ k → FailsToRestart k past.first name id (tables_among past.run.modules) (scene_of past.run) x tree' hs w → IsNotMade past (restarts name id) e hs w
+    by NoSuper named f =
+        its no_super 0 (sym (caused ∙ ap restart_cause named)) (sym (counted ∙ ap (λ (b : Bool). if b then 1 else 0) f.1)) w (seen_of past.first past.run past.run.courses hs w (λ p. refl) f.3)
+        (not_one_super name past.run (restart_call_fault (child_stays_at (values_seen w) (restarts name id) past.run) name id past.run) f.0) (longer_still w) f.3
+    by NoTable named f = gone f
+    by Unsupported named f = gone f
+    by NoSlot named f = gone f
+    by NoMemory named f = gone f

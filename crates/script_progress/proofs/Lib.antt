@@ -1,0 +1,4 @@
+pub mod SeenLemmas
+pub mod AppLemmas
+pub mod ChildLemmas
+pub mod CallLemmas

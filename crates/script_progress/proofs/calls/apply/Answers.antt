@@ -1,0 +1,35 @@
+use Rattle.std.proofs.Common.{◌∙◌, Bool, List, ℕ, Result, codes, sym, ap, subst}
+use Rattle.std.specs.Str.{bytes_eq}
+use Rattle.relup_instruction.specs.Instruction.{call_of}
+use Rattle.relup_instruction.specs.Instruction.Instruction.{apply}
+use Rattle.script_progress.specs.declared.cause.Failure.{Failure}
+use Rattle.script_progress.specs.Apps.{CallsApp}
+use Rattle.script_progress.specs.Calls.{AppCall, ChildCall}
+use Rattle.script_progress.specs.Children.{CallsChild}
+use Rattle.script_progress.specs.InMemory.{site_of}
+use Rattle.script_progress.specs.Steps.{CarriesOutLate, progress_of}
+use Rattle.script_progress.proofs.CallLemmas.{app_called, child_called, other_raises, raised}
+use Rattle.script_progress.proofs.calls.apply.Goals as goal
+
+pub returns-in-application-clause-carried : goal.returns-in-application-clause-carried
+returns-in-application-clause-carried g c =
+    let s = site_of c.args.site.now in
+    let w = c.call_app.new in
+    subst (λ (r : Result Bool Failure). CarriesOutLate s g.past (apply (call_of c.args.call.now)) r (progress_of w.progress) w.progress.tree w.seat.view) (sym c.on_no_child.ensures)
+    (app_called s g.past (call_of c.args.call.now) c.call_app.result (progress_of c.args.progress.now) (progress_of w.progress) c.args.progress.now.tree w.progress.tree c.args.seat.now.view w.seat.view
+    c.requires.1.1.1 c.call_app.ensures.longer
+    (ap (λ (n : List ℕ). bytes_eq n (codes "application")) (sym c.as_str.ensures.value ∙ c.in-application.is))
+    (subst (λ (k : AppCall). CallsApp s g.past k c.call_app.result (progress_of w.progress) w.progress.tree w.seat.view) c.app_call.ensures c.call_app.ensures.called))
+
+pub returns-in-supervisor-clause-carried : goal.returns-in-supervisor-clause-carried
+returns-in-supervisor-clause-carried g c =
+    let w = c.call_child.new in
+    child_called (site_of c.args.site.now) g.past (call_of c.args.call.now) c.call_child.result (progress_of w.progress) w.progress.tree w.seat.view
+    (ap (λ (n : List ℕ). bytes_eq n (codes "supervisor")) (sym c.as_str.ensures.value ∙ c.in-supervisor.is))
+    (subst (λ (k : ChildCall). CallsChild g.past k c.call_child.result (progress_of w.progress) w.progress.tree w.seat.view) c.child_call.ensures c.call_child.ensures.called)
+
+pub returns-in_default-clause-carried : goal.returns-in_default-clause-carried
+returns-in_default-clause-carried g c =
+    let call = call_of c.args.call.now in
+    raised (site_of c.args.site.now) g.past call c.raise.result (progress_of c.args.progress.now) c.args.progress.now.tree c.args.seat.now.view c.requires.1.1.1
+    (other_raises call c.requires.1.1.0 (λ is. c.in_default.not-application (c.as_str.ensures.value ∙ is)) (λ is. c.in_default.not-supervisor (c.as_str.ensures.value ∙ is))) c.raise.ensures

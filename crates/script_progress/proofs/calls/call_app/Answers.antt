@@ -1,0 +1,17 @@
+use Rattle.std.proofs.Common.{◌∙◌, Option, Some, ap, subst, sym}
+use Rattle.std.specs.Option.{option_map}
+use Rattle.library.specs.InMemory.{library_of, shared_of}
+use Rattle.library.specs.Library.{Library}
+use Rattle.script_progress.specs.declared.calls.AppCall.{AppCall}
+use Rattle.script_progress.specs.Apps.{CallsApp, StartsFrom, app_call_of}
+use Rattle.script_progress.specs.InMemory.{site_of}
+use Rattle.script_progress.specs.Steps.{progress_of}
+use Rattle.script_progress.proofs.calls.call_app.Goals as goal
+
+pub returns-in-Some-clause-called : goal.returns-in-Some-clause-called
+returns-in-Some-clause-called g c =
+    let w = c.start_from.new in
+    let there = sym c.target_library.ensures ∙ ap (option_map (λ l. shared_of l.now)) c.in-Some.is in
+    subst (λ (k : AppCall). CallsApp (site_of c.args.site.now) g.past (app_call_of k) c.start_from.result (progress_of w.progress) w.progress.tree w.seat.view) (sym c.in-Starts.is)
+    (subst (λ (o : Option Library). StartsFrom o g.past c.start_from.result (progress_of w.progress) w.progress.tree w.seat.view) (sym there)
+    (subst (λ l. StartsFrom (Some (library_of l)) g.past c.start_from.result (progress_of w.progress) w.progress.tree w.seat.view) c.as_ref.ensures c.start_from.ensures.started))

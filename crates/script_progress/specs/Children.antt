@@ -1,0 +1,53 @@
+-- What calls on children of supervisors leave to each other.
+use Rattle.std.specs.Prelude.{◌≡◌, Bool, List, None, Result, Ok, Err}
+use Rattle.proc_table.specs.declared.view.View.{View}
+use Rattle.sup_tree.specs.declared.error.RestartError.{RestartError}
+use Rattle.sup_tree.specs.declared.error.RestartError.TheVariants.{NoSuper, NoTable, Unsupported, NoSlot, NoMemory}
+use Rattle.sup_tree.specs.Tree.{App}
+use Rattle.held_processes.specs.Following.{AllFollow, AreLonger, HeldSlots}
+use Rattle.held_processes.specs.Operations.{values_seen}
+use Rattle.script_progress.specs.declared.child.ChildCall as declared
+use Rattle.script_progress.specs.declared.child.ChildCall.TheVariants.{Terminates, Deletes, Restarts, Nothing}
+use Rattle.script_progress.specs.declared.cause.Failure.{Failure}
+use Rattle.script_progress.specs.Calls.{ChildCall}
+use Rattle.script_progress.specs.Calls.ChildCall.{terminates, deletes, restarts, nothing}
+use Rattle.script_progress.specs.Fault.{Cause, child_call_fault}
+use Rattle.script_progress.specs.Fault.Cause.{no_table, unsupported, no_slot, no_super, no_memory}
+use Rattle.script_progress.specs.InMemory.{cause_of}
+use Rattle.script_progress.specs.Script.{child_after, child_stays_at, child_within}
+use Rattle.script_progress.specs.Steps.{HasDone, IsCauseIn, IsSeen, Past, ProgressForm}
+
+abbrev pub child_call_of : declared.ChildCall → ChildCall
+child_call_of (Terminates child) = terminates child.supervisor.now child.id.now
+child_call_of (Deletes child) = deletes child.supervisor.now child.id.now
+child_call_of (Restarts child) = restarts child.supervisor.now child.id.now
+child_call_of Nothing = nothing
+
+-- why a script fails where a child doesn't begin again
+abbrev pub restart_cause : RestartError → Cause
+restart_cause NoSuper = no_super
+restart_cause NoTable = no_table
+restart_cause Unsupported = unsupported
+restart_cause NoSlot = no_slot
+restart_cause NoMemory = no_memory
+
+-- A call on a child of a supervisor was made, by histories that are in front of those that the handler has seen now; by these the
+-- child stays as it is, or doesn't.
+pub record IsMade (past : Past) (c : ChildCall) (stays : Bool) (a : ProgressForm) (tree : List App) (v : View) : Type 0 where
+  pub then_view : View
+  pub seen : IsSeen past.first past.run then_view
+  pub sound : child_call_fault (values_seen then_view) c past.run ≡ None
+  pub told : stays ≡ child_stays_at (values_seen then_view) c past.run
+  pub longer : AreLonger then_view v
+  pub done : HasDone (record past { run = child_after c stays past.run }) a tree v
+
+-- It fails. What stood for the child may be given up.
+pub record IsNotMade (past : Past) (c : ChildCall) (e : Failure) (hs : HeldSlots) (v : View) : Type 0 where
+  pub then_view : View
+  pub fails : IsCauseIn past.first then_view past.run (child_call_fault (values_seen then_view) c past.run) (cause_of e.cause)
+  pub longer : AreLonger then_view v
+  pub partly : AllFollow past.first (child_within c e.modules past.run) hs v
+
+abbrev pub CallsChild : Past → ChildCall → Result Bool Failure → ProgressForm → List App → View → Type 0
+CallsChild past c (Ok stays) a tree v = IsMade past c stays a tree v
+CallsChild past c (Err e) a tree v = IsNotMade past c e a.held v

@@ -1,0 +1,7 @@
+pub mod Calls
+pub mod Script
+pub mod Fault
+pub mod InMemory
+pub mod Steps
+pub mod Apps
+pub mod Children

@@ -1,0 +1,13 @@
+use Rattle.std.proofs.Common.{ap}
+use Rattle.relup_instruction.specs.Instruction.{purging_of}
+use Rattle.loaded_modules.specs.Loaded.{listed_in}
+use Rattle.script_progress.specs.InMemory.{site_of}
+use Rattle.script_progress.specs.Steps.{progress_of}
+use Rattle.script_steps.proofs.StepLemmas.{loaded_well}
+use Rattle.script_steps.proofs.load.load_fetched.Goals as goal
+
+pub returns-in-Ok-clause-carried : goal.returns-in-Ok-clause-carried
+returns-in-Ok-clause-carried g c =
+    loaded_well (site_of c.args.site.now) g.past c.args.early (purging_of c.args.purging.now) (progress_of c.args.progress.now) c.as_str-module.result.now
+    c.give_table.new.progress.held (listed_in c.give_table.new.progress.fetched) (listed_in c.give_table.new.progress.next) (listed_in c.load_from.new.self) c.args.progress.now.tree c.give_table.new.progress.tree c.args.seat.now.view c.give_table.new.seat.view
+    c.as_str-module.ensures.value c.requires.1.1.1 c.requires.1.1.0 c.give_table.ensures.longer c.in_ok-give_table.ensures.given (ap listed_in c.give_table.ensures.fetched) (ap listed_in c.give_table.ensures.next) c.give_table.ensures.tree c.in-Ok.ensures.loaded

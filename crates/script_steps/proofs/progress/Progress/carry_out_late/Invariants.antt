@@ -1,7 +1,0 @@
-use Rattle.script_steps.proofs.progress.Progress.carry_out_late.Given as goal
-
-abbrev pub ghost-apply : goal.ghost-apply
-ghost-apply g a = g.past
-
-abbrev pub ghost-carry_out_other : goal.ghost-carry_out_other
-ghost-carry_out_other g a = g.past

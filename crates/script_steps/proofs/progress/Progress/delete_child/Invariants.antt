@@ -1,5 +1,0 @@
-use Rattle.script_steps.specs.Steps.{followed_in}
-use Rattle.script_steps.proofs.progress.Progress.delete_child.Given as goal
-
-abbrev pub ghost-delete_child : goal.ghost-delete_child
-ghost-delete_child g a = followed_in g.past

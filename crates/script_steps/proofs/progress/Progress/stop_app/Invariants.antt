@@ -1,5 +1,0 @@
-use Rattle.script_steps.specs.Steps.{followed_in}
-use Rattle.script_steps.proofs.progress.Progress.stop_app.Given as goal
-
-abbrev pub ghost-stop_app : goal.ghost-stop_app
-ghost-stop_app g a = followed_in g.past

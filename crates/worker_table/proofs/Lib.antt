@@ -1,0 +1,4 @@
+pub mod Sameness
+pub mod FirstChange
+pub mod IndexLemmas
+pub mod HeadedLemmas

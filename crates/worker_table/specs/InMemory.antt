@@ -1,0 +1,20 @@
+-- What the parts of a worker's table stand for, without where they lie in memory.
+use Rattle.std.specs.Prelude.{string_bytes}
+use Rattle.erl_term.specs.Value.{value_of}
+use Rattle.worker_table.specs.declared.old.Old.{Old}
+use Rattle.worker_table.specs.declared.old.Old.TheVariants.{Up, Down}
+use Rattle.worker_table.specs.declared.row.Row.{Row}
+use Rattle.worker_table.specs.declared.row.Row.TheVariants.{On, Add, Stop, Change}
+use Rattle.worker_table.specs.Table as table
+use Rattle.worker_table.specs.Table.OldVersion.{up, down}
+use Rattle.worker_table.specs.Table.Row.{on, add, stop, change}
+
+abbrev pub old_of : Old → table.OldVersion
+old_of (Up s) = up (string_bytes s)
+old_of (Down s) = down (string_bytes s)
+
+abbrev pub row_of : Row → table.Row
+row_of (On s i n r) = on s i n r
+row_of (Add i k) = add i k
+row_of (Stop s i r) = stop s i r
+row_of (Change old extra moves) = change (old_of old) (value_of extra) moves.items

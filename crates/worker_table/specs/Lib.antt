@@ -1,0 +1,9 @@
+pub mod Table
+pub mod Codes
+pub mod Same
+pub mod Decide
+pub mod Indexed
+pub mod Parts
+pub mod Rows
+pub mod Headed
+pub mod InMemory

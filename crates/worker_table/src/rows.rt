@@ -1,0 +1,145 @@
+//! The rows of a worker's table.
+ghost use Rattle.std.specs.Prelude.{◌≡◌, ◌≤◌, ◌<◌, ◌+◌, ◌^◌, IfOk, length, map};
+ghost use Rattle.std.specs.List.{list_all};
+ghost use Rattle.erl_term.specs.Value.{value_of};
+ghost use Rattle.worker_table.specs.Decide.{step_of, change_of};
+ghost use Rattle.worker_table.specs.Headed.{row_has_version};
+ghost use Rattle.worker_table.specs.InMemory.{old_of, row_of};
+ghost use Rattle.worker_table.specs.Indexed.{lower};
+
+use crate::keyed::Keyed;
+use crate::row::Row;
+use crate::{Old, Step, Ticks};
+use erl_term::Term;
+use row_index::Index;
+use std::alloc::{AllocError, Global};
+use std::marker::Model;
+
+// The rows, with an index of those that need a state and one of those that need an input alone.
+#[derive(Drop)]
+pub(crate) struct Rows {
+    rows: Vec<Row>,
+    by_state: Index,
+    by_input: Index,
+}
+
+impl Model for Rows {
+    ghost use Rattle.std.specs.Prelude.{List, map};
+    ghost use Rattle.worker_table.specs.Codes.{rows_code};
+    ghost use Rattle.worker_table.specs.Indexed.{IsIndexOf};
+    ghost use Rattle.worker_table.specs.InMemory.{row_of};
+    ghost use Rattle.worker_table.specs.Table.{Row};
+    ghost use Rattle.worker_table.specs.declared.keyed.Keyed.TheVariants.{ByState, ByInput};
+
+    ghost Value = { List Row };
+
+    ghost coded = { rows_code };
+
+    ghost view = { λ r. map row_of r.rows.items };
+
+    ghost invariant = { λ r. IsIndexOf ByState (map row_of r.rows.items) r.by_state
+        × IsIndexOf ByInput (map row_of r.rows.items) r.by_input };
+}
+
+impl Rows {
+    pub(crate) fn new(alloc: Global, rows: Vec<Row>) -> Result<Rows, AllocError>
+        ensures { IfOk result (λ r. r ≡ map row_of rows.items) }
+    {
+        let by_state = Keyed::ByState.index(alloc, rows.as_slice())?;
+        let by_input = Keyed::ByInput.index(alloc, rows.as_slice())?;
+        Ok(Rows {
+            rows,
+            by_state,
+            by_input,
+        })
+    }
+
+    pub(crate) fn len(&self) -> usize
+        ensures { result ≡ length self.now }
+    {
+        self.rows.len()
+    }
+
+    // What comes of a call, with a tick for each comparison of keys.
+    pub(crate) fn step(&self, state: u32, input: u32, ticks: &mut Ticks) -> Step
+        requires { ticks.old + 128 < 2 ^ 64 }
+        ensures step { result ≡ step_of self.now state input }
+        ensures bound { (ticks.old ≤ ticks.new) × (ticks.new ≤ ticks.old + 128) }
+        ensures cost { length self.now ≤ 4096 → ticks.new ≤ ticks.old + 26 }
+    {
+        let by_state = self.by_state.find((state, input), ticks);
+        let by_input = self.by_input.find((0, input), ticks);
+        let rows = self.rows.as_slice();
+        match lower(by_state, by_input) {
+            Some(number) => rows[number].made_of(state),
+            None => Step::Crashes,
+        }
+    }
+
+    // The state by the first row that fits a change of code.
+    pub(crate) fn change(&self, old: &Old, extra: &Term, state: u32) -> Option<u32>
+        ensures { result ≡ change_of self.now (old_of old.now) (value_of extra.now) state }
+    {
+        first_change(self.rows.as_slice(), old, extra, state)
+    }
+
+    pub(crate) fn copy(&self, alloc: Global) -> Result<Rows, AllocError>
+        ensures { IfOk result (λ copied. copied ≡ self.now) }
+    {
+        Ok(Rows {
+            rows: copied_rows(alloc, self.rows.as_slice())?,
+            by_state: self.by_state.copy(alloc)?,
+            by_input: self.by_input.copy(alloc)?,
+        })
+    }
+
+    // Whether each version in them is one.
+    pub(crate) fn have_versions(&self) -> bool
+        ensures { result ≡ list_all row_has_version self.now }
+    {
+        rows_have_versions(self.rows.as_slice())
+    }
+}
+
+// The lower of two numbers, where they are there.
+fn lower(one: Option<usize>, other: Option<usize>) -> Option<usize>
+    ensures { result ≡ lower one other }
+{
+    match (one, other) {
+        (Some(one), Some(other)) => Some(one.min(other)),
+        (Some(one), None) => Some(one),
+        (None, other) => other,
+    }
+}
+
+fn first_change(rows: &[Row], old: &Old, extra: &Term, state: u32) -> Option<u32>
+    ensures { result ≡ change_of (map row_of rows.now) (old_of old.now) (value_of extra.now) state }
+{
+    for row in rows {
+        if let Some(next) = row.change(old, extra, state) {
+            return Some(next);
+        }
+    }
+    None
+}
+
+fn copied_rows(alloc: Global, rows: &[Row]) -> Result<Vec<Row>, AllocError>
+    ensures { IfOk result (λ copied. map row_of copied.items ≡ map row_of rows.now) }
+{
+    let mut copied = Vec::with_capacity(alloc, rows.len())?;
+    for row in rows {
+        copied.push(row.copy(alloc)?)?;
+    }
+    Ok(copied)
+}
+
+fn rows_have_versions(rows: &[Row]) -> bool
+    ensures { result ≡ list_all row_has_version (map row_of rows.now) }
+{
+    for row in rows {
+        if !row.has_version() {
+            return false;
+        }
+    }
+    true
+}
