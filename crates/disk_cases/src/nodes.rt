@@ -1,5 +1,5 @@
 //! What a node on a disk answers.
-ghost use Rattle.rel_handler.specs.State.{IsSound};
+ghost use Rattle.node_store.specs.State.{IsSound};
 
 use crate::files::ReleaseFiles;
 use crate::steps::push_start;

@@ -15,4 +15,4 @@ mod term;
 pub use line::push_count;
 pub use process_line::{push_module, push_process};
 pub use release_listing::listing;
-pub use term::text_term;
+pub use term::{atom_term, text_term};

@@ -32,7 +32,8 @@ pub(crate) fn list_term(members: Vec<Term>) -> Term
     Term::List(members)
 }
 
-pub(crate) fn atom_term(alloc: Global, text: &str) -> Result<Term, AllocError>
+/// A text as an atom.
+pub fn atom_term(alloc: Global, text: &str) -> Result<Term, AllocError>
     ensures { IfOk result (λ t. value_of t ≡ atom text.now) }
 {
     Ok(Term::Atom(String::from_str(alloc, text)?))

@@ -11,10 +11,10 @@ use Rattle.rel_list.specs.Event.{recorded, recorded_status}
 use Rattle.rel_list.specs.Releases.{Entry, Releases, has_one_shot, running, permanent}
 use Rattle.rel_list.proofs.OneShotLaws.{none_recorded}
 use Rattle.rel_records.proofs.EventRecords.{recorded-twice}
-use Rattle.rel_handler.specs.State.{list_in, is_dead, IsSound}
-use Rattle.rel_handler.specs.declared.handler.Handler.{Handler}
+use Rattle.node_store.specs.State.{list_in, is_dead, IsSound}
+use Rattle.node_store.specs.declared.node_store.NodeStore.{NodeStore}
 use Rattle.rel_handler.proofs.BootMoments.{image_alike}
-use Rattle.rel_handler.proofs.Commits.{image_now}
+use Rattle.node_store.proofs.Commits.{image_now}
 use Rattle.node_start.specs.Running.{IsRunOut, IsSettledStatus, RunsOnce}
 
 abbrev as_recorded : Entry → Entry
@@ -67,7 +67,7 @@ module _ (es : Releases) (r : Release) (none : has_one_shot es ≡ false) where
   pub run_out : running es ≡ Some r → IsRunOut r (recorded es)
   run_out is = by_current (find (λ (e : Entry). is_current e.status) es) refl is
 
-pub runs_once : {D : Type 0} (v : Ghosts D) (h : Handler D) → IsSound v.seen v.may_leave h → is_dead h ≡ false → RunsOnce v.may_leave h
+pub runs_once : {D : Type 0} (v : Ghosts D) (h : NodeStore D) → IsSound v.seen v.may_leave h → is_dead h ≡ false → RunsOnce v.may_leave h
 runs_once v h sound alive r is c now =
     let es = list_in h in (
       recorded es,

@@ -5,9 +5,9 @@ use Rattle.rel_list.specs.declared.status.Status.{Status}
 use Rattle.rel_list.specs.declared.status.Status.TheVariants.{Unpacked, Permanent}
 use Rattle.rel_list.specs.Event.{recorded}
 use Rattle.rel_list.specs.Releases.{Entry, Releases, has_one_shot, running}
-use Rattle.rel_handler.specs.Image.{IsImageOf}
-use Rattle.rel_handler.specs.State.{disk_in, list_in}
-use Rattle.rel_handler.specs.declared.handler.Handler.{Handler}
+use Rattle.node_store.specs.Image.{IsImageOf}
+use Rattle.node_store.specs.State.{disk_in, list_in}
+use Rattle.node_store.specs.declared.node_store.NodeStore.{NodeStore}
 use Rattle.proc_table.specs.declared.view.View.{View}
 use Rattle.loaded_modules.specs.Loaded.{listed_in}
 use Rattle.node_processes.specs.InMemory.{values_in}
@@ -35,6 +35,6 @@ abbrev pub StartsNoOneShot : Release → List ℕ → Type 0
 StartsNoOneShot r image = (es : Releases) × IsImageOf image es × (recorded es ≡ es) × IsRunOut r es
 
 -- So does each that a crash now leaves of a handler's disk, for the release that runs.
-abbrev pub RunsOnce : {D : Type 0} → (D → List ℕ → Type 0) → Handler D → Type 0
+abbrev pub RunsOnce : {D : Type 0} → (D → List ℕ → Type 0) → NodeStore D → Type 0
 RunsOnce may_leave h =
     (r : Release) → running (list_in h) ≡ Some r → (c : List ℕ) → may_leave (disk_in h) c → StartsNoOneShot r c

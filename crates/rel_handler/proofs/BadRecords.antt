@@ -12,12 +12,12 @@ use Rattle.rel_store.specs.declared.error.StoreError.{StoreError}
 use Rattle.rel_store.specs.declared.error.StoreError.TheVariants as store
 use Rattle.rel_handler.specs.declared.error.BootError.{BootError}
 use Rattle.rel_handler.specs.declared.error.BootError.TheVariants as boot
-use Rattle.rel_handler.specs.Image.{extent_of, HasBootSpace, IsImageOf}
+use Rattle.node_store.specs.Image.{extent_of, HasBootSpace, IsImageOf}
 use Rattle.rel_handler.specs.Laws.{StandsForOneList, RefusesNoImage}
 use Rattle.rel_handler.specs.Refusals.{IsBootRefusal}
 use Rattle.rel_handler.proofs.BootLists.{boot_alike, boots_or_not, space_recorded}
 use Rattle.rel_handler.proofs.Boots.{made_again}
-use Rattle.rel_handler.proofs.Images.{recorded_image}
+use Rattle.node_store.proofs.Images.{recorded_image}
 
 -- What a store says of the bytes alone: its records, that it is none, or that a record is damaged.
 abbrev IsOfBytes : Result (List (List ℕ)) StoreError → Type 0

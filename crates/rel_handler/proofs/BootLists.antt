@@ -6,7 +6,7 @@ use Rattle.rel_list.specs.Releases.{Releases, has_one_shot}
 use Rattle.rel_list.specs.Event.{booted, recorded}
 use Rattle.rel_list.proofs.OneShotLaws.{boots_as_recorded, none_of_recorded, none_recorded}
 use Rattle.rel_records.proofs.EventRecords.{recorded-twice}
-use Rattle.rel_handler.specs.Image.{Extent, boot_size, booted_extent, extent_behind, HasBootSpace, HasSpace}
+use Rattle.node_store.specs.Image.{Extent, boot_size, booted_extent, extent_behind, HasBootSpace, HasSpace}
 use Rattle.rel_handler.specs.Laws.{BootAlike}
 
 -- A record fits or it does not.

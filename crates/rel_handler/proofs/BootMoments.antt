@@ -14,31 +14,31 @@ use Rattle.rel_store.specs.Layout.{format_of}
 use Rattle.rel_store.specs.State as store
 use Rattle.rel_store.specs.Records.{records_of}
 use Rattle.rel_handler.specs.Booting.{IsOpened, IsBootOf, IsBooted, IsOldOrBooted, Leaves, RecordRefused}
-use Rattle.rel_handler.specs.Events.{Events, AreBoots, HasStart, Stored, booted_or_same, uncertain_boot, IsStoredAs}
-use Rattle.rel_handler.specs.Image.{AreRecordsOf, Extent, booted_extent, extent_of, HasBootSpace, IsImageAt, IsImageOf, IsLeftByBoot, IsStarted, start_slot}
+use Rattle.node_store.specs.Events.{Events, AreBoots, HasStart, Stored, booted_or_same, uncertain_boot, IsStoredAs}
+use Rattle.node_store.specs.Image.{AreRecordsOf, Extent, booted_extent, extent_of, HasBootSpace, IsImageAt, IsImageOf, IsLeftByBoot, IsStarted, start_slot}
 use Rattle.rel_handler.specs.Laws.{BootAlike}
 use Rattle.rel_handler.specs.Moments.{KeepsStore, SettlesAt, SettlesStore}
-use Rattle.rel_handler.specs.State.{disk_in, extent_in, list_in, IsReady}
-use Rattle.rel_handler.specs.declared.handler.Handler.{Handler}
+use Rattle.node_store.specs.State.{disk_in, extent_in, list_in, IsReady}
+use Rattle.node_store.specs.declared.node_store.NodeStore.{NodeStore}
 use Rattle.rel_handler.proofs.BadRecords.{stands_for_one}
 use Rattle.rel_handler.specs.Refusals.{BootRefused}
 use Rattle.rel_handler.specs.declared.error.BootError.{BootError}
 use Rattle.rel_handler.specs.declared.error.BootError.TheVariants as boot_error
 use Rattle.rel_handler.proofs.BootLists.{booted_recorded, extent_recorded, space_of_recorded, space_recorded}
 use Rattle.rel_handler.proofs.Boots.{IsLack}
-use Rattle.rel_handler.proofs.Images.{in_same_format, settled_extent, started_by}
-use Rattle.rel_handler.proofs.Lists.{list_after-push}
+use Rattle.node_store.proofs.Images.{in_same_format, settled_extent, started_by}
+use Rattle.node_store.proofs.Lists.{list_after-push}
 
 -- A handler was read from a disk: it reaches as far as what a read gave.
-pub extent_there : {D : Type 0} (v : Ghosts D) (disk : D) (h : Handler D) → IsOpened v disk h → extent_in h ≡ extent_of (v.seen disk)
+pub extent_there : {D : Type 0} (v : Ghosts D) (disk : D) (h : NodeStore D) → IsOpened v disk h → extent_in h ≡ extent_of (v.seen disk)
 extent_there v disk h opened = sym (ap (λ bytes. extent_of bytes) (sym opened.only_read.same) ∙ settled_extent v.seen v.may_leave h.store opened.read.store)
 
 -- and its store is of the format that these bytes tell
-format_there : {D : Type 0} (v : Ghosts D) (disk : D) (h : Handler D) → IsOpened v disk h → format_of (v.seen disk) ≡ h.store.format
+format_there : {D : Type 0} (v : Ghosts D) (disk : D) (h : NodeStore D) → IsOpened v disk h → format_of (v.seen disk) ≡ h.store.format
 format_there v disk h opened = ap (λ bytes. format_of bytes) (sym opened.only_read.same) ∙ sym opened.read.store.format
 
 -- There is room for its boot.
-module _ {D : Type 0} (v : Ghosts D) (disk : D) (h : Handler D) (opened : IsOpened v disk h) (room : HasBootSpace (extent_in h) (list_in h)) where
+module _ {D : Type 0} (v : Ghosts D) (disk : D) (h : NodeStore D) (opened : IsOpened v disk h) (room : HasBootSpace (extent_in h) (list_in h)) where
   far : extent_in h ≡ extent_of (v.seen disk)
   far = extent_there v disk h opened
 
@@ -90,9 +90,9 @@ module _ {D : Type 0} (v : Ghosts D) (disk : D) (h : Handler D) (opened : IsOpen
     }
 
 -- What is read is what the bytes stand for, as records tell it.
-module _ {D : Type 0} (v : Ghosts D) (disk : D) (h : Handler D) (opened : IsOpened v disk h) (es : Releases) (image : IsImageOf (v.seen disk) es) (only : list_in h ≡ recorded es) where
+module _ {D : Type 0} (v : Ghosts D) (disk : D) (h : NodeStore D) (opened : IsOpened v disk h) (es : Releases) (image : IsImageOf (v.seen disk) es) (only : list_in h ≡ recorded es) where
   -- so the list behind the boot is that of the bytes
-  pub boot_of : (new : Handler D) (dead : Bool) → IsBooted v h new → IsBootOf (v.seen disk) es (record { store = new.store; list = new.list; dead = dead })
+  pub boot_of : (new : NodeStore D) (dead : Bool) → IsBooted v h new → IsBootOf (v.seen disk) es (record { store = new.store; list = new.list; dead = dead })
   boot_of new dead is = record {
     list = is.list ∙ (ap booted only ∙ booted_recorded es image.list.alone);
     extent = is.extent ∙ ((λ i. booted_extent (extent_there v disk h opened i) (only i)) ∙ extent_recorded es image.list.alone (extent_of (v.seen disk)));
@@ -115,7 +115,7 @@ module _ {D : Type 0} (v : Ghosts D) (disk : D) (h : Handler D) (opened : IsOpen
   )
 
 -- Why there is no record of a boot is why the boot is refused.
-pub record_refused : {D : Type 0} (v : Ghosts D) (disk now : D) (h : Handler D) → IsOpened v disk h → (e : BootError) → RecordRefused (extent_in h) (list_in h) e
+pub record_refused : {D : Type 0} (v : Ghosts D) (disk now : D) (h : NodeStore D) → IsOpened v disk h → (e : BootError) → RecordRefused (extent_in h) (list_in h) e
     → BootRefused (v.seen disk) (v.failures disk) (v.failures now) e
 record_refused v disk now h opened boot_error.NoMemory refused = tt
 record_refused v disk now h opened (boot_error.BadRecord i) refused = (
@@ -222,7 +222,7 @@ settles_store {D} v reads counts_now disk new at settles s here = record {
 
 -- So it is of a boot from its reading on.
 pub keeps_store : {D : Type 0} (v : Ghosts D) → ((disk : D) → v.may_leave disk (v.seen disk)) → (counts_now : (disk : D) (t : ℕ) (c : List ℕ) → t ≤ v.moment disk → v.may_leave disk c → v.left_since disk t c)
-    → (disk : D) (h : Handler D) (opened : IsOpened v disk h) (room : HasBootSpace (extent_in h) (list_in h)) (new : D) (leaves : Leaves v (IsOldOrBooted v.seen h) (disk_in h) new)
+    → (disk : D) (h : NodeStore D) (opened : IsOpened v disk h) (room : HasBootSpace (extent_in h) (list_in h)) (new : D) (leaves : Leaves v (IsOldOrBooted v.seen h) (disk_in h) new)
     → (at : D) → SettlesAt v.seen v.may_leave v.moment v.left_since disk (disk_in h) at → (s : Stored) → ((c : List ℕ) → v.may_leave disk c → IsStoredAs s c) → KeepsStore v s disk new
 keeps_store v reads counts_now disk h opened room new leaves at settles s here =
     inr (settles_store v reads counts_now disk new at (boot_settles v disk h opened room counts_now new leaves at settles) s here)

@@ -9,8 +9,8 @@ use Rattle.rel_files.specs.Name.{IsVersion}
 use Rattle.rel_files.specs.Release.{Release}
 use Rattle.rel_list.specs.declared.status.Status.TheVariants.{Permanent}
 use Rattle.rel_list.specs.Releases.{Bundle, Releases, has_one_shot}
-use Rattle.rel_list.specs.Event.{entry, recorded}
-use Rattle.rel_list.specs.Event.Event.{made}
+use Rattle.rel_list.specs.Event.{booted, entry, recorded}
+use Rattle.rel_list.specs.Event.Event.{made, boot as rebooted}
 use Rattle.rel_records.specs.Lists.{Makes, IsBadRecord}
 use Rattle.rel_records.specs.Reading.{Spells}
 use Rattle.rel_records.specs.Writing.{record_of, IsWithinLimits}
@@ -27,15 +27,17 @@ use Rattle.rel_store.specs.State as store
 use Rattle.rel_store.specs.declared.error.StoreError.{StoreError}
 use Rattle.rel_store.specs.declared.error.StoreError.TheVariants as store_fault
 use Rattle.rel_store.specs.declared.store.Store.{Store}
-use Rattle.rel_handler.specs.Events.{Known, doubted, IsNoneOrOfPrefix}
-use Rattle.rel_handler.specs.Start.{start_text}
-use Rattle.rel_handler.specs.Image.{AreRecordsOf, IsImageOf, IsStarted}
-use Rattle.rel_handler.specs.Moments.{Begins, BeginsAt, SettlesAt}
+use Rattle.node_store.specs.Events.{Known, doubted, IsNoneOrOfPrefix, IsOfPrefix}
+use Rattle.node_store.specs.Start.{start_text}
+use Rattle.node_store.specs.Image.{AreRecordsOf, IsImageOf, IsStarted}
+use Rattle.rel_handler.specs.Moments.{Begins, BeginsAt, BootsTo, SettlesAt}
 use Rattle.rel_handler.specs.Refusals.{told_records, told_create, IsCreateError, MakingRefused}
-use Rattle.rel_handler.specs.State.{store_extent, IsSound}
+use Rattle.node_store.specs.State.{store_extent, IsSound}
 use Rattle.rel_handler.specs.declared.error.BootError.{BootError}
 use Rattle.rel_handler.specs.declared.error.BootError.TheVariants as boot
-use Rattle.rel_handler.proofs.Images.{first_record, no_boot_space, while_creating}
+use Rattle.node_store.proofs.Images.{no_boot_space}
+use Rattle.node_store.proofs.Lists.{list_after-push}
+use Rattle.rel_handler.proofs.NewNodes.{first_record, while_creating}
 
 -- A list that was read from the records of a store: no release of it is current.
 pub made_again : (format : ℕ) (bodies : List (List ℕ)) (es : Releases) → Makes format bodies es → AreRecordsOf format bodies es
@@ -147,3 +149,11 @@ made_new format p body records es fits spelled is listed =
 pub one_shot_told : {A B : Type 0} (f : A → B) (told : Option (Bor A)) (o : Option B) → option_map f (option_copied told) ≡ o → is_some told ≡ is_some o
 one_shot_told f None o is = ap is_some is
 one_shot_told f (Some x) o is = ap is_some is
+
+-- the list behind a boot of an image of a prefix is that of the prefix with a boot behind it
+pub boots_to : (k : Known) (c : List ℕ) (found : Releases) (of : IsOfPrefix k c) → found ≡ booted of.list → BootsTo k found
+boots_to k c found of is = record {
+  events = of.events;
+  prefix = of.prefix;
+  after = list_after-push of.events rebooted of.list (booted of.list) of.after refl ∙ ap (λ l. Some l) (sym is);
+}

@@ -7,7 +7,7 @@ use Rattle.rel_store.specs.Contents.{HasOnlyRead}
 use Rattle.rel_store.specs.Moments.{IsTornFrom}
 use Rattle.rel_unpack.specs.Source.{Source}
 use Rattle.rel_unpack.specs.Unpacking.{Brought}
-use Rattle.rel_handler.specs.Events.{Known, doubted}
+use Rattle.node_store.specs.Events.{Known, doubted}
 use Rattle.node_command.specs.Files.{bundle_brought, made_size, Brings, IsToldAs}
 use Rattle.node_command.specs.Place.{own_refusal}
 use Rattle.rel_handler.specs.Moments.{Begins, WritesNothing}

@@ -22,16 +22,16 @@ use Rattle.node_upgrade.specs.declared.error.InstallError.{InstallError}
 use Rattle.node_upgrade.specs.declared.error.InstallError.TheVariants.{Command, Refused, MustReboot}
 use Rattle.node_upgrade.specs.Running.{IsUntouched, NodeState, RunRefused}
 use Rattle.node_upgrade.specs.Upgrade.{IsNoUpgrade, IsUpgrade, UpgradeForm}
-use Rattle.rel_handler.specs.Image.{boot_size, Extent, extent_behind, HasSpace, LeavesBootSpace}
-use Rattle.rel_handler.specs.Compaction.{MayReach}
+use Rattle.node_store.specs.Image.{boot_size, Extent, extent_behind, HasSpace, LeavesBootSpace}
+use Rattle.node_store.specs.Compaction.{MayReach}
 use Rattle.rel_handler.specs.Installing.{InstallRefused, ends_with_restart, install_event, install_room, install_size, installation_event, must_boot, needs_restart, room_behind}
-use Rattle.rel_handler.specs.Commits.{Commits, Compacts, IsCompacted, IsDone}
-use Rattle.rel_handler.specs.Refusals.{HasNoRoom}
-use Rattle.rel_handler.specs.State.{extent_in, is_dead, list_in, IsSame}
-use Rattle.rel_handler.specs.declared.handler.Handler.{Handler}
-use Rattle.rel_handler.proofs.Commits.{all_same, commits_behind, lost_commits, revived_is_sound}
-use Rattle.rel_handler.proofs.CompactionLemmas.{commits_alive, commits_compacting, HasCommitted}
-use Rattle.rel_handler.proofs.Images.{leaves_boot_space}
+use Rattle.node_store.specs.Commits.{Commits, IsDone}
+use Rattle.node_store.specs.Refusals.{HasNoRoom}
+use Rattle.node_store.specs.State.{extent_in, is_dead, list_in, IsSame}
+use Rattle.node_store.specs.declared.node_store.NodeStore.{NodeStore}
+use Rattle.node_store.proofs.Commits.{all_same, commits_behind, lost_commits, revived_is_sound}
+use Rattle.node_store.proofs.CompactionLemmas.{with_dead}
+use Rattle.node_store.proofs.Images.{leaves_boot_space}
 
 -- An installation has these refusals.
 abbrev IsOfInstallation : HandlerError → Type 0
@@ -116,7 +116,7 @@ module _ (vsn : List ℕ) (es : Releases) (f : FoundForm) (found : installation 
   pub dead_told : (event : Event) → event ≡ installation_event asks vsn → makes_one_shot event ≡ needs_restart vsn es
   dead_told event is = ap makes_one_shot is ∙ (event_makes_one_shot asks vsn ∙ told_so)
 
-module _ {D : Type 0} (failures : D → ℕ) (vsn : List ℕ) (h : Handler D) (alive : is_dead h ≡ false) where
+module _ {D : Type 0} (failures : D → ℕ) (vsn : List ℕ) (h : NodeStore D) (alive : is_dead h ≡ false) where
   -- there is no script that may begin
   pub no_upgrade : (n : NodeState) (error : InstallError) → IsUntouched n n → IsNoUpgrade vsn (list_in h) error → InstallRefused failures vsn h h n n error
   no_upgrade n (Command why) same barred = by_why why (subst IsAnswer barred (is_answer (refusal (installed vsn) (list_in h)) (script_to vsn (list_in h)))) barred
@@ -130,7 +130,7 @@ module _ {D : Type 0} (failures : D → ℕ) (vsn : List ℕ) (h : Handler D) (a
   no_upgrade n (Refused f) same barred = (alive, inl barred, (all_same h, same))
   no_upgrade n (MustReboot f) same barred = absurd barred
 
-  module _ (mid : Handler D) (same : IsSame h mid) (u : UpgradeForm) (is : IsUpgrade vsn (list_in h) u) where
+  module _ (mid : NodeStore D) (same : IsSame h mid) (u : UpgradeForm) (is : IsUpgrade vsn (list_in h) u) where
     -- there is no room for its record
     pub no_room_for : (n : NodeState) (why : HandlerError) → IsUntouched n n → HasNoRoom (extent_in h) (install_room vsn (list_in h)) why → InstallRefused failures vsn h mid n n (Command why)
     no_room_for n Full untouched lacks = (alive, (u, is), lacks, (same, untouched))
@@ -145,16 +145,13 @@ module _ {D : Type 0} (failures : D → ℕ) (vsn : List ℕ) (h : Handler D) (a
     not_run old new (Refused f) space r = (alive, inr (u, (is, space), r), (record { disk = same.disk; list = same.list; dead = sym alive; extent = same.extent }, r.4))
     not_run old new (MustReboot f) space r = (alive, (u, (is, space), r), record { disk = same.disk; list = same.list; extent = same.extent; dead = refl })
 
--- The handler works on, or is dead, where its disk wasn't written.
-abbrev pub with_dead : {D : Type 0} → Handler D → Bool → Handler D
-with_dead h dead = record { store = h.store; list = h.list; dead = dead }
-
-pub not_run_commits : {D : Type 0} (v : Ghosts D) (e : Event) (size : ℕ) (h mid : Handler D) (dead : Bool) → is_dead mid ≡ false → Commits v e size h mid → Commits v e size h (with_dead mid dead)
+-- A script that is not carried out leaves what was committed, where its disk wasn't written.
+pub not_run_commits : {D : Type 0} (v : Ghosts D) (e : Event) (size : ℕ) (h mid : NodeStore D) (dead : Bool) → is_dead mid ≡ false → Commits v e size h mid → Commits v e size h (with_dead mid dead)
 not_run_commits v e size h mid true alive c = lost_commits v e size h mid c
 not_run_commits v e size h mid false alive c = record { sound = revived_is_sound v mid (c.sound.ready alive) (c.sound.started alive) (c.sound.free alive); any_moment = c.any_moment; counted = c.counted }
 
 -- Its event is committed behind the script: it is that of the release that was asked for.
-module _ {D : Type 0} (v : Ghosts D) (h mid w : Handler D) (same : IsSame h mid) (e event : Event) (is : e ≡ event) (size size' : ℕ) (long : size ≡ size') where
+module _ {D : Type 0} (v : Ghosts D) (h mid w : NodeStore D) (same : IsSame h mid) (e event : Event) (is : e ≡ event) (size size' : ℕ) (long : size ≡ size') where
   pub committed : Commits v e size mid w → Commits v event size' h w
   committed c = subst (λ f. Commits v f size' h w) is (subst (λ n. Commits v e n h w) long (commits_behind v h mid same e size w c))
 
@@ -168,9 +165,3 @@ module _ {D : Type 0} (v : Ghosts D) (h mid w : Handler D) (same : IsSame h mid)
         fits = subst (λ x. HasSpace x size) same.extent d.fits;
         reaches = subst (λ x. MayReach (extent_behind x size) (list_in w) (extent_in w)) same.extent d.reaches;
       }))
-
--- Behind its commit the handler works again, or is dead where a release is a one-shot.
-pub commits_installation : {D : Type 0} (v : Ghosts D) (h : Handler D) (e : Event) (size : ℕ) (mid : Handler D) → HasCommitted v e size h mid → ((d : D) → v.may_leave d (v.seen d)) → (new : Handler D) → Compacts v mid new → IsCompacted v mid new
-    → (dead : Bool) → dead ≡ makes_one_shot e → Commits v e size h (with_dead new dead)
-commits_installation v h e size mid has reads new compacts done true is = lost_commits v e size h new (commits_compacting v h e size mid has reads new compacts)
-commits_installation v h e size mid has reads new compacts done false is = commits_alive v h e size mid has reads new compacts done (sym is)

@@ -13,15 +13,15 @@ use Rattle.rel_store.specs.Records.{StandsEither}
 use Rattle.rel_store.specs.State as store
 use Rattle.rel_store.specs.declared.store.Store.{Store}
 use Rattle.rel_handler.specs.Booting.{IsBooted, IsOldOrTaken, Leaves}
-use Rattle.rel_handler.specs.Commits.{IsRecordFor}
-use Rattle.rel_handler.specs.Image.{AreRecordsOf, boot_size, booted_extent, extent_behind, HasSpace, IsImageAt, start_slot}
-use Rattle.rel_handler.specs.State.{disk_in, extent_in, list_in, start_in, store_extent, IsReady}
-use Rattle.rel_handler.specs.declared.handler.Handler.{Handler}
+use Rattle.node_store.specs.Commits.{IsRecordFor}
+use Rattle.node_store.specs.Image.{AreRecordsOf, boot_size, booted_extent, extent_behind, HasSpace, IsImageAt, start_slot}
+use Rattle.node_store.specs.State.{disk_in, extent_in, list_in, start_in, store_extent, IsReady}
+use Rattle.node_store.specs.declared.node_store.NodeStore.{NodeStore}
 use Rattle.rel_handler.proofs.BootLists.{booted_still, extent_of_none, extent_of_one}
-use Rattle.rel_handler.proofs.Commits.{image_now}
-use Rattle.rel_handler.proofs.Images.{either_behind, either_image, no_boot_space, same_extent, same_records, settled_so, with_record}
+use Rattle.node_store.proofs.Commits.{image_now}
+use Rattle.node_store.proofs.Images.{either_behind, either_image, no_boot_space, same_extent, same_records, settled_so, with_record}
 
-module _ {D : Type 0} (v : Ghosts D) (h : Handler D) (ready : IsReady v.seen v.may_leave h) where
+module _ {D : Type 0} (v : Ghosts D) (h : NodeStore D) (ready : IsReady v.seen v.may_leave h) where
   -- each image of its disk stands for its list
   pub old_taken : (c : List ℕ) → v.may_leave (disk_in h) c → IsOldOrTaken v.seen h c
   old_taken c now = (inl (image_now v h ready c now), ap (λ l. start_slot l) (ready.store.durable c now))

@@ -6,21 +6,21 @@ use Rattle.rel_list.specs.Releases.{has_one_shot}
 use Rattle.rel_records.specs.Limits.{is_small}
 use Rattle.rel_unpack.specs.Source.{Source}
 use Rattle.rel_unpack.specs.Unpacking.{Brought}
-use Rattle.rel_handler.specs.Commits.{Commits}
+use Rattle.node_store.specs.Commits.{Commits}
 use Rattle.node_command.specs.Files.{bundle_brought, unpacked_size, Brings}
-use Rattle.rel_handler.specs.State.{is_dead, list_in}
+use Rattle.node_store.specs.State.{is_dead, list_in}
 use Rattle.node_command.specs.Place.{HasNoPlace}
 use Rattle.rel_handler.specs.Unpacking.{UnpackingRefused}
 use Rattle.node_command.specs.declared.error.HandlerError.{HandlerError}
 use Rattle.node_command.specs.declared.error.HandlerError.TheVariants.{ExistingRelease}
-use Rattle.rel_handler.specs.declared.handler.Handler.{Handler}
-use Rattle.rel_handler.proofs.CommandLemmas.{refused_by_list}
+use Rattle.node_store.specs.declared.node_store.NodeStore.{NodeStore}
+use Rattle.node_store.proofs.CommandLemmas.{refused_by_list}
 use Rattle.node_command.proofs.CommandLemmas.{there_already}
 use Rattle.node_command.proofs.ReleaseLemmas.{barred_so, listed_free, no_memory}
 use Rattle.rel_handler.proofs.ReleaseLemmas.{unchanged_handler}
 
 -- It isn't taken in, and nothing has changed.
-pub no_place : {D : Type 0} (v : Ghosts D) (source : Source) (path : List ℕ) (h : Handler D) (b : Brought) (e : HandlerError) → is_dead h ≡ false → has_one_shot (list_in h) ≡ false → is_small b.found.release ≡ true → Brings source path (Ok b)
+pub no_place : {D : Type 0} (v : Ghosts D) (source : Source) (path : List ℕ) (h : NodeStore D) (b : Brought) (e : HandlerError) → is_dead h ≡ false → has_one_shot (list_in h) ≡ false → is_small b.found.release ≡ true → Brings source path (Ok b)
     → Commits v (unpacked (bundle_brought b)) (unpacked_size b (list_in h)) h h → HasNoPlace b (list_in h) e → UnpackingRefused v source path h h e
 no_place v source path h b e alive free small read still (inl none) =
     subst (UnpackingRefused v source path h h) (sym none) (inr (inl (no_memory source path, alive, unchanged_handler h)))

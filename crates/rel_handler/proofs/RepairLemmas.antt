@@ -21,14 +21,15 @@ use Rattle.rel_handler.specs.Booting.{IsBooted, IsImageBehindBoot, IsOldOrTaken,
 use Rattle.rel_handler.specs.Refusals.{BootRefused}
 use Rattle.rel_handler.specs.declared.error.BootError.{BootError}
 use Rattle.rel_handler.specs.declared.error.BootError.TheVariants as boot
-use Rattle.rel_handler.specs.Commits.{HasOldStartOr, HasRead, Keeps}
-use Rattle.rel_handler.specs.Start.{started as start_versions}
-use Rattle.rel_handler.specs.Image.{booted_extent, IsImageAt, IsStarted, start_slot}
-use Rattle.rel_handler.specs.State.{disk_in, extent_in, list_in, start_in, HasStarted, IsReady}
-use Rattle.rel_handler.specs.declared.handler.Handler.{Handler}
+use Rattle.node_store.specs.Commits.{HasOldStartOr, Keeps}
+use Rattle.rel_handler.specs.Moments.{HasRead}
+use Rattle.node_store.specs.Start.{started as start_versions}
+use Rattle.node_store.specs.Image.{booted_extent, IsImageAt, IsStarted, start_slot}
+use Rattle.node_store.specs.State.{disk_in, extent_in, list_in, start_in, HasStarted, IsReady}
+use Rattle.node_store.specs.declared.node_store.NodeStore.{NodeStore}
 use Rattle.rel_handler.proofs.Boots.{IsLack}
-use Rattle.rel_handler.proofs.Commits.{failed_behind}
-use Rattle.rel_handler.proofs.Images.{started_by_text}
+use Rattle.node_store.proofs.Commits.{failed_behind}
+use Rattle.node_store.proofs.Images.{started_by_text}
 use Rattle.rel_handler.proofs.OneShotLemmas.{old_taken, takes_nothing}
 
 -- a list without a permanent release has no entry of that status
@@ -59,7 +60,7 @@ permanent_versions (e ∷ es) r all is = go (is_permanent e.status) (permanent_v
     go false rest is = rest is
 
 -- a start record that doesn't spell these versions isn't that of the release that has them
-pub another_start : {D : Type 0} (v : Ghosts D) (h : Handler D) (versions : Versions) (r : Release) → versions ≡ start_versions r → permanent (list_in h) ≡ Some r
+pub another_start : {D : Type 0} (v : Ghosts D) (h : NodeStore D) (versions : Versions) (r : Release) → versions ≡ start_versions r → permanent (list_in h) ≡ Some r
     → (is : Bool) → IsTrue is ↔ SpellsStart (start_in v.seen h) versions → is ≡ false → IsStarted (list_in h) (v.seen (disk_in h)) → ⊥
 another_start v h versions r of listed is value another right =
     let same : right.release ≡ r = cc (right.listed, listed) in
@@ -67,14 +68,14 @@ another_start v h versions r of listed is value another right =
     true≢false (sym (value.1 spells) ∙ another)
 
 -- nothing was read or written yet
-pub rests_so : {D : Type 0} (v : Ghosts D) (h : Handler D) → IsReady v.seen v.may_leave h → ((c : List ℕ) → v.left_since (disk_in h) (v.moment (disk_in h)) c → v.may_leave (disk_in h) c)
+pub rests_so : {D : Type 0} (v : Ghosts D) (h : NodeStore D) → IsReady v.seen v.may_leave h → ((c : List ℕ) → v.left_since (disk_in h) (v.moment (disk_in h)) c → v.may_leave (disk_in h) c)
     → Leaves v (IsOldOrBooted v.seen h) (disk_in h) (disk_in h)
 rests_so v h ready only_now =
     let still = takes_nothing v h ready only_now (disk_in h) refl in
     record { any_moment = weakened v.moment v.left_since (disk_in h) (disk_in h) _ (IsOldOrBooted v.seen h) (λ c old. inl old) still.any_moment; counted = still.counted }
 
 -- The start record was read, and then a one-shot was taken away, if there was one.
-module _ {D : Type 0} (v : Ghosts D) (h mid : Handler D) (ready : IsReady v.seen v.may_leave h) (read : HasRead v h mid) where
+module _ {D : Type 0} (v : Ghosts D) (h mid : NodeStore D) (ready : IsReady v.seen v.may_leave h) (read : HasRead v h mid) where
   slot_same : start_in v.seen mid ≡ start_in v.seen h
   slot_same = ap (λ l. start_slot l) read.only_read.same
 
@@ -92,7 +93,7 @@ module _ {D : Type 0} (v : Ghosts D) (h mid : Handler D) (ready : IsReady v.seen
   old_or_taken c (image, slot) =
       (⊎_elim (λ old. inl (subst (λ x. IsImageAt c (list_in h) x) read.extent (subst (λ l. IsImageAt c l (extent_in mid)) read.list old))) (λ taken. inr (behind_boot c taken)) image, slot ∙ slot_same)
 
-  module _ (then : Handler D) (leaves : Leaves v (IsOldOrTaken v.seen mid) (disk_in mid) (disk_in then)) where
+  module _ (then : NodeStore D) (leaves : Leaves v (IsOldOrTaken v.seen mid) (disk_in mid) (disk_in then)) where
     pub takes_then : Leaves v (IsOldOrBooted v.seen h) (disk_in h) (disk_in then)
     takes_then = record {
       any_moment =
@@ -130,7 +131,7 @@ module _ {D : Type 0} (v : Ghosts D) (h mid : Handler D) (ready : IsReady v.seen
         }
 
         -- another one is written over
-        module _ (new : Handler D) (keeps : Keeps v (text_of_start versions) then new) where
+        module _ (new : NodeStore D) (keeps : Keeps v (text_of_start versions) then new) where
           writing : (c : List ℕ) → HasOldStartOr v.seen then (λ d. start_slot d ≡ slot_with (text_of_start versions)) c → IsOldOrBooted v.seen h c
           writing c (image, at) =
               let there : IsImageBehindBoot h c = subst (IsImageAt c (booted (list_in h))) booted_then.extent (subst (λ l. IsImageAt c l (extent_in then)) booted_then.list image) in
@@ -154,7 +155,7 @@ module _ {D : Type 0} (v : Ghosts D) (h mid : Handler D) (ready : IsReady v.seen
           started_now images c now = started_by_text (list_in new) r versions c are of (ap permanent keeps.list ∙ listed_then) (images c now).1
 
 -- Why a boot doesn't come to its end.
-module _ {D : Type 0} (v : Ghosts D) (h new : Handler D) where
+module _ {D : Type 0} (v : Ghosts D) (h new : NodeStore D) where
   pub is_lack : (e : BootError) → FinishRefused v h new e → IsLack e
   is_lack boot.Device refused = inl refl
   is_lack boot.NoMemory refused = inr refl

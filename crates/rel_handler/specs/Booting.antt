@@ -9,21 +9,21 @@ use Rattle.rel_list.specs.Event.Event.{boot}
 use Rattle.rel_records.specs.Lists.{Makes}
 use Rattle.rel_store.specs.Contents.{HasOnlyRead}
 use Rattle.rel_store.specs.State as of_store
-use Rattle.rel_handler.specs.Commits.{IsRecordFor}
-use Rattle.rel_handler.specs.Image.{Extent, boot_size, booted_extent, extent_of, HasBootSpace, IsImageAt, IsStarted, start_slot}
-use Rattle.rel_handler.specs.State.{disk_in, extent_in, format_in, list_in, start_in, IsReady}
+use Rattle.node_store.specs.Commits.{IsRecordFor}
+use Rattle.node_store.specs.Image.{Extent, boot_size, booted_extent, extent_of, HasBootSpace, IsImageAt, IsStarted, start_slot}
+use Rattle.node_store.specs.State.{disk_in, extent_in, format_in, list_in, start_in, IsReady}
 use Rattle.rel_handler.specs.declared.error.BootError.{BootError}
 use Rattle.rel_handler.specs.declared.error.BootError.TheVariants.{BadRecord, Device, NoMemory}
-use Rattle.rel_handler.specs.declared.handler.Handler.{Handler}
+use Rattle.node_store.specs.declared.node_store.NodeStore.{NodeStore}
 
 -- Its store is settled, and its records make its list, in which no release is current. For the next boot there may be no room.
-pub record IsRead {D : Type 0} (seen : D → List ℕ) (may_leave : D → List ℕ → Type 0) (handler : Handler D) : Type 0 where
+pub record IsRead {D : Type 0} (seen : D → List ℕ) (may_leave : D → List ℕ → Type 0) (handler : NodeStore D) : Type 0 where
   pub store : of_store.IsSettled seen may_leave handler.store
   pub makes : Makes (format_in handler) (of_store.records_in handler.store) (list_in handler)
   pub as_recorded : recorded (list_in handler) ≡ list_in handler
 
 -- The handler was read from this disk.
-pub record IsOpened {D : Type 0} (v : Ghosts D) (disk : D) (handler : Handler D) : Type 0 where
+pub record IsOpened {D : Type 0} (v : Ghosts D) (disk : D) (handler : NodeStore D) : Type 0 where
   pub read : IsRead v.seen v.may_leave handler
   pub only_read : HasOnlyRead v.seen v.may_leave v.moment v.left_since disk (disk_in handler)
 
@@ -40,20 +40,20 @@ RecordRefused x es NoMemory = Unit {0}
 RecordRefused x es why = ⊥
 
 -- The handler has the list that a boot makes of this one, which these bytes stand for.
-pub record IsBootOf {D : Type 0} (bytes : List ℕ) (es : Releases) (handler : Handler D) : Type 0 where
+pub record IsBootOf {D : Type 0} (bytes : List ℕ) (es : Releases) (handler : NodeStore D) : Type 0 where
   pub list : list_in handler ≡ booted es
   pub extent : extent_in handler ≡ booted_extent (extent_of bytes) es
 
 -- These bytes stand for the handler's list as it is behind a boot.
-abbrev pub IsImageBehindBoot : {D : Type 0} → Handler D → List ℕ → Type 0
+abbrev pub IsImageBehindBoot : {D : Type 0} → NodeStore D → List ℕ → Type 0
 IsImageBehindBoot h c = IsImageAt c (booted (list_in h)) (booted_extent (extent_in h) (list_in h))
 
 -- They stand for its list, as it is or as it is behind a boot, and have its start slot.
-abbrev pub IsOldOrTaken : {D : Type 0} → (D → List ℕ) → Handler D → List ℕ → Type 0
+abbrev pub IsOldOrTaken : {D : Type 0} → (D → List ℕ) → NodeStore D → List ℕ → Type 0
 IsOldOrTaken seen h c = (IsImageAt c (list_in h) (extent_in h) ⊎ IsImageBehindBoot h c) × (start_slot c ≡ start_in seen h)
 
 -- So they do, or they stand for its list as it is behind a boot, and have the start record of the permanent release.
-abbrev pub IsOldOrBooted : {D : Type 0} → (D → List ℕ) → Handler D → List ℕ → Type 0
+abbrev pub IsOldOrBooted : {D : Type 0} → (D → List ℕ) → NodeStore D → List ℕ → Type 0
 IsOldOrBooted seen h c = IsOldOrTaken seen h c ⊎ (IsImageBehindBoot h c × IsStarted (list_in h) c)
 
 -- At each moment a crash leaves bytes of which P holds.
@@ -62,13 +62,13 @@ pub record Leaves {D : Type 0} (v : Ghosts D) (P : List ℕ → Type 0) (old new
   pub counted : v.failures old ≤ v.failures new
 
 -- The handler has the list behind a boot, and its store the records of it.
-pub record IsBooted {D : Type 0} (v : Ghosts D) (old new : Handler D) : Type 0 where
+pub record IsBooted {D : Type 0} (v : Ghosts D) (old new : NodeStore D) : Type 0 where
   pub list : list_in new ≡ booted (list_in old)
   pub extent : extent_in new ≡ booted_extent (extent_in old) (list_in old)
   pub ready : IsReady v.seen v.may_leave new
 
 -- Why a boot doesn't come to its end: memory was refused, and nothing was written; or the device failed.
-abbrev pub FinishRefused : {D : Type 0} → Ghosts D → Handler D → Handler D → BootError → Type 0
+abbrev pub FinishRefused : {D : Type 0} → Ghosts D → NodeStore D → NodeStore D → BootError → Type 0
 FinishRefused v old new NoMemory = HasOnlyRead v.seen v.may_leave v.moment v.left_since (disk_in old) (disk_in new)
 FinishRefused v old new Device = HasFailed (v.failures (disk_in old)) (v.failures (disk_in new))
 FinishRefused v old new why = ⊥

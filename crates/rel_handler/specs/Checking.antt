@@ -4,9 +4,9 @@ use Rattle.node_command.specs.Installing.{installation}
 use Rattle.node_command.specs.declared.error.HandlerError.{HandlerError}
 use Rattle.node_command.specs.declared.error.HandlerError.TheVariants.{Dead}
 use Rattle.relup_script.specs.Search.{FoundForm}
-use Rattle.rel_handler.specs.State.{list_in, is_dead}
-use Rattle.rel_handler.specs.declared.handler.Handler.{Handler}
+use Rattle.node_store.specs.State.{list_in, is_dead}
+use Rattle.node_store.specs.declared.node_store.NodeStore.{NodeStore}
 
 -- the script by which the release of this version would be installed, or why it would not
-abbrev pub checked : {D : Type 0} → List ℕ → Handler D → Result FoundForm HandlerError
+abbrev pub checked : {D : Type 0} → List ℕ → NodeStore D → Result FoundForm HandlerError
 checked vsn h = if is_dead h then Err Dead else installation vsn (list_in h)

@@ -16,9 +16,9 @@ use Rattle.node_upgrade.specs.declared.error.InstallError.TheVariants.{Command, 
 use Rattle.node_upgrade.specs.declared.upgrade.Installed.{Installed}
 use Rattle.node_upgrade.specs.Running.{NodeState, IsInstalled, IsUntouched, RunRefused, start_in}
 use Rattle.node_upgrade.specs.Upgrade.{IsNoUpgrade, IsUpgrade, UpgradeForm, site_for}
-use Rattle.rel_handler.specs.Image.{boot_size, HasSpace}
-use Rattle.rel_handler.specs.State.{disk_in, extent_in, list_in, is_dead, IsSame}
-use Rattle.rel_handler.specs.declared.handler.Handler.{Handler}
+use Rattle.node_store.specs.Image.{boot_size, HasSpace}
+use Rattle.node_store.specs.State.{disk_in, extent_in, list_in, is_dead, IsSame}
+use Rattle.node_store.specs.declared.node_store.NodeStore.{NodeStore}
 
 -- the event of an installation of this version, by whether its script ends with a restart
 abbrev pub installation_event : Bool → List ℕ → Event
@@ -61,23 +61,23 @@ must_boot (MustReboot f) = true
 must_boot e = false
 
 -- The disk and the list are as they were, and the handler is dead.
-pub record IsLost {D : Type 0} (old new : Handler D) : Type 0 where
+pub record IsLost {D : Type 0} (old new : NodeStore D) : Type 0 where
   pub disk : disk_in new ≡ disk_in old
   pub list : list_in new ≡ list_in old
   pub extent : extent_in new ≡ extent_in old
   pub dead : is_dead new ≡ true
 
 -- Nothing has changed, of the handler and of the processes.
-abbrev pub NothingChanged : {D : Type 0} → Handler D → Handler D → NodeState → NodeState → Type 0
+abbrev pub NothingChanged : {D : Type 0} → NodeStore D → NodeStore D → NodeState → NodeState → Type 0
 NothingChanged h h' old new = IsSame h h' × IsUntouched old new
 
 -- There is a script that may begin, and its record has room.
-abbrev pub MayBegin : {D : Type 0} → List ℕ → Handler D → UpgradeForm → Type 0
+abbrev pub MayBegin : {D : Type 0} → List ℕ → NodeStore D → UpgradeForm → Type 0
 MayBegin vsn h u = IsUpgrade vsn (list_in h) u × HasSpace (extent_in h) (install_room vsn (list_in h))
 
 -- Why a release isn't installed, and what stands then. A script that fails behind its point of no return, and a device that fails
 -- behind the script, leave the handler dead; else nothing has changed.
-abbrev pub InstallRefused : {D : Type 0} → (D → ℕ) → List ℕ → Handler D → Handler D → NodeState → NodeState → InstallError → Type 0
+abbrev pub InstallRefused : {D : Type 0} → (D → ℕ) → List ℕ → NodeStore D → NodeStore D → NodeState → NodeState → InstallError → Type 0
 InstallRefused failures vsn h h' old new (Command Dead) = (is_dead h ≡ true) × NothingChanged h h' old new
 InstallRefused failures vsn h h' old new (Command Full) =
     (is_dead h ≡ false) × ((u : UpgradeForm) × IsUpgrade vsn (list_in h) u)

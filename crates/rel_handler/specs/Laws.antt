@@ -2,7 +2,7 @@
 use Rattle.std.specs.Prelude.{◌≡◌, ◌⊎◌, ℕ, List}
 use Rattle.rel_list.specs.Releases.{Releases}
 use Rattle.rel_list.specs.Event.{booted, recorded}
-use Rattle.rel_handler.specs.Image.{Extent, booted_extent, IsImageOf}
+use Rattle.node_store.specs.Image.{Extent, booted_extent, IsImageOf}
 use Rattle.rel_handler.specs.Refusals.{IsBootRefusal}
 use Rattle.rel_handler.specs.declared.error.BootError.{BootError}
 

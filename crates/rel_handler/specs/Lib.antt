@@ -1,9 +1,3 @@
-pub mod Start
-pub mod Image
-pub mod Compaction
-pub mod Events
-pub mod State
-pub mod Commits
 pub mod Booting
 pub mod Refusals
 pub mod Moments

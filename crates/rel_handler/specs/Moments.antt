@@ -1,19 +1,27 @@
 -- What the calls of a handler leave at each moment.
-use Rattle.std.specs.Prelude.{◌≡◌, ◌⊎◌, ℕ, List, [], ◌∷◌, ◌++◌, Some, Result, Ok, Err}
+use Rattle.std.specs.Prelude.{◌≡◌, ◌⊎◌, ℕ, ◌≤◌, List, [], ◌∷◌, ◌++◌, Some, Result, Ok, Err}
 use Rattle.rel_disk.specs.Damage.{Only}
 use Rattle.rel_disk.specs.declared.disk.Disk.{Ghosts}
 use Rattle.rel_disk.specs.Moments.{LeavesOnly}
 use Rattle.rel_list.specs.Releases.{Releases}
 use Rattle.rel_list.specs.Event.{Event, list_after}
 use Rattle.rel_list.specs.Event.Event.{boot}
+use Rattle.rel_store.specs.Contents.{HasOnlyRead}
 use Rattle.rel_store.specs.Creation.{IsUnwritten}
 use Rattle.rel_store.specs.Moments.{IsTornFrom}
-use Rattle.rel_handler.specs.Events.{Events, Known, IsPrefix, IsNoneOrOfPrefix, Stored, MayHave, uncertain_boot, IsStoredAs}
-use Rattle.rel_handler.specs.Image.{Extent, IsLeftByBoot}
-use Rattle.rel_handler.specs.State.{disk_in}
+use Rattle.node_store.specs.Events.{Events, Known, IsPrefix, IsNoneOrOfPrefix, Stored, MayHave, uncertain_boot, IsStoredAs}
+use Rattle.node_store.specs.Image.{Extent, IsLeftByBoot}
+use Rattle.node_store.specs.State.{disk_in, extent_in, list_in}
 use Rattle.rel_handler.specs.declared.error.BootError.{BootError}
 use Rattle.rel_handler.specs.declared.error.BootError.TheVariants.{Device}
-use Rattle.rel_handler.specs.declared.handler.Handler.{Handler}
+use Rattle.node_store.specs.declared.node_store.NodeStore.{NodeStore}
+
+-- Nothing was written, and the node has its list.
+pub record HasRead {D : Type 0} (v : Ghosts D) (old new : NodeStore D) : Type 0 where
+  pub list : list_in new ≡ list_in old
+  pub extent : extent_in new ≡ extent_in old
+  pub only_read : HasOnlyRead v.seen v.may_leave v.moment v.left_since (disk_in old) (disk_in new)
+  pub counted : v.failures (disk_in old) ≤ v.failures (disk_in new)
 
 -- At this moment the first sync of a creation has succeeded. From it on a crash leaves no store, or one that stands for the
 -- list of such a prefix; before it what it left before the call, but for a torn gate.
@@ -45,7 +53,7 @@ pub record SettlesAt {D : Type 0} (seen : D → List ℕ) (may_leave : D → Lis
 
 -- A boot syncs the disk, whatever it answers. So an event in doubt is settled there. Where the device failed, it may have
 -- failed in the sync or before it, and then a crash leaves nothing new.
-abbrev pub IsSynced : {D : Type 0} → (D → List ℕ) → (D → List ℕ → Type 0) → (D → ℕ) → (D → ℕ → List ℕ → Type 0) → D → Result (Handler D) (BootError × D) → Type 0
+abbrev pub IsSynced : {D : Type 0} → (D → List ℕ) → (D → List ℕ → Type 0) → (D → ℕ) → (D → ℕ → List ℕ → Type 0) → D → Result (NodeStore D) (BootError × D) → Type 0
 IsSynced {D} seen may_leave moment left_since old (Ok handler) =
     (at : D) × SettlesAt seen may_leave moment left_since old (disk_in handler) at
 IsSynced {D} seen may_leave moment left_since old (Err refusal) =

@@ -8,21 +8,22 @@ use Rattle.rel_list.specs.Event.Event.{made, unpacked}
 use Rattle.rel_store.specs.Layout.{slot_with}
 use Rattle.rel_unpack.specs.Source.{Source}
 use Rattle.rel_unpack.specs.Unpacking.{Brought}
-use Rattle.rel_handler.specs.Commits.{Commits, IsDone}
-use Rattle.rel_handler.specs.Events.{doubted}
+use Rattle.node_store.specs.Commits.{Commits, IsDone}
+use Rattle.node_store.specs.Events.{doubted}
 use Rattle.node_command.specs.Files.{Brings, IsOfFiles, IsToldAs, bundle_brought, made_size, unpacked_size}
 use Rattle.node_command.specs.Place.{files_refusal, own_refusal}
-use Rattle.rel_handler.specs.Start.{start_text}
-use Rattle.rel_handler.specs.Image.{extent_behind, first_extent, HasSpace, holds_a_store, IsImageAt}
+use Rattle.node_store.specs.Start.{start_text}
+use Rattle.node_store.specs.Image.{extent_behind, first_extent, HasSpace, holds_a_store, IsImageAt}
 use Rattle.rel_handler.specs.Moments.{Begins, BeginsAt, WritesNothing}
-use Rattle.rel_handler.specs.Refusals.{CommandRefused, MakingRefused}
-use Rattle.rel_handler.specs.State.{disk_in, extent_in, list_in, is_dead, start_in, IsSame}
+use Rattle.node_store.specs.Refusals.{CommandRefused}
+use Rattle.rel_handler.specs.Refusals.{MakingRefused}
+use Rattle.node_store.specs.State.{disk_in, extent_in, list_in, is_dead, start_in, IsSame}
 use Rattle.node_command.specs.declared.error.HandlerError.{HandlerError}
 use Rattle.node_command.specs.declared.error.HandlerError.TheVariants.{Dead, Device, Exists}
-use Rattle.rel_handler.specs.declared.handler.Handler.{Handler}
+use Rattle.node_store.specs.declared.node_store.NodeStore.{NodeStore}
 
 -- What the path brings was taken in, and this is its version.
-pub record IsUnpacked {D : Type 0} (v : Ghosts D) (source : Source) (path : List ℕ) (old new : Handler D) (vsn : List ℕ) : Type 0 where
+pub record IsUnpacked {D : Type 0} (v : Ghosts D) (source : Source) (path : List ℕ) (old new : NodeStore D) (vsn : List ℕ) : Type 0 where
   pub brought : Brought
   pub read : Brings source path (Ok brought)
   pub free : files_refusal brought (list_in old) ≡ None
@@ -33,7 +34,7 @@ pub record IsUnpacked {D : Type 0} (v : Ghosts D) (source : Source) (path : List
   pub version : vsn ≡ brought.found.release.vsn
 
 -- Its files are why what the path brings wasn't taken in.
-pub record IsBarred {D : Type 0} (source : Source) (path : List ℕ) (old new : Handler D) (e : HandlerError) : Type 0 where
+pub record IsBarred {D : Type 0} (source : Source) (path : List ℕ) (old new : NodeStore D) (e : HandlerError) : Type 0 where
   pub brought : Brought
   pub read : Brings source path (Ok brought)
   pub alive : is_dead old ≡ false
@@ -42,7 +43,7 @@ pub record IsBarred {D : Type 0} (source : Source) (path : List ℕ) (old new : 
   pub same : IsSame old new
 
 -- Its files are not why, and its event was not acknowledged.
-pub record IsNotUnpacked {D : Type 0} (v : Ghosts D) (source : Source) (path : List ℕ) (old new : Handler D) (e : HandlerError) : Type 0 where
+pub record IsNotUnpacked {D : Type 0} (v : Ghosts D) (source : Source) (path : List ℕ) (old new : NodeStore D) (e : HandlerError) : Type 0 where
   pub brought : Brought
   pub read : Brings source path (Ok brought)
   pub free : files_refusal brought (list_in old) ≡ None
@@ -50,7 +51,7 @@ pub record IsNotUnpacked {D : Type 0} (v : Ghosts D) (source : Source) (path : L
   pub refused : CommandRefused v.failures (unpacked (bundle_brought brought)) (unpacked_size brought (list_in old)) old new e
 
 -- Why no release of the path was taken in: the handler was dead; its file; its other files; or the node.
-abbrev pub UnpackingRefused : {D : Type 0} → Ghosts D → Source → List ℕ → Handler D → Handler D → HandlerError → Type 0
+abbrev pub UnpackingRefused : {D : Type 0} → Ghosts D → Source → List ℕ → NodeStore D → NodeStore D → HandlerError → Type 0
 UnpackingRefused v source path old new e =
     ((e ≡ Dead) × (is_dead old ≡ true) × IsSame old new)
     ⊎ ((IsOfFiles source path e × (is_dead old ≡ false) × IsSame old new)
@@ -58,7 +59,7 @@ UnpackingRefused v source path old new e =
 
 -- A node was made on a disk with what the path brings, its release the permanent one. From now on each crash leaves a disk
 -- that stands for its list. A crash at any moment from the first sync on leaves no store, or one that stands for that list.
-pub record IsMade {D : Type 0} (v : Ghosts D) (source : Source) (path : List ℕ) (disk : D) (handler : Handler D) : Type 0 where
+pub record IsMade {D : Type 0} (v : Ghosts D) (source : Source) (path : List ℕ) (disk : D) (handler : NodeStore D) : Type 0 where
   pub brought : Brought
   pub read : Brings source path (Ok brought)
   pub free : own_refusal brought ≡ None

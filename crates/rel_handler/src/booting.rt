@@ -5,16 +5,15 @@ ghost use Rattle.rel_list.specs.Releases.{Releases, has_one_shot};
 ghost use Rattle.rel_list.specs.Event.{recorded};
 ghost use Rattle.rel_store.specs.Contents.{OpenRefused, HasOnlyRead};
 ghost use Rattle.rel_handler.specs.Booting.{IsRead, IsOpened, IsBootOf, IsBootRecord, RecordRefused, IsBooted, IsOldOrTaken, IsOldOrBooted, Leaves, FinishRefused};
-ghost use Rattle.rel_handler.specs.Commits.{HasRead};
-ghost use Rattle.rel_handler.specs.Events.{Known, IsOfPrefix, Stored, IsStoredAs};
-ghost use Rattle.rel_handler.specs.Image.{HasBootSpace, IsImageOf, IsImageAt, IsStarted, IsLeftByBoot};
-ghost use Rattle.rel_handler.specs.Moments.{BootsTo, IsSynced, KeepsStore};
+ghost use Rattle.node_store.specs.Events.{Known, IsOfPrefix, Stored, IsStoredAs};
+ghost use Rattle.node_store.specs.Image.{HasBootSpace, IsImageOf, IsImageAt, IsStarted, IsLeftByBoot};
+ghost use Rattle.rel_handler.specs.Moments.{BootsTo, HasRead, IsSynced, KeepsStore};
 ghost use Rattle.rel_handler.specs.Refusals.{BootRefused, told_boot, IsOpenError};
-ghost use Rattle.rel_handler.specs.State.{disk_in, disk_of, extent_in, list_in, is_dead, start_in, HasStarted, IsReady, IsSound};
+ghost use Rattle.node_store.specs.State.{disk_in, disk_of, extent_in, list_in, is_dead, start_in, HasStarted, IsReady, IsSound};
 ghost use Rattle.start_record.specs.Text.{versions_of, SpellsStart};
 
-use crate::start::start_of;
 use crate::{BootError, Handler};
+use node_store::{NodeStore, start_of};
 use record_writer::change_body;
 use rel_disk::Disk;
 use rel_list::Event;
@@ -72,28 +71,28 @@ pub fn boot<D: Disk>(alloc: Global, disk: D) -> Result<Handler<D>, (BootError, D
     ensures refused { IfErr result (λ e. BootRefused (D.seen disk) (D.failures disk)
         (D.failures e.1) e.0) }
 {
-    let mut handler = match open(alloc, disk) {
-        Ok(handler) => handler,
+    let mut node = match open(alloc, disk) {
+        Ok(node) => node,
         Err(refusal) => return Err(refusal),
     };
-    let body = match boot_record(alloc, &handler) {
+    let body = match boot_record(alloc, &node) {
         Ok(body) => body,
-        Err(error) => return Err((error, handler.into_disk())),
+        Err(error) => return Err((error, node.into_disk())),
     };
-    match finish(alloc, &mut handler, body) {
+    match finish(alloc, &mut node, body) {
         Ok(()) => {
-            handler.dead = false;
-            Ok(handler)
+            node.dead = false;
+            Ok(Handler { node })
         }
-        Err(error) => Err((error, handler.into_disk())),
+        Err(error) => Err((error, node.into_disk())),
     }
 }
 
 // Reads the node from a disk. It is dead until the boot has written what it has to.
-fn open<D: Disk>(alloc: Global, disk: D) -> Result<Handler<D>, (BootError, D)>
+fn open<D: Disk>(alloc: Global, disk: D) -> Result<NodeStore<D>, (BootError, D)>
     ensures opened { IfOk result (IsOpened D.Disk disk) }
     ensures only { (es : Releases) → IsImageOf (D.seen disk) es → MatchResult result
-        (λ handler. list_in handler ≡ recorded es)
+        (λ node. list_in node ≡ recorded es)
         (λ e. (e.0 ≡ BootError.Device) ⊎ (e.0 ≡ BootError.NoMemory)) }
     ensures any_moment { LeavesOnly D.moment D.left_since disk (disk_of result) (D.may_leave disk) }
     ensures synced { IsSynced D.seen D.may_leave D.moment D.left_since disk result }
@@ -105,7 +104,7 @@ fn open<D: Disk>(alloc: Global, disk: D) -> Result<Handler<D>, (BootError, D)>
 {
     match Store::open_disk(alloc, disk) {
         Ok(store) => match read_list(alloc, store.format(), store.records()) {
-            Ok(list) => Ok(Handler {
+            Ok(list) => Ok(NodeStore {
                 store,
                 list,
                 dead: true,
@@ -117,18 +116,18 @@ fn open<D: Disk>(alloc: Global, disk: D) -> Result<Handler<D>, (BootError, D)>
 }
 
 // The body of the record by which the boot takes a one-shot away, where the list has one.
-fn boot_record<D: Disk>(alloc: Global, handler: &Handler<D>) -> Result<Option<String>, BootError>
-    requires { IsRead D.seen D.may_leave handler.now }
-    ensures body { IfOk result (IsBootRecord (list_in handler.now)) }
-    ensures room { OnOk result (HasBootSpace (extent_in handler.now) (list_in handler.now)) }
-    ensures refused { IfErr result (RecordRefused (extent_in handler.now) (list_in handler.now)) }
+fn boot_record<D: Disk>(alloc: Global, node: &NodeStore<D>) -> Result<Option<String>, BootError>
+    requires { IsRead D.seen D.may_leave node.now }
+    ensures body { IfOk result (IsBootRecord (list_in node.now)) }
+    ensures room { OnOk result (HasBootSpace (extent_in node.now) (list_in node.now)) }
+    ensures refused { IfErr result (RecordRefused (extent_in node.now) (list_in node.now)) }
 {
-    if handler.list.one_shot().is_none() {
+    if node.list.one_shot().is_none() {
         return Ok(None);
     }
-    let body = change_body(alloc, &handler.list, &Event::Boot)?;
-    if !handler.store.fits(body.len()) {
-        let last = handler.store.records().len() as u64;
+    let body = change_body(alloc, &node.list, &Event::Boot)?;
+    if !node.store.fits(body.len()) {
+        let last = node.store.records().len() as u64;
         return Err(BootError::BadRecord(last));
     }
     Ok(Some(body))
@@ -138,32 +137,32 @@ fn boot_record<D: Disk>(alloc: Global, handler: &Handler<D>) -> Result<Option<St
 // the first write.
 fn finish<D: Disk>(
     alloc: Global,
-    handler: &mut Handler<D>,
+    node: &mut NodeStore<D>,
     body: Option<String>,
 ) -> Result<(), BootError>
-    requires ready { IsReady D.seen D.may_leave handler.old }
-    requires recorded { recorded (list_in handler.old) ≡ list_in handler.old }
-    requires body { IsBootRecord (list_in handler.old) body }
-    ensures leaves { Leaves D.Disk (IsOldOrBooted D.seen handler.old)
-        (disk_in handler.old) (disk_in handler.new) }
-    ensures booted { OnOk result (IsBooted D.Disk handler.old handler.new) }
-    ensures started { OnOk result (HasStarted D.may_leave handler.new) }
-    ensures right { OnOk result (has_one_shot (list_in handler.old) ≡ false
-        → IsStarted (list_in handler.old) (D.seen (disk_in handler.old))
+    requires ready { IsReady D.seen D.may_leave node.old }
+    requires recorded { recorded (list_in node.old) ≡ list_in node.old }
+    requires body { IsBootRecord (list_in node.old) body }
+    ensures leaves { Leaves D.Disk (IsOldOrBooted D.seen node.old)
+        (disk_in node.old) (disk_in node.new) }
+    ensures booted { OnOk result (IsBooted D.Disk node.old node.new) }
+    ensures started { OnOk result (HasStarted D.may_leave node.new) }
+    ensures right { OnOk result (has_one_shot (list_in node.old) ≡ false
+        → IsStarted (list_in node.old) (D.seen (disk_in node.old))
         → HasOnlyRead D.seen D.may_leave D.moment D.left_since
-        (disk_in handler.old) (disk_in handler.new)) }
-    ensures refused { IfErr result (FinishRefused D.Disk handler.old handler.new) }
+        (disk_in node.old) (disk_in node.new)) }
+    ensures refused { IfErr result (FinishRefused D.Disk node.old node.new) }
 {
-    let Some(release) = handler.list.permanent() else {
+    let Some(release) = node.list.permanent() else {
         unreachable!();
     };
     let start = start_of(alloc, release)?;
-    let right = starts(alloc, handler, &start)?;
-    take_one_shot(alloc, handler, body)?;
+    let right = starts(alloc, node, &start)?;
+    take_one_shot(alloc, node, body)?;
     if right {
         return Ok(());
     }
-    handler.commit_start(&start)?;
+    node.commit_start(&start)?;
     Ok(())
 }
 
@@ -171,49 +170,45 @@ fn finish<D: Disk>(
 // boot.
 fn take_one_shot<D: Disk>(
     alloc: Global,
-    handler: &mut Handler<D>,
+    node: &mut NodeStore<D>,
     body: Option<String>,
 ) -> Result<(), BootError>
-    requires ready { IsReady D.seen D.may_leave handler.old }
-    requires recorded { recorded (list_in handler.old) ≡ list_in handler.old }
-    requires body { IsBootRecord (list_in handler.old) body }
-    ensures leaves { Leaves D.Disk (IsOldOrTaken D.seen handler.old)
-        (disk_in handler.old) (disk_in handler.new) }
-    ensures booted { OnOk result (IsBooted D.Disk handler.old handler.new) }
-    ensures start { OnOk result (start_in D.seen handler.new ≡ start_in D.seen handler.old) }
-    ensures free { has_one_shot (list_in handler.old) ≡ false
-        → disk_in handler.new ≡ disk_in handler.old }
-    ensures refused { IfErr result (FinishRefused D.Disk handler.old handler.new) }
+    requires ready { IsReady D.seen D.may_leave node.old }
+    requires recorded { recorded (list_in node.old) ≡ list_in node.old }
+    requires body { IsBootRecord (list_in node.old) body }
+    ensures leaves { Leaves D.Disk (IsOldOrTaken D.seen node.old)
+        (disk_in node.old) (disk_in node.new) }
+    ensures booted { OnOk result (IsBooted D.Disk node.old node.new) }
+    ensures start { OnOk result (start_in D.seen node.new ≡ start_in D.seen node.old) }
+    ensures free { has_one_shot (list_in node.old) ≡ false
+        → disk_in node.new ≡ disk_in node.old }
+    ensures refused { IfErr result (FinishRefused D.Disk node.old node.new) }
 {
     let Some(body) = body else {
         return Ok(());
     };
-    if handler.store.reserve(alloc, body.len()).is_err() {
+    if node.store.reserve(alloc, body.len()).is_err() {
         return Err(BootError::NoMemory);
     }
-    if handler.list.accept(alloc, Event::Boot).is_err() {
+    if node.list.accept(alloc, Event::Boot).is_err() {
         unreachable!();
     }
-    if handler.store.append(alloc, body.as_bytes()).is_err() {
+    if node.store.append(alloc, body.as_bytes()).is_err() {
         return Err(BootError::Device);
     }
     Ok(())
 }
 
 // Whether this start is that of the start record.
-fn starts<D: Disk>(
-    alloc: Global,
-    handler: &mut Handler<D>,
-    start: &Start,
-) -> Result<bool, BootError>
-    requires { IsReady D.seen D.may_leave handler.old }
-    ensures read { HasRead D.Disk handler.old handler.new }
-    ensures ready { OnOk result (IsReady D.seen D.may_leave handler.new) }
+fn starts<D: Disk>(alloc: Global, node: &mut NodeStore<D>, start: &Start) -> Result<bool, BootError>
+    requires { IsReady D.seen D.may_leave node.old }
+    ensures read { HasRead D.Disk node.old node.new }
+    ensures ready { OnOk result (IsReady D.seen D.may_leave node.new) }
     ensures value { IfOk result (λ is. IsTrue is
-        ↔ SpellsStart (start_in D.seen handler.old) (versions_of start.now)) }
-    ensures refused { IfErr result (FinishRefused D.Disk handler.old handler.new) }
+        ↔ SpellsStart (start_in D.seen node.old) (versions_of start.now)) }
+    ensures refused { IfErr result (FinishRefused D.Disk node.old node.new) }
 {
-    match read_start(alloc, &mut handler.store) {
+    match read_start(alloc, &mut node.store) {
         Ok(found) => Ok(is_same(&found, start)),
         Err(StartError::BadStart) => Ok(false),
         Err(StartError::NoMemory) => Err(BootError::NoMemory),

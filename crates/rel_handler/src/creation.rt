@@ -9,14 +9,14 @@ ghost use Rattle.rel_records.specs.Reading.{Spells};
 ghost use Rattle.rel_records.specs.Writing.{record_of};
 ghost use Rattle.rel_store.specs.Contents.{HasOnlyRead};
 ghost use Rattle.rel_store.specs.Layout.{slot_with};
-ghost use Rattle.rel_handler.specs.Events.{doubted};
+ghost use Rattle.node_store.specs.Events.{doubted};
 ghost use Rattle.node_command.specs.Files.{HasFileTerms, IsWhole, bundle_brought, made_size};
 ghost use Rattle.node_command.specs.Place.{own_refusal};
-ghost use Rattle.rel_handler.specs.Start.{start_text};
-ghost use Rattle.rel_handler.specs.Image.{extent_behind, first_extent, IsImageOf, IsImageAt, holds_a_store, HasSpace};
+ghost use Rattle.node_store.specs.Start.{start_text};
+ghost use Rattle.node_store.specs.Image.{extent_behind, first_extent, IsImageOf, IsImageAt, holds_a_store, HasSpace};
 ghost use Rattle.rel_handler.specs.Moments.{Begins, BeginsAt, WritesNothing};
 ghost use Rattle.rel_handler.specs.Refusals.{MakingRefused, told_create, IsCreateError};
-ghost use Rattle.rel_handler.specs.State.{disk_in, disk_of, extent_in, list_in, is_dead, start_in, IsSound};
+ghost use Rattle.node_store.specs.State.{disk_in, disk_of, extent_in, list_in, is_dead, start_in, IsSound};
 ghost use Rattle.rel_handler.specs.Unpacking.{IsExistingOr, IsMade, CreationRefused};
 ghost use Rattle.rel_unpack.specs.Unpacking.{brought_of};
 ghost use Rattle.rel_list.specs.declared.status.Status.TheVariants.{Permanent};
@@ -24,6 +24,7 @@ ghost use Rattle.rel_list.specs.declared.status.Status.TheVariants.{Permanent};
 use crate::Handler;
 use file_source::Files;
 use node_command::{HandlerError, NewBundle, bring_release, new_bundle, unless_refused};
+use node_store::NodeStore;
 use record_writer::made_body;
 use rel_disk::{DeviceFault, Disk};
 use rel_files::Rel;
@@ -109,9 +110,11 @@ impl<D: Disk> Handler<D> {
         let NewNode { body, start, list } = new;
         match Store::create(alloc, disk, body.as_bytes(), start.as_bytes()) {
             Ok(store) => Ok(Handler {
-                store,
-                list,
-                dead: false,
+                node: NodeStore {
+                    store,
+                    list,
+                    dead: false,
+                },
             }),
             Err((error, disk)) => Err((create_error(error), disk)),
         }

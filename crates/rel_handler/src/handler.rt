@@ -1,28 +1,46 @@
 // A node's releases on a disk, and the commands on them.
-ghost use Rattle.std.specs.Prelude.{◌≡◌, true, false, IfOk, IfErr, OnOk, MatchResult, Ok, Err};
+ghost use Rattle.std.specs.Prelude.{◌≡◌, true, false, Some, IfOk, IfErr, OnOk, MatchResult, Ok, Err};
+ghost use Rattle.rel_files.specs.Release.{Release};
 ghost use Rattle.rel_list.specs.Event.Event.{made_permanent, removed, reboot_old};
+ghost use Rattle.rel_list.specs.Releases.{permanent};
 ghost use Rattle.rel_records.specs.Startable.{AreStartable};
-ghost use Rattle.rel_handler.specs.Commits.{Commits, IsDone};
-ghost use Rattle.rel_handler.specs.Refusals.{CommandRefused};
-ghost use Rattle.rel_handler.specs.State.{disk_in, list_in, is_dead, start_in, HasStarted, IsSound};
-ghost use Rattle.rel_handler.specs.Checking.{checked};
-ghost use Rattle.node_command.specs.Taking.{change_size};
 ghost use Rattle.relup_script.specs.Search.{found_of};
+ghost use Rattle.start_record.specs.Text.{versions_of};
+ghost use Rattle.node_command.specs.Taking.{change_size};
+ghost use Rattle.node_store.specs.Commits.{Commits, IsDone};
+ghost use Rattle.node_store.specs.Refusals.{CommandRefused};
+ghost use Rattle.node_store.specs.Start.{started};
+ghost use Rattle.node_store.specs.State.{disk_in, list_in, is_dead, start_in, HasStarted, IsSound};
+ghost use Rattle.rel_handler.specs.Checking.{checked};
+ghost use Rattle.rel_handler.specs.Moments.{HasRead};
+ghost use Rattle.rel_handler.specs.Refusals.{StartRefused};
 
 use node_command::{HandlerError, find_installation};
+use node_store::NodeStore;
 use rel_disk::Disk;
 use rel_list::{Event, ReleaseList};
-use rel_store::Store;
 use relup_script::Found;
+use start_record::{Start, StartError, read_start};
 use std::alloc::Global;
+use std::marker::Model;
 
-/// A node's releases on a disk.
+/// A node's releases on a disk. A contract sees what the node keeps there.
 #[derive(Drop)]
 pub struct Handler<D: Disk> {
-    pub(crate) store: Store<D>,
-    pub(crate) list: ReleaseList,
-    // a boot has to come first
-    pub(crate) dead: bool,
+    pub(crate) node: NodeStore<D>,
+}
+
+impl<D: Disk> Model for Handler<D> {
+    ghost use Rattle.node_store.specs.declared.node_store.NodeStore.{NodeStore};
+    ghost use Rattle.std.specs.Coded.{codes};
+    ghost use Rattle.library.specs.Codes.{value_code, values_code};
+
+    ghost Value = { NodeStore D };
+
+    // Of terms, which hold further terms, Rattle finds no code by itself.
+    ghost coded = { Prim.hlevel (codes, value_code, values_code) };
+
+    ghost view = { λ h. h.node };
 }
 
 impl<D: Disk> Handler<D> {
@@ -30,19 +48,15 @@ impl<D: Disk> Handler<D> {
     pub fn into_disk(self) -> D
         ensures { result ≡ disk_in self }
     {
-        let Handler {
-            store,
-            list: _,
-            dead: _,
-        } = self;
-        store.into_disk()
+        let Handler { node } = self;
+        node.into_disk()
     }
 
     /// Whether the device failed in a command, so that every call but `into_disk` answers `Dead`.
     pub fn is_dead(&self) -> bool
         ensures { result ≡ is_dead self.now }
     {
-        self.dead
+        self.node.dead
     }
 
     /// The releases of the node, in order of coming. A boot can start each of them (`startable`).
@@ -53,10 +67,37 @@ impl<D: Disk> Handler<D> {
         ensures startable { IsSound D.seen D.may_leave self.now
             → IfOk result (λ list. AreStartable list.now) }
     {
-        if self.dead {
+        if self.node.dead {
             Err(HandlerError::Dead)
         } else {
-            Ok(&self.list)
+            Ok(&self.node.list)
+        }
+    }
+
+    /// What the node starts, as its start record tells it: the permanent release, and its version of the runtime system.
+    /// Reads the disk.
+    ///
+    /// Refusals: `Dead`, `Device`, behind which the handler is dead, `NoMemory`.
+    pub fn start(&mut self, alloc: Global) -> Result<Start, HandlerError>
+        requires { IsSound D.seen D.may_leave self.old }
+        ensures sound { IsSound D.seen D.may_leave self.new }
+        ensures read { HasRead D.Disk self.old self.new }
+        ensures works { OnOk result (is_dead self.new ≡ false) }
+        ensures tells { IfOk result (λ start. (r : Release)
+            × (permanent (list_in self.old) ≡ Some r) × (versions_of start ≡ started r)) }
+        ensures refused { IfErr result (StartRefused D.failures self.old self.new) }
+    {
+        if self.node.dead {
+            return Err(HandlerError::Dead);
+        }
+        match read_start(alloc, &mut self.node.store) {
+            Ok(start) => Ok(start),
+            Err(StartError::NoMemory) => Err(HandlerError::NoMemory),
+            Err(StartError::BadStart) => unreachable!(),
+            Err(_) => {
+                self.node.dead = true;
+                Err(HandlerError::Device)
+            }
         }
     }
 
@@ -88,13 +129,13 @@ impl<D: Disk> Handler<D> {
         ensures refused { IfErr result (CommandRefused D.failures (made_permanent vsn.now)
             (change_size (made_permanent vsn.now) (list_in self.old)) self.old self.new) }
     {
-        if self.dead {
+        if self.node.dead {
             return Err(HandlerError::Dead);
         }
         let event = Event::MadePermanent(String::from_str(alloc, vsn)?);
-        self.move_permanent(alloc, vsn, event)?;
-        self.compact(alloc)?;
-        self.dead = false;
+        self.node.move_permanent(alloc, vsn, event)?;
+        self.node.compact(alloc)?;
+        self.node.dead = false;
         Ok(())
     }
 
@@ -113,12 +154,12 @@ impl<D: Disk> Handler<D> {
         ensures refused { IfErr result (CommandRefused D.failures (reboot_old vsn.now)
             (change_size (reboot_old vsn.now) (list_in self.old)) self.old self.new) }
     {
-        if self.dead {
+        if self.node.dead {
             return Err(HandlerError::Dead);
         }
         let reboot = Event::RebootOld(String::from_str(alloc, vsn)?);
-        self.move_permanent(alloc, vsn, reboot)?;
-        self.compact(alloc)
+        self.node.move_permanent(alloc, vsn, reboot)?;
+        self.node.compact(alloc)
     }
 
     /// Takes a release out of the list, and then compacts a long store. At `Ok` the removal is acknowledged (`done`).
@@ -136,10 +177,10 @@ impl<D: Disk> Handler<D> {
         ensures refused { IfErr result (CommandRefused D.failures (removed vsn.now)
             (change_size (removed vsn.now) (list_in self.old)) self.old self.new) }
     {
-        if self.dead {
+        if self.node.dead {
             return Err(HandlerError::Dead);
         }
         let vsn = String::from_str(alloc, vsn)?;
-        self.change(alloc, Event::Removed(vsn))
+        self.node.change(alloc, Event::Removed(vsn))
     }
 }

@@ -1,7 +1,7 @@
 // What an installation appends to the store behind its script.
 ghost use Rattle.std.specs.Prelude.{◌≡◌, IfOk, None, length, string_bytes};
 ghost use Rattle.node_command.specs.Taking.{change_size};
-ghost use Rattle.rel_handler.specs.Commits.{IsRecordFor};
+ghost use Rattle.node_store.specs.Commits.{IsRecordFor};
 ghost use Rattle.rel_handler.specs.Installing.{installation_event, room_behind};
 ghost use Rattle.rel_list.specs.Event.{event_of};
 ghost use Rattle.rel_list.specs.Event.Event.{installed};

@@ -1,28 +1,21 @@
 // A release is installed: its script is carried out, and then its event is committed.
-ghost use Rattle.std.specs.Prelude.{◌≡◌, true, false, IfErr, IfOk, OnOk, length};
+ghost use Rattle.std.specs.Prelude.{◌≡◌, true, IfErr, IfOk, OnOk};
 ghost use Rattle.held_processes.specs.Following.{HoldsNothing};
-ghost use Rattle.node_upgrade.specs.Running.{state};
-ghost use Rattle.rel_disk.specs.Moments.{HasFailed};
-ghost use Rattle.rel_handler.specs.Commits.{Commits, IsAppended, IsDone, IsRecordFor};
-ghost use Rattle.rel_handler.specs.Image.{HasSpace, LeavesBootSpace};
-ghost use Rattle.rel_handler.specs.Installing.{InstallRefused, IsInstalledBy, install_event, install_room, install_size, must_boot, needs_restart};
-ghost use Rattle.rel_handler.specs.Refusals.{IsAllowed};
-ghost use Rattle.rel_handler.specs.State.{disk_in, extent_in, format_in, list_in, is_dead, start_in, HasStarted, IsReady, IsSound};
-ghost use Rattle.rel_list.specs.Event.{event_of};
-ghost use Rattle.rel_list.specs.Laws.{leaves_permanent, makes_one_shot};
-ghost use Rattle.rel_list.specs.Refusal.{brings_release};
-ghost use Rattle.rel_store.specs.State.{HasRoom};
 ghost use Rattle.loaded_modules.specs.Loaded.{listed_in};
+ghost use Rattle.node_upgrade.specs.Running.{state};
+ghost use Rattle.node_store.specs.Commits.{Commits, IsDone};
+ghost use Rattle.node_store.specs.Image.{HasSpace};
+ghost use Rattle.node_store.specs.State.{extent_in, format_in, list_in, is_dead, start_in, HasStarted, IsSound};
+ghost use Rattle.rel_handler.specs.Installing.{InstallRefused, IsInstalledBy, install_event, install_room, install_size, must_boot, needs_restart};
 
 use crate::Handler;
-use crate::commit::make_room;
 use crate::install_record::InstallRecord;
 use loaded_modules::Loaded;
 use node_command::HandlerError;
+use node_store::make_room;
 use node_upgrade::{InstallError, Installed, find_upgrade};
 use proc_table::{HandlerSeat, ProcTable};
 use rel_disk::Disk;
-use rel_list::Event;
 use std::alloc::Global;
 use std::sync::Wait;
 use sup_tree::Tree;
@@ -73,107 +66,28 @@ impl<D: Disk> Handler<D> {
             (state seat.old.view tree.old (listed_in loaded.old))
             (state seat.new.view tree.new (listed_in loaded.new))) }
     {
-        if self.dead {
+        if self.node.dead {
             return Err(InstallError::Command(HandlerError::Dead));
         }
-        let upgrade = find_upgrade(&self.list, vsn)?;
+        let upgrade = find_upgrade(&self.node.list, vsn)?;
         let InstallRecord { event, body, room } = InstallRecord::of(
             alloc,
-            &self.list,
+            &self.node.list,
             vsn,
             upgrade.restarts(),
         )?;
         let text = body.as_str();
-        make_room(&mut self.store, alloc, text.len(), room)?;
-        match upgrade.run(rt, alloc, table, seat, tree, loaded) {
-            Ok(installed) => {
-                self.commit_installation(alloc, event, text)?;
-                Ok(installed)
-            }
+        make_room(&mut self.node.store, alloc, text.len(), room)?;
+        let installed = match upgrade.run(rt, alloc, table, seat, tree, loaded) {
+            Ok(installed) => installed,
             Err(error) => {
-                self.dead = must_boot(&error);
-                Err(error)
+                self.node.dead = must_boot(&error);
+                return Err(error);
             }
-        }
+        };
+        self.node.commit_installation(alloc, event, text)?;
+        Ok(installed)
     }
-
-    // Commits an installation behind its script, for whose record there is room, and then compacts a long store, unless there is a
-    // one-shot. Behind a restart the handler is dead.
-    fn commit_installation(
-        &mut self,
-        alloc: Global,
-        event: Event,
-        body: &str,
-    ) -> Result<(), HandlerError>
-        requires sound { IsSound D.seen D.may_leave self.old }
-        requires allowed { IsAllowed (event_of event) self.old }
-        requires told { IsRecordFor body.now (event_of event) (list_in self.old) }
-        requires behind { LeavesBootSpace (event_of event) (length body.now)
-            (extent_in self.old) (list_in self.old) }
-        requires space { HasSpace (extent_in self.old) (length body.now) }
-        requires room { HasRoom (length body.now) self.old.store }
-        requires stays { leaves_permanent (event_of event) ≡ true }
-        requires listed { brings_release (event_of event) ≡ false }
-        ensures commits { Commits D.Disk (event_of event) (length body.now) self.old self.new }
-        ensures done { OnOk result
-            (IsDone D.Disk (event_of event) (length body.now) self.old self.new) }
-        ensures dead { OnOk result (is_dead self.new ≡ makes_one_shot (event_of event)) }
-        ensures format { OnOk result (makes_one_shot (event_of event) ≡ true
-            → format_in self.new ≡ 2) }
-        ensures started { OnOk result (HasStarted D.may_leave self.new) }
-        ensures start { OnOk result (start_in D.seen self.new ≡ start_in D.seen self.old) }
-        ensures device { IfErr result (λ e. e ≡ HandlerError.Device) }
-        ensures failed { IfErr result (λ _.
-            HasFailed (D.failures (disk_in self.old)) (D.failures (disk_in self.new))) }
-        ensures lost { IfErr result (λ _. is_dead self.new ≡ true) }
-    {
-        let restarts = makes_one_shot(&event);
-        self.write_installation(alloc, event, body)?;
-        self.compact(alloc)?;
-        self.dead = restarts;
-        Ok(())
-    }
-
-    // Has the list take an installation, and then the store its record. One with a restart makes the store one of format 2 first.
-    fn write_installation(
-        &mut self,
-        alloc: Global,
-        event: Event,
-        body: &str,
-    ) -> Result<(), HandlerError>
-        requires sound { IsSound D.seen D.may_leave self.old }
-        requires allowed { IsAllowed (event_of event) self.old }
-        requires told { IsRecordFor body.now (event_of event) (list_in self.old) }
-        requires behind { LeavesBootSpace (event_of event) (length body.now)
-            (extent_in self.old) (list_in self.old) }
-        requires space { HasSpace (extent_in self.old) (length body.now) }
-        requires room { HasRoom (length body.now) self.old.store }
-        requires listed { brings_release (event_of event) ≡ false }
-        ensures commits { Commits D.Disk (event_of event) (length body.now) self.old self.new }
-        ensures appended { OnOk result
-            (IsAppended D.Disk (event_of event) (length body.now) self.old self.new) }
-        ensures ready { OnOk result (IsReady D.seen D.may_leave self.new) }
-        ensures start { OnOk result (start_in D.seen self.new ≡ start_in D.seen self.old) }
-        ensures format { OnOk result (makes_one_shot (event_of event) ≡ true
-            → format_in self.new ≡ 2) }
-        ensures dead { is_dead self.new ≡ true }
-        ensures device { IfErr result (λ e. e ≡ HandlerError.Device) }
-        ensures failed { IfErr result (λ _.
-            HasFailed (D.failures (disk_in self.old)) (D.failures (disk_in self.new))) }
-    {
-        if !makes_one_shot(&event) {
-            return self.write(alloc, event, body);
-        }
-        self.allow_one_shots()?;
-        self.write(alloc, event, body)
-    }
-}
-
-// Whether the event is an installation whose script ends with a restart.
-fn makes_one_shot(event: &Event) -> bool
-    ensures { result ≡ makes_one_shot (event_of event.now) }
-{
-    matches!(event, Event::RestartInstalled(_))
 }
 
 // Whether the script failed behind its point of no return.

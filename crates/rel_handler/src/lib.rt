@@ -40,6 +40,8 @@
 //!
 //! The law `a_disk_boots_or_is_refused` says of all bytes that they stand for one list or a boot refuses them, never both.
 //!
+//! How an event is committed is `node_store`'s: a contract sees a handler as its node store.
+//!
 //! The clauses speak of the bytes of a store as a whole (`IsImageOf`) and of its records by `rel_records` (`Makes`). One
 //! proof is about single bytes: that a store refuses bytes as `NotAStore` or `Damaged` alone (`BadRecords`).
 //!
@@ -47,16 +49,12 @@
 #![tactic(auto)]
 
 mod booting;
-mod commit;
-mod compaction;
 mod creation;
 mod error;
-mod format;
 mod handler;
 mod install_record;
 mod installation;
 pub mod laws;
-mod start;
 mod unpacking;
 
 pub use booting::boot;

@@ -5,11 +5,11 @@ ghost use Rattle.rel_list.specs.Event.Event.{unpacked};
 ghost use Rattle.rel_list.specs.Releases.{first_different, status_of};
 ghost use Rattle.rel_records.specs.Limits.{is_small};
 ghost use Rattle.rel_unpack.specs.Unpacking.{brought_of, libraries_of};
-ghost use Rattle.rel_handler.specs.Commits.{Commits, IsDone};
+ghost use Rattle.node_store.specs.Commits.{Commits, IsDone};
 ghost use Rattle.node_command.specs.Files.{HasFileTerms, IsWhole, bundle_brought, unpacked_size};
 ghost use Rattle.node_command.specs.Place.{has_room, own_refusal};
-ghost use Rattle.rel_handler.specs.Refusals.{CommandRefused};
-ghost use Rattle.rel_handler.specs.State.{is_dead, list_in, start_in, IsSound};
+ghost use Rattle.node_store.specs.Refusals.{CommandRefused};
+ghost use Rattle.node_store.specs.State.{is_dead, list_in, start_in, IsSound};
 ghost use Rattle.rel_handler.specs.Unpacking.{IsUnpacked, UnpackingRefused};
 
 use crate::Handler;
@@ -17,6 +17,7 @@ use file_source::Files;
 use node_command::{
     HandlerError, NewBundle, bring_release, has_room, new_bundle, new_version, unless_refused,
 };
+use node_store::NodeStore;
 use record_writer::unpacked_body;
 use rel_disk::Disk;
 use rel_list::{Bundle, Event};
@@ -47,55 +48,59 @@ impl<D: Disk> Handler<D> {
         ensures refused { IfErr result
             (UnpackingRefused D.Disk (F.gives files.now) path.now self.old self.new) }
     {
-        if self.dead {
+        if self.node.dead {
             return Err(HandlerError::Dead);
         }
         let brought = bring_release(alloc, files, path)?;
-        let vsn = new_version(alloc, &self.list, &brought)?;
-        let brought = unless_refused(brought, has_room(&self.list))?;
-        self.take_in(alloc, brought)?;
+        let vsn = new_version(alloc, &self.node.list, &brought)?;
+        let brought = unless_refused(brought, has_room(&self.node.list))?;
+        take_in(&mut self.node, alloc, brought)?;
         Ok(vsn)
     }
+}
 
-    // Takes in what was brought, of a version that isn't listed, and for which there is room.
-    fn take_in(&mut self, alloc: Global, brought: ReleaseFiles) -> Result<(), HandlerError>
-        requires sound { IsSound D.seen D.may_leave self.old }
-        requires alive { is_dead self.old ≡ false }
-        requires terms { HasFileTerms (brought_of brought) }
-        requires small { is_small (release_of brought.file.release) ≡ true }
-        requires fresh { status_of (string_bytes brought.file.release.vsn) (list_in self.old)
-            ≡ None }
-        requires agree { first_different (list_in self.old) (libraries_of brought.applications)
-            ≡ None }
-        requires room { has_room (list_in self.old) ≡ true }
-        requires free { own_refusal (brought_of brought) ≡ None }
-        requires whole { IsWhole (brought_of brought) }
-        ensures commits { Commits D.Disk (unpacked (bundle_brought (brought_of brought)))
-            (unpacked_size (brought_of brought) (list_in self.old)) self.old self.new }
-        ensures done { OnOk result (IsDone D.Disk (unpacked (bundle_brought (brought_of brought)))
-            (unpacked_size (brought_of brought) (list_in self.old)) self.old self.new) }
-        ensures works { OnOk result (is_dead self.new ≡ false) }
-        ensures start { OnOk result (start_in D.seen self.new ≡ start_in D.seen self.old) }
-        ensures refused { IfErr result (CommandRefused D.failures
-            (unpacked (bundle_brought (brought_of brought)))
-            (unpacked_size (brought_of brought) (list_in self.old)) self.old self.new) }
-    {
-        let NewBundle {
-            rel,
-            relup: relup_term,
-            bundle: Bundle {
-                release,
-                libraries,
-                relup,
-            },
-        } = new_bundle(brought);
-        let libraries = self.list.share(alloc, libraries)?;
-        let body = unpacked_body(alloc, &self.list, rel, libraries.as_slice(), relup_term)?;
-        let bundle = Bundle {
+// Takes in what was brought, of a version that isn't listed, and for which there is room.
+fn take_in<D: Disk>(
+    node: &mut NodeStore<D>,
+    alloc: Global,
+    brought: ReleaseFiles,
+) -> Result<(), HandlerError>
+    requires sound { IsSound D.seen D.may_leave node.old }
+    requires alive { is_dead node.old ≡ false }
+    requires terms { HasFileTerms (brought_of brought) }
+    requires small { is_small (release_of brought.file.release) ≡ true }
+    requires fresh { status_of (string_bytes brought.file.release.vsn) (list_in node.old)
+        ≡ None }
+    requires agree { first_different (list_in node.old) (libraries_of brought.applications)
+        ≡ None }
+    requires room { has_room (list_in node.old) ≡ true }
+    requires free { own_refusal (brought_of brought) ≡ None }
+    requires whole { IsWhole (brought_of brought) }
+    ensures commits { Commits D.Disk (unpacked (bundle_brought (brought_of brought)))
+        (unpacked_size (brought_of brought) (list_in node.old)) node.old node.new }
+    ensures done { OnOk result (IsDone D.Disk (unpacked (bundle_brought (brought_of brought)))
+        (unpacked_size (brought_of brought) (list_in node.old)) node.old node.new) }
+    ensures works { OnOk result (is_dead node.new ≡ false) }
+    ensures start { OnOk result (start_in D.seen node.new ≡ start_in D.seen node.old) }
+    ensures refused { IfErr result (CommandRefused D.failures
+        (unpacked (bundle_brought (brought_of brought)))
+        (unpacked_size (brought_of brought) (list_in node.old)) node.old node.new) }
+{
+    let NewBundle {
+        rel,
+        relup: relup_term,
+        bundle: Bundle {
             release,
             libraries,
             relup,
-        };
-        self.commit(alloc, Event::Unpacked(bundle), body.as_str())
-    }
+        },
+    } = new_bundle(brought);
+    let libraries = node.list.share(alloc, libraries)?;
+    let body = unpacked_body(alloc, &node.list, rel, libraries.as_slice(), relup_term)?;
+    let bundle = Bundle {
+        release,
+        libraries,
+        relup,
+    };
+    node.commit(alloc, Event::Unpacked(bundle), body.as_str())
 }

@@ -1,8 +1,8 @@
 -- No moment of a session loses an acknowledged event.
 use Rattle.std.proofs.Common.{◌≡◌, ◌≢◌, ◌⊎◌, inl, inr, ℕ, zero, suc, List, [], ◌∷◌, ◌++◌, Option, Some, None, refl, sym, ap, ◌∙◌, subst, append-nil, append_assoc, arith}
 use Rattle.rel_list.specs.Event.{Event, list_after}
-use Rattle.rel_handler.specs.Image.{extent_of}
-use Rattle.rel_handler.specs.Events.{Known, Events, Stored, settled, certain, with_doubt, HasStart, IsStoredAs}
+use Rattle.node_store.specs.Image.{extent_of}
+use Rattle.node_store.specs.Events.{Known, Events, Stored, settled, certain, with_doubt, HasStart, IsStoredAs}
 use Rattle.session_input.specs.Commands.{Command}
 use Rattle.rel_session.specs.Device.{Device, LeavesOnly}
 use Rattle.session_input.specs.Feed.{Feed}

@@ -36,8 +36,9 @@ use Rattle.relup_command.proofs.RelupLines.{IsLineAnswer, good_answer}
 use Rattle.relup_command.proofs.RelupOutcomes.{one_answer, some_answer}
 use Rattle.rel_session.specs.Node.{Place, releases_after}
 use Rattle.rel_session.specs.Node.Place.{raw, closed, running, dead}
-use Rattle.rel_session.specs.Refusals.{refusal_for}
-use Rattle.rel_session.specs.Transition.{Action, ComesTo, OnNode, check_line, told, creation, unpacking, relup_telling}
+use Rattle.node_answer.specs.Refusals.{refusal_for}
+use Rattle.node_answer.specs.Lines.{check_line}
+use Rattle.rel_session.specs.Transition.{Action, ComesTo, OnNode, told, creation, unpacking, relup_telling}
 use Rattle.rel_session.specs.Transition.Action.{answers, makes_node, changes_node, installs, reboots_node, boots_node, tells_start, calls}
 use Rattle.rel_session.proofs.ProcessLines.{processes_whole, modules_whole, peek_whole}
 use Rattle.rel_session.proofs.AnswerLines.{HasLine, IsWhole, check_whole, refusal_whole, listing_whole, translation_whole}

@@ -10,8 +10,8 @@ use Rattle.rel_handler.specs.declared.error.BootError.{BootError}
 use Rattle.rel_handler.specs.declared.error.BootError.TheVariants as boot_error
 use Rattle.node_command.specs.declared.error.HandlerError.{HandlerError}
 use Rattle.node_command.specs.declared.error.HandlerError.TheVariants as handler_error
-use Rattle.rel_handler.specs.Events.{Events, Stored, certain, uncertain}
-use Rattle.rel_handler.specs.Image.{Extent, holds_a_store}
+use Rattle.node_store.specs.Events.{Events, Stored, certain, uncertain}
+use Rattle.node_store.specs.Image.{Extent, holds_a_store}
 use Rattle.node_command.specs.Files.{bundle_brought, made_size}
 use Rattle.node_command.specs.Place.{own_refusal}
 use Rattle.rel_handler.specs.Refusals.{IsBootRefusal}
@@ -27,11 +27,13 @@ use Rattle.rel_unpack.specs.Unpacking.{Brought}
 use Rattle.rel_unpack.specs.Source.{Source, GivesOne}
 use Rattle.node_processes.specs.Processes.{Processes}
 use Rattle.rel_session.specs.AnswerLaws.{have_restart}
-use Rattle.rel_session.specs.Installation.{installed_line, restarted}
+use Rattle.node_answer.specs.Lines.{installed_line}
+use Rattle.rel_session.specs.Installation.{restarted}
 use Rattle.rel_session.specs.Node.{Place, Outcome, Reply, reply, failed, nothing, done, failed_with, releases_after, behind, with_text}
 use Rattle.rel_session.specs.Node.Place.{raw, closed, running, dead}
-use Rattle.rel_session.specs.Refusals.{refusal_of, refusal_for, refusal_line, boot_line}
-use Rattle.rel_session.specs.Refusals.Refusal.{device}
+use Rattle.node_answer.specs.Refusals.{refusal_of, refusal_for, refusal_line}
+use Rattle.rel_session.specs.Booting.{boot_line}
+use Rattle.node_answer.specs.Refusals.Refusal.{device}
 use Rattle.rel_session.specs.Transition
 use Rattle.rel_session.specs.Transition.Action.{answers, makes_node, changes_node, installs, reboots_node, boots_node, tells_start, calls}
 use Rattle.rel_session.proofs.ActionLemmas.{Kind, kind_of, AreTold, one_action}

@@ -42,14 +42,15 @@ use Rattle.rel_list.specs.Refusal.{refusal}
 use Rattle.relup_script.specs.Search.{FoundForm}
 use Rattle.node_command.specs.Installing.{script_to, unless_listed_refusal}
 use Rattle.node_command.specs.Taking.{list_refusal}
-use Rattle.rel_session.specs.Refusals.{Refusal, refusal_of, refusal_line, boot_line}
-use Rattle.rel_session.specs.Refusals.Refusal.{no_such_release, existing_release, already_installed, bad_status, permanent, is_running, lib_differs, bad_file, missing_file, vsn_mismatch, no_table, too_many, no_matching_relup, script_refused, must_reboot, device, full, dead, no_memory, exists}
+use Rattle.node_answer.specs.Refusals.{Refusal, refusal_of, refusal_line}
+use Rattle.rel_session.specs.Booting.{boot_line}
+use Rattle.node_answer.specs.Refusals.Refusal.{no_such_release, existing_release, already_installed, bad_status, permanent, is_running, lib_differs, bad_file, missing_file, vsn_mismatch, no_table, too_many, no_matching_relup, script_refused, must_reboot, device, full, dead, no_memory, exists}
 use Rattle.node_upgrade.specs.Failure.{Failure, Why, failure_text, why_text}
 use Rattle.node_upgrade.specs.Failure.Why.{new_emulator, no_point, two_points, misplaced, fails}
 use Rattle.script_progress.specs.Fault as script
 use Rattle.script_progress.specs.Fault.{Cause, cause_text}
-use Rattle.rel_session.specs.Installation.{installed_text, names_value}
-use Rattle.rel_session.specs.Transition.{ok_line, done_line, check_line, checked_line}
+use Rattle.node_answer.specs.Lines.{installed_text, names_value}
+use Rattle.node_answer.specs.Lines.{ok_line, done_line, check_line, checked_line}
 
 -- Where a reader of answers stands: at the start of one or of a line of a listing, within such a line, or in the last line.
 pub data Mode : Type 0 where

@@ -7,11 +7,11 @@ use Rattle.std.specs.declared.alloc.AllocError.{AllocError}
 use Rattle.rel_list.specs.Event.{Event, list_after}
 use Rattle.node_processes.specs.Processes.{Processes}
 use Rattle.rel_session.specs.declared.booted_node.BootedNode.{BootedNode}
-use Rattle.rel_handler.specs.Commits.{Commits, IsDone}
-use Rattle.rel_handler.specs.Events.{Events, settled, with_doubt}
-use Rattle.rel_handler.specs.Compaction.{MayReach}
-use Rattle.rel_handler.specs.Image.{Extent, extent_behind}
-use Rattle.rel_handler.specs.State.{disk_in, extent_in, list_in, is_dead, HasStarted}
+use Rattle.node_store.specs.Commits.{Commits, IsDone}
+use Rattle.node_store.specs.Events.{Events, settled, with_doubt}
+use Rattle.node_store.specs.Compaction.{MayReach}
+use Rattle.node_store.specs.Image.{Extent, extent_behind}
+use Rattle.node_store.specs.State.{disk_in, extent_in, list_in, is_dead, HasStarted}
 use Rattle.rel_session.specs.declared.place.Place.{Place as PlaceInMemory}
 use Rattle.rel_session.specs.declared.place.Place.TheVariants as memory
 use Rattle.node_command.specs.declared.error.HandlerError.{HandlerError}

@@ -10,11 +10,11 @@ use Rattle.node_command.specs.declared.error.HandlerError.TheVariants as handler
 use Rattle.node_processes.specs.InMemory.{processes_in}
 use Rattle.node_processes.specs.Processes.{Processes}
 use Rattle.rel_session.specs.declared.booted_node.BootedNode.{BootedNode}
-use Rattle.rel_handler.specs.Commits.{Commits, IsDone}
-use Rattle.rel_handler.specs.Events.{Events, uncertain, IsStoredAs, settled}
-use Rattle.rel_handler.specs.Image.{Extent, HasSpace}
-use Rattle.rel_handler.specs.Refusals.{CommandRefused}
-use Rattle.rel_handler.specs.State.{disk_in, list_in, is_dead, extent_in, IsSame}
+use Rattle.node_store.specs.Commits.{Commits, IsDone}
+use Rattle.node_store.specs.Events.{Events, uncertain, IsStoredAs, settled}
+use Rattle.node_store.specs.Image.{Extent, HasSpace}
+use Rattle.node_store.specs.Refusals.{CommandRefused}
+use Rattle.node_store.specs.State.{disk_in, list_in, is_dead, extent_in, IsSame}
 use Rattle.node_command.specs.Taking.{commanded}
 use Rattle.rel_session.specs.declared.place.Place.TheVariants as memory
 use Rattle.rel_session.specs.Device.{Device, LeavesOnly, HasFailed}
@@ -22,8 +22,8 @@ use Rattle.rel_session.specs.InMemory.{IsAt, Replied, Answers}
 use Rattle.rel_session.specs.Node.{Place, Reply, refused, failed, releases_after, list_or_none}
 use Rattle.rel_session.specs.Node.Place.{raw, closed, running, dead}
 use Rattle.rel_unpack.specs.Refusal.{Refusal as FilesRefusal}
-use Rattle.rel_session.specs.Refusals.{Refusal, refusal_of, refusal_for, refusal_line}
-use Rattle.rel_session.specs.Refusals.Refusal.{full, device}
+use Rattle.node_answer.specs.Refusals.{Refusal, refusal_of, refusal_for, refusal_line}
+use Rattle.node_answer.specs.Refusals.Refusal.{full, device}
 use Rattle.rel_session.specs.Run.{IsReached, Holds}
 use Rattle.rel_session.specs.Transition
 use Rattle.rel_session.specs.Transition.Action.{changes_node}

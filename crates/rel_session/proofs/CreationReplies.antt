@@ -7,14 +7,14 @@ use Rattle.rel_list.specs.Releases.{Releases, running as running_release}
 use Rattle.rel_list.specs.Event.Event.{made, boot as booting}
 use Rattle.node_command.specs.declared.error.HandlerError.{HandlerError}
 use Rattle.node_command.specs.declared.error.HandlerError.TheVariants as handler_error
-use Rattle.rel_handler.specs.declared.handler.Handler.{Handler}
-use Rattle.rel_handler.specs.Events.{IsStoredAs, Stored}
+use Rattle.node_store.specs.declared.node_store.NodeStore.{NodeStore}
+use Rattle.node_store.specs.Events.{IsStoredAs, Stored}
 use Rattle.node_command.specs.Files.{bundle_brought, made_size, Brings, IsOfFiles}
 use Rattle.node_command.specs.Place.{own_refusal}
-use Rattle.rel_handler.specs.Image.{extent_behind, first_extent, HasSpace, holds_a_store, IsImageOf}
+use Rattle.node_store.specs.Image.{extent_behind, first_extent, HasSpace, holds_a_store, IsImageOf}
 use Rattle.rel_handler.specs.Moments.{WritesNothing}
 use Rattle.rel_handler.specs.Refusals.{MakingRefused}
-use Rattle.rel_handler.specs.State.{disk_in, list_in, is_dead, HasStarted}
+use Rattle.node_store.specs.State.{disk_in, list_in, is_dead, HasStarted}
 use Rattle.rel_handler.specs.Unpacking.{IsMade, IsNotBegun, IsNotMade, CreationRefused}
 use Rattle.rel_unpack.specs.Refusal as of_files
 use Rattle.rel_unpack.specs.Unpacking.{Brought}
@@ -27,8 +27,8 @@ use Rattle.rel_session.specs.Device.{Device, HasFailed}
 use Rattle.rel_session.specs.InMemory.{IsAt, Replied, NothingDone, Answers, AnswersCommand, IsStarted}
 use Rattle.rel_session.specs.Node.{Place, just_booted, Reply, reply, refused, failed, done}
 use Rattle.rel_session.specs.Node.Place.{raw, closed, running, dead}
-use Rattle.rel_session.specs.Refusals.{Refusal, refusal_of, refusal_for, refusal_line}
-use Rattle.rel_session.specs.Refusals.Refusal.{full, exists, device}
+use Rattle.node_answer.specs.Refusals.{Refusal, refusal_of, refusal_for, refusal_line}
+use Rattle.node_answer.specs.Refusals.Refusal.{full, exists, device}
 use Rattle.rel_session.specs.Transition
 use Rattle.rel_session.specs.Transition.Action.{makes_node}
 use Rattle.rel_session.specs.Transition.StopsWithin.{without_its_node}
@@ -74,7 +74,7 @@ module _ {D : Type 0} (v : Device D) (laws : IsDevice v) (source : Source) (path
     store_there s here = let of = here (v.seen disk) (laws.reads_an_image disk) in stores of.list of.image_of
 
     -- It is made.
-    module _ (h : Handler D) (is_made : IsMade v source path disk h) (started : HasStarted v.may_leave h) (alive : is_dead h ≡ false) (free : holds_a_store (v.seen disk) ≡ true → ⊥) (counted : v.failures disk ≤ v.failures (disk_in h)) where
+    module _ (h : NodeStore D) (is_made : IsMade v source path disk h) (started : HasStarted v.may_leave h) (alive : is_dead h ≡ false) (free : holds_a_store (v.seen disk) ≡ true → ⊥) (counted : v.failures disk ≤ v.failures (disk_in h)) where
       replies : (p : Place) → IsAt v (memory.Idle disk) p
           → HasBooted v laws p (λ a. Creates p a × (a.answer ≡ Transition.ok_line (Transition.version_of (running_release (list_in h))))) (memory.Idle disk) h
       replies (closed s) at = absurd (free (store_there s at))

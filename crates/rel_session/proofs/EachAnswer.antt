@@ -8,9 +8,9 @@ use Rattle.rel_list.specs.Event.{entry}
 use Rattle.rel_list.specs.declared.status.Status.TheVariants.{Permanent}
 use Rattle.rel_handler.specs.declared.error.BootError.{BootError}
 use Rattle.node_command.specs.declared.error.HandlerError.{HandlerError}
-use Rattle.rel_handler.specs.Events.{Events, certain}
-use Rattle.rel_handler.specs.Compaction.{compacted}
-use Rattle.rel_handler.specs.Image.{Extent, booted_extent, extent_behind, extent_of, first_extent, HasSpace, holds_a_store, IsImageOf}
+use Rattle.node_store.specs.Events.{Events, certain}
+use Rattle.node_store.specs.Compaction.{compacted}
+use Rattle.node_store.specs.Image.{Extent, booted_extent, extent_behind, extent_of, first_extent, HasSpace, holds_a_store, IsImageOf}
 use Rattle.rel_handler.proofs.BootLists.{extent_of_none, fits_or_not}
 use Rattle.node_command.specs.Files.{bundle_brought, made_size}
 use Rattle.node_command.specs.Place.{own_refusal}
@@ -30,7 +30,7 @@ use Rattle.node_processes.specs.Fresh.{fresh}
 use Rattle.node_processes.specs.Processes.{Processes}
 use Rattle.rel_session.specs.Node.{Place, Reply, reply, nothing, releases_after, list_or_none, behind}
 use Rattle.rel_session.specs.Node.Place.{raw, closed, running, dead}
-use Rattle.rel_session.specs.Refusals.{boot_line}
+use Rattle.rel_session.specs.Booting.{boot_line}
 use Rattle.rel_session.specs.Run.Ending.{ended, cut_off}
 use Rattle.rel_session.specs.AnswerLaws.{EachHasAnAnswer, HasAnswer, HasList, IsCertain, IsCompact, LeavesCompactStore, RunsOneShot}
 use Rattle.rel_session.specs.Transition

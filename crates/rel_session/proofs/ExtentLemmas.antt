@@ -9,9 +9,9 @@ use Rattle.rel_list.proofs.BootLaws.{boot_leaves_no_one_shot}
 use Rattle.rel_list.proofs.OneShotLaws.{boots_as_recorded, one_shots_come_from_restarts}
 use Rattle.rel_records.proofs.EventRecords.{recorded-twice}
 use Rattle.rel_records.specs.Image.{image_of}
-use Rattle.rel_handler.specs.Compaction.{compacted, extent_with, fits_image, is_long, may_be_compacted, MayReach, with_image}
-use Rattle.rel_handler.specs.Events.{Events, MayHave, certain}
-use Rattle.rel_handler.specs.Image.{Extent, extent_behind}
+use Rattle.node_store.specs.Compaction.{compacted, extent_with, fits_image, is_long, may_be_compacted, MayReach, with_image}
+use Rattle.node_store.specs.Events.{Events, MayHave, certain}
+use Rattle.node_store.specs.Image.{Extent, extent_behind}
 use Rattle.rel_session.specs.Node.{list_or_none, releases_after}
 use Rattle.rel_session.proofs.ListLemmas.{list_after-more}
 

@@ -20,8 +20,8 @@ use Rattle.rel_records.proofs.ImageEvents.{restored_by}
 use Rattle.rel_records.proofs.OrderlyLemmas.{statuses_orderly}
 use Rattle.rel_records.proofs.RecordPlaces.{chosen, assigned_so, event_of_record, settled_behind}
 use Rattle.rel_store.specs.Layout.{format_of}
-use Rattle.rel_handler.specs.Events.{Events}
-use Rattle.rel_handler.specs.Image.{IsImageOf}
+use Rattle.node_store.specs.Events.{Events}
+use Rattle.node_store.specs.Image.{IsImageOf}
 
 -- Assignments keep the releases.
 bundles-assigned : (v : List ℕ) (t : Status) (es : Releases) → bundles_of (list_assigned v t es) ≡ bundles_of es

@@ -3,11 +3,11 @@ use Rattle.std.proofs.Common.{◌≡◌, ℕ, Bool, true, false, List, [], ◌�
 use Rattle.std.specs.Prelude.{◌==◌}
 use Rattle.rel_list.specs.Event.{Event}
 use Rattle.rel_list.specs.Event.Event.{restart_installed}
-use Rattle.rel_handler.specs.Events.{Events, with_doubt}
+use Rattle.node_store.specs.Events.{Events, with_doubt}
 use Rattle.rel_session.specs.AnswerLaws.{have_restart}
 use Rattle.rel_session.specs.Node.{Reply}
-use Rattle.rel_session.specs.Refusals.{refusal_line}
-use Rattle.rel_session.specs.Refusals.Refusal.{device}
+use Rattle.node_answer.specs.Refusals.{refusal_line}
+use Rattle.node_answer.specs.Refusals.Refusal.{device}
 use Rattle.rel_session.specs.Run.{events_of}
 use Rattle.rel_session.proofs.AnswerLines.{IsWhole, one_front}
 

@@ -31,23 +31,24 @@ use Rattle.node_upgrade.specs.Failure.Why.{fails}
 use Rattle.node_upgrade.specs.Running.{start_in, RunRefused}
 use Rattle.node_upgrade.specs.Stale.{stale_modules}
 use Rattle.node_upgrade.specs.Upgrade.{IsNoUpgrade, IsUpgrade, UpgradeForm, libraries_at, script_failure, site_for}
-use Rattle.rel_handler.specs.Commits.{Commits, IsDone}
-use Rattle.rel_handler.specs.Events.{Events, certain, uncertain, settled, IsStoredAs}
-use Rattle.rel_handler.specs.Image.{Extent, extent_behind, HasSpace}
-use Rattle.rel_handler.specs.Compaction.{MayReach}
+use Rattle.node_store.specs.Commits.{Commits, IsDone}
+use Rattle.node_store.specs.Events.{Events, certain, uncertain, settled, IsStoredAs}
+use Rattle.node_store.specs.Image.{Extent, extent_behind, HasSpace}
+use Rattle.node_store.specs.Compaction.{MayReach}
 use Rattle.rel_handler.specs.Installing.{InstallRefused, IsInstalledBy, IsLost, MayBegin, NothingChanged, install_event, install_room, install_size, installation_event, needs_restart}
-use Rattle.rel_handler.specs.State.{disk_in, list_in, is_dead, extent_in, HasStarted}
+use Rattle.node_store.specs.State.{disk_in, list_in, is_dead, extent_in, HasStarted}
 use Rattle.rel_session.specs.declared.booted_node.BootedNode.{BootedNode}
 use Rattle.rel_session.specs.declared.place.Place.TheVariants as memory
 use Rattle.rel_session.specs.Device.{Device, LeavesOnly, HasFailed}
 use Rattle.rel_session.specs.Booting.{Boots, BootsStore, store_behind}
 use Rattle.rel_session.specs.InMemory.{state_in, HasInstalled, IsAt, Replied, Answers, AnswersAction, NothingDone, TellsInstallation, TellsOrStops}
-use Rattle.rel_session.specs.Installation.{Begins, Installs, IsInstallationReply, Leads, installed_line, installed_reply, installed_text, restarted_reply, upgrade_outcome}
+use Rattle.node_answer.specs.Lines.{installed_line, installed_text}
+use Rattle.rel_session.specs.Installation.{Begins, Installs, IsInstallationReply, Leads, installed_reply, restarted_reply, upgrade_outcome}
 use Rattle.rel_session.specs.Node.{Place, Reply, reply, done, refused, failed, behind, releases_after, list_or_none, with_text}
 use Rattle.rel_session.specs.Node.Place.{raw, closed, running, dead}
 use Rattle.rel_session.specs.declared.place.Place.{Place as PlaceInMemory}
-use Rattle.rel_session.specs.Refusals.{Refusal, refusal_of, refusal_line}
-use Rattle.rel_session.specs.Refusals.Refusal.{device, full, script_refused, must_reboot}
+use Rattle.node_answer.specs.Refusals.{Refusal, refusal_of, refusal_line}
+use Rattle.node_answer.specs.Refusals.Refusal.{device, full, script_refused, must_reboot}
 use Rattle.rel_session.specs.Run.{Holds, IsReached}
 use Rattle.rel_session.specs.Transition
 use Rattle.rel_session.specs.Transition.{StopsWithin}

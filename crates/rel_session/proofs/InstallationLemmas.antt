@@ -11,8 +11,8 @@ use Rattle.node_processes.specs.Scripts.{behind_run}
 use Rattle.node_upgrade.specs.Failure.{Failure, failure}
 use Rattle.node_upgrade.specs.Failure.Why.{fails}
 use Rattle.node_upgrade.specs.Upgrade.{script_failure}
-use Rattle.rel_handler.specs.Events.{Events, certain, uncertain}
-use Rattle.rel_handler.specs.Image.{Extent}
+use Rattle.node_store.specs.Events.{Events, certain, uncertain}
+use Rattle.node_store.specs.Image.{Extent}
 use Rattle.relup_exec.specs.Alone.{Outcome}
 use Rattle.relup_exec.specs.Alone.Outcome.{ends, refuses, breaks}
 use Rattle.relup_script.specs.Search.{FoundForm}
@@ -22,8 +22,8 @@ use Rattle.rel_session.specs.Installation.{Begins, Installs, IsInstallationReply
 use Rattle.rel_handler.specs.Installing.{install_size, installation_event, needs_restart}
 use Rattle.rel_session.specs.Node.{Reply, refused, failed}
 use Rattle.rel_session.specs.Node.Place.{running, dead}
-use Rattle.rel_session.specs.Refusals.{refusal_of}
-use Rattle.rel_session.specs.Refusals.Refusal.{full, no_matching_relup, script_refused, must_reboot}
+use Rattle.node_answer.specs.Refusals.{refusal_of}
+use Rattle.node_answer.specs.Refusals.Refusal.{full, no_matching_relup, script_refused, must_reboot}
 
 -- What holds of each reply that there may be holds of the reply.
 module _ (K : Reply → Type 0) (events : Events) (extent : Extent) (ps : Processes) (vsn : List ℕ) (list : Releases) where

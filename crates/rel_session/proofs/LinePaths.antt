@@ -9,8 +9,8 @@ use Rattle.erl_term.specs.Lines.{is_one_line}
 use Rattle.rel_files.specs.Name.{is_text}
 use Rattle.rel_list.specs.Releases.{Releases}
 use Rattle.rel_list.specs.Event.{list_after}
-use Rattle.rel_handler.specs.Image.{Extent, extent_of}
-use Rattle.rel_handler.specs.Events.{Stored, Events, MayHave, IsStoredAs, certain}
+use Rattle.node_store.specs.Image.{Extent, extent_of}
+use Rattle.node_store.specs.Events.{Stored, Events, MayHave, IsStoredAs, certain}
 use Rattle.session_input.specs.Commands.{Command, ParsedLine, parse_line, parse_words, parse_command, parse_process_command, parse_path_command, parse_peek, parse_call, parse_flood, call_of, flood_of, names_process, input_of, times_of, parse_change, change_named, with_word, without_words, path_of, path_in, paths_of, is_path, relup_of, parse_relup, split_at, version_in, is_blank, words_of, is_end, file_of, most_line, put_parsed, commands_of, commands_behind}
 use Rattle.session_input.specs.Commands.Command.{file, create, set_unpacked, check, install, permanent, remove, reboot_old, boot, start, releases, procs, modules, peek, call, flood, quit, bad}
 use Rattle.session_input.specs.Commands.ParsedLine.{blank, file_begins, whole_command}

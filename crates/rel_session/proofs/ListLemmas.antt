@@ -7,7 +7,7 @@ use Rattle.rel_list.specs.Event.{Event, booted, booted_status, step, list_from, 
 use Rattle.rel_list.specs.Status.{is_current, is_one_shot}
 use Rattle.rel_list.specs.declared.status.Status.{Status}
 use Rattle.rel_list.specs.declared.status.Status.TheVariants.{Unpacked, Current, Old, Permanent, OneShot}
-use Rattle.rel_handler.specs.Events.{Events}
+use Rattle.node_store.specs.Events.{Events}
 
 -- from whatever list
 list_from-more : (es : Releases) (events : Events) (e : Event) → list_from es (events ++ e ∷ []) ≡ option_and_then (step e) (list_from es events)

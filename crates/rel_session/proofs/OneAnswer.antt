@@ -7,9 +7,9 @@ use Rattle.rel_list.specs.Event.Event.{made, installed, restart_installed, reboo
 use Rattle.rel_handler.specs.declared.error.BootError.{BootError}
 use Rattle.rel_handler.specs.declared.error.BootError.TheVariants as boot_error
 use Rattle.node_command.specs.declared.error.HandlerError.{HandlerError}
-use Rattle.rel_handler.specs.Events.{Events, Stored, MayHave, certain}
-use Rattle.rel_handler.specs.Compaction.{compacted, MayReach}
-use Rattle.rel_handler.specs.Image.{Extent, booted_extent, extent_behind, first_extent, holds_a_store}
+use Rattle.node_store.specs.Events.{Events, Stored, MayHave, certain}
+use Rattle.node_store.specs.Compaction.{compacted, MayReach}
+use Rattle.node_store.specs.Image.{Extent, booted_extent, extent_behind, first_extent, holds_a_store}
 use Rattle.rel_handler.proofs.BootLists.{extent_of_none}
 use Rattle.node_command.specs.Files.{bundle_brought, made_size}
 use Rattle.node_command.specs.Place.{own_refusal}
@@ -30,7 +30,7 @@ use Rattle.node_processes.specs.Processes.{Processes}
 use Rattle.rel_session.specs.LawsBelow.{BootLaws}
 use Rattle.rel_session.specs.Node.{Place, Outcome, Reply, reply, releases_after, list_or_none, just_booted, done, behind, with_text}
 use Rattle.rel_session.specs.Node.Place.{raw, closed, running, dead}
-use Rattle.rel_session.specs.Refusals.{boot_line}
+use Rattle.rel_session.specs.Booting.{boot_line}
 use Rattle.rel_session.specs.Run.{Replies, Ending}
 use Rattle.rel_session.specs.Run.Ending.{ended, cut_off, early}
 use Rattle.rel_session.specs.AnswerLaws.{AreSame, HaveOneAnswer, IsCertain, IsCompact, LeaveCompactStores, LeavesCompactStore, RunsOneShot}
@@ -49,7 +49,8 @@ use Rattle.relup_exec.specs.Alone as script
 use Rattle.relup_script.specs.Search.{FoundForm}
 use Rattle.node_upgrade.specs.Stale.{stale_modules}
 use Rattle.node_upgrade.specs.Upgrade.{libraries_at}
-use Rattle.rel_session.specs.Installation.{Begins, installed_line, installed_reply, Installs, IsInstallationReply, Leads, restarted, restarted_reply, upgrade_outcome}
+use Rattle.node_answer.specs.Lines.{installed_line}
+use Rattle.rel_session.specs.Installation.{Begins, installed_reply, Installs, IsInstallationReply, Leads, restarted, restarted_reply, upgrade_outcome}
 use Rattle.rel_handler.specs.Installing.{install_size, installation_event, needs_restart}
 use Rattle.rel_session.proofs.ListLemmas.{current-booted, list_after-push, same_list}
 

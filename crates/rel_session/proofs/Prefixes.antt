@@ -6,8 +6,8 @@ use Rattle.std.proofs.lemmas.List.{append-nil, append_assoc}
 use Rattle.rel_list.specs.Releases.{Releases}
 use Rattle.rel_list.specs.Event.{Event, list_after, step}
 use Rattle.rel_list.specs.Event.Event.{boot}
-use Rattle.rel_handler.specs.Events.{Events, Known, settled, with_doubt, accepted, IsPrefix, Stored, certain, uncertain, uncertain_boot, MayHave, HasStart, IsStoredAs}
-use Rattle.rel_handler.specs.Image.{Extent, IsImageAt, IsStarted}
+use Rattle.node_store.specs.Events.{Events, Known, settled, with_doubt, accepted, IsPrefix, Stored, certain, uncertain, uncertain_boot, MayHave, HasStart, IsStoredAs}
+use Rattle.node_store.specs.Image.{Extent, IsImageAt, IsStarted}
 use Rattle.rel_handler.specs.Moments.{KeepsStore}
 use Rattle.rel_session.specs.Device.{Device, LeavesOnly}
 use Rattle.rel_session.specs.Run.{IsReached}

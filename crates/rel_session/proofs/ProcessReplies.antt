@@ -3,9 +3,9 @@ use Rattle.std.proofs.Common.{◌≡◌, ℕ, ◌≤◌, true, false, List, Resu
 use Rattle.std.specs.Prelude.{IfOk, MatchResult, String, string_bytes}
 use Rattle.std.specs.declared.alloc.AllocError.{AllocError}
 use Rattle.std.specs.declared.alloc.Global.{Global}
-use Rattle.rel_handler.specs.Image.{Extent}
-use Rattle.rel_handler.specs.Events.{Events}
-use Rattle.rel_handler.specs.State.{disk_in, list_in, is_dead}
+use Rattle.node_store.specs.Image.{Extent}
+use Rattle.node_store.specs.Events.{Events}
+use Rattle.node_store.specs.State.{disk_in, list_in, is_dead}
 use Rattle.rel_list.specs.Releases.{Releases}
 use Rattle.node_command.specs.declared.error.HandlerError.{HandlerError}
 use Rattle.node_command.specs.declared.error.HandlerError.TheVariants as handler_error

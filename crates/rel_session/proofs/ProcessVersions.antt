@@ -7,8 +7,8 @@ use Rattle.rel_list.specs.Event.{Event, booted, list_after, entry}
 use Rattle.rel_list.specs.declared.status.Status.TheVariants.{Permanent}
 use Rattle.rel_list.specs.Event.Event.{restart_installed, reboot_old as rebooting, boot as booting}
 use Rattle.rel_records.proofs.CompletionLemmas.{of_applications}
-use Rattle.rel_handler.specs.Events.{Events, Stored, certain}
-use Rattle.rel_handler.specs.Image.{Extent, holds_a_store}
+use Rattle.node_store.specs.Events.{Events, Stored, certain}
+use Rattle.node_store.specs.Image.{Extent, holds_a_store}
 use Rattle.rel_unpack.specs.Refusal.{Refusal}
 use Rattle.rel_unpack.specs.Source.{Source}
 use Rattle.rel_unpack.specs.Unpacking.{Brought}

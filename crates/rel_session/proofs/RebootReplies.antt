@@ -9,11 +9,11 @@ use Rattle.rel_list.specs.Event.Event.{reboot_old as rebooting}
 use Rattle.node_processes.specs.InMemory.{processes_in}
 use Rattle.node_processes.specs.Processes.{Processes}
 use Rattle.rel_session.specs.declared.booted_node.BootedNode.{BootedNode}
-use Rattle.rel_handler.specs.Commits.{Commits, IsDone}
-use Rattle.rel_handler.specs.Events.{Events}
-use Rattle.rel_handler.specs.Compaction.{MayReach}
-use Rattle.rel_handler.specs.Image.{Extent, extent_behind, HasSpace}
-use Rattle.rel_handler.specs.State.{extent_in, list_in, is_dead, HasStarted}
+use Rattle.node_store.specs.Commits.{Commits, IsDone}
+use Rattle.node_store.specs.Events.{Events}
+use Rattle.node_store.specs.Compaction.{MayReach}
+use Rattle.node_store.specs.Image.{Extent, extent_behind, HasSpace}
+use Rattle.node_store.specs.State.{extent_in, list_in, is_dead, HasStarted}
 use Rattle.node_command.specs.Taking.{change_size, commanded}
 use Rattle.rel_session.specs.declared.place.Place.{Place as PlaceInMemory}
 use Rattle.rel_session.specs.declared.place.Place.TheVariants as memory

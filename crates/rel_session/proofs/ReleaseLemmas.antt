@@ -1,8 +1,8 @@
 -- The refusal of a release for its files.
 use Rattle.std.proofs.Common.{◌≡◌, ◌≢◌, ℕ, List, Err, refl, ap, ◌∙◌}
-use Rattle.rel_handler.specs.Image.{Extent}
-use Rattle.rel_handler.specs.Events.{Events}
-use Rattle.node_command.specs.Files.{IsOfFiles, told_files}
+use Rattle.node_store.specs.Image.{Extent}
+use Rattle.node_store.specs.Events.{Events}
+use Rattle.node_command.specs.Files.{Brings, IsOfFiles, told_files}
 use Rattle.node_command.specs.declared.error.HandlerError.{HandlerError}
 use Rattle.node_command.specs.declared.error.HandlerError.TheVariants.{NoMemory}
 use Rattle.rel_unpack.specs.Refusal as of_files
@@ -13,8 +13,12 @@ use Rattle.session_input.specs.Commands.Command.{create, set_unpacked}
 use Rattle.node_processes.specs.Processes.{Processes}
 use Rattle.rel_session.specs.Node.{Place, refused}
 use Rattle.rel_session.specs.Node.Place.{running}
-use Rattle.rel_session.specs.Refusals.{Refusal, refusal_of, refusal_for, IsFilesRefusal}
+use Rattle.node_answer.specs.Refusals.{Refusal, refusal_of, refusal_for}
 use Rattle.rel_session.specs.Transition.{Transition, creation, unpacking}
+
+-- no release of this path is taken, for its file
+abbrev pub IsFilesRefusal : Source → List ℕ → Refusal → Type 0
+IsFilesRefusal source path why = (r : of_files.Refusal) × Brings source path (Err r) × (why ≡ refusal_for r)
 
 pub told_alike : (e : UnpackError) → refusal_of (told_files e) ≡ refusal_for (of_files.refusal_of e)
 told_alike (unpack.MissingFile path) = refl

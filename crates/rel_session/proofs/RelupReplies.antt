@@ -15,7 +15,7 @@ use Rattle.rel_session.specs.declared.place.Place.{Place as PlaceInMemory}
 use Rattle.rel_session.specs.Device.{Device}
 use Rattle.rel_session.specs.InMemory.{IsAt, Replied, Answers}
 use Rattle.rel_session.specs.Node.{Place, Reply}
-use Rattle.rel_session.specs.Refusals.{refusal_for, refusal_line}
+use Rattle.node_answer.specs.Refusals.{refusal_for, refusal_line}
 use Rattle.rel_session.specs.Transition.{Transition, relup_telling}
 use Rattle.rel_session.proofs.DeviceLemmas.{IsDevice}
 use Rattle.rel_session.proofs.Replies.{stays, leaves_all}

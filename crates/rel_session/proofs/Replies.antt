@@ -11,13 +11,13 @@ use Rattle.node_command.specs.declared.error.HandlerError.{HandlerError}
 use Rattle.node_command.specs.declared.error.HandlerError.TheVariants as handler_error
 use Rattle.rel_handler.specs.declared.error.BootError.{BootError}
 use Rattle.rel_handler.specs.declared.error.BootError.TheVariants as boot_error
-use Rattle.rel_handler.specs.declared.handler.Handler.{Handler}
+use Rattle.node_store.specs.declared.node_store.NodeStore.{NodeStore}
 use Rattle.rel_handler.specs.Booting.{IsBootOf}
-use Rattle.rel_handler.specs.Events.{Events, Stored, certain, uncertain_boot, StartsBehind, IsStoredAs}
+use Rattle.node_store.specs.Events.{Events, Stored, certain, uncertain_boot, StartsBehind, IsStoredAs}
 use Rattle.rel_handler.specs.Moments.{KeepsStore}
-use Rattle.rel_handler.specs.Image.{Extent, booted_extent, extent_of, IsImageAt, IsImageOf, IsLeftByBoot}
+use Rattle.node_store.specs.Image.{Extent, booted_extent, extent_of, IsImageAt, IsImageOf, IsLeftByBoot}
 use Rattle.rel_handler.specs.Refusals.{BootRefused, IsBootRefusal}
-use Rattle.rel_handler.specs.State.{disk_in, list_in, is_dead, extent_in, HasStarted, IsSame}
+use Rattle.node_store.specs.State.{disk_in, list_in, is_dead, extent_in, HasStarted, IsSame}
 use Rattle.node_processes.specs.Answers.{processes_line, modules_line, peek_line}
 use Rattle.node_processes.specs.Calls.{Calls}
 use Rattle.node_processes.specs.Calls.Calls.{once, often}
@@ -34,8 +34,9 @@ use Rattle.rel_unpack.specs.Source.{Source}
 use Rattle.rel_session.specs.InMemory.{disk_at, IsAt, Replied, Leads, NothingDone, Answers, TellsReply, TellsOrStops, AnswersOrStops, IsStarted, NeedsNode}
 use Rattle.rel_session.specs.Node.{Place, just_booted, at_rest, list_or_none, Outcome, Reply, reply, refused, failed, nothing, done, failed_with}
 use Rattle.rel_session.specs.Node.Place.{raw, closed, running, dead}
-use Rattle.rel_session.specs.Refusals.{refusal_of, refusal_line, boot_line}
-use Rattle.rel_session.specs.Refusals.Refusal.{dead as dead_node}
+use Rattle.node_answer.specs.Refusals.{refusal_of, refusal_line}
+use Rattle.rel_session.specs.Booting.{boot_line}
+use Rattle.node_answer.specs.Refusals.Refusal.{dead as dead_node}
 use Rattle.rel_session.specs.Run.{IsReached, Holds, Moments, Happens}
 use Rattle.rel_session.specs.Transition
 use Rattle.rel_session.specs.Transition.Action.{answers, changes_node, installs, reboots_node, boots_node, tells_start, calls}
@@ -145,12 +146,12 @@ module _ {D : Type 0} (v : Device D) (laws : IsDevice v) where
   same_at n new (dead s) same kept_on (here, is) = (subst (λ d. Holds v (dead s) d) (sym same.disk) here, same.dead ∙ is)
 
   -- A handler whose list is that of these events.
-  abbrev RunsWith : Handler D → Events → Extent → Type 0
+  abbrev RunsWith : NodeStore D → Events → Extent → Type 0
   RunsWith h events extent =
       ((c : List ℕ) → v.may_leave (disk_in h) c → IsStoredAs (certain events extent) c × StartsBehind events c) × (is_dead h ≡ false)
       × (list_after events ≡ Some (list_in h)) × (extent_in h ≡ extent)
 
-  runs_with : (h : Handler D) (events : Events) (extent : Extent) → is_dead h ≡ false → list_after events ≡ Some (list_in h) → extent_in h ≡ extent
+  runs_with : (h : NodeStore D) (events : Events) (extent : Extent) → is_dead h ≡ false → list_after events ≡ Some (list_in h) → extent_in h ≡ extent
       → ((c : List ℕ) → v.may_leave (disk_in h) c → IsImageAt c (list_in h) (extent_in h)) → HasStarted v.may_leave h → RunsWith h events extent
   runs_with h events extent alive after ends images started = (
     λ c now. (stored events extent (list_in h) c after (subst (IsImageAt c (list_in h)) ends (images c now)) (started c now), (list_in h, after, started c now)),
@@ -168,13 +169,13 @@ module _ {D : Type 0} (v : Device D) (laws : IsDevice v) where
       (here, living, behind, stop, has)
 
   -- A node has booted with this handler: the reply, and where a node with it and with its processes stands.
-  pub record HasBooted (p : Place) (P : Reply → Type 0) (old : PlaceInMemory D) (h : Handler D) : Type 0 where
+  pub record HasBooted (p : Place) (P : Reply → Type 0) (old : PlaceInMemory D) (h : NodeStore D) : Type 0 where
     pub given : Reply
     pub right : P given
     pub at : (n : BootedNode D) → n.handler ≡ h → processes_in n.processes ≡ fresh (list_in h) → IsAt v (memory.Made n) given.after
     pub happens : Happens v p given (disk_at old) (disk_in h)
 
-  pub booted_at : (h : Handler D) (events : Events) (extent : Extent) → is_dead h ≡ false → list_after events ≡ Some (list_in h) → extent_in h ≡ extent
+  pub booted_at : (h : NodeStore D) (events : Events) (extent : Extent) → is_dead h ≡ false → list_after events ≡ Some (list_in h) → extent_in h ≡ extent
       → ((c : List ℕ) → v.may_leave (disk_in h) c → IsImageAt c (list_in h) (extent_in h)) → HasStarted v.may_leave h
       → Holds v (just_booted events extent) (disk_in h) × ((n : BootedNode D) → n.handler ≡ h → processes_in n.processes ≡ fresh (list_in h) → IsAt v (memory.Made n) (just_booted events extent))
   booted_at h events extent alive after ends images started =
@@ -193,7 +194,7 @@ module _ {D : Type 0} (v : Device D) (laws : IsDevice v) where
   rests (dead s) disk holds = holds
 
   -- Its processes were started, or memory was refused and its disk alone is left.
-  module _ (P Q : Place → Reply → Type 0) (lost : (p : Place) (b : Reply) → P p b → Q p (Transition.without_node b)) (h : Handler D) (old : PlaceInMemory D) where
+  module _ (P Q : Place → Reply → Type 0) (lost : (p : Place) (b : Reply) → P p b → Q p (Transition.without_node b)) (h : NodeStore D) (old : PlaceInMemory D) where
     abbrev Tells : Place → Reply → Type 0
     Tells p a = P p a × (a.answer ≡ Transition.ok_line (Transition.version_of (running_release (list_in h))))
 
@@ -221,7 +222,7 @@ module _ {D : Type 0} (v : Device D) (laws : IsDevice v) where
       inl (record { given = r.given; right = r.right.0; at = r.at; happens = r.happens })
 
   -- a boot that is done
-  module _ (old : PlaceInMemory D) (disk : D) (taken : disk ≡ disk_at old) (h : Handler D) (alive : is_dead h ≡ false)
+  module _ (old : PlaceInMemory D) (disk : D) (taken : disk ≡ disk_at old) (h : NodeStore D) (alive : is_dead h ≡ false)
       (image : (es : Releases) × IsImageOf (v.seen disk) es × (recorded es ≡ es))
       (images : (c : List ℕ) → v.may_leave (disk_in h) c → IsImageAt c (list_in h) (extent_in h)) (started : HasStarted v.may_leave h)
       (only : (es : Releases) → IsImageOf (v.seen disk) es → IsBootOf (v.seen disk) es h)

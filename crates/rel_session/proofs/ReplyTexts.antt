@@ -21,14 +21,15 @@ use Rattle.rel_unpack.specs.Source.{Source}
 use Rattle.rel_session.specs.Files.{Files, files_of, files_behind, give, source_of}
 use Rattle.rel_session.specs.InMemory.{IsAt, Replied, Leads, NothingDone, Answers, AnswersAsked, AnswersTold, AnswersAction, AnswersCommand, AsksNode, FollowsCommand, IsLine, IsText}
 use Rattle.rel_session.specs.Node.{Place, Reply, reply, nothing}
-use Rattle.rel_session.specs.Refusals.{refusal_of, refusal_line}
+use Rattle.node_answer.specs.Refusals.{refusal_of, refusal_line}
 use Rattle.rel_list.specs.Releases.{Releases}
 use Rattle.relup_script.specs.Search.{FoundForm}
-use Rattle.rel_session.specs.Transition.{Action, ComesTo, Acts, asked, checked_line, told as told_by_node, StopsWithin, IsStopped, Transition, ok_line}
+use Rattle.node_answer.specs.Lines.{checked_line, ok_line}
+use Rattle.rel_session.specs.Transition.{Action, ComesTo, Acts, asked, told as told_by_node, StopsWithin, IsStopped, Transition}
 use Rattle.erl_term.specs.Value.{Value, value_of}
 use Rattle.erl_term.specs.declared.term.Term.{Term}
 use Rattle.std.proofs.lemmas.List.{map-append, map_more}
-use Rattle.rel_session.specs.Installation.{installed_text, names_value}
+use Rattle.node_answer.specs.Lines.{installed_text, names_value}
 use Rattle.rel_session.specs.Transition.Action.{answers}
 use Rattle.rel_session.proofs.DeviceLemmas.{IsDevice}
 use Rattle.rel_session.proofs.Replies.{stays, leaves_all, changes_no_memory, never_stops}
@@ -157,32 +158,3 @@ module _ {D : Type 0} (v : Device D) where
       λ p at. ⊎_elim (λ r. replied_so old.place place p _ _ (λ a told. (told.0, told.1 ∙ sym is)) r) (λ lapsed. absurd (known lapsed.0)) (given p at),
     )
     follows r (Err e) is given = ended r given
-
--- one more term, of what stands in its place
-pub term_more : {A : Type 0} (f : A → Value) (all : List A) (i : ℕ) (a : A) (old new : List Term) (term : Term) → i < length all → a ≡ get_or all i a → value_of term ≡ f a → new ≡ old ++ term ∷ []
-    → map value_of old ≡ map f (take i all) → map value_of new ≡ map f (take (i + 1) all)
-term_more f all i a old new term within at made grown so_far =
-    let spelled : map f (take (i + 1) all) ≡ map f (take i all) ++ f a ∷ [] = map_more f all i a within ∙ ap (λ b. map f (take i all) ++ f b ∷ []) (sym at) in
-    (ap (map value_of) grown ∙ map-append value_of old (term ∷ [])) ∙ ((λ j. so_far j ++ made j ∷ []) ∙ sym spelled)
-
--- the line of an installation
-pub tells_installed : (line : Result (String Global) AllocError) (first second third other : List ℕ) (descr : Value) (stale : List (List ℕ))
-    → IfOk line (λ s. string_bytes s ≡ codes "ok " ++ (first ++ (codes " " ++ (second ++ (codes " " ++ (third ++ codes "\n"))))))
-    → first ≡ text_of (text_value other) → second ≡ text_of descr → third ≡ text_of (names_value stale) → IfOk line (λ s. string_bytes s ≡ installed_text other descr stale)
-tells_installed (Err e) first second third other descr stale told is has then = tt
-tells_installed (Ok s) first second third other descr stale told is has then =
-    told ∙ (λ j. codes "ok " ++ (is j ++ (codes " " ++ (has j ++ (codes " " ++ (then j ++ codes "\n"))))))
-
--- the line of a script
-pub tells_found : (line : Result (String Global) AllocError) (other descr : List ℕ) (f : FoundForm) → IfOk line (λ s. string_bytes s ≡ codes "ok " ++ (other ++ (codes " " ++ (descr ++ codes "\n"))))
-    → other ≡ text_of (text_value f.other) → descr ≡ text_of f.descr → IfOk line (λ s. string_bytes s ≡ checked_line (Ok f))
-tells_found (Err e) other descr f told is has = tt
-tells_found (Ok s) other descr f told is has =
-    told ∙ ap (λ t. codes "ok " ++ t) (sym (append_assoc other (codes " " ++ descr) (codes "\n"))) ∙ ap (λ t. codes "ok " ++ ((t ++ (codes " " ++ descr)) ++ codes "\n")) is
-    ∙ ap (λ t. codes "ok " ++ ((text_of (text_value f.other) ++ (codes " " ++ t)) ++ codes "\n")) has
-
--- the line of a start
-pub tells_versions : (line : Result (String Global) AllocError) (erts vsn : List ℕ) → IfOk line (λ s. string_bytes s ≡ codes "ok " ++ (erts ++ (codes " " ++ (vsn ++ codes "\n"))))
-    → IfOk line (λ s. string_bytes s ≡ ok_line (erts ++ (codes " " ++ vsn)))
-tells_versions (Err e) erts vsn told = tt
-tells_versions (Ok s) erts vsn told = told ∙ ap (λ t. codes "ok " ++ t) (sym (append_assoc erts (codes " " ++ vsn) (codes "\n")))

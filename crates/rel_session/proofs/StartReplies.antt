@@ -5,11 +5,11 @@ use Rattle.std.specs.declared.alloc.AllocError.{AllocError}
 use Rattle.std.specs.declared.alloc.Global.{Global}
 use Rattle.rel_files.specs.Release.{Release}
 use Rattle.rel_list.specs.Releases.{permanent}
-use Rattle.rel_handler.specs.Image.{Extent}
-use Rattle.rel_handler.specs.Commits.{HasRead}
-use Rattle.rel_handler.specs.Events.{Events, certain, IsStoredAs}
+use Rattle.node_store.specs.Image.{Extent}
+use Rattle.rel_handler.specs.Moments.{HasRead}
+use Rattle.node_store.specs.Events.{Events, certain, IsStoredAs}
 use Rattle.rel_handler.specs.Refusals.{StartRefused}
-use Rattle.rel_handler.specs.State.{disk_in, list_in, is_dead}
+use Rattle.node_store.specs.State.{disk_in, list_in, is_dead}
 use Rattle.node_command.specs.declared.error.HandlerError.{HandlerError}
 use Rattle.node_command.specs.declared.error.HandlerError.TheVariants as handler_error
 use Rattle.node_processes.specs.InMemory.{processes_in}
@@ -19,10 +19,11 @@ use Rattle.rel_session.specs.Device.{Device, HasFailed}
 use Rattle.rel_session.specs.InMemory.{IsAt, Replied, NothingDone, Answers}
 use Rattle.rel_session.specs.Node.{Place, Reply, reply, failed, nothing, releases_after, list_or_none}
 use Rattle.rel_session.specs.Node.Place.{raw, closed, running, dead}
-use Rattle.rel_session.specs.Refusals.{refusal_line}
-use Rattle.rel_session.specs.Refusals.Refusal.{device}
+use Rattle.node_answer.specs.Refusals.{refusal_line}
+use Rattle.node_answer.specs.Refusals.Refusal.{device}
 use Rattle.rel_session.specs.Run.{Holds}
-use Rattle.rel_session.specs.Transition.{Acts, ok_line, start_versions}
+use Rattle.node_answer.specs.Lines.{ok_line}
+use Rattle.rel_session.specs.Transition.{Acts, start_versions}
 use Rattle.rel_session.specs.Transition.Action.{tells_start}
 use Rattle.rel_session.specs.declared.place.Place.TheVariants as memory
 use Rattle.rel_session.proofs.DeviceLemmas.{IsDevice}

@@ -4,8 +4,8 @@ use Rattle.rel_list.specs.Releases.{Releases}
 use Rattle.rel_list.specs.Event.{Event}
 use Rattle.rel_list.specs.Event.Event.{restart_installed, reboot_old as rebooting, boot as booting}
 use Rattle.node_command.specs.declared.error.HandlerError.{HandlerError}
-use Rattle.rel_handler.specs.Events.{Events, Stored, MayHave, certain, uncertain_boot}
-use Rattle.rel_handler.specs.Image.{Extent, holds_a_store}
+use Rattle.node_store.specs.Events.{Events, Stored, MayHave, certain, uncertain_boot}
+use Rattle.node_store.specs.Image.{Extent, holds_a_store}
 use Rattle.node_command.specs.Files.{bundle_brought, made_size}
 use Rattle.node_command.specs.Place.{own_refusal}
 use Rattle.node_command.specs.Taking.{commanded}
@@ -19,7 +19,8 @@ use Rattle.node_processes.specs.Scripts.{behind_run}
 use Rattle.node_upgrade.specs.Stale.{stale_modules}
 use Rattle.node_upgrade.specs.Upgrade.{libraries_at}
 use Rattle.relup_script.specs.Search.{FoundForm}
-use Rattle.rel_session.specs.Installation.{installed_line, restarted, restarted_reply}
+use Rattle.node_answer.specs.Lines.{installed_line}
+use Rattle.rel_session.specs.Installation.{restarted, restarted_reply}
 use Rattle.rel_session.specs.Node.{Place, at_rest, Reply, reply, nothing, releases_after, behind, with_text}
 use Rattle.rel_session.specs.Node.Place.{raw, closed, running, dead}
 use Rattle.rel_session.specs.Run.{MayLeave}

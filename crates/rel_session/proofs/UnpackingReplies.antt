@@ -8,9 +8,9 @@ use Rattle.node_command.specs.declared.error.HandlerError.TheVariants as handler
 use Rattle.node_processes.specs.InMemory.{processes_in}
 use Rattle.node_processes.specs.Processes.{Processes}
 use Rattle.rel_session.specs.declared.booted_node.BootedNode.{BootedNode}
-use Rattle.rel_handler.specs.Image.{Extent}
-use Rattle.rel_handler.specs.Events.{Events}
-use Rattle.rel_handler.specs.State.{is_dead}
+use Rattle.node_store.specs.Image.{Extent}
+use Rattle.node_store.specs.Events.{Events}
+use Rattle.node_store.specs.State.{is_dead}
 use Rattle.node_command.specs.Files.{Brings}
 use Rattle.rel_handler.specs.Unpacking.{IsBarred, IsUnpacked, UnpackingRefused}
 use Rattle.rel_unpack.specs.Refusal as of_files
@@ -22,7 +22,7 @@ use Rattle.rel_session.specs.Device.{Device}
 use Rattle.rel_session.specs.InMemory.{IsAt, Replied, Answers}
 use Rattle.rel_session.specs.Node.{Place, Reply}
 use Rattle.rel_session.specs.Node.Place.{running}
-use Rattle.rel_session.specs.Refusals.{refusal_of, refusal_line}
+use Rattle.node_answer.specs.Refusals.{refusal_of, refusal_line}
 use Rattle.rel_session.specs.Transition
 use Rattle.rel_session.specs.Transition.Action.{changes_node}
 use Rattle.rel_session.proofs.DeviceLemmas.{IsDevice}

@@ -22,12 +22,12 @@ use Rattle.node_command.specs.Files.{bundle_brought, made_size}
 use Rattle.node_command.specs.Place.{own_refusal}
 use Rattle.node_command.proofs.CommandLemmas.{IsListRefusal, IsListAnswer, of_command}
 use Rattle.rel_store.specs.Layout.{format_of}
-use Rattle.rel_handler.proofs.Commits.{have_versions}
+use Rattle.node_store.proofs.Commits.{have_versions}
 use Rattle.rel_handler.proofs.RepairLemmas.{permanent_versions}
 use Rattle.node_command.specs.declared.error.HandlerError.{HandlerError}
 use Rattle.node_command.specs.declared.error.HandlerError.TheVariants as handler_error
-use Rattle.rel_handler.specs.Events.{Events, Stored, MayHave, certain, uncertain, uncertain_boot}
-use Rattle.rel_handler.specs.Image.{Extent, holds_a_store, IsImageOf}
+use Rattle.node_store.specs.Events.{Events, Stored, MayHave, certain, uncertain, uncertain_boot}
+use Rattle.node_store.specs.Image.{Extent, holds_a_store, IsImageOf}
 use Rattle.node_processes.specs.Processes.{Processes}
 use Rattle.node_command.specs.Taking.{commanded}
 use Rattle.session_input.specs.Commands.{Command}
@@ -36,8 +36,8 @@ use Rattle.rel_unpack.specs.Unpacking.{Brought}
 use Rattle.rel_unpack.specs.Source.{Source}
 use Rattle.rel_session.specs.Node.{Place, Reply, refused, failed, releases_after, list_or_none}
 use Rattle.rel_session.specs.Node.Place.{raw, closed, running, dead}
-use Rattle.rel_session.specs.Refusals.{refusal_of, refusal_for, refusal_line}
-use Rattle.rel_session.specs.Refusals.Refusal.{device, bad_status, script_refused, must_reboot, dead as no_node}
+use Rattle.node_answer.specs.Refusals.{refusal_of, refusal_for, refusal_line}
+use Rattle.node_answer.specs.Refusals.Refusal.{device, bad_status, script_refused, must_reboot, dead as no_node}
 use Rattle.rel_session.specs.AnswerLaws.{HasLinePath, IsOfFiles, AreOfFiles, HasVersionsAt, HasModuleVersionsAt}
 use Rattle.rel_session.specs.Transition
 use Rattle.rel_session.specs.Transition.Action.{answers, makes_node, changes_node, installs, reboots_node, boots_node, tells_start, calls}
@@ -51,7 +51,8 @@ use Rattle.node_upgrade.specs.Stale.{stale_modules}
 use Rattle.node_upgrade.specs.Upgrade.{libraries_at}
 use Rattle.relup_script.specs.Search.{FoundForm}
 use Rattle.rel_handler.specs.Installing.{install_size, installation_event}
-use Rattle.rel_session.specs.Installation.{installed_line, restarted, restarted_reply}
+use Rattle.node_answer.specs.Lines.{installed_line}
+use Rattle.rel_session.specs.Installation.{restarted, restarted_reply}
 use Rattle.rel_session.proofs.InstallLines.{InstallLines, restart_first}
 use Rattle.rel_session.proofs.InstallLines.InstallLines.{one_line, two_lines, doubt_line}
 use Rattle.rel_session.proofs.InstallationLemmas.{each_reply}

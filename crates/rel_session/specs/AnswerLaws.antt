@@ -9,9 +9,9 @@ use Rattle.rel_list.specs.Releases.{Bundle, Entry, Releases, bundle_in, has_curr
 use Rattle.rel_list.specs.Event.{Event, list_after}
 use Rattle.rel_list.specs.Event.Event.{restart_installed, boot as booting}
 use Rattle.node_processes.specs.ModuleVersions.{HaveModuleVersions}
-use Rattle.rel_handler.specs.Compaction.{compacted}
+use Rattle.node_store.specs.Compaction.{compacted}
 use Rattle.rel_handler.specs.declared.error.BootError.TheVariants as boot_error
-use Rattle.rel_handler.specs.Events.{Events, certain}
+use Rattle.node_store.specs.Events.{Events, certain}
 use Rattle.session_input.specs.Commands.{Command}
 use Rattle.session_input.specs.Commands.Command.{create, set_unpacked, relup}
 use Rattle.relup_command.specs.Answer.{AreLinePaths}
@@ -20,11 +20,12 @@ use Rattle.session_input.specs.Feed.{Feed}
 use Rattle.session_input.specs.Feed.Feed.{next}
 use Rattle.rel_unpack.specs.Source.{Source, GivesOne, GivesEach}
 use Rattle.rel_session.specs.Files.{Files}
-use Rattle.rel_session.specs.Installation.{installed_text}
+use Rattle.node_answer.specs.Lines.{installed_text}
 use Rattle.rel_session.specs.Node.{Place, Reply, releases_after}
 use Rattle.rel_session.specs.Node.Place.{raw, closed, running, dead}
-use Rattle.rel_session.specs.Refusals.{boot_line, refusal_line}
-use Rattle.rel_session.specs.Refusals.Refusal.{device}
+use Rattle.node_answer.specs.Refusals.{refusal_line}
+use Rattle.rel_session.specs.Booting.{boot_line}
+use Rattle.node_answer.specs.Refusals.Refusal.{device}
 use Rattle.rel_session.specs.Run.{Starts, Holds, Executes, Replies, Ending, answers_of, commands_in, events_of, IsRun}
 use Rattle.rel_session.specs.Run.Ending.{early}
 use Rattle.rel_session.specs.RunLaws.{MayBe, NoneFails}

@@ -5,16 +5,21 @@ use Rattle.rel_list.specs.Event.{Event, booted, list_after}
 use Rattle.rel_list.specs.Event.Event.{boot as booting}
 use Rattle.rel_handler.specs.declared.error.BootError.{BootError}
 use Rattle.rel_handler.specs.declared.error.BootError.TheVariants as boot_error
-use Rattle.rel_handler.specs.Events.{Events, Stored, MayHave, certain, uncertain_boot}
-use Rattle.rel_handler.specs.Image.{Extent, booted_extent, IsImageAt}
+use Rattle.node_store.specs.Events.{Events, Stored, MayHave, certain, uncertain_boot}
+use Rattle.node_store.specs.Image.{Extent, booted_extent, IsImageAt}
 use Rattle.rel_handler.specs.Refusals.{IsBootRefusal}
-use Rattle.rel_handler.specs.State.{version_of}
+use Rattle.node_store.specs.State.{version_of}
+use Rattle.node_answer.specs.Lines.{ok_line}
 use Rattle.rel_session.specs.Node.{Place, just_booted, Reply, reply, nothing, done, failed_with}
 use Rattle.rel_session.specs.Node.Place.{raw, closed, running, dead}
-use Rattle.rel_session.specs.Refusals.{boot_line}
 
-abbrev pub ok_line : List ℕ → List ℕ
-ok_line vsn = codes "ok " ++ (vsn ++ codes "\n")
+-- the line that tells why a boot is refused: its number and its name; out of memory is never reported
+abbrev pub boot_line : BootError → List ℕ
+boot_line boot_error.NotAStore = codes "error boot 1 NotAStore\n"
+boot_line (boot_error.Damaged at) = codes "error boot 2 Damaged\n"
+boot_line boot_error.Device = codes "error boot 3 Device\n"
+boot_line boot_error.NoMemory = codes "error boot 4 NoMemory\n"
+boot_line (boot_error.BadRecord i) = codes "error boot 5 BadRecord\n"
 
 -- A boot of a store with these events is done, and a one-shot taken away. The answer names the version of the release that runs.
 abbrev pub IsBooted : Events → Extent → Reply → Type 0

@@ -5,11 +5,11 @@ use Rattle.std.specs.declared.alloc.AllocError.{AllocError}
 use Rattle.rel_unpack.specs.Source.{Source}
 use Rattle.rel_list.specs.Releases.{Releases, running as running_release}
 use Rattle.rel_list.specs.Event.{list_after}
-use Rattle.rel_handler.specs.declared.handler.Handler.{Handler}
-use Rattle.rel_handler.specs.Commits.{IsDone}
-use Rattle.rel_handler.specs.Image.{HasSpace}
+use Rattle.node_store.specs.declared.node_store.NodeStore.{NodeStore}
+use Rattle.node_store.specs.Commits.{IsDone}
+use Rattle.node_store.specs.Image.{HasSpace}
 use Rattle.rel_handler.specs.Installing.{install_event, install_room, install_size, needs_restart, IsInstalledBy}
-use Rattle.rel_handler.specs.State.{disk_in, extent_in, list_in, is_dead, HasStarted, IsSound}
+use Rattle.node_store.specs.State.{disk_in, extent_in, list_in, is_dead, HasStarted, IsSound}
 use Rattle.loaded_modules.specs.Loaded.{listed_in}
 use Rattle.session_input.specs.declared.error.SessionError.{SessionError}
 use Rattle.node_processes.specs.Fresh.{fresh}
@@ -37,12 +37,13 @@ use Rattle.node_upgrade.specs.Failure.{failure_of}
 use Rattle.node_upgrade.specs.Running.{NodeState, state}
 use Rattle.node_upgrade.specs.Failure.Why.{fails}
 use Rattle.script_progress.specs.Fault.Cause.{no_memory}
-use Rattle.rel_session.specs.Installation.{installed_text}
-use Rattle.rel_session.specs.Refusals.{refusal_of, refusal_line}
-use Rattle.rel_session.specs.Refusals.Refusal.{must_reboot, script_refused}
+use Rattle.node_answer.specs.Lines.{installed_text}
+use Rattle.node_answer.specs.Refusals.{refusal_of, refusal_line}
+use Rattle.node_answer.specs.Refusals.Refusal.{must_reboot, script_refused}
 use Rattle.rel_session.specs.Run.{Holds, Happens}
 use Rattle.node_processes.specs.Processes.{Processes}
-use Rattle.rel_session.specs.Transition.{Action, Acts, told, StopsWithin, Transition, IsStopped, ok_line, version_of}
+use Rattle.node_answer.specs.Lines.{ok_line}
+use Rattle.rel_session.specs.Transition.{Action, Acts, told, StopsWithin, Transition, IsStopped, version_of}
 use Rattle.rel_session.specs.Transition.Action.{answers}
 
 abbrev pub disk_at : {D : Type 0} → PlaceInMemory D → D
@@ -144,7 +145,7 @@ AnswersAsked v says result old new = AnswersTold v (λ list ps. says ps) result 
 
 -- The handler of a node that has just booted is at this place, with its processes, and this line tells the version that runs;
 -- or memory was refused, and its disk alone is left.
-abbrev pub IsStarted : {D : Type 0} → Handler D → Result (String Global) AllocError → PlaceInMemory D → Type 0
+abbrev pub IsStarted : {D : Type 0} → NodeStore D → Result (String Global) AllocError → PlaceInMemory D → Type 0
 IsStarted h (Ok text) (memory.Made node) =
     (node.handler ≡ h) × (processes_in node.processes ≡ fresh (list_in h))
     × (string_bytes text ≡ ok_line (version_of (running_release (list_in h))))

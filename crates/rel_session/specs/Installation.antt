@@ -14,9 +14,9 @@ use Rattle.node_upgrade.specs.Failure.{Failure, failure}
 use Rattle.node_upgrade.specs.Failure.Why.{fails}
 use Rattle.node_upgrade.specs.Stale.{stale_modules}
 use Rattle.node_upgrade.specs.Upgrade.{libraries_at, script_failure, site_for, upgrade_to}
-use Rattle.rel_handler.specs.Events.{Events, Stored, certain, uncertain}
-use Rattle.rel_handler.specs.Compaction.{MayReach}
-use Rattle.rel_handler.specs.Image.{Extent, extent_behind, HasSpace}
+use Rattle.node_store.specs.Events.{Events, Stored, certain, uncertain}
+use Rattle.node_store.specs.Compaction.{MayReach}
+use Rattle.node_store.specs.Image.{Extent, extent_behind, HasSpace}
 use Rattle.relup_exec.specs.Alone as script
 use Rattle.relup_exec.specs.Alone.{outcome}
 use Rattle.relup_exec.specs.Alone.Outcome.{ends, refuses, breaks}
@@ -24,21 +24,9 @@ use Rattle.relup_script.specs.Search.{FoundForm}
 use Rattle.rel_session.specs.Booting.{BootsStore, store_behind}
 use Rattle.rel_session.specs.Node.{Reply, releases_after, reply, refused, failed, done, behind, with_text}
 use Rattle.rel_session.specs.Node.Place.{running, dead}
-use Rattle.rel_session.specs.Refusals.{refusal_of}
-use Rattle.rel_session.specs.Refusals.Refusal.{full, script_refused, must_reboot}
-
--- the names of modules as a term
-abbrev pub names_value : List (List ℕ) → Value
-names_value names = list_value (values_of (map atom names))
-
--- the version and the description of the script's entry, and the stale modules
-abbrev pub installed_text : List ℕ → Value → List (List ℕ) → List ℕ
-installed_text other descr stale =
-    codes "ok " ++ (text_of (text_value other) ++ (codes " " ++ (text_of descr ++ (codes " "
-    ++ (text_of (names_value stale) ++ codes "\n")))))
-
-abbrev pub installed_line : FoundForm → List (List ℕ) → List ℕ
-installed_line f stale = installed_text f.other f.descr stale
+use Rattle.node_answer.specs.Lines.{installed_line}
+use Rattle.node_answer.specs.Refusals.{refusal_of}
+use Rattle.node_answer.specs.Refusals.Refusal.{full, script_refused, must_reboot}
 
 -- what comes of its script on these processes
 abbrev pub upgrade_outcome : List ℕ → Releases → FoundForm → Processes → script.Outcome

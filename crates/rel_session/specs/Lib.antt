@@ -4,7 +4,6 @@ pub mod Session
 pub mod Files
 pub mod InMemory
 pub mod Node
-pub mod Refusals
 pub mod Run
 pub mod RunLaws
 pub mod Booting

@@ -2,12 +2,12 @@
 use Rattle.std.specs.Prelude.{ℕ, Bool, true, false, List, [], ◌∷◌, ◌++◌, Option, None, Some}
 use Rattle.rel_list.specs.Releases.{Releases}
 use Rattle.rel_list.specs.Event.{Event, list_after}
-use Rattle.rel_handler.specs.Events.{Events, Stored, certain}
-use Rattle.rel_handler.specs.Image.{Extent}
+use Rattle.node_store.specs.Events.{Events, Stored, certain}
+use Rattle.node_store.specs.Image.{Extent}
 use Rattle.node_processes.specs.Fresh.{fresh}
 use Rattle.node_processes.specs.Processes.{Processes}
-use Rattle.rel_session.specs.Refusals.{Refusal, refusal_line}
-use Rattle.rel_session.specs.Refusals.Refusal.{device}
+use Rattle.node_answer.specs.Refusals.{Refusal, refusal_line}
+use Rattle.node_answer.specs.Refusals.Refusal.{device}
 
 -- Where a node's disk stands.
 pub data Place : Type 0 where

@@ -3,10 +3,10 @@ use Rattle.std.specs.Prelude.{◌≡◌, ◌⊎◌, ℕ, ◌≤◌, Bool, true, 
 use Rattle.rel_list.specs.Releases.{Releases}
 use Rattle.rel_list.specs.Event.{Event, list_after}
 use Rattle.rel_list.specs.Event.Event.{made}
-use Rattle.rel_handler.specs.Events.{Known, Events, settled, IsPrefix, with_doubt, StartsBehind, HasStart, IsStoredAs, certain}
-use Rattle.rel_handler.specs.Image.{IsImageOf, IsLeftByBoot}
+use Rattle.node_store.specs.Events.{Known, Events, settled, IsPrefix, with_doubt, StartsBehind, HasStart, IsStoredAs, certain}
+use Rattle.node_store.specs.Image.{IsImageOf, IsLeftByBoot}
 use Rattle.rel_handler.specs.Moments.{Begins, BeginsAt}
-use Rattle.rel_handler.specs.Events.{doubted}
+use Rattle.node_store.specs.Events.{doubted}
 use Rattle.session_input.specs.Commands.{Command, commands_of}
 use Rattle.session_input.specs.Commands.Command.{quit}
 use Rattle.rel_session.specs.Device.{Device, LeavesOnly, HasFailed}

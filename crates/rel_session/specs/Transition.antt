@@ -7,14 +7,14 @@ use Rattle.rel_list.specs.Event.{Event}
 use Rattle.rel_list.specs.Event.Event.{made, unpacked, restart_installed, made_permanent, removed, reboot_old as rebooting, boot as booting}
 use Rattle.node_command.specs.declared.error.HandlerError.{HandlerError}
 use Rattle.node_command.specs.Files.{bundle_brought, made_size, unpacked_size, Brings}
-use Rattle.rel_handler.specs.Events.{Events, Stored, certain, uncertain}
-use Rattle.rel_handler.specs.Compaction.{MayReach}
-use Rattle.rel_handler.specs.Image.{Extent, extent_behind, first_extent, HasSpace, holds_a_store}
+use Rattle.node_store.specs.Events.{Events, Stored, certain, uncertain}
+use Rattle.node_store.specs.Compaction.{MayReach}
+use Rattle.node_store.specs.Image.{Extent, extent_behind, first_extent, HasSpace, holds_a_store}
 use Rattle.rel_handler.specs.Installing.{install_room, install_size, needs_restart}
 use Rattle.node_command.specs.Installing.{installation}
 use Rattle.node_command.specs.Taking.{commanded, change_size}
 use Rattle.node_command.specs.Place.{files_refusal, own_refusal}
-pub use Rattle.rel_handler.specs.State.{version_of}
+pub use Rattle.node_store.specs.State.{version_of}
 use Rattle.rel_unpack.specs.Refusal.{Refusal as FilesRefusal}
 use Rattle.rel_unpack.specs.Source.{Source}
 use Rattle.rel_unpack.specs.Unpacking.{Brought}
@@ -30,17 +30,14 @@ use Rattle.node_processes.specs.Answers.{processes_line, modules_line, peek_line
 use Rattle.node_processes.specs.Calls.{Calls, calls_line, left_by}
 use Rattle.node_processes.specs.Calls.Calls.{once, often}
 use Rattle.node_processes.specs.Processes.{Processes}
-pub use Rattle.rel_session.specs.Booting.{ok_line, IsBooted, boot_failed, BootsBytes, FailsOnStore, BootsStore, Boots}
+pub use Rattle.rel_session.specs.Booting.{IsBooted, boot_failed, BootsBytes, FailsOnStore, BootsStore, Boots}
 use Rattle.rel_session.specs.Booting.{store_behind}
 use Rattle.rel_session.specs.Node.{Place, releases_after, just_booted, at_rest, Reply, reply, refused, failed, nothing, done, behind}
 use Rattle.rel_session.specs.Node.Place.{raw, closed, running, dead}
 use Rattle.rel_session.specs.Installation.{Installs, restarted, upgrade_outcome}
-use Rattle.rel_session.specs.Refusals.{Refusal, refusal_of, refusal_line, refusal_for}
-use Rattle.rel_session.specs.Refusals.Refusal.{full, exists, dead as dead_node}
-
--- that a command was done, with these details
-abbrev pub done_line : List ℕ → List ℕ
-done_line details = codes "ok" ++ (details ++ codes "\n")
+pub use Rattle.node_answer.specs.Lines.{check_line, done_line, ok_line}
+use Rattle.node_answer.specs.Refusals.{Refusal, refusal_of, refusal_line, refusal_for}
+use Rattle.node_answer.specs.Refusals.Refusal.{full, exists, dead as dead_node}
 
 -- what a node that runs answers by its releases and its processes
 abbrev pub told : (Releases → Processes → List ℕ) → Place → List ℕ
@@ -54,14 +51,6 @@ listed p = told (λ list ps. listing list) p
 -- the answer to a command that asks the processes alone
 abbrev pub asked : (Processes → List ℕ) → Place → List ℕ
 asked says p = told (λ list ps. says ps) p
-
--- the answer to `check`: the version and the description of the script that is found, or why there is none
-abbrev pub checked_line : Result FoundForm HandlerError → List ℕ
-checked_line (Ok f) = done_line (codes " " ++ (text_of (text_value f.other) ++ (codes " " ++ text_of f.descr)))
-checked_line (Err why) = refusal_line (refusal_of why)
-
-abbrev pub check_line : List ℕ → Releases → List ℕ
-check_line vsn list = checked_line (installation vsn list)
 
 -- An event that a command brings to a node; and, of the list that it changes, why its files are refused, how many bytes the
 -- body of its record has, and the details of the answer where it is done.

@@ -1,6 +1,6 @@
 //! A node that has booted.
 ghost use Rattle.std.specs.Prelude.{◌≡◌};
-ghost use Rattle.rel_handler.specs.State.{disk_in};
+ghost use Rattle.node_store.specs.State.{disk_in};
 
 use node_processes::Processes;
 use rel_disk::Disk;

@@ -1,6 +1,6 @@
 //! Commands that change the releases of a node that runs.
 ghost use Rattle.std.specs.Prelude.{◌≡◌, false};
-ghost use Rattle.rel_handler.specs.State.{is_dead};
+ghost use Rattle.node_store.specs.State.{is_dead};
 ghost use Rattle.rel_session.specs.InMemory.{IsSoundNode, Answers};
 ghost use Rattle.session_input.specs.Commands.Command.{set_unpacked};
 ghost use Rattle.rel_session.specs.Transition.{Transition, Acts, permanence, removal};
@@ -8,8 +8,9 @@ ghost use Rattle.rel_session.specs.Transition.Action.{changes_node};
 ghost use Rattle.rel_session.specs.declared.place.Place.TheVariants.{Made};
 
 use crate::booted_node::BootedNode;
-use crate::place::{answer_of, ok_line};
+use crate::place::answer_of;
 use file_source::Files;
+use node_answer::ok_line;
 use node_command::HandlerError;
 use rel_disk::Disk;
 use std::alloc::Global;

@@ -1,19 +1,15 @@
 //! Whether a release can be installed.
-ghost use Rattle.std.specs.Prelude.{◌≡◌, false, string_bytes, Ok, IfOk};
-ghost use Rattle.relup_script.specs.Search.{found_of};
-ghost use Rattle.rel_handler.specs.State.{is_dead, list_in};
+ghost use Rattle.std.specs.Prelude.{◌≡◌, false, string_bytes, IfOk};
+ghost use Rattle.node_store.specs.State.{is_dead, list_in};
 ghost use Rattle.rel_session.specs.InMemory.{IsSoundNode, AnswersTold};
-ghost use Rattle.rel_session.specs.Transition.{check_line, checked_line};
+ghost use Rattle.node_answer.specs.Lines.{check_line};
 ghost use Rattle.rel_session.specs.declared.place.Place.TheVariants.{Made};
 
 use crate::booted_node::BootedNode;
 use crate::place::answer_of;
-use crate::refusal::refusal_line;
-use erl_term::print;
+use node_answer::{found_line, refusal_line};
 use node_command::HandlerError;
-use node_listing::text_term;
 use rel_disk::Disk;
-use relup_script::Found;
 use std::alloc::{AllocError, Global};
 
 /// What an installation of this version would answer of its script, or why there would be none.
@@ -41,14 +37,4 @@ fn check_line<D: Disk>(alloc: Global, node: &BootedNode<D>, vsn: &str) -> Result
         Ok(found) => found_line(alloc, &found),
         Err(why) => refusal_line(alloc, &why),
     }
-}
-
-/// The line that tells a script.
-fn found_line(alloc: Global, found: &Found<'_>) -> Result<String, AllocError>
-    ensures { IfOk result (λ text. string_bytes text ≡ checked_line (Ok (found_of found.now))) }
-{
-    let other = text_term(alloc, found.other)?;
-    let other = print(alloc, &other)?;
-    let descr = print(alloc, found.descr)?;
-    format!(in alloc; "ok {other} {descr}\n")
 }

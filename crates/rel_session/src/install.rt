@@ -1,28 +1,17 @@
 //! Installs a release.
-ghost use Rattle.std.specs.Prelude.{◌≡◌, ◌++◌, map, string_bytes, IfErr, IfOk, IsErr, IsOkAnd};
-ghost use Rattle.erl_term.specs.Value.{value_of};
-ghost use Rattle.erl_term.specs.Value.Value.{atom};
-ghost use Rattle.node_upgrade.specs.Failure.{failure_of};
-ghost use Rattle.node_upgrade.specs.Failure.Why.{fails};
-ghost use Rattle.rel_handler.specs.Commits.{Commits};
+ghost use Rattle.std.specs.Prelude.{◌≡◌, ◌++◌, string_bytes, IfErr, IfOk, IsOkAnd};
+ghost use Rattle.node_store.specs.Commits.{Commits};
 ghost use Rattle.rel_handler.specs.Installing.{install_event, install_size, InstallRefused};
-ghost use Rattle.rel_handler.specs.State.{list_in};
+ghost use Rattle.node_store.specs.State.{list_in};
 ghost use Rattle.rel_session.specs.InMemory.{state_in, AnswersAction, HasInstalled, IsSoundNode, IsSoundPlace, TellsInstallation};
-ghost use Rattle.rel_session.specs.Installation.{installed_text, names_value};
-ghost use Rattle.rel_session.specs.Refusals.{refusal_line};
-ghost use Rattle.rel_session.specs.Refusals.Refusal.{must_reboot, script_refused};
 ghost use Rattle.rel_session.specs.Transition.Action.{installs};
-ghost use Rattle.script_progress.specs.Fault.Cause.{no_memory};
 
 use crate::booted_node::BootedNode;
 use crate::place::{Place, answer_of};
-use erl_term::{Term, print};
+use node_answer::{broken_line, installed_line, refused_line};
 use node_command::HandlerError;
-use node_listing::text_term;
-use node_upgrade::{InstallError, Installed, ScriptFailure, Why};
-use proc_history::Name;
+use node_upgrade::{InstallError, Installed};
 use rel_disk::Disk;
-use script_progress::Cause;
 use std::alloc::{AllocError, Global};
 use std::sync::Wait;
 
@@ -108,63 +97,4 @@ fn told(alloc: Global, done: Result<Installed, InstallError>) -> Result<String, 
         Err(InstallError::Refused(failure)) => answer_of(refused_line(alloc, &failure)),
         Err(InstallError::MustReboot(failure)) => answer_of(broken_line(alloc, &failure)),
     }
-}
-
-/// The line of a release that was installed.
-fn installed_line(alloc: Global, installed: &Installed) -> Result<String, AllocError>
-    ensures { IfOk result (λ text. string_bytes text
-        ≡ installed_text (string_bytes installed.now.other)
-        (value_of installed.now.descr) installed.now.stale.items) }
-{
-    let other = text_term(alloc, installed.other.as_str())?;
-    let other = print(alloc, &other)?;
-    let descr = print(alloc, &installed.descr)?;
-    let stale = names_term(alloc, installed.stale.as_slice())?;
-    let stale = print(alloc, &stale)?;
-    format!(in alloc; "ok {other} {descr} {stale}\n")
-}
-
-/// The names of modules as a term.
-fn names_term(alloc: Global, names: &[Name]) -> Result<Term, AllocError>
-    ensures { IfOk result (λ term. value_of term ≡ names_value names.now) }
-{
-    Ok(Term::List(name_terms(alloc, names)?))
-}
-
-fn name_terms(alloc: Global, names: &[Name]) -> Result<Vec<Term>, AllocError>
-    ensures { IfOk result (λ terms. map value_of terms.items ≡ map atom names.now) }
-{
-    let mut terms = Vec::new(alloc);
-    for name in names {
-        terms.push(name_term(alloc, name)?)?;
-    }
-    Ok(terms)
-}
-
-fn name_term(alloc: Global, name: &Name) -> Result<Term, AllocError>
-    ensures { IfOk result (λ term. value_of term ≡ atom name.now) }
-{
-    Ok(Term::Atom(String::from_str(alloc, name.as_str())?))
-}
-
-/// The line of a script that isn't run, or fails before its point of no return.
-fn refused_line(alloc: Global, failure: &ScriptFailure) -> Result<String, AllocError>
-    ensures { IfOk result (λ text. string_bytes text
-        ≡ refusal_line (script_refused (failure_of failure.now))) }
-{
-    let text = failure.text(alloc)?;
-    format!(in alloc; "error handler 14 Refused {text}\n")
-}
-
-/// The line of a script that fails behind its point of no return. Out of memory is no answer.
-fn broken_line(alloc: Global, failure: &ScriptFailure) -> Result<String, AllocError>
-    ensures told { IfOk result (λ text. string_bytes text
-        ≡ refusal_line (must_reboot (failure_of failure.now))) }
-    ensures memory { (failure_of failure.now).why ≡ fails no_memory → IsErr result }
-{
-    if let Why::Fails(Cause::NoMemory) = &failure.why {
-        return Err(AllocError);
-    }
-    let text = failure.text(alloc)?;
-    format!(in alloc; "error handler 15 MustReboot {text}\n")
 }

@@ -41,7 +41,6 @@ mod node;
 mod place;
 mod processes;
 mod reboot;
-mod refusal;
 mod start;
 
 pub use command_loop::session;

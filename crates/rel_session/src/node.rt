@@ -7,8 +7,8 @@ ghost use Rattle.rel_session.specs.declared.place.Place.TheVariants.{Idle};
 
 use crate::given_files::{GivenFiles, SessionFiles};
 use crate::place::Place;
-use crate::refusal::refusal_line;
 use file_source::Files;
+use node_answer::refusal_line;
 use node_command::HandlerError;
 use rel_disk::Disk;
 use session_input::{Command, GivenFile, SessionError};

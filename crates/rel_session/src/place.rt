@@ -1,6 +1,6 @@
 //! Where the node of a session lives.
 ghost use Rattle.std.specs.Prelude.{◌≡◌, ◌⊎◌, false, Ok, Err, string_bytes, IfOk, IsErr, MatchResult};
-ghost use Rattle.rel_handler.specs.State.{IsSound, is_dead, list_in};
+ghost use Rattle.node_store.specs.State.{IsSound, is_dead, list_in};
 ghost use Rattle.node_command.specs.Files.{Brings, IsOfFiles};
 ghost use Rattle.rel_list.specs.Releases.{running};
 ghost use Rattle.rel_unpack.specs.Unpacking.{Brought};
@@ -9,13 +9,14 @@ ghost use Rattle.node_processes.specs.Fresh.{fresh};
 ghost use Rattle.node_processes.specs.InMemory.{AreSound, processes_in};
 ghost use Rattle.rel_session.specs.InMemory.{IsSoundPlace, IsStarted};
 ghost use Rattle.rel_session.specs.Node.{Place as SomePlace};
-ghost use Rattle.rel_session.specs.Refusals.{boot_line};
-ghost use Rattle.rel_session.specs.Transition.{Acts, StopsWithin, listed, ok_line, version_of};
+ghost use Rattle.node_answer.specs.Lines.{ok_line};
+ghost use Rattle.rel_session.specs.Booting.{boot_line};
+ghost use Rattle.rel_session.specs.Transition.{Acts, StopsWithin, listed, version_of};
 ghost use Rattle.rel_session.specs.Transition.Action.{boots_node};
 
 use crate::booted_node::BootedNode;
-use crate::refusal::refusal_line;
 use file_source::Files;
+use node_answer::{ok_line, refusal_line};
 use node_command::{HandlerError, bring_release};
 use node_listing::listing;
 use node_processes::Processes;
@@ -182,13 +183,6 @@ fn running_version(list: &ReleaseList) -> &str
         Some(release) => release.vsn.as_str(),
         None => "",
     }
-}
-
-/// The line that tells a version.
-pub(crate) fn ok_line(alloc: Global, vsn: &str) -> Result<String, AllocError>
-    ensures { IfOk result (λ text. string_bytes text ≡ ok_line vsn.now) }
-{
-    format!(in alloc; "ok {vsn}\n")
 }
 
 /// The line that tells why a boot is refused. Out of memory is no answer.

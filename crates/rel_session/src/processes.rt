@@ -1,7 +1,7 @@
 //! Commands on the processes of a node that runs.
 ghost use Rattle.std.specs.Prelude.{◌≡◌, false};
 ghost use Rattle.node_processes.specs.Answers.{processes_line, modules_line, peek_line};
-ghost use Rattle.rel_handler.specs.State.{is_dead};
+ghost use Rattle.node_store.specs.State.{is_dead};
 ghost use Rattle.rel_session.specs.InMemory.{IsSoundNode, Answers, AnswersAsked};
 ghost use Rattle.rel_session.specs.Transition.{Acts};
 ghost use Rattle.rel_session.specs.Transition.Action.{calls};

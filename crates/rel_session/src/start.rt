@@ -1,17 +1,17 @@
 //! What a node starts.
-ghost use Rattle.std.specs.Prelude.{◌≡◌, ◌++◌, false, codes, string_bytes, IfOk};
-ghost use Rattle.rel_handler.specs.State.{is_dead};
+ghost use Rattle.std.specs.Prelude.{◌≡◌, false};
+ghost use Rattle.node_store.specs.State.{is_dead};
 ghost use Rattle.rel_session.specs.InMemory.{IsSoundNode, Answers};
-ghost use Rattle.rel_session.specs.Transition.{Acts, ok_line};
+ghost use Rattle.rel_session.specs.Transition.{Acts};
 ghost use Rattle.rel_session.specs.Transition.Action.{tells_start};
 ghost use Rattle.rel_session.specs.declared.place.Place.TheVariants.{Made};
 
 use crate::booted_node::BootedNode;
 use crate::place::answer_of;
+use node_answer::start_line;
 use node_command::HandlerError;
 use rel_disk::Disk;
-use start_record::Start;
-use std::alloc::{AllocError, Global};
+use std::alloc::Global;
 
 /// What the node starts, as its start record tells it.
 pub(crate) fn start<D: Disk>(
@@ -26,14 +26,4 @@ pub(crate) fn start<D: Disk>(
 {
     let start = node.handler.start(alloc)?;
     answer_of(start_line(alloc, &start))
-}
-
-/// The line that tells a start.
-fn start_line(alloc: Global, start: &Start) -> Result<String, AllocError>
-    ensures { IfOk result (λ text. string_bytes text
-        ≡ ok_line (string_bytes start.now.erts ++ (codes " " ++ string_bytes start.now.vsn))) }
-{
-    let erts = start.erts.as_str();
-    let vsn = start.vsn.as_str();
-    format!(in alloc; "ok {erts} {vsn}\n")
 }

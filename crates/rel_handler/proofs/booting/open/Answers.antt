@@ -6,7 +6,7 @@ use Rattle.rel_store.specs.Contents.{HasOnlyRead, IsSyncedAt}
 use Rattle.rel_store.specs.State.{records_in}
 use Rattle.rel_handler.specs.Refusals.{told_boot}
 use Rattle.rel_handler.proofs.Boots.{IsBadOrLack, IsLack, makes_so, only_memory, only_reads, read_so, settles_so}
-use Rattle.rel_handler.proofs.Images.{recorded_image}
+use Rattle.node_store.proofs.Images.{recorded_image}
 use Rattle.rel_handler.proofs.booting.open.Goals as goal
 
 -- the store was synced when it was opened

@@ -4,34 +4,34 @@ use Rattle.rel_list.specs.Event.{booted}
 use Rattle.rel_store.specs.Contents.{HasOnlyRead}
 use Rattle.rel_store.specs.State as store
 use Rattle.rel_handler.specs.Booting.{IsBooted}
-use Rattle.rel_handler.specs.Image.{start_slot}
-use Rattle.rel_handler.specs.State.{disk_in, list_in}
-use Rattle.rel_handler.proofs.Commits.{failed_so, opened, read_nothing}
+use Rattle.node_store.specs.Image.{start_slot}
+use Rattle.node_store.specs.State.{disk_in, list_in}
+use Rattle.node_store.proofs.Commits.{failed_so, opened, read_nothing}
 use Rattle.rel_handler.proofs.OneShotLemmas.{booted_so, fits_reserved, taken, takes, takes_nothing}
 use Rattle.rel_handler.proofs.booting.take_one_shot.Goals as goal
 
 -- there is none
 pub returns-in_default-clause-leaves : goal.returns-in_default-clause-leaves
 returns-in_default-clause-leaves g c =
-    let h = c.args.handler.now in
+    let h = c.args.node.now in
     takes_nothing g.D.Disk h c.requires.ready (g.met.D.Disk.only_now _) (disk_in h) (λ i. disk_in h)
 
 pub returns-in_default-clause-booted : goal.returns-in_default-clause-booted
-returns-in_default-clause-booted g c = booted_so g.D.Disk c.args.handler.now c.requires.ready c.requires.recorded (rw c.in_default.is at c.requires.body)
+returns-in_default-clause-booted g c = booted_so g.D.Disk c.args.node.now c.requires.ready c.requires.recorded (rw c.in_default.is at c.requires.body)
 
 -- there is no memory for its record
 pub returns-then-is_err-clause-leaves : goal.returns-then-is_err-clause-leaves
-returns-then-is_err-clause-leaves g c = takes_nothing g.D.Disk c.args.handler.now c.requires.ready (g.met.D.Disk.only_now _) (store.disk_in c.reserve.new.self) c.reserve.ensures.kept.disk
+returns-then-is_err-clause-leaves g c = takes_nothing g.D.Disk c.args.node.now c.requires.ready (g.met.D.Disk.only_now _) (store.disk_in c.reserve.new.self) c.reserve.ensures.kept.disk
 
 pub returns-then-is_err-clause-refused : goal.returns-then-is_err-clause-refused
 returns-then-is_err-clause-refused g c =
-    let h = c.args.handler.now in
+    let h = c.args.node.now in
     subst (λ d. HasOnlyRead g.D.Disk.seen g.D.Disk.may_leave g.D.Disk.moment g.D.Disk.left_since (disk_in h) d) (sym c.reserve.ensures.kept.disk) (read_nothing g.D.Disk h (g.met.D.Disk.only_now _))
 
 -- the device failed in the append
 pub returns-then-is_err-3-clause-leaves : goal.returns-then-is_err-3-clause-leaves
 returns-then-is_err-3-clause-leaves g c =
-    let h = c.args.handler.now in
+    let h = c.args.node.now in
     let (one, told, long) = rw c.in-Some.is at c.requires.body in
     let same = c.reserve.ensures.kept in
     let works = same.failed ∙ c.requires.ready.store.works in
@@ -40,7 +40,7 @@ returns-then-is_err-3-clause-leaves g c =
 
 pub returns-then-is_err-3-clause-refused : goal.returns-then-is_err-3-clause-refused
 returns-then-is_err-3-clause-refused g c =
-    let h = c.args.handler.now in
+    let h = c.args.node.now in
     let (one, told, long) = rw c.in-Some.is at c.requires.body in
     let same = c.reserve.ensures.kept in
     let size = length (string_bytes c.in-Some.body) in
@@ -52,7 +52,7 @@ returns-then-is_err-3-clause-refused g c =
 -- the record is there
 pub returns-clause-leaves : goal.returns-clause-leaves
 returns-clause-leaves g c =
-    let h = c.args.handler.now in
+    let h = c.args.node.now in
     let (one, told, long) = rw c.in-Some.is at c.requires.body in
     let same = c.reserve.ensures.kept in
     let works = same.failed ∙ c.requires.ready.store.works in
@@ -61,7 +61,7 @@ returns-clause-leaves g c =
 
 pub returns-clause-booted : goal.returns-clause-booted
 returns-clause-booted g c =
-    let h = c.args.handler.now in
+    let h = c.args.node.now in
     let (one, told, long) = rw c.in-Some.is at c.requires.body in
     let same = c.reserve.ensures.kept in
     let stepped = opened c.accept.result _ c.if-is_err-2.ensures.value c.accept.ensures.accepted in

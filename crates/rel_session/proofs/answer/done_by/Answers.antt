@@ -3,7 +3,8 @@ use Rattle.session_input.specs.Commands.{command_of}
 use Rattle.session_input.specs.Commands.Command.{set_unpacked, check, permanent, remove, start, procs, modules, peek, call, flood}
 use Rattle.node_processes.specs.Answers.{processes_line, modules_line, peek_line}
 use Rattle.node_processes.specs.Calls.Calls.{once, often}
-use Rattle.rel_session.specs.Transition.{check_line, permanence, removal}
+use Rattle.node_answer.specs.Lines.{check_line}
+use Rattle.rel_session.specs.Transition.{permanence, removal}
 use Rattle.rel_session.specs.Transition.Action.{changes_node, tells_start, calls}
 use Rattle.rel_session.specs.declared.place.Place.TheVariants as memory
 use Rattle.rel_session.proofs.DeviceLemmas.{IsDevice}

@@ -3,7 +3,8 @@ use Rattle.std.specs.Prelude.{IfOk}
 use Rattle.session_input.specs.Commands.Command.{set_unpacked}
 use Rattle.rel_session.specs.InMemory.{Answers}
 use Rattle.rel_session.specs.Node.{Place, Reply}
-use Rattle.rel_session.specs.Transition.{Transition, ok_line}
+use Rattle.node_answer.specs.Lines.{ok_line}
+use Rattle.rel_session.specs.Transition.{Transition}
 use Rattle.rel_session.specs.declared.place.Place.TheVariants as memory
 use Rattle.rel_session.proofs.DeviceLemmas.{IsDevice}
 use Rattle.rel_session.proofs.Replies.{told_so}

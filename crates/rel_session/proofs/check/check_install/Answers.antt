@@ -1,6 +1,7 @@
 use Rattle.std.proofs.Common.{refl}
 use Rattle.rel_session.specs.Node.{Place, Reply}
-use Rattle.rel_session.specs.Transition.{Acts, check_line, told}
+use Rattle.node_answer.specs.Lines.{check_line}
+use Rattle.rel_session.specs.Transition.{Acts, told}
 use Rattle.rel_session.specs.Transition.Action.{answers}
 use Rattle.rel_session.proofs.DeviceLemmas.{IsDevice}
 use Rattle.rel_session.proofs.ProcessReplies.{answers_of_node}

@@ -2,7 +2,8 @@ use Rattle.std.proofs.Common.{◌≡◌, ◌++◌, refl, sym, subst, codes, stri
 use Rattle.std.specs.Prelude.{IfOk}
 use Rattle.rel_session.specs.InMemory.{Answers}
 use Rattle.rel_session.specs.Node.{Place, Reply}
-use Rattle.rel_session.specs.Transition.{Acts, ok_line}
+use Rattle.node_answer.specs.Lines.{ok_line}
+use Rattle.rel_session.specs.Transition.{Acts}
 use Rattle.rel_session.specs.Transition.Action.{tells_start}
 use Rattle.rel_session.specs.declared.place.Place.TheVariants as memory
 use Rattle.rel_session.proofs.DeviceLemmas.{IsDevice}

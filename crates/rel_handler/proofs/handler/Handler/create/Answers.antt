@@ -5,7 +5,7 @@ use Rattle.rel_unpack.specs.declared.unpacking.ReleaseFiles.{ReleaseFiles}
 use Rattle.rel_unpack.specs.Unpacking.{brought_of}
 use Rattle.rel_handler.proofs.Boots.{unwritten}
 use Rattle.rel_handler.proofs.CreationLemmas.{not_made_of, read_alone}
-use Rattle.rel_handler.proofs.Images.{has_a_store}
+use Rattle.rel_handler.proofs.NewNodes.{has_a_store}
 use Rattle.node_command.proofs.ReleaseLemmas.{brings_same, still_free, still_terms, still_whole}
 use Rattle.rel_handler.proofs.ReleaseLemmas.{made_so, not_made_so}
 use Rattle.rel_handler.proofs.handler.Handler.create.Goals as goal

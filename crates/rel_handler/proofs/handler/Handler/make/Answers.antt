@@ -6,9 +6,10 @@ use Rattle.node_command.specs.Files.{bundle_brought, made_size}
 use Rattle.rel_handler.specs.Moments.{WritesNothing}
 use Rattle.rel_handler.specs.Refusals.{MakingRefused, told_create}
 use Rattle.rel_handler.proofs.Boots.{unwritten, nothing_begun, sound_so, begins_at, begins, made_new, fits_in_a_slot, is_create_error, making_refused}
-use Rattle.rel_handler.specs.Image.{extent_behind, first_extent, HasSpace, IsStarted, start_slot}
-use Rattle.rel_handler.specs.State.{store_extent}
-use Rattle.rel_handler.proofs.Images.{each_image, no_boot_space, same_extent, started_new}
+use Rattle.node_store.specs.Image.{extent_behind, first_extent, HasSpace, IsStarted, start_slot}
+use Rattle.node_store.specs.State.{store_extent}
+use Rattle.node_store.proofs.Images.{each_image, no_boot_space, same_extent}
+use Rattle.rel_handler.proofs.NewNodes.{started_new}
 use Rattle.rel_handler.proofs.handler.Handler.make.Goals as goal
 
 pub create-requires : goal.create-requires

@@ -6,37 +6,42 @@ use Rattle.rel_handler.specs.Unpacking.{UnpackingRefused}
 use Rattle.rel_unpack.specs.Unpacking.{brought_of}
 use Rattle.rel_handler.proofs.PlaceLemmas.{no_place}
 use Rattle.node_command.proofs.Refusals.{refuses_with}
-use Rattle.rel_handler.proofs.Commits.{unchanged}
+use Rattle.node_store.proofs.Commits.{unchanged}
 use Rattle.node_command.proofs.ReleaseLemmas.{brings_same, still_agree, still_free, still_terms, still_whole, brought_free, agrees_so, room_so}
 use Rattle.rel_handler.proofs.ReleaseLemmas.{unchanged_handler}
 use Rattle.rel_handler.proofs.handler.Handler.set_unpacked.Goals as goal
 
 -- a dead handler takes nothing in
 pub returns-then-self-clause-refused : goal.returns-then-self-clause-refused
-returns-then-self-clause-refused g c = inl (refl, c.if-self.true, unchanged_handler c.args.self.now)
+returns-then-self-clause-refused g c =
+    rw (← c.self.view_is)
+    (inl (refl, c.if-self.true, unchanged_handler c.self.inside.node))
 
 -- the release's file is refused
 pub returns-in_err-brought-clause-refused : goal.returns-in_err-brought-clause-refused
 returns-in_err-brought-clause-refused g c =
-    let h = c.args.self.now in
+    rw (← c.self.view_is)
+    (let h = c.self.inside.node in
     refuses_with (UnpackingRefused g.D.Disk (g.F.Files.gives c.args.files.now) c.args.path.now h h) c.from_residual.result c.in_err-brought.field-0.0 c.from_residual.ensures
-    (inr (inl (c.in_err-brought.ensures.refused, c.if-self.false, unchanged_handler h)))
+    (inr (inl (c.in_err-brought.ensures.refused, c.if-self.false, unchanged_handler h))))
 
 -- the list has no place for it
 pub returns-in_err-vsn-clause-refused : goal.returns-in_err-vsn-clause-refused
 returns-in_err-vsn-clause-refused g c =
-    let h = c.args.self.now in
+    rw (← c.self.view_is)
+    (let h = c.self.inside.node in
     let source = g.F.Files.gives c.args.files.now in
     let b = brought_of c.in_ok-brought.brought in
     let why = c.in_err-vsn.field-0.0 in
     refuses_with (UnpackingRefused g.D.Disk source c.args.path.now h h) c.from_residual-in_err-vsn.result why c.from_residual-in_err-vsn.ensures
-    (no_place g.D.Disk source c.args.path.now h b why c.if-self.false (c.requires.free c.if-self.false) c.in_ok-brought.ensures.small c.in_ok-brought.ensures.brought
-    (unchanged g.D.Disk h c.requires (g.met.D.Disk.only_now _) (unpacked (bundle_brought b)) (unpacked_size b h.list)) c.in_err-vsn.ensures.refused)
+    (no_place g.D.Disk source c.args.path.now h b why c.if-self.false ((rw (← c.self.view_is) at c.requires).free c.if-self.false) c.in_ok-brought.ensures.small c.in_ok-brought.ensures.brought
+    (unchanged g.D.Disk h (rw (← c.self.view_is) at c.requires) (g.met.D.Disk.only_now _) (unpacked (bundle_brought b)) (unpacked_size b h.list)) c.in_err-vsn.ensures.refused))
 
 -- its files are refused
 pub returns-in_err-brought-2-clause-refused : goal.returns-in_err-brought-2-clause-refused
 returns-in_err-brought-2-clause-refused g c =
-    let h = c.args.self.now in
+    rw (← c.self.view_is)
+    (let h = c.self.inside.node in
     let source = g.F.Files.gives c.args.files.now in
     let why = c.in_err-brought-2.field-0.0 in
     let b = brought_of c.in_ok-brought.brought in
@@ -48,12 +53,11 @@ returns-in_err-brought-2-clause-refused g c =
       fresh = c.in_ok-vsn.ensures.fresh;
       barred = subst (λ o. IsToldAs o why) (sym (agrees_so b h.list c.in_ok-vsn.ensures.fresh c.in_ok-vsn.ensures.agree)) (subst (λ r. IsToldAs (refusal_with r b) why) c.has_room.ensures c.in_err-brought-2.ensures.refused);
       same = unchanged_handler h;
-    }))))
+    })))))
 
 -- what is taken in agrees with the list, and a node may have it
 pub take_in-requires-clause-agree : goal.take_in-requires-clause-agree
-take_in-requires-clause-agree g c =
-    still_agree c.args.self.now.list c.in_ok-brought.brought c.in_ok-brought-2.brought c.in_ok-brought-2.ensures.brought c.in_ok-vsn.ensures.agree
+take_in-requires-clause-agree g c = still_agree c.self.inside.node.list c.in_ok-brought.brought c.in_ok-brought-2.brought c.in_ok-brought-2.ensures.brought c.in_ok-vsn.ensures.agree
 
 pub take_in-requires-clause-terms : goal.take_in-requires-clause-terms
 take_in-requires-clause-terms g c = still_terms c.in_ok-brought.brought c.in_ok-brought-2.brought c.in_ok-brought-2.ensures.brought c.in_ok-brought.ensures.terms
@@ -62,36 +66,36 @@ pub take_in-requires-clause-room : goal.take_in-requires-clause-room
 take_in-requires-clause-room g c = sym c.has_room.ensures ∙ (room_so c.has_room.result (brought_of c.in_ok-brought.brought) c.in_ok-brought-2.ensures.free).0
 
 pub take_in-requires-clause-free : goal.take_in-requires-clause-free
-take_in-requires-clause-free g c =
-    still_free true c.in_ok-brought.brought c.in_ok-brought-2.brought c.in_ok-brought-2.ensures.brought (room_so c.has_room.result (brought_of c.in_ok-brought.brought) c.in_ok-brought-2.ensures.free).1
+take_in-requires-clause-free g c = still_free true c.in_ok-brought.brought c.in_ok-brought-2.brought c.in_ok-brought-2.ensures.brought (room_so c.has_room.result (brought_of c.in_ok-brought.brought) c.in_ok-brought-2.ensures.free).1
 
 pub take_in-requires-clause-whole : goal.take_in-requires-clause-whole
-take_in-requires-clause-whole g c =
-    still_whole c.in_ok-brought.brought c.in_ok-brought-2.brought c.in_ok-brought-2.ensures.brought c.in_ok-brought.ensures.whole
+take_in-requires-clause-whole g c = still_whole c.in_ok-brought.brought c.in_ok-brought-2.brought c.in_ok-brought-2.ensures.brought c.in_ok-brought.ensures.whole
     (room_so c.has_room.result (brought_of c.in_ok-brought.brought) c.in_ok-brought-2.ensures.free).1
 
 -- the node refused the release
 pub returns-in_err-take_in-clause-refused : goal.returns-in_err-take_in-clause-refused
 returns-in_err-take_in-clause-refused g c =
-    let h = c.args.self.now in
+    rw (← c.self.view_is)
+    (let h = c.self.inside.node in
     let source = g.F.Files.gives c.args.files.now in
     let why = c.in_err-take_in.field-0.0 in
     let b = c.in_ok-brought-2.brought in
     let same = c.in_ok-brought-2.ensures.brought in
     let agree = c.in_ok-vsn.ensures.agree in
-    refuses_with (UnpackingRefused g.D.Disk source c.args.path.now h c.take_in.new.self) c.from_residual-in_err-take_in.result why c.from_residual-in_err-take_in.ensures
+    refuses_with (UnpackingRefused g.D.Disk source c.args.path.now h c.take_in.new.node) c.from_residual-in_err-take_in.result why c.from_residual-in_err-take_in.ensures
     (inr (inr (inr (record {
       brought = brought_of b;
       read = brings_same source c.args.path.now c.in_ok-brought.brought b same c.in_ok-brought.ensures.brought;
       free = brought_free (brought_of b) h.list (still_agree h.list c.in_ok-brought.brought b same agree) (still_free (has_room h.list) c.in_ok-brought.brought b same (subst (λ r. refusal_with r (brought_of c.in_ok-brought.brought) ≡ None) c.has_room.ensures c.in_ok-brought-2.ensures.free));
       commits = c.in_err-take_in.ensures.commits;
       refused = c.in_err-take_in.ensures.refused;
-    }))))
+    })))))
 
 -- it was taken in
 pub returns-clause-unpacked : goal.returns-clause-unpacked
 returns-clause-unpacked g c =
-    let h = c.args.self.now in
+    rw (← c.self.view_is)
+    (let h = c.self.inside.node in
     let b = c.in_ok-brought-2.brought in
     let same = c.in_ok-brought-2.ensures.brought in
     let agree = c.in_ok-vsn.ensures.agree in
@@ -104,4 +108,4 @@ returns-clause-unpacked g c =
       works = c.in_ok-take_in.ensures.works;
       start = c.in_ok-take_in.ensures.start;
       version = search rules;
-    }
+    })

@@ -1,6 +1,6 @@
 use Rattle.std.proofs.Common.{length, string_bytes, ap, subst, ◌∙◌}
 use Rattle.node_command.specs.Taking.{change_size, no_terms}
-use Rattle.rel_handler.specs.Commits.{IsRecordFor}
+use Rattle.node_store.specs.Commits.{IsRecordFor}
 use Rattle.rel_handler.proofs.install_record.InstallRecord.of.Goals as goal
 
 pub returns-clause-told : goal.returns-clause-told

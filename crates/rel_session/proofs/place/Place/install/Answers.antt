@@ -1,5 +1,5 @@
 use Rattle.std.proofs.Common.{◌≡◌, true, false, rules, sym, subst, ◌∙◌, Ok, Err, IsOk, OnOk, string_bytes}
-use Rattle.rel_handler.specs.State.{is_dead}
+use Rattle.node_store.specs.State.{is_dead}
 use Rattle.rel_session.specs.InMemory.{AnswersAction, IsSoundPlace, TellsInstallation}
 use Rattle.rel_session.specs.Node.{Place, Reply}
 use Rattle.rel_session.specs.Transition.{Acts, StopsWithin}

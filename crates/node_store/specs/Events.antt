@@ -1,0 +1,126 @@
+-- Crash safety: which lists a node may boot to.
+use Rattle.std.specs.Prelude.{◌≡◌, ◌⊎◌, ℕ, List, [], ◌∷◌, ◌++◌, is_some, if◌then◌else◌, Option, None, Some, Err}
+use Rattle.rel_list.specs.Releases.{Releases}
+use Rattle.rel_list.specs.Event.{Event, list_after}
+use Rattle.rel_list.specs.Event.Event.{boot}
+use Rattle.rel_store.specs.Records.{records_of}
+use Rattle.rel_store.specs.declared.error.StoreError.TheVariants.{NotAStore}
+use Rattle.node_store.specs.Compaction.{compacted}
+use Rattle.node_store.specs.Image.{Extent, booted_extent, extent_behind, extent_of, IsImageOf, IsStarted}
+
+abbrev pub Events : Type 0
+Events = List Event
+
+-- What is known of a node's events: those whose commands were answered Ok, in order, and the one that is in doubt, if
+-- there is one, since its command wasn't answered yet or the device failed in it.
+pub record Known : Type 0 where
+  pub acknowledged : Events
+  pub in_doubt : Option Event
+
+-- these events are acknowledged, and none is in doubt
+abbrev pub settled : Events → Known
+settled events = record { acknowledged = events; in_doubt = None }
+
+-- behind these events this one is in doubt
+abbrev pub doubted : Events → Event → Known
+doubted events e = record { acknowledged = events; in_doubt = Some e }
+
+-- the events with the one in doubt
+abbrev pub with_doubt : Events → Option Event → Events
+with_doubt events None = events
+with_doubt events (Some e) = events ++ e ∷ []
+
+-- the accepted events: the acknowledged ones, and the one in doubt where the list allows it
+abbrev pub accepted : Known → Events
+accepted k = if is_some (list_after (with_doubt k.acknowledged k.in_doubt)) then with_doubt k.acknowledged k.in_doubt else k.acknowledged
+
+-- a prefix of the accepted events that holds every acknowledged one
+pub record IsPrefix (k : Known) (events : Events) : Type 0 where
+  pub lacks : Events
+  pub of_accepted : accepted k ≡ events ++ lacks
+  pub more : Events
+  pub holds : events ≡ k.acknowledged ++ more
+
+-- These bytes stand for the list of a prefix of the accepted events that holds every acknowledged one.
+pub record IsOfPrefix (k : Known) (image : List ℕ) : Type 0 where
+  pub events : Events
+  pub prefix : IsPrefix k events
+  pub list : Releases
+  pub after : list_after events ≡ Some list
+  pub image_of : IsImageOf image list
+
+-- The start record in these bytes is that of the release that is permanent behind these events.
+abbrev pub StartsBehind : Events → List ℕ → Type 0
+StartsBehind events image = (es : Releases) × (list_after events ≡ Some es) × IsStarted es image
+
+-- each of them is a boot
+abbrev pub AreBoots : Events → Type 0
+AreBoots [] = Unit {0}
+AreBoots (boot ∷ events) = AreBoots events
+AreBoots (e ∷ events) = ⊥
+
+-- It is, or that of the release that was permanent before the last of them, boots aside.
+abbrev pub HasStart : Events → List ℕ → Type 0
+HasStart events image =
+    StartsBehind events image
+    ⊎ ((earlier : Events) × (last : Event) × (boots : Events)
+    × (events ≡ earlier ++ last ∷ boots) × AreBoots boots × StartsBehind earlier image)
+
+-- They are no store, or stand for such a list, and have a start record of its events.
+abbrev pub IsNoneOrOfPrefix : Known → List ℕ → Type 0
+IsNoneOrOfPrefix k image =
+    (records_of image ≡ Err NotAStore) ⊎ ((of : IsOfPrefix k image) × HasStart of.events image)
+
+-- What is known of a node's store: its events, and how far it reaches behind the acknowledged ones; with the one in doubt, before
+-- and behind a compaction.
+pub record Stored : Type 0 where
+  pub known : Known
+  pub extent : Extent
+  pub appended : Extent
+  pub compacted : Extent
+
+-- a store with these events, none of them in doubt, that reaches so far
+abbrev pub certain : Events → Extent → Stored
+certain events x = record { known = settled events; extent = x; appended = x; compacted = x }
+
+-- behind a compaction of a store that reaches so far, where its events lead to a list
+abbrev pub compacted_or_same : Extent → Option Releases → Extent
+compacted_or_same x None = x
+compacted_or_same x (Some es) = compacted x es
+
+-- Behind these events, where the store reaches so far, one is in doubt, whose record has a body of so many bytes.
+abbrev pub uncertain : Events → Extent → Event → ℕ → Stored
+uncertain events x e size =
+    let behind = extent_behind x size in
+    record {
+      known = doubted events e;
+      extent = x;
+      appended = behind;
+      compacted = compacted_or_same behind (list_after (events ++ e ∷ []));
+    }
+
+-- how far a store reaches behind a boot, where its events lead to a list
+abbrev pub booted_or_same : Extent → Option Releases → Extent
+booted_or_same x None = x
+booted_or_same x (Some es) = booted_extent x es
+
+-- Behind these events, where the store reaches so far, a boot is in doubt. No compaction follows it.
+abbrev pub uncertain_boot : Events → Extent → Stored
+uncertain_boot events x =
+    let behind = booted_or_same x (list_after events) in
+    record { known = doubted events boot; extent = x; appended = behind; compacted = behind }
+
+-- The store has these events and reaches so far: the acknowledged ones, or those with the one in doubt.
+abbrev pub MayHave : Stored → Events → Extent → Type 0
+MayHave s events x =
+    ((events ≡ s.known.acknowledged) × (x ≡ s.extent))
+    ⊎ ((events ≡ with_doubt s.known.acknowledged s.known.in_doubt) × ((x ≡ s.appended) ⊎ (x ≡ s.compacted)))
+
+-- These bytes are a store that has such events, stand for their list, and have a start record of theirs.
+pub record IsStoredAs (s : Stored) (image : List ℕ) : Type 0 where
+  pub events : Events
+  pub has : MayHave s events (extent_of image)
+  pub list : Releases
+  pub after : list_after events ≡ Some list
+  pub image_of : IsImageOf image list
+  pub start : HasStart events image

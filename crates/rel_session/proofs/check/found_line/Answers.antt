@@ -1,8 +1,0 @@
-use Rattle.std.proofs.Common.{string_bytes, rules}
-use Rattle.relup_script.specs.Search.{found_of}
-use Rattle.rel_session.proofs.ReplyTexts.{tells_found}
-use Rattle.rel_session.proofs.check.found_line.Goals as goal
-
-pub returns : goal.returns
-returns c =
-    tells_found c.format.result (string_bytes c.in_ok-other-2.other) (string_bytes c.in_ok-descr.descr) (found_of c.args.found.now) c.format.ensures.ok (search rules) c.in_ok-descr.ensures.printed

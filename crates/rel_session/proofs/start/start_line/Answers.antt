@@ -1,8 +1,0 @@
-use Rattle.std.proofs.Common.{string_bytes}
-use Rattle.rel_session.proofs.ReplyTexts.{tells_versions}
-use Rattle.rel_session.proofs.start.start_line.Goals as goal
-
-pub returns : goal.returns
-returns c =
-    let start = c.args.start.now in
-    tells_versions c.format.result (string_bytes start.erts) (string_bytes start.vsn) (rw (c.as_str-erts.ensures.value, c.as_str-vsn.ensures.value) at c.format.ensures.ok)
