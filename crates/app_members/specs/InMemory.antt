@@ -13,7 +13,7 @@ use Rattle.app_members.specs.declared.walk.NewMember.{NewMember}
 use Rattle.app_members.specs.declared.error.MembersError.{MembersError}
 use Rattle.app_members.specs.declared.error.MembersError.TheVariants.{NoTable, Unsupported, NoMemory}
 use Rattle.app_members.specs.Walk as walk
-use Rattle.app_members.specs.Walk.{StartFault, app_fault, app_members, app_starts, children_fault, children_members, lone_fault, lone_members, members_below, super_children, top_children, worker_at_top}
+use Rattle.app_members.specs.Walk.{StartFault, app_fault, app_members, children_fault, children_members, lone_fault, lone_members, members_below, super_children, top_children, worker_at_top}
 use Rattle.app_members.specs.Walk.StartFault.{no_table, unsupported}
 
 abbrev pub new_member_of : NewMember → walk.NewMember

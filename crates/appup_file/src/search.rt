@@ -1,8 +1,8 @@
 //! The instructions that lead from one version of an application to another.
 ghost use Rattle.std.specs.Prelude.{◌≡◌, map};
 ghost use Rattle.std.specs.Result.{result_map_both};
-ghost use Rattle.appup_file.specs.Instruction.{row_of, version_of, entry_of, appup_of};
-ghost use Rattle.appup_file.specs.Search.{entries_of, ends_at, entry_for};
+ghost use Rattle.appup_file.specs.Instruction.{row_of, entry_of, appup_of};
+ghost use Rattle.appup_file.specs.Search.{entries_of, entry_for};
 
 use crate::{Appup, AppupEntry, AppupInstr, OtherVersion};
 use relup_instruction::Direction;

@@ -1,5 +1,5 @@
 //! A text's terms, one a line.
-ghost use Rattle.std.specs.Prelude.{◌≡◌, IfOk, IfErr, string_bytes};
+ghost use Rattle.std.specs.Prelude.{IfOk, IfErr, string_bytes};
 ghost use Rattle.erl_term.specs.Answers.{TellsFault};
 ghost use Rattle.erl_consult.specs.Listing.{Lists};
 

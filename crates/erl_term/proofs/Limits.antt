@@ -6,7 +6,6 @@ use Rattle.std.specs.Str.{chars, bytes_eq}
 use Rattle.erl_number.specs.declared.fault.TermFault.TheVariants.{BadToken, BadNumber, Unsupported}
 use Rattle.erl_token.specs.declared.class.Class.{Class}
 use Rattle.erl_token.specs.declared.class.Class.TheVariants.{Blank, Percent, Dot, Less, Greater, Quote, Apostrophe, Dollar, Sign, Letter, Digit}
-use Rattle.erl_term.specs.Value.{Value}
 use Rattle.erl_number.specs.Escapes.{front}
 use Rattle.erl_number.specs.Numbers.{Numeral, numeral, is_int}
 use Rattle.erl_number.specs.Numbers.Numeral.{whole, faulty as faulty_number, cut_off}

@@ -1,14 +1,11 @@
 -- The parser's values as the machine's.
-use Rattle.std.proofs.Common.{◌≡◌, ℕ, zero, suc, pos, ◌<◌, ◌≤◌, get_or, arith, Bool, true, false, ◌&&◌, nat_lt, if◌then◌else◌, List, [], ◌∷◌, ◌++◌, length, map, reverse, Option, Some, None, Ok, is_some, not, refl, ap, sym, ◌∙◌}
+use Rattle.std.proofs.Common.{◌≡◌, ℕ, pos, Bool, true, false, ◌&&◌, nat_lt, if◌then◌else◌, List, [], ◌∷◌, ◌++◌, length, map, reverse, Option, Some, None, Ok, is_some, not, refl, ap, sym, ◌∙◌}
 use Rattle.std.specs.Option.{option_map}
-use Rattle.std.specs.List.{list_all}
 use Rattle.std.proofs.lemmas.Bool.{not-true}
-use Rattle.std.proofs.Math.Bool.{and-false}
 use Rattle.std.proofs.lemmas.List.{map-append, reverse-append}
 use Rattle.std.proofs.lemmas.Str.{chars-IsAscii}
 use Rattle.std.proofs.lemmas.Str.Ascii.{IsAscii-nil}
 use Rattle.std.specs.Str.{chars}
-use Rattle.std.proofs.lemmas.Bool.Decides.{nat_tests}
 use Rattle.erl_term.specs.declared.parser.Slot.TheVariants.{First, Next, Later}
 use Rattle.erl_token.specs.declared.token.Bracket.{Bracket}
 use Rattle.erl_token.specs.declared.token.Bracket.TheVariants.{Tuple, List as Square, Binary}
@@ -21,7 +18,8 @@ use Rattle.erl_term.specs.Value.Values.{no_values, value}
 use Rattle.erl_term.specs.Grammar.{Reading, numbers}
 use Rattle.erl_token.specs.Lexing.{Item, some_name, some_number, some_text}
 use Rattle.erl_token.specs.Lexing.Token.{open_binary, close_binary}
-use Rattle.erl_term.specs.Machine.{State, Progress, kind_of, is_binary, begins_term, open_levels, empty, close, comes, step, at_kind, bytes_of}
+use Rattle.erl_token.specs.Bytes.{bytes_of}
+use Rattle.erl_term.specs.Machine.{State, Progress, kind_of, is_binary, begins_term, open_levels, empty, close, comes, step, at_kind}
 use Rattle.erl_term.specs.Machine.State.{begun, whole, inside}
 use Rattle.erl_term.specs.Machine.Kind.{leaf, opening}
 use Rattle.erl_term.specs.Views.{all_levels, level_of}
@@ -101,18 +99,6 @@ begins_free (inside Later l ls) h = absurd (cc)
 pub opening_steps : (limit : ℕ) (p : Progress) (i : Item) (b : Bracket) → begins_term p.state ≡ true → kind_of i.token ≡ opening b → nat_lt (length (all_levels p.state)) limit ≡ true
     → step limit p i ≡ Ok (record p { state = inside First (record { from = i.from; members = empty b }) (all_levels p.state) })
 opening_steps limit p i b h k room = let (free, square) = begins_free p.state h in rw (k, free, square, room) refl
-
-pub bytes_of-all : (cs : List ℕ) → list_all (λ n. nat_lt n 256) cs ≡ true → bytes_of cs ≡ Some cs
-bytes_of-all cs h = rw h refl
-
--- a character that is no byte
-all_bytes-but : (cs : List ℕ) (k c : ℕ) → k < length cs → c ≡ get_or cs k c → 256 ≤ c → list_all (λ n. nat_lt n 256) cs ≡ false
-all_bytes-but [] k c l e large = absurd (omega arith)
-all_bytes-but (x ∷ xs) zero c l e large = let no : nat_lt x 256 ≡ false = grind (arith, nat_tests) in rw no refl
-all_bytes-but (x ∷ xs) (suc k) c l e large = let no = all_bytes-but xs k c (omega arith) e large in rw no (and-false (nat_lt x 256))
-
-pub bytes_of-but : (cs : List ℕ) (k c : ℕ) → k < length cs → c ≡ get_or cs k c → 256 ≤ c → bytes_of cs ≡ None
-bytes_of-but cs k c l e large = rw (all_bytes-but cs k c l e large) refl
 
 -- an opening bracket, as the parser has it
 pub opening_is_read : (t : CodeToken) (b : Bracket) → t ≡ Open b → kind_of (token_value t) ≡ opening b

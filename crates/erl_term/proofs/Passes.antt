@@ -17,7 +17,8 @@ use Rattle.erl_token.specs.Lexing.Token.{open_tuple, close_tuple, open_list, clo
 use Rattle.erl_term.specs.Grammar.{Phrase, Phrases, meaning, meanings, segment, segments, tokens_of, members_tokens, rest_tokens, depth, depths, IsSegment, AreSegments, HasSegments, HaveSegments, tokens, first_from, last_to, Reading, AreTerms}
 use Rattle.erl_term.specs.Grammar.Phrase.{a_name, a_number, a_text, a_tuple, a_list, a_binary}
 use Rattle.erl_term.specs.Grammar.Phrases.{no_phrases, phrase}
-use Rattle.erl_term.specs.Machine.{Level, Members, State, Progress, kind_of, bytes_of, byte_of, is_binary, is_same, bracket_of, empty, with_member, added, open_levels, put, enclosed, close, shut, next, step, or_refusal, and_then, run}
+use Rattle.erl_token.specs.Bytes.{bytes_of}
+use Rattle.erl_term.specs.Machine.{Level, Members, State, Progress, kind_of, byte_of, is_binary, is_same, bracket_of, empty, with_member, added, open_levels, put, enclosed, close, shut, next, step, or_refusal, and_then, run}
 use Rattle.erl_term.specs.Machine.Members.{in_tuple, in_list, in_binary}
 use Rattle.erl_term.specs.Machine.State.{begun, whole, inside}
 use Rattle.erl_term.specs.Machine.Kind.{leaf, opening, closing}

@@ -18,7 +18,8 @@ use Rattle.erl_token.specs.Lexing.Token.{open_tuple, close_tuple, open_list, clo
 use Rattle.erl_term.specs.Grammar.{Phrase, Phrases, meaning, segment, segments, tokens_of, members_tokens, depth, depths, IsSegment, HasSegments, numbers, tokens, first_from, last_to, Reading, IsTerm, AreTerms}
 use Rattle.erl_term.specs.Grammar.Phrase.{a_name, a_number, a_text, a_tuple, a_list, a_binary}
 use Rattle.erl_term.specs.Grammar.Phrases.{no_phrases, phrase}
-use Rattle.erl_term.specs.Machine.{Level, State, Progress, Kind, kind_of, bytes_of, byte_of, bracket_of, empty, with_member, is_binary, added, enter, open_levels, put, enclosed, close, shut, is_same, separate, end, next, or_refusal, and_then, run, at_kind, nothing_read}
+use Rattle.erl_token.specs.Bytes.{bytes_of}
+use Rattle.erl_term.specs.Machine.{Level, State, Progress, Kind, kind_of, byte_of, bracket_of, empty, with_member, is_binary, added, enter, open_levels, put, enclosed, close, shut, is_same, separate, end, next, or_refusal, and_then, run, at_kind, nothing_read}
 use Rattle.erl_term.specs.Machine.Members.{in_tuple, in_list, in_binary}
 use Rattle.erl_term.specs.Machine.State.{begun, whole, inside}
 use Rattle.erl_term.specs.Machine.Kind.{leaf, opening, closing, separator, ending, senseless}

@@ -1,7 +1,6 @@
 -- The reader as a machine: what has been read, and what one more token makes of it. Only contracts within the crate cite it.
 use Rattle.std.specs.Prelude.{ℕ, ℤ, pos, negsuc, Bool, true, false, ◌||◌, not, List, [], ◌∷◌, ◌++◌, length, nat_lt, ◌==◌, if◌then◌else◌, Option, Some, None, Result, Ok, Err, is_some}
 use Rattle.std.specs.Option.{option_map, option_and_then}
-use Rattle.std.specs.List.{list_all}
 use Rattle.std.specs.Str.{chars}
 use Rattle.erl_number.specs.declared.fault.TermFault.{TermFault}
 use Rattle.erl_number.specs.declared.fault.TermFault.TheVariants.{BadToken, MissingDot, Unclosed, Unsupported}
@@ -11,6 +10,7 @@ use Rattle.erl_term.specs.declared.parser.Slot.{Slot}
 use Rattle.erl_term.specs.declared.parser.Slot.TheVariants.{First, Next, Later}
 use Rattle.erl_term.specs.Value.{Value, values_of}
 use Rattle.erl_term.specs.Value.Value.{int, atom, list, tuple, bin}
+use Rattle.erl_token.specs.Bytes.{bytes_of}
 use Rattle.erl_token.specs.Lexing.{Token, Item, items_of}
 use Rattle.erl_token.specs.Lexing.Token.{open_tuple, close_tuple, open_list, close_list, open_binary, close_binary, comma, dot, name, number, text, stray, broken, cut}
 use Rattle.erl_term.specs.Grammar.{Reading, numbers}
@@ -47,10 +47,7 @@ pub data Kind : Type 0 where
   ending : Kind
   senseless : Kind
 
--- the numbers, if they are bytes
-abbrev pub bytes_of : List ℕ → Option (List ℕ)
-bytes_of ns = if list_all (λ n. nat_lt n 256) ns then Some ns else None
-
+-- the number, if it is a byte
 abbrev pub byte_of : ℤ → Option (List ℕ)
 byte_of (pos n) = if nat_lt n 256 then Some (n ∷ []) else None
 byte_of (negsuc n) = None

@@ -1,5 +1,5 @@
 -- What private contracts read of the parser's types.
-use Rattle.std.specs.Prelude.{◌≡◌, ℕ, pos, Bool, true, false, List, [], ◌∷◌, ◌++◌, map, reverse, Some, None, Result, Ok, Err, Vec}
+use Rattle.std.specs.Prelude.{◌≡◌, ℕ, pos, List, [], ◌∷◌, map, reverse, Result, Ok, Err, Vec}
 use Rattle.std.specs.declared.alloc.Global.{Global}
 use Rattle.std.specs.Str.{chars}
 use Rattle.erl_number.specs.declared.fault.TermFault.{TermFault}
@@ -18,7 +18,7 @@ use Rattle.erl_term.specs.Value.{Value, value_of}
 use Rattle.erl_term.specs.Value.Value.{int}
 use Rattle.erl_term.specs.Answers.{reading_of_spanned, readings}
 use Rattle.erl_term.specs.Grammar.{Reading}
-use Rattle.erl_term.specs.Machine.{Level, Members, State, Progress, bytes_of}
+use Rattle.erl_term.specs.Machine.{Level, Members, State, Progress}
 use Rattle.erl_term.specs.Machine.Members.{in_tuple, in_list, in_binary}
 use Rattle.erl_term.specs.Machine.State.{begun, whole, inside}
 
@@ -38,11 +38,6 @@ abbrev pub state_of : CodeState → State
 state_of Begun = begun
 state_of (Whole s) = whole (reading_of_spanned s)
 state_of (Inside slot l outer) = inside slot (level_of l) (reverse (map level_of outer.items))
-
--- the characters are bytes and stand behind those that were there, or they are not all bytes
-abbrev pub IsAdded : Bool → List ℕ → List ℕ → List ℕ → Type 0
-IsAdded true cs old new = (bytes_of cs ≡ Some cs) × (new ≡ old ++ cs)
-IsAdded false cs old new = bytes_of cs ≡ None
 
 -- a token that is a name
 abbrev pub IsName : CodeToken → Type 0

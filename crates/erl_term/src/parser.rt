@@ -1,8 +1,8 @@
 //! Tokens into terms, with the open brackets on a stack.
-ghost use Rattle.std.specs.Prelude.{◌≡◌, ◌+◌, ◌++◌, true, false, [], ◌∷◌, length, map, is_some, Some, None, OnOk, IfOk, IfErr};
+ghost use Rattle.std.specs.Prelude.{◌≡◌, ◌+◌, true, false, [], length, is_some, Some, OnOk, IfErr};
 ghost use Rattle.erl_term.specs.Value.{value_of};
 ghost use Rattle.erl_token.specs.Contents.{content_bytes};
-ghost use Rattle.erl_term.specs.Machine.{step, misplaced, is_left_out, comes, cut_off, put, with_member, begins_term, open_levels, bytes_of, empty, bracket_of, close, enclosed, at_end, nothing_read};
+ghost use Rattle.erl_term.specs.Machine.{step, misplaced, is_left_out, comes, cut_off, put, with_member, begins_term, open_levels, empty, bracket_of, close, enclosed, at_end, nothing_read};
 ghost use Rattle.erl_term.specs.Faults.{for_a_term, for_a_segment};
 ghost use Rattle.erl_token.specs.Views.{token_value, like_value, item_value};
 ghost use Rattle.erl_term.specs.Views.{members_are, level_of, state_of, progress_of, all_levels, Gives, GivesTerms, IsName};
@@ -11,10 +11,10 @@ ghost use Rattle.erl_number.specs.declared.fault.TermFault.TheVariants.{NoMemory
 ghost use Rattle.erl_token.specs.declared.token.Token.TheVariants.{Open, Close, Comma, Dot, Number, Broken, Cut};
 ghost use Rattle.erl_token.specs.Lexing.Token.{text as text_token};
 
-use crate::character::{characters, push_characters};
+use crate::character::characters;
 use crate::term::{Spanned, Term};
 use erl_number::TermFault;
-use erl_token::{Bracket, Content, Item, Like, Token};
+use erl_token::{Bracket, Content, Item, Like, Token, push_characters};
 use std::alloc::{AllocError, Global};
 use std::mem;
 

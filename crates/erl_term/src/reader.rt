@@ -1,5 +1,5 @@
 //! Texts into terms.
-ghost use Rattle.std.specs.Prelude.{◌≡◌, ℕ, List, IfOk, IfErr};
+ghost use Rattle.std.specs.Prelude.{List, IfOk, IfErr};
 ghost use Rattle.erl_term.specs.Grammar.{Reading, Reads};
 ghost use Rattle.erl_term.specs.Answers.{readings, IsOnly, TellsFault};
 ghost use Rattle.erl_term.specs.Machine.{reading_of};

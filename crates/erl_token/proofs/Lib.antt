@@ -4,6 +4,7 @@ pub mod QuoteLemmas
 pub mod JoinLemmas
 pub mod NameLemmas
 pub mod Pieces
+pub mod ByteLemmas
 pub mod Lexemes
 pub mod Spellings
 pub mod Sizes

@@ -1,6 +1,6 @@
 //! Bytes into tokens.
-ghost use Rattle.std.specs.Prelude.{◌≡◌, ◌≢◌, ◌⊎◌, ℕ, pos, ◌+◌, ◌-◌, ◌<◌, ◌≤◌, ◌^◌, length, drop, slice_index, slice_get, nat_lt, Some, IfSome, IfOk};
-ghost use Rattle.std.specs.Str.{IsUtf8, chars};
+ghost use Rattle.std.specs.Prelude.{◌≡◌, ◌≢◌, ◌⊎◌, ℕ, pos, ◌+◌, ◌-◌, ◌<◌, ◌≤◌, ◌^◌, length, drop, slice_index, slice_get, Some, IfSome, IfOk};
+ghost use Rattle.std.specs.Str.{IsUtf8};
 ghost use Rattle.erl_number.specs.Texts.{is_bare_name_byte};
 ghost use Rattle.erl_token.specs.Lexing.{class_of, spelling, alone as alone_spelling, doubled as doubled_spelling, bare, name_spelling, name_in_quotes, text_in_quotes, numbered as numbered_spelling, signed as signed_spelling, put_item, ends_a_term};
 ghost use Rattle.erl_token.specs.Lexing.Token.{text as text_token};

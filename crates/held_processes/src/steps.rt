@@ -9,7 +9,7 @@ ghost use Rattle.held_processes.specs.InMemory.{operation_of, takes_memory};
 ghost use Rattle.held_processes.specs.Slots.{SlotPast, IsFollowed, Steps, StepsBy, ChangesAt, value_with};
 ghost use Rattle.proc_history.specs.Values.{up_at};
 ghost use Rattle.proc_table.specs.Views.{seen};
-ghost use Rattle.proc_history.specs.Events.Event.{loaded, stopped, started};
+ghost use Rattle.proc_history.specs.Events.Event.{loaded};
 
 use crate::held_process::{HeldProcess, Hold};
 use erl_term::Term;

@@ -1,6 +1,5 @@
 //! The table of a supervisor.
 ghost use Rattle.std.specs.Prelude.{◌≡◌, IfOk, MatchOption, map};
-ghost use Rattle.std.specs.Option.{option_map};
 ghost use Rattle.erl_term.specs.Value.{members_of};
 ghost use Rattle.rel_files.specs.Name.{AreDistinct, IsFirstTwice};
 ghost use Rattle.mod_table.specs.Headed.{ids, super_in};

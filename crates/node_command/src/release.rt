@@ -1,5 +1,5 @@
 // A release is brought from its files, and asked of a node's list.
-ghost use Rattle.std.specs.Prelude.{◌≡◌, true, string_bytes, None, Ok, Err, IfOk, IfErr, OnOk, MatchOption};
+ghost use Rattle.std.specs.Prelude.{◌≡◌, true, string_bytes, None, Ok, Err, IfOk, IfErr, OnOk};
 ghost use Rattle.std.specs.Option.{option_map};
 ghost use Rattle.erl_term.specs.Value.{value_of};
 ghost use Rattle.rel_files.specs.Release.{release_of};

@@ -1,6 +1,5 @@
 //! Lines of listings.
-ghost use Rattle.std.specs.Prelude.{◌≡◌, ◌++◌, codes, string_bytes, OnOk};
-ghost use Rattle.erl_term.specs.Printing.{text_of};
+ghost use Rattle.std.specs.Prelude.{◌≡◌, ◌++◌, string_bytes, OnOk};
 ghost use Rattle.erl_term.specs.Value.{value_of};
 ghost use Rattle.node_listing.specs.Listing.{count_line, term_line};
 

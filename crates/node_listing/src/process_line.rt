@@ -2,7 +2,7 @@
 ghost use Rattle.std.specs.Prelude.{◌≡◌, [], ◌∷◌, ◌++◌, string_bytes, IfOk, OnOk};
 ghost use Rattle.erl_term.specs.Value.{value_of, values_of};
 ghost use Rattle.erl_term.specs.Value.Value.{tuple};
-ghost use Rattle.node_listing.specs.Listing.{process_line, process_value, standing_word, module_line, module_value};
+ghost use Rattle.node_listing.specs.Listing.{process_line, process_value, standing_word, module_line};
 
 use crate::line::push_term;
 use crate::term::{atom_term, text_term};

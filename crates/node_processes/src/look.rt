@@ -3,7 +3,7 @@ ghost use Rattle.std.specs.Prelude.{◌≡◌, ◌+◌, ◌<◌, ◌++◌, is_so
 ghost use Rattle.std.specs.Option.{option_copied};
 ghost use Rattle.node_listing.specs.Listing.{process_line};
 ghost use Rattle.proc_history.specs.Histories.{replay};
-ghost use Rattle.proc_history.specs.Values.{up_in, up_at, up_if};
+ghost use Rattle.proc_history.specs.Values.{up_in};
 ghost use Rattle.proc_table.specs.Agrees.{slots};
 ghost use Rattle.proc_table.specs.Views.{seen};
 ghost use Rattle.node_processes.specs.Answers.{state_line};

@@ -8,7 +8,7 @@ use Rattle.app_file.specs.File.{Specification}
 use Rattle.library.specs.Library.{Library, TableTerm, AreLibrariesOf}
 use Rattle.rel_files.specs.Name.{AreDistinct}
 use Rattle.rel_files.specs.Release.{Application}
-use Rattle.rel_check.specs.Modules.{Part, Module, Tables, parts, modules_in, table_of}
+use Rattle.rel_check.specs.Modules.{Module, parts, modules_in, table_of}
 use Rattle.rel_check.specs.Modules as tested
 use Rattle.rel_check.specs.Names.{Named, module_names, first_module_again}
 use Rattle.rel_check.specs.Walk as walk

@@ -1,5 +1,5 @@
 // A store of many records is compacted behind a commit.
-ghost use Rattle.std.specs.Prelude.{◌≡◌, [], ◌∷◌, true, false, Some, IfErr, OnOk};
+ghost use Rattle.std.specs.Prelude.{◌≡◌, [], ◌∷◌, true, Some, IfErr, OnOk};
 ghost use Rattle.rel_disk.specs.Moments.{HasFailed};
 ghost use Rattle.rel_list.specs.Event.{recorded};
 ghost use Rattle.rel_records.specs.Image.{image_of};

@@ -1,5 +1,5 @@
 -- One seat's view changes, and with it words, homes and histories: what the change owes so that all agree again.
-use Rattle.std.proofs.Common.{◌≡◌, ◌≢◌, ◌⊎◌, ℕ, zero, suc, ◌+◌, ◌<◌, ◌≤◌, Bool, true, false, List, [], ◌∷◌, ◌++◌, length, set, get_or, slice_index, refl, ap, sym, subst, ◌∙◌, inl, inr, ⊎_elim, arith, true≢false, Some, None, IfSome}
+use Rattle.std.proofs.Common.{◌≡◌, ◌≢◌, ◌⊎◌, ℕ, ◌<◌, ◌≤◌, Bool, true, false, List, length, slice_index, refl, ap, sym, subst, ◌∙◌, inl, inr, ⊎_elim, arith, true≢false, Some}
 use Rattle.std.proofs.Common as std
 use Rattle.std.specs.List.{Contains}
 use mathlib.Core.Option.{Option, some}

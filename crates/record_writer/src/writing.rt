@@ -18,7 +18,7 @@ ghost use Rattle.rel_records.specs.Lists.{HaveVersions};
 ghost use Rattle.rel_records.specs.Parts.{files_of};
 ghost use Rattle.rel_records.specs.Reading.{AreOfRelease, Spells};
 ghost use Rattle.rel_records.specs.Record.{FileTerms, makes, adds, release_term, relup_or_none, pair_term, assignment_term, term_of, body_of, printed};
-ghost use Rattle.rel_records.specs.Writing.{changes, assignment_of, new_libraries, record_of, CanBeCarried, IsOfListed, Tells};
+ghost use Rattle.rel_records.specs.Writing.{changes, new_libraries, record_of, CanBeCarried, IsOfListed, Tells};
 
 use erl_term::{Term, print};
 use library::Library;

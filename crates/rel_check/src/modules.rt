@@ -1,5 +1,5 @@
 //! The modules of a release.
-ghost use Rattle.std.specs.Prelude.{◌≡◌, ◌++◌, IfOk, OnOk, map, string_bytes};
+ghost use Rattle.std.specs.Prelude.{◌≡◌, ◌++◌, IfOk, OnOk, map};
 ghost use Rattle.std.specs.Option.{option_map};
 ghost use Rattle.rel_files.specs.Release.{application_of};
 ghost use Rattle.library.specs.InMemory.{shared_of, table_term_of};

@@ -1,5 +1,5 @@
 //! Names that stand twice.
-ghost use Rattle.std.specs.Prelude.{◌≡◌, ◌++◌, IfOk, OnOk, map, string_bytes};
+ghost use Rattle.std.specs.Prelude.{◌≡◌, ◌++◌, IfOk, OnOk, map};
 ghost use Rattle.std.specs.Option.{option_map};
 ghost use Rattle.rel_files.specs.Release.{application_of};
 ghost use Rattle.mod_table.specs.InMemory.{child_of};

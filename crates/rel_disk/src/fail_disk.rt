@@ -1,5 +1,5 @@
 // A disk that fails one call, to show what its callers make of it.
-ghost use Rattle.std.specs.Prelude.{◌≡◌, ◌≢◌, ◌⊎◌, ◌+◌, ◌-◌, ◌≤◌, ◌↔◌, ◌/◌, ◌^◌, min, true, false, length, take, slice_range, IsErr, IfOk, OnOk};
+ghost use Rattle.std.specs.Prelude.{◌≡◌, ◌⊎◌, ◌+◌, ◌-◌, ◌≤◌, ◌/◌, true, false, length, take, slice_range, IsErr, IfOk, OnOk};
 ghost use Rattle.rel_disk.specs.Damage.{overwritten, Torn, Cut, Follows, Within, Only};
 ghost use Rattle.rel_disk.specs.Moments.{Elapses, HasFailed};
 ghost use Rattle.rel_disk.specs.FailDisk.{after_turn, all_failures, turn_of, TakesTurn};

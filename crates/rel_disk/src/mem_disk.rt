@@ -1,6 +1,6 @@
 // A disk in memory, which may tear as any disk may. Its log keeps each call, so that it knows what a crash
 // might have left at each past moment.
-ghost use Rattle.std.specs.Prelude.{◌≡◌, ◌+◌, ◌-◌, ◌≤◌, ◌↔◌, ◌++◌, ◌∷◌, [], length, take, slice_range, vec_len, vec_capacity, IfOk, IsOk, IsErr, OnOk, OnErr};
+ghost use Rattle.std.specs.Prelude.{◌≡◌, ◌+◌, ◌-◌, ◌≤◌, ◌↔◌, [], length, slice_range, vec_len, vec_capacity, IfOk, IsOk, IsErr, OnOk, OnErr};
 ghost use Rattle.rel_disk.specs.Calls.{wrote, cut_to, synced, content};
 ghost use Rattle.rel_disk.specs.Damage.{overwritten, Torn, Cut, Follows, Within};
 ghost use Rattle.rel_disk.specs.ImageLaws.{content_is_image, counts_now, only_now};

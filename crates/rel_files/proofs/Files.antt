@@ -1,5 +1,5 @@
 -- What a file says, or its fault, from the terms in it.
-use Rattle.std.proofs.Common.{◌≡◌, ◌≢◌, ℕ, List, [], ◌∷◌, ◌++◌, ◌⊎◌, inl, inr, map, Some, None, Result, Ok, Err, IfErr, IsErr, IsErrAnd, length, slice_get, refl, sym, ap, subst, ◌∙◌, arith}
+use Rattle.std.proofs.Common.{◌≡◌, ◌≢◌, ℕ, List, [], ◌∷◌, ◌++◌, inl, inr, map, Some, None, Result, Ok, Err, IfErr, IsErr, IsErrAnd, length, slice_get, refl, sym, ap, subst, arith}
 use Rattle.erl_term.specs.TermFault.{TermFault}
 use Rattle.erl_term.specs.TermFault.TheVariants as term
 use Rattle.erl_term.specs.declared.term.Spanned.{Spanned}

@@ -9,7 +9,7 @@ use Rattle.erl_term.proofs.OneFault.{one_fault as one_term_fault}
 use Rattle.rel_files.specs.Fault.{Fault}
 use Rattle.rel_files.specs.Fault.Fault.{bad_term, bad_shape, duplicate, bad_version, no_memory}
 use Rattle.rel_files.specs.Name.{AreDistinct, IsFirstTwice}
-use Rattle.rel_files.specs.Kind.{Kind, TermSays, HasTermFault, HasTermAt, AreNotOne, HasNoTerm, Says, HasFault}
+use Rattle.rel_files.specs.Kind.{Kind, TermSays, HasTermFault, AreNotOne, HasNoTerm, Says, HasFault}
 use Rattle.rel_files.proofs.Distinct.{distinct_or_twice}
 use Rattle.rel_files.proofs.OneFault.{one_twice}
 use Rattle.rel_files.proofs.Outcomes.{never_both}

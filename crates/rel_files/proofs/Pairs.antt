@@ -1,5 +1,5 @@
 -- Rows of another number of terms.
-use Rattle.std.proofs.Common.{◌≡◌, ◌+◌, List, [], ◌∷◌, length, Option, None, refl}
+use Rattle.std.proofs.Common.{◌≡◌, List, [], ◌∷◌, length, None, refl}
 use Rattle.erl_term.specs.declared.term.Term.{Term}
 use Rattle.erl_term.specs.Value.{members_of}
 use Rattle.rel_files.specs.Parts.{two, three, four}

@@ -1,5 +1,5 @@
 //! What follows the version of an application.
-ghost use Rattle.std.specs.Prelude.{◌≡◌, IfOk, map, string_bytes};
+ghost use Rattle.std.specs.Prelude.{◌≡◌, IfOk};
 ghost use Rattle.std.specs.Option.{option_map};
 ghost use Rattle.erl_term.specs.Value.{members_of};
 ghost use Rattle.rel_files.specs.Sketch.{end_in, included_in, start_of};

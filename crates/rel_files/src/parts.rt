@@ -1,5 +1,5 @@
 //! What stands where in the terms of a release file. What reads other files of a release takes the general ones from here.
-ghost use Rattle.std.specs.Prelude.{◌≡◌, codes};
+ghost use Rattle.std.specs.Prelude.{◌≡◌};
 ghost use Rattle.std.specs.Option.{option_map};
 ghost use Rattle.erl_term.specs.Value.{members_of, value_of};
 ghost use Rattle.rel_files.specs.Parts.{list_in, two, pair_in, three, four, four_in, is_word, app_members, app_parts, title_in, erts_in, rel_parts};

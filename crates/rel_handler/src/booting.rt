@@ -3,7 +3,7 @@ ghost use Rattle.std.specs.Prelude.{◌≡◌, ◌⊎◌, ◌↔◌, ℕ, ◌≤
 ghost use Rattle.rel_disk.specs.Moments.{LeavesOnly};
 ghost use Rattle.rel_list.specs.Releases.{Releases, has_one_shot};
 ghost use Rattle.rel_list.specs.Event.{recorded};
-ghost use Rattle.rel_store.specs.Contents.{OpenRefused, HasOnlyRead};
+ghost use Rattle.rel_store.specs.Contents.{HasOnlyRead};
 ghost use Rattle.rel_handler.specs.Booting.{IsRead, IsOpened, IsBootOf, IsBootRecord, RecordRefused, IsBooted, IsOldOrTaken, IsOldOrBooted, Leaves, FinishRefused};
 ghost use Rattle.node_store.specs.Events.{Known, IsOfPrefix, Stored, IsStoredAs};
 ghost use Rattle.node_store.specs.Image.{HasBootSpace, IsImageOf, IsImageAt, IsStarted, IsLeftByBoot};

@@ -1,5 +1,5 @@
 //! The list of releases.
-ghost use Rattle.std.specs.Prelude.{◌≡◌, ◌↔◌, false, is_some, Some, None, [], ◌∷◌, ◌++◌, find, length, map, string_bytes, IsTrue, IsFalse, IfErr, OnOk, OnErr};
+ghost use Rattle.std.specs.Prelude.{◌≡◌, ◌↔◌, false, Some, None, [], ◌∷◌, ◌++◌, find, length, map, string_bytes, IsTrue, IsFalse, IfErr, OnOk, OnErr};
 ghost use Rattle.std.specs.Option.{option_map, option_copied, option_to_list};
 ghost use Rattle.rel_list.specs.Status.{is_current, is_one_shot, is_permanent, is_temporary};
 ghost use Rattle.rel_list.specs.Change.{has_other_temporary, is_other_temporary};

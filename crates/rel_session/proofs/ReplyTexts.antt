@@ -1,5 +1,5 @@
 -- What a command answers, and what its answer is in a session.
-use Rattle.std.proofs.Common.{◌≡◌, ◌⊎◌, inl, inr, ⊎_elim, ℕ, ◌+◌, ◌<◌, List, [], ◌∷◌, length, map, take, get_or, Option, Some, None, Result, Ok, Err, refl, sym, ap, ◌∙◌, subst, ◌++◌, append_assoc}
+use Rattle.std.proofs.Common.{◌≡◌, ◌⊎◌, inl, inr, ⊎_elim, ℕ, List, Option, Some, None, Result, Ok, Err, refl, sym, ◌∙◌, subst}
 use Rattle.std.specs.Prelude.{IfOk, OnOk, MatchResult, String, string_bytes, codes}
 use Rattle.std.specs.declared.alloc.Global.{Global}
 use Rattle.std.specs.declared.alloc.AllocError.{AllocError}
@@ -13,23 +13,15 @@ use Rattle.session_input.specs.Commands.{Command, File, command_of}
 use Rattle.session_input.specs.Commands.Command.{file}
 use Rattle.session_input.specs.declared.command.Command.{Command as CommandInMemory}
 use Rattle.session_input.specs.declared.command.Command.TheVariants as asked
-use Rattle.erl_term.specs.Printing.{text_of}
 use Rattle.node_processes.specs.Processes.{Processes}
 use Rattle.rel_session.specs.Device.{Device}
-use Rattle.node_listing.specs.Listing.{text_value}
 use Rattle.rel_unpack.specs.Source.{Source}
 use Rattle.rel_session.specs.Files.{Files, files_of, files_behind, give, source_of}
 use Rattle.rel_session.specs.InMemory.{IsAt, Replied, Leads, NothingDone, Answers, AnswersAsked, AnswersTold, AnswersAction, AnswersCommand, AsksNode, FollowsCommand, IsLine, IsText}
 use Rattle.rel_session.specs.Node.{Place, Reply, reply, nothing}
 use Rattle.node_answer.specs.Refusals.{refusal_of, refusal_line}
 use Rattle.rel_list.specs.Releases.{Releases}
-use Rattle.relup_script.specs.Search.{FoundForm}
-use Rattle.node_answer.specs.Lines.{checked_line, ok_line}
 use Rattle.rel_session.specs.Transition.{Action, ComesTo, Acts, asked, told as told_by_node, StopsWithin, IsStopped, Transition}
-use Rattle.erl_term.specs.Value.{Value, value_of}
-use Rattle.erl_term.specs.declared.term.Term.{Term}
-use Rattle.std.proofs.lemmas.List.{map-append, map_more}
-use Rattle.node_answer.specs.Lines.{installed_text, names_value}
 use Rattle.rel_session.specs.Transition.Action.{answers}
 use Rattle.rel_session.proofs.DeviceLemmas.{IsDevice}
 use Rattle.rel_session.proofs.Replies.{stays, leaves_all, changes_no_memory, never_stops}

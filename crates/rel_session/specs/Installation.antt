@@ -1,13 +1,9 @@
 -- What a node that runs replies to an installation (OTP: release_handler:install_release/1).
-use Rattle.std.specs.Prelude.{◌≡◌, ◌⊎◌, ℕ, Bool, true, false, List, [], ◌∷◌, ◌++◌, map, codes, Option, None, Some, Result, Ok, Err}
-use Rattle.erl_term.specs.Printing.{text_of}
-use Rattle.erl_term.specs.Value.{Value, values_of}
-use Rattle.erl_term.specs.Value.Value.{atom, list as list_value}
+use Rattle.std.specs.Prelude.{◌≡◌, ◌⊎◌, ℕ, Bool, true, false, List, [], ◌∷◌, ◌++◌, Option, None, Some, Result, Ok, Err}
 use Rattle.rel_list.specs.Releases.{Releases}
 use Rattle.rel_list.specs.Event.Event.{installed, restart_installed}
 use Rattle.rel_handler.specs.Installing.{install_event, install_room, install_size, needs_restart}
 use Rattle.node_command.specs.declared.error.HandlerError.{HandlerError}
-use Rattle.node_listing.specs.Listing.{text_value}
 use Rattle.node_processes.specs.Processes.{Processes}
 use Rattle.node_processes.specs.Scripts.{behind_run, run_on}
 use Rattle.node_upgrade.specs.Failure.{Failure, failure}

@@ -1,6 +1,5 @@
 -- What a node replies to a command: what the command comes to, and what the node does then.
 use Rattle.std.specs.Prelude.{◌≡◌, ◌⊎◌, ℕ, Bool, true, false, List, [], ◌∷◌, ◌++◌, codes, Option, None, Some, Result, Ok, Err}
-use Rattle.erl_term.specs.Printing.{text_of}
 use Rattle.rel_files.specs.Release.{Release}
 use Rattle.rel_list.specs.Releases.{Bundle, Releases, permanent as permanent_release}
 use Rattle.rel_list.specs.Event.{Event}
@@ -25,7 +24,7 @@ use Rattle.script_progress.specs.Script.{Run}
 use Rattle.relup_exec.specs.Alone.Outcome.{ends}
 use Rattle.relup_script.specs.Search.{FoundForm}
 use Rattle.session_input.specs.Commands.Command.{file, create, set_unpacked, check, install, permanent, remove, reboot_old, boot, start, releases, procs, modules, peek, call, flood, relup, quit, bad}
-use Rattle.node_listing.specs.Listing.{listing, text_value}
+use Rattle.node_listing.specs.Listing.{listing}
 use Rattle.node_processes.specs.Answers.{processes_line, modules_line, peek_line}
 use Rattle.node_processes.specs.Calls.{Calls, calls_line, left_by}
 use Rattle.node_processes.specs.Calls.Calls.{once, often}

@@ -1,5 +1,5 @@
 // What an opening reads of a disk.
-ghost use Rattle.std.specs.Prelude.{◌≡◌, ◌≢◌, ◌+◌, ◌<◌, ◌≤◌, map, length, take, drop, true, false, None, Ok, Err, slice_index, IfOk, IfErr, IfSome};
+ghost use Rattle.std.specs.Prelude.{◌≡◌, ◌≢◌, ◌+◌, ◌<◌, ◌≤◌, map, length, take, drop, true, None, Ok, Err, slice_index, IfOk, IfErr, IfSome};
 ghost use Rattle.rel_store.specs.Contents.{DeviceRefused, HasOnlyRead, RecordRefused, RecordsRefused};
 ghost use Rattle.rel_store.specs.Records.{is_whole, records_from, space, told_length};
 

@@ -1,7 +1,7 @@
 // Where the parts of a store stand, and how they are read.
 ghost use Rattle.std.specs.Prelude.{◌≡◌, ◌+◌, ◌≤◌, length, drop, if◌then◌else◌};
 ghost use Rattle.std.specs.Int.{w64, from_be_bytes};
-ghost use Rattle.rel_store.specs.Layout.{part, has_magic, selected, base_slot, base_of, format_of};
+ghost use Rattle.rel_store.specs.Layout.{part, has_magic, base_slot, format_of};
 ghost use Rattle.rel_store.specs.Records.{told_length};
 
 /// The longest body of a record, in bytes.

@@ -1,5 +1,5 @@
 -- The instructions of a block, by what they load, change, suspend and resume.
-use Rattle.std.proofs.Common.{◌≡◌, refl, ap, sym, subst, ◌∙◌, ℕ, Bool, true, false, List, [], ◌∷◌, ◌++◌, map, reverse, filter, filter_map, flat_map, Some, IsPermutation}
+use Rattle.std.proofs.Common.{◌≡◌, refl, ap, sym, subst, ◌∙◌, ℕ, true, false, List, [], ◌∷◌, ◌++◌, map, reverse, filter, filter_map, flat_map, Some, IsPermutation}
 use Rattle.std.proofs.lemmas.List.{append_assoc, append-nil, map-append}
 use Rattle.std.proofs.lemmas.List.Sorted.{IsPermutation-refl, IsPermutation-trans, IsPermutation-map, IsPermutation-filter_both}
 use Rattle.relup_instruction.specs.declared.instruction.Direction.{Direction}
@@ -10,7 +10,7 @@ use Rattle.relup_block.specs.declared.order.ChoiceRule.TheVariants.{DependentsFi
 use Rattle.relup_block.specs.Order.{BlockItemForm, order}
 use Rattle.relup_block.specs.Order.BlockItemForm.{updated, loaded}
 use Rattle.relup_block.specs.Block.{suspension, resumption, change, purging, is_of_kind, over, suspending, loading, changing, resuming, updating, in_orders, block}
-use Rattle.relup_block.specs.Laws.{load_by, changed_by, suspended_by, resumed_by, Loads, Changes, LoadsEachOnce, ChangesEachOnce, SuspendsEachOnce, ResumesSuspended, LoadsBeforeChange, ChangesBeforeLoad}
+use Rattle.relup_block.specs.Laws.{load_by, changed_by, suspended_by, resumed_by, Loads, LoadsEachOnce, ChangesEachOnce, SuspendsEachOnce, ResumesSuspended, LoadsBeforeChange, ChangesBeforeLoad}
 use Rattle.relup_block.proofs.PermutationLemmas.{order_same, order_has_items, order_filter}
 
 -- A block is in two orders.

@@ -1,5 +1,5 @@
 //! The orders in which the modules of a block are suspended and loaded.
-ghost use Rattle.std.specs.Prelude.{◌≡◌, ◌<◌, ◌≤◌, ◌+◌, ◌^◌, List, length, filter, remove, slice_index_or, vec_len, IfOk, IfSome, map, string_bytes};
+ghost use Rattle.std.specs.Prelude.{◌≡◌, ◌<◌, ◌≤◌, ◌+◌, ◌^◌, length, filter, remove, slice_index_or, vec_len, IfOk, IfSome, map, string_bytes};
 ghost use Rattle.relup_block.specs.Order.{block_item_of, block_items_of, item_name, item_deps, is_among, depends_on, must_wait_for, order};
 ghost use Rattle.relup_block.specs.Counts.{waits_among, waiting_of, all_waiting, passed_items, has_deps, first_idle_behind, after_item, HasNaming, IsNext, step_of, Meets, remaining, IsCounted, Steps, size_of_left, Shrinks};
 

@@ -1,5 +1,5 @@
 //! What starts, stops, loads and unloads applications in a script.
-ghost use Rattle.std.specs.Prelude.{◌≡◌, ◌∷◌, [], IfOk, OnOk, codes, map, string_bytes};
+ghost use Rattle.std.specs.Prelude.{◌≡◌, ◌∷◌, [], IfOk, OnOk, map};
 ghost use Rattle.erl_term.specs.Value.{value_of, values_of};
 ghost use Rattle.erl_term.specs.Value.Value.{atom};
 ghost use Rattle.rel_files.specs.Form.{start_word};

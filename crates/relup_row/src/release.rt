@@ -1,5 +1,5 @@
 //! What the making of a relup needs to know of releases, and the way between two of them.
-ghost use Rattle.std.specs.Prelude.{◌≡◌, map, string_bytes};
+ghost use Rattle.std.specs.Prelude.{◌≡◌};
 ghost use Rattle.std.specs.Option.{option_map};
 ghost use Rattle.relup_row.specs.Release.{relup_app_of, relup_release_of, way_of, way_between, app_named, owner};
 

@@ -1,5 +1,5 @@
 -- What an index keeps, without where it lies in memory.
-use Rattle.std.specs.Prelude.{ℕ, List, map}
+use Rattle.std.specs.Prelude.{ℕ}
 use Rattle.row_index.specs.declared.index.Entry.{Entry}
 use Rattle.row_index.specs.declared.key.Key.{Key}
 use Rattle.row_index.specs.Keys.{Pair}

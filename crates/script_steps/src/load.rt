@@ -101,8 +101,8 @@ fn give_table<R: Wait>(
         result progress.new.held seat.new.view }
 {
     let users = Users {
-        tree: &progress.tree,
         module: purging.name.as_str(),
+        tree: &progress.tree,
     };
     let Some(worker) = worker_in(&progress.fetched, users.module) else {
         return if is_used(&users) {

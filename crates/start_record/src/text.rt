@@ -1,7 +1,7 @@
 // The text of a start.
-ghost use Rattle.std.specs.Prelude.{◌≡◌, ℕ, ◌≤◌, List, ◌∷◌, ◌++◌, length, IfSome, IsNone};
+ghost use Rattle.std.specs.Prelude.{◌≡◌, ℕ, List, ◌∷◌, ◌++◌, length, IfSome, IsNone};
 ghost use Rattle.std.specs.Str.{IsUtf8};
-ghost use Rattle.start_record.specs.Text.{Versions, versions_of, AreTooLong, start_text, SpellsStart, SpellsNoStart};
+ghost use Rattle.start_record.specs.Text.{versions_of, AreTooLong, start_text, SpellsStart, SpellsNoStart};
 
 use crate::Start;
 use arrayvec::ArrayString;

@@ -1,12 +1,12 @@
 -- What a crash leaves is an image of the disk, told by places.
-use Rattle.std.proofs.Common.{◌≡◌, ◌⊎◌, ◌<◌, ◌≤◌, ◌+◌, ◌-◌, ℕ, Bool, true, false, ◌&&◌, ◌||◌, ⊎_elim, nat_le, nat_lt, List, [], ◌∷◌, ◌++◌, length, take, slice_index, if◌then◌else◌, inl, inr, arith, refl, subst, sym, ap, ◌∙◌, length-take}
+use Rattle.std.proofs.Common.{◌≡◌, ◌⊎◌, ◌<◌, ◌≤◌, ◌+◌, ◌-◌, ℕ, Bool, true, false, ◌&&◌, ◌||◌, ⊎_elim, nat_le, nat_lt, List, [], ◌∷◌, ◌++◌, length, slice_index, if◌then◌else◌, inl, inr, arith, refl, subst, sym, ap, ◌∙◌, length-take}
 use Rattle.std.proofs.lemmas.Bool.Decides.{nat_tests}
 use Rattle.std.proofs.lemmas.List.{ext_get_or, get_or-take, take_all}
 use Rattle.std.proofs.lemmas.List.Folds.{list_any-append}
 use Rattle.rel_disk.specs.Calls.{Call, wrote, cut_to, synced, content}
 use Rattle.rel_disk.specs.Images.{Image}
 use Rattle.rel_disk.specs.ImageLaws.{content_is_image}
-use Rattle.rel_disk.specs.Places.{IsAtRest, IsWritten, Survives, smallest_length, synced_content}
+use Rattle.rel_disk.specs.Places.{IsAtRest, IsWritten, Survives, smallest_length}
 use Rattle.stop_disk.specs.declared.crash.Crash.{Crash}
 use Rattle.stop_disk.specs.declared.crash.Crash.TheVariants.{Kept, Filled, Short}
 use Rattle.stop_disk.specs.Crashes.{ranges_of, is_within, IsFilled, IsFilledBy, IsLeft}

@@ -1,5 +1,5 @@
 //! What a disk knows of the calls since its last sync.
-ghost use Rattle.std.specs.Prelude.{◌≡◌, ◌<◌, ◌≤◌, ◌+◌, ◌++◌, ◌∷◌, [], min, length, vec_len, vec_capacity, IfOk};
+ghost use Rattle.std.specs.Prelude.{◌≡◌, ◌<◌, ◌≤◌, ◌+◌, ◌++◌, ◌∷◌, [], min, vec_len, vec_capacity, IfOk};
 ghost use Rattle.stop_disk.specs.Crashes.{is_within, IsFilled};
 
 use std::alloc::{AllocError, Global};

@@ -1,8 +1,7 @@
 //! Children of started supervisors that begin again.
-ghost use Rattle.std.specs.Prelude.{◌≡◌, IfOk, OnErr};
+ghost use Rattle.std.specs.Prelude.{◌≡◌};
 ghost use Rattle.loaded_modules.specs.Loaded.{modules_in, tables_of};
 ghost use Rattle.sup_tree.specs.Restarts.{Prepares, RestartsChild, RestartsIn};
-ghost use Rattle.started_members.specs.Begins.{specification};
 ghost use Rattle.sup_tree.specs.Tree.{app_of};
 
 use crate::children::place_of_super;

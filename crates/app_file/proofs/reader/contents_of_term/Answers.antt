@@ -6,7 +6,7 @@ use Rattle.app_file.specs.declared.contents.Contents.{Contents}
 use Rattle.app_file.specs.Parts.{contents_in}
 use Rattle.app_file.specs.File.{Specification, with_term, IsTermFault}
 use Rattle.app_file.specs.InMemory.{contents_of}
-use Rattle.app_file.proofs.Readings.{read, only_memory}
+use Rattle.app_file.proofs.Readings.{only_memory}
 use Rattle.app_file.proofs.reader.contents_of_term.Goals as goal
 
 -- an error that is passed on

@@ -1,4 +1,4 @@
-use Rattle.std.proofs.Common.{rules, ◌≡◌, ◌<◌, ◌∙◌, ℕ, List, [], Bor, get_or, length, refl, sym, true, false, arith}
+use Rattle.std.proofs.Common.{◌≡◌, ◌<◌, ◌∙◌, ℕ, List, [], Bor, get_or, length, refl, sym, true, false, arith}
 use Rattle.std.proofs.lemmas.List.{get_or_default}
 use Rattle.rel_files.proofs.Distinct.{is_seen, twice_at, seen-more, distinct-more}
 use Rattle.rel_files.proofs.duplicates.first_name_twice.Goals as goal

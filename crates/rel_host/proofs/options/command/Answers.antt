@@ -1,7 +1,7 @@
-use Rattle.std.proofs.Common.{◌≡◌, ◌∙◌, ap, codes}
+use Rattle.std.proofs.Common.{◌≡◌, ◌∙◌, ap}
 use Rattle.std.proofs.lemmas.Result.{IfOk-weaker}
-use Rattle.clap.specs.Words.{App, Rule, Text, app_of, with_rule}
-use Rattle.rel_host.specs.Options.{option_rule, relnode_alone}
+use Rattle.clap.specs.Words.{App, Rule, Text, with_rule}
+use Rattle.rel_host.specs.Options.{option_rule}
 use Rattle.rel_host.proofs.options.command.Goals as goal
 
 -- a command and an option more, by what each is

@@ -1,4 +1,4 @@
-use Rattle.std.proofs.Common.{◌≡◌, ◌<◌, length, refl, ◌∙◌, rules, arith}
+use Rattle.std.proofs.Common.{◌≡◌, length, refl, ◌∙◌, rules, arith}
 use Rattle.std.proofs.lemmas.List.{length-map}
 use Rattle.relup_block.specs.Order.{block_item_of}
 use Rattle.relup_block.specs.Counts.{waiting_of, all_waiting, after_item}

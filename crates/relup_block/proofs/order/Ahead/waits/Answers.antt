@@ -1,6 +1,6 @@
 use Rattle.std.proofs.Common.{◌≡◌, false, rules}
-use Rattle.relup_block.specs.Order.{block_item_of, block_items_of}
-use Rattle.relup_block.specs.Counts.{waits_among, has_deps}
+use Rattle.relup_block.specs.Order.{block_item_of}
+use Rattle.relup_block.specs.Counts.{has_deps}
 use Rattle.relup_block.proofs.CountLemmas.{few_count, naming_count, none_count}
 use Rattle.relup_block.proofs.order.Ahead.waits.Goals as goal
 

@@ -1,6 +1,6 @@
 use Rattle.std.proofs.Common.{◌≡◌, ◌<◌, refl, length, None, Some, rules}
-use Rattle.relup_block.specs.Order.{block_item_of, block_items_of}
-use Rattle.relup_block.specs.Counts.{all_waiting, first_idle_behind, step_of, Meets, remaining, IsCounted, Steps}
+use Rattle.relup_block.specs.Order.{block_item_of}
+use Rattle.relup_block.specs.Counts.{all_waiting, first_idle_behind, step_of, remaining, IsCounted, Steps}
 use Rattle.relup_block.proofs.CountLemmas.{takes}
 use Rattle.relup_block.proofs.StepLemmas.{idle_step, first_step, meet_step, where_ok}
 use Rattle.relup_block.proofs.order.Left.step.Goals as goal

@@ -1,6 +1,6 @@
-use Rattle.std.proofs.Common.{rules, ◌≡◌, ◌<◌, ◌≤◌, ◌+◌, ◌-◌, ◌*◌, ◌/◌, ◌^◌, ℕ, suc, List, arith, length, map, sym, ap, subst, ◌∙◌}
+use Rattle.std.proofs.Common.{rules, ◌≡◌, ◌<◌, ◌≤◌, ◌+◌, ◌-◌, ◌*◌, ◌^◌, suc, arith, length, map, sym, ap, subst, ◌∙◌}
 use Rattle.std.proofs.lemmas.List.{length-map}
-use Rattle.row_index.specs.Keys.{Pair, IsRising, number_at}
+use Rattle.row_index.specs.Keys.{IsRising, number_at}
 use Rattle.row_index.specs.Stored.{row_of}
 use Rattle.row_index.proofs.SearchLemmas.{IsHalved, IsNarrowed, entry_at, found, go_above, go_below, halve, missed, row_at, spares_one, spends_few}
 use Rattle.row_index.proofs.index.Index.find.Goals as goal

@@ -1,4 +1,4 @@
-use Rattle.std.proofs.Common.{◌≡◌, List, ℕ, length, take, drop, ap, sym, subst, subst₂, ◌∙◌}
+use Rattle.std.proofs.Common.{◌≡◌, length, take, drop, ap, sym, subst, subst₂, ◌∙◌}
 use Rattle.std.proofs.lemmas.List.{take_at}
 use Rattle.rel_disk.specs.Calls.{content}
 use Rattle.rel_disk.specs.Places.{smallest_length}

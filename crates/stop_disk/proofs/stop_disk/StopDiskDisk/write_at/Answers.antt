@@ -1,4 +1,4 @@
-use Rattle.std.proofs.Common.{◌≤◌, ◌/◌, ℕ, length, take, arith, length-take}
+use Rattle.std.proofs.Common.{◌/◌, length, arith, length-take}
 use Rattle.rel_disk.proofs.PlaceLemmas.{follows_wider, torn_wider}
 use Rattle.rel_disk.proofs.DamageLemmas.{follows_torn, torn_same}
 use Rattle.stop_disk.proofs.stop_disk.StopDiskDisk.write_at.Goals as goal

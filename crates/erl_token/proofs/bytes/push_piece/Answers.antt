@@ -2,8 +2,8 @@ use Rattle.std.proofs.Common.{◌≡◌, ◌∷◌, [], ◌∙◌, ap, sym, subs
 use Rattle.std.specs.Prelude.{IfOk}
 use Rattle.std.specs.Str.{chars}
 use Rattle.erl_token.specs.Contents.{piece_bytes}
-use Rattle.erl_term.specs.Views.{IsAdded}
-use Rattle.erl_term.proofs.character.push_piece.Goals as goal
+use Rattle.erl_token.specs.Bytes.{IsAdded}
+use Rattle.erl_token.proofs.bytes.push_piece.Goals as goal
 
 pub returns-in-Character-clause-added : goal.returns-in-Character-clause-added
 returns-in-Character-clause-added c =

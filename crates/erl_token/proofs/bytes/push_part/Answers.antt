@@ -3,10 +3,9 @@ use Rattle.std.specs.Str.{chars}
 use Rattle.std.proofs.lemmas.List.{map-id}
 use Rattle.std.proofs.lemmas.Iterator.{YieldsList-from_chars}
 use Rattle.std.proofs.lemmas.Iterator.Consumers.{YieldsList-end, YieldsList-turn}
-use Rattle.erl_term.specs.Views.{IsAdded}
-use Rattle.erl_term.proofs.ParserLemmas.{bytes_of-but}
-use Rattle.erl_term.proofs.TextCharacters.{no_byte, bytes_on}
-use Rattle.erl_term.proofs.character.push_part.Goals as goal
+use Rattle.erl_token.specs.Bytes.{IsAdded}
+use Rattle.erl_token.proofs.ByteLemmas.{bytes_of-but, no_byte, bytes_on}
+use Rattle.erl_token.proofs.bytes.push_part.Goals as goal
 
 pub returns-then-not-branch-clause-added : goal.returns-then-not-branch-clause-added
 returns-then-not-branch-clause-added c =

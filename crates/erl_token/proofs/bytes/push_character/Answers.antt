@@ -1,5 +1,5 @@
 use Rattle.erl_token.proofs.Pieces.{stands_alone}
-use Rattle.erl_term.proofs.character.push_character.Goals as goal
+use Rattle.erl_token.proofs.bytes.push_character.Goals as goal
 
 pub returns-in_default-clause-alone : goal.returns-in_default-clause-alone
 returns-in_default-clause-alone c = stands_alone c.args.character c.ranges.character.0

@@ -1,9 +1,9 @@
 use Rattle.std.proofs.Common.{true, refl, sym, subst, append-nil}
 use Rattle.std.proofs.lemmas.Str.{chars-nil, IsUtf8-nil}
-use Rattle.erl_term.specs.Views.{IsAdded}
+use Rattle.erl_token.specs.Bytes.{IsAdded}
 use Rattle.erl_token.proofs.Pieces.{utf8_more, chars_more}
-use Rattle.erl_term.proofs.TextCharacters.{bytes_on, bytes_but_piece}
-use Rattle.erl_term.proofs.character.push_pieces.Goals as goal
+use Rattle.erl_token.proofs.ByteLemmas.{bytes_on, bytes_but_piece}
+use Rattle.erl_token.proofs.bytes.push_pieces.Goals as goal
 
 pub loop-piece-init : goal.loop-piece-init
 loop-piece-init c =
