@@ -1,6 +1,7 @@
 -- Why a command is refused, and what stands after it.
-use Rattle.std.specs.Prelude.{◌≡◌, ℕ, true, false, List, None, Result, Ok, Err}
+use Rattle.std.specs.Prelude.{◌≡◌, ℕ, true, false, List, None, Some, Result, Ok, Err}
 use Rattle.rel_disk.specs.Moments.{HasFailed}
+use Rattle.rel_files.specs.Release.{Release}
 use Rattle.rel_list.specs.Releases.{Releases, release_at}
 use Rattle.rel_list.specs.Event.{Event}
 use Rattle.rel_store.specs.declared.error.StoreError.{StoreError}
@@ -34,16 +35,16 @@ CommandRefused failures e size old new Device = IsPossible e size old × HasFail
 CommandRefused failures e size old new Exists = ⊥
 CommandRefused failures e size old new why = IsRefused e old why × IsSame old new
 
--- Why there is no room for a record with a body of so many bytes in a store that reaches so far: it would be too long, or memory
--- was refused.
+-- Why there is no room for a record with a body of so many bytes in a store that reaches so far: it would be too long, or it
+-- would not, and memory was refused.
 abbrev pub HasNoRoom : Extent → ℕ → HandlerError → Type 0
 HasNoRoom x size Full = HasSpace x size → ⊥
-HasNoRoom x size NoMemory = Unit {0}
+HasNoRoom x size NoMemory = HasSpace x size
 HasNoRoom x size why = ⊥
 
--- Why no start is found for a version: no release has it, or memory was refused.
+-- Why no start is found for a version: no release has it, or one has it, and memory was refused.
 abbrev pub IsStartRefusal : List ℕ → Releases → HandlerError → Type 0
-IsStartRefusal vsn es NoMemory = Unit {0}
+IsStartRefusal vsn es NoMemory = (r : Release) × (release_at vsn es ≡ Some r)
 IsStartRefusal vsn es why = (release_at vsn es ≡ None) × (why ≡ NoSuchRelease)
 
 -- what a command is told of a compaction of its store: that the device failed, and nothing else

@@ -1,8 +1,8 @@
 //! Workers that wait for each other.
-ghost use Rattle.std.specs.Prelude.{◌≡◌};
+ghost use Rattle.std.specs.Prelude.{◌≡◌, IfSome};
 
 use crate::processes::begin;
-use proc_table::{Pass, Pid, ProcTable};
+use proc_table::{HandlerSeat, Pass, Pid, ProcTable};
 use proc_workers::{Ended, Gate, Inbox, Job, Note, mailbox, work};
 use std::alloc::Global;
 use std::sync::Wait;
@@ -69,31 +69,15 @@ pub(crate) fn push_gated<R: Threads + Wait + Sync>(rt: &R, alloc: Global, answer
     let Ok((table, mut seat)) = ProcTable::new(alloc) else {
         return answer.note_no_memory();
     };
-    let Some(one) = begin(rt, alloc, &table, &mut seat, None, "permanent", answer) else {
+    let Some(first) = worker_with_job(rt, alloc, &table, &mut seat, 1, answer) else {
         return;
     };
-    let Some(two) = begin(rt, alloc, &table, &mut seat, None, "permanent", answer) else {
+    let Some(second) = worker_with_job(rt, alloc, &table, &mut seat, 2, answer) else {
         return;
-    };
-    let (Some(first), Some(second)) = (with_job(rt, alloc, 1, one), with_job(rt, alloc, 2, two))
-    else {
-        return answer.note_no_memory();
     };
     let meeting = Meeting {
         answered: AtomicBool::new(false),
         met: AtomicBool::new(false),
-    };
-    let first = NewWorker {
-        alloc,
-        pass: table.new_pass(&mut seat),
-        pid: one,
-        inbox: first,
-    };
-    let second = NewWorker {
-        alloc,
-        pass: table.new_pass(&mut seat),
-        pid: two,
-        inbox: second,
     };
     both_work(rt, &table, first, second, &meeting);
     answer.push(if meeting.met.load(Ordering::SeqCst) {
@@ -101,6 +85,33 @@ pub(crate) fn push_gated<R: Threads + Wait + Sync>(rt: &R, alloc: Global, answer
     } else {
         "not met"
     });
+}
+
+// A worker of a process that begins, with one job.
+fn worker_with_job<R: Wait>(
+    rt: &R,
+    alloc: Global,
+    table: &ProcTable,
+    seat: &mut HandlerSeat,
+    number: u32,
+    answer: &mut Answer,
+) -> Option<NewWorker>
+    requires { seat.old.table ≡ table.now }
+    ensures seat { seat.new.table ≡ seat.old.table }
+    ensures worker { IfSome result (λ worker. worker.pass.table ≡ table.now) }
+{
+    let pid = begin(rt, alloc, table, seat, None, "permanent", answer)?;
+    let Some(inbox) = with_job(rt, alloc, number, pid) else {
+        answer.note_no_memory();
+        return None;
+    };
+    let pass = table.new_pass(seat);
+    Some(NewWorker {
+        alloc,
+        pass,
+        pid,
+        inbox,
+    })
 }
 
 // A mailbox with a job of the process, whose sender is gone.

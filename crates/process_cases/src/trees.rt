@@ -43,6 +43,14 @@ fn libraries_in(alloc: Global, terms: &str) -> Option<Vec<Rc<Library>>> {
     libraries_of_terms(alloc, list_in(&term)?).ok()?
 }
 
+// What the steps change beside the table.
+#[derive(Drop)]
+struct Apps {
+    loaded: Loaded,
+    fetched: Loaded,
+    tree: Tree,
+}
+
 fn follow_with<R: Wait>(
     rt: &R,
     alloc: Global,
@@ -50,47 +58,72 @@ fn follow_with<R: Wait>(
     steps: &str,
     answer: &mut Answer,
 ) {
-    let (Ok(mut loaded), Ok((table, mut seat))) = (
-        Loaded::of(alloc, libraries),
-        ProcTable::new(alloc),
-    ) else {
+    let (Ok(loaded), Ok((table, mut seat))) = (Loaded::of(alloc, libraries), ProcTable::new(alloc))
+    else {
         return answer.note_no_memory();
     };
-    let mut fetched = Loaded::new(alloc);
-    let mut tree = Tree::new(alloc);
+    let mut apps = Apps {
+        loaded,
+        fetched: Loaded::new(alloc),
+        tree: Tree::new(alloc),
+    };
     for step in steps.split("; ") {
         if !answer.text.is_empty() {
             answer.push("; ");
         }
-        let (word, rest) = first_word(step);
-        match word {
-            "start" => {
-                push_start(
-                    rt, alloc, libraries, &loaded, &table, &mut seat, &mut tree, rest, answer,
-                );
-            }
-            "stop" => match tree.stop_app(rt, &table, &mut seat, rest) {
-                Ok(()) => answer.push("ok"),
-                Err(error) => answer.push_shown(&error),
-            },
-            "fetch" | "load" | "remove" | "copy" => change_loaded(
-                alloc,
-                libraries,
-                &mut loaded,
-                &mut fetched,
-                step,
-                answer,
-            ),
-            "members" | "change" => {
-                step_of_children(alloc, &loaded, &mut tree, word, rest, answer);
-            }
-            "terminate" | "delete" | "restart" => step_of_child(
-                rt, alloc, &loaded, &table, &mut seat, &mut tree, word, rest, answer,
-            ),
-            "vsn" | "versions" => push_loaded(alloc, &loaded, word, rest, answer),
-            "find" | "using" | "in" | "supervises" => push_found(alloc, &tree, word, rest, answer),
-            _ => take_step(rt, alloc, &table, &mut seat, step, answer),
+        step_of_apps(
+            rt, alloc, libraries, &mut apps, &table, &mut seat, step, answer,
+        );
+    }
+}
+
+fn step_of_apps<R: Wait>(
+    rt: &R,
+    alloc: Global,
+    libraries: &[Rc<Library>],
+    apps: &mut Apps,
+    table: &ProcTable,
+    seat: &mut HandlerSeat,
+    step: &str,
+    answer: &mut Answer,
+)
+    requires { seat.old.table ≡ table.now }
+    ensures { seat.new.table ≡ seat.old.table }
+{
+    let (word, rest) = first_word(step);
+    match word {
+        "start" => push_start(rt, alloc, libraries, apps, table, seat, rest, answer),
+        "stop" => match apps.tree.stop_app(rt, table, seat, rest) {
+            Ok(()) => answer.push("ok"),
+            Err(error) => answer.push_shown(&error),
+        },
+        "fetch" | "load" | "remove" | "copy" => change_loaded(
+            alloc,
+            libraries,
+            &mut apps.loaded,
+            &mut apps.fetched,
+            step,
+            answer,
+        ),
+        "members" | "change" => {
+            step_of_children(alloc, &apps.loaded, &mut apps.tree, word, rest, answer);
         }
+        "terminate" | "delete" | "restart" => step_of_child(
+            rt,
+            alloc,
+            &apps.loaded,
+            table,
+            seat,
+            &mut apps.tree,
+            word,
+            rest,
+            answer,
+        ),
+        "vsn" | "versions" => push_loaded(alloc, &apps.loaded, word, rest, answer),
+        "find" | "using" | "in" | "supervises" => {
+            push_found(alloc, &apps.tree, word, rest, answer);
+        }
+        _ => take_step(rt, alloc, table, seat, step, answer),
     }
 }
 
@@ -98,10 +131,9 @@ fn push_start<R: Wait>(
     rt: &R,
     alloc: Global,
     libraries: &[Rc<Library>],
-    loaded: &Loaded,
+    apps: &mut Apps,
     table: &ProcTable,
     seat: &mut HandlerSeat,
-    tree: &mut Tree,
     name: &str,
     answer: &mut Answer,
 )
@@ -110,7 +142,10 @@ fn push_start<R: Wait>(
 {
     for library in libraries {
         if library.app.name.as_str() == name {
-            match tree.start_app(rt, alloc, table, seat, &library.app, loaded) {
+            match apps
+                .tree
+                .start_app(rt, alloc, table, seat, &library.app, &apps.loaded)
+            {
                 Ok(()) => answer.push("ok"),
                 Err(StartError::NoTable(module)) => answer.push_after("NoTable ", module),
                 Err(error) => answer.push_shown(&error),

@@ -4,7 +4,9 @@ ghost use Rattle.std.specs.Prelude.{◌≡◌, []};
 use crate::clients::{push_peek, push_tried};
 use crate::processes::{begin, beginning};
 use proc_table::{HandlerSeat, Pid, ProcTable};
-use proc_workers::{EndCause, Ended, FloodCounts, Inbox, Job, NoGate, Note, flood, mailbox, work};
+use proc_workers::{
+    EndCause, Ended, FloodCounts, Inbox, Job, NoGate, Note, Sender, flood, mailbox, work,
+};
 use std::alloc::Global;
 use std::sync::Wait;
 use std::thread::Threads;
@@ -36,19 +38,30 @@ pub(crate) fn push_worker<R: Wait>(rt: &R, alloc: Global, words: &str, answer: &
 fn with_notes<R: Wait>(rt: &R, alloc: Global, pid: Pid, words: &str) -> Option<Inbox> {
     let (mut first, inbox) = mailbox(alloc).ok()?;
     let mut second = first.second().ok()?;
+    send_notes(rt, &mut first, &mut second, pid, words)?;
+    Some(inbox)
+}
+
+// Each note by its sender, up to the first that is handed back.
+fn send_notes<R: Wait>(
+    rt: &R,
+    first: &mut Sender,
+    second: &mut Sender,
+    pid: Pid,
+    words: &str,
+) -> Option<()> {
     let mut number = 0u32;
     for words in words.split("; ") {
         number = number.saturating_add(1);
         let (word, input) = first_word(words);
         let note = note_of(number, pid, word, input.parse::<u32>().unwrap_or(0));
-        let sender = if word == "second" {
-            &mut second
+        if word == "second" {
+            second.send(rt, note).ok()?;
         } else {
-            &mut first
-        };
-        sender.send(rt, note).ok()?;
+            first.send(rt, note).ok()?;
+        }
     }
-    Some(inbox)
+    Some(())
 }
 
 fn note_of(number: u32, pid: Pid, word: &str, input: u32) -> Note {
