@@ -20,25 +20,34 @@ impl Expected {
         alloc: Global,
         session: &Session,
     ) -> Result<Expected, AllocError> {
-        let mut written = Vec::new(alloc);
-        let mut told = Vec::new(alloc);
-        let mut within = Vec::new(alloc);
+        let mut expected = Expected {
+            written: Vec::new(alloc),
+            told: Vec::new(alloc),
+            within: Vec::new(alloc),
+        };
         for count in 0..=session.commands.len() {
-            let disk = MemDisk::new(alloc, CAPACITY, LOG)?;
-            let lines = session.lines(alloc, count)?;
-            let (disk, text) = run(rt, alloc, disk, lines.as_str())?;
-            let (_, boot) = run(rt, alloc, disk, BOOT)?;
-            let before = written.last().map_or("", |text: &String| text.as_str());
-            let line = boot_line(text.as_str(), before);
-            within.push(told_within(rt, alloc, lines, text.as_str(), line)?)?;
-            written.push(text)?;
-            told.push(boot)?;
+            expected.add(rt, alloc, session.lines(alloc, count)?)?;
         }
-        Ok(Expected {
-            written,
-            told,
-            within,
-        })
+        Ok(expected)
+    }
+
+    // Notes what a session of these lines writes, and what a boot tells behind it.
+    fn add<H: Threads + Wait + Sync>(
+        &mut self,
+        rt: &H,
+        alloc: Global,
+        lines: String,
+    ) -> Result<(), AllocError> {
+        let disk = MemDisk::new(alloc, CAPACITY, LOG)?;
+        let (disk, text) = run(rt, alloc, disk, lines.as_str())?;
+        let (_, boot) = run(rt, alloc, disk, BOOT)?;
+        self.told.push(boot)?;
+        let before = self.written.last().map_or("", |text| text.as_str());
+        let line = boot_line(text.as_str(), before);
+        self.within
+            .push(told_within(rt, alloc, lines, text.as_str(), line)?)?;
+        self.written.push(text)?;
+        Ok(())
     }
 
     /// How many commands a session had answered that has written this, before an answer was another one.

@@ -81,14 +81,26 @@ fn is_explained<H: Threads + Wait + Sync>(
     let lines = session.lines(alloc, session.commands.len())?;
     let (mut stopped, text) = run(rt, alloc, disk, lines.as_str())?;
     let answered = expected.answered(text.as_str());
+    let explained = explains_images(rt, alloc, expected, answered, &mut stopped.disk)?;
+    Ok(explained && stopped.stop.stopped)
+}
+
+// Whether a boot of each image that a crash may leave of this disk tells what is expected behind so many answers.
+fn explains_images<H: Threads + Wait + Sync>(
+    rt: &H,
+    alloc: Global,
+    expected: &Expected,
+    answered: usize,
+    disk: &mut MarkedDisk,
+) -> Result<bool, AllocError> {
     for crash in CRASHES {
-        let image = stopped.disk.image(alloc, crash)?;
+        let image = disk.image(alloc, crash)?;
         let boot = boot_of(rt, alloc, &image)?;
         if !expected.explains(answered, boot.as_str()) {
             return Ok(false);
         }
     }
-    Ok(stopped.stop.stopped)
+    Ok(true)
 }
 
 // What a boot of these bytes tells.
