@@ -19,12 +19,14 @@ impl Model for Name {
 }
 
 impl Name {
+    /// The name that the text spells. Any text is one.
     pub fn new(text: String) -> Name
         ensures { result ≡ string_bytes text }
     {
         Name { text }
     }
 
+    /// Its text.
     pub fn as_str(&self) -> &str
         ensures { result.now ≡ self.now }
     {

@@ -18,6 +18,7 @@ enum Kind {
     CutTo,
 }
 
+/// The calls of a disk in memory, in bytes whose room was taken with it.
 #[derive(Drop)]
 pub struct Log {
     bytes: Vec<u8>,
