@@ -7,8 +7,7 @@ use Rattle.app_members.specs.declared.error.MembersError.TheVariants.{NoTable, U
 use Rattle.app_members.specs.InMemory.{AreTooMany, FaultIs}
 use Rattle.mod_table.specs.Table.{ChildSpec}
 use Rattle.mod_table.specs.declared.table.Table.{Table}
-use Rattle.rel_check.specs.Modules.{Tables}
-use Rattle.rel_check.specs.Walk.{child_table}
+use Rattle.mod_table.specs.Tables.{Tables, child_table}
 use Rattle.app_members.specs.Walk.{NewMember, StartFault, app_fault, app_members, child_as_member, child_fault, child_members, children_fault, children_members, crowd_fault, fault_from, lone_fault, lone_members, members_below, top_children, worker_at_top}
 use Rattle.app_members.specs.Walk.StartFault.{unsupported}
 

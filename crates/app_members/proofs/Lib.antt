@@ -1,3 +1,2 @@
 pub mod WalkLemmas
 pub mod AppLemmas
-pub mod CheckLemmas

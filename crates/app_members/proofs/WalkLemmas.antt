@@ -12,8 +12,7 @@ use Rattle.std.specs.Borrow.{Bor}
 use Rattle.std.specs.BTreeMap.{BTreeMap}
 use Rattle.std.specs.Str.{bytes_eq}
 use Rattle.std.proofs.lemmas.Slice.Eq.{bytes_eq-Decides}
-use Rattle.rel_check.specs.Modules.{Tables}
-use Rattle.rel_check.specs.Walk.{first_of, of_kind, child_table}
+use Rattle.mod_table.specs.Tables.{Tables, first_of, of_kind, child_table}
 use Rattle.app_members.specs.Walk.{NewMember, StartFault, child_fault, children_fault, children_members, fault_from, members_from}
 use Rattle.app_members.specs.Walk.StartFault.{unsupported}
 use Rattle.app_members.specs.declared.error.MembersError.{MembersError}

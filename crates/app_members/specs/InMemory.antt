@@ -7,7 +7,7 @@ use Rattle.std.specs.Ordering.{nat_cmp}
 use Rattle.std.specs.declared.alloc.Global.{Global}
 use Rattle.mod_table.specs.declared.table.Table.TheVariants.{Super}
 use Rattle.mod_table.specs.Table.{ChildSpec, SuperTable}
-use Rattle.rel_check.specs.Modules.{Tables}
+use Rattle.mod_table.specs.Tables.{Tables}
 use Rattle.app_members.specs.declared.walk.NewChild.{NewChild}
 use Rattle.app_members.specs.declared.walk.NewMember.{NewMember}
 use Rattle.app_members.specs.declared.error.MembersError.{MembersError}

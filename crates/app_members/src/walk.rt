@@ -5,7 +5,7 @@ ghost use Rattle.std.specs.Option.{option_and_then, option_map, option_map_or};
 ghost use Rattle.app_file.specs.InMemory.{specification_of};
 ghost use Rattle.mod_table.specs.InMemory.{child_of};
 ghost use Rattle.mod_table.specs.Table.{ChildSpec};
-ghost use Rattle.rel_check.specs.Walk.{child_table, of_kind};
+ghost use Rattle.mod_table.specs.Tables.{child_table, of_kind};
 ghost use Rattle.app_members.specs.InMemory.{AreSound, Reports, Adds, noted_in, new_child_of, new_member_of, new_members_of, AreChildMembers, AreMembers, TopIs};
 ghost use Rattle.loaded_modules.specs.Loaded.{modules_in, tables_of};
 ghost use Rattle.app_members.specs.Walk.{child_as_member, child_fault, children_fault, children_members, fault_from, members_below, members_from, starts_among, super_children};

@@ -35,6 +35,31 @@ fn update(
     }))
 }
 
+fn updates(alloc: Global, shape: Shape, count: usize) -> Result<Vec<AppupInstr>, AllocError> {
+    let mut instrs = Vec::new(alloc);
+    for number in 0..count {
+        instrs.push(update(alloc, shape, number, count)?)?;
+    }
+    Ok(instrs)
+}
+
+fn modules(alloc: Global, count: usize) -> Result<Vec<String>, AllocError> {
+    let mut modules = Vec::new(alloc);
+    for number in 0..count {
+        modules.push(module(alloc, number)?)?;
+    }
+    Ok(modules)
+}
+
+// The entries of an appup for version 1.
+fn entries(alloc: Global, shape: Shape, count: usize) -> Result<Vec<AppupEntry>, AllocError> {
+    let entry = AppupEntry {
+        vsn: OtherVersion::Text(String::from_str(alloc, "1")?),
+        instrs: updates(alloc, shape, count)?,
+    };
+    Ok(vec![in alloc; entry]?)
+}
+
 // The appup of a version, by which version 1 is left, or reached again.
 fn appup(
     alloc: Global,
@@ -43,16 +68,8 @@ fn appup(
     count: usize,
     vsn: &str,
 ) -> Result<Appup, AllocError> {
-    let mut instrs = Vec::new(alloc);
-    for number in 0..count {
-        instrs.push(update(alloc, shape, number, count)?)?;
-    }
-    let mut entries = Vec::new(alloc);
-    entries.push(AppupEntry {
-        vsn: OtherVersion::Text(String::from_str(alloc, "1")?),
-        instrs,
-    })?;
     let vsn = String::from_str(alloc, vsn)?;
+    let entries = entries(alloc, shape, count)?;
     let none = Vec::new(alloc);
     match direction {
         Direction::Up => Ok(Appup {
@@ -68,6 +85,22 @@ fn appup(
     }
 }
 
+fn app(
+    alloc: Global,
+    direction: Direction,
+    shape: Shape,
+    count: usize,
+    vsn: &str,
+) -> Result<RelupApp, AllocError> {
+    Ok(RelupApp {
+        name: String::from_str(alloc, "app")?,
+        vsn: String::from_str(alloc, vsn)?,
+        start: StartType::Permanent,
+        modules: ModuleNames::new(alloc, modules(alloc, count)?)?,
+        appup: Some(appup(alloc, direction, shape, count, vsn)?),
+    })
+}
+
 /// The release with the application in a version, which its appup reaches from version 1, or leaves for it.
 pub(crate) fn release(
     alloc: Global,
@@ -76,18 +109,8 @@ pub(crate) fn release(
     count: usize,
     vsn: &str,
 ) -> Result<RelupRelease, AllocError> {
-    let mut modules = Vec::new(alloc);
-    for number in 0..count {
-        modules.push(module(alloc, number)?)?;
-    }
-    let mut apps = Vec::new(alloc);
-    apps.push(RelupApp {
-        name: String::from_str(alloc, "app")?,
-        vsn: String::from_str(alloc, vsn)?,
-        start: StartType::Permanent,
-        modules: ModuleNames::new(alloc, modules)?,
-        appup: Some(appup(alloc, direction, shape, count, vsn)?),
-    })?;
+    let app = app(alloc, direction, shape, count, vsn)?;
+    let apps = vec![in alloc; app]?;
     Ok(RelupRelease {
         vsn: String::from_str(alloc, vsn)?,
         erts: String::from_str(alloc, "14")?,

@@ -79,8 +79,7 @@ fn made(
     new: &RelupRelease,
     old: RelupRelease,
 ) -> Option<Relup> {
-    let mut others = Vec::new(alloc);
-    others.push(old).ok()?;
+    let others = vec![in alloc; old].ok()?;
     match direction {
         Direction::Up => make_relup(alloc, new, &others, &[]).ok(),
         Direction::Down => make_relup(alloc, new, &[], &others).ok(),
@@ -88,22 +87,30 @@ fn made(
 }
 
 fn measure(rt: &HostRuntime, direction: Direction, shape: Shape, count: usize) -> io::Result<()> {
-    let Ok(new) = release(rt.alloc(), direction, shape, count, "2") else {
+    let (Ok(new), Ok(old), Ok(kind)) = (
+        release(rt.alloc(), direction, shape, count, "2"),
+        release(rt.alloc(), direction, shape, count, "1"),
+        format!(in rt.alloc(); "{} {}", shape.name(), name_of_direction(direction)),
+    ) else {
         return Ok(());
     };
-    let Ok(old) = release(rt.alloc(), direction, shape, count, "1") else {
-        return Ok(());
-    };
+    measure_as(rt, direction, kind.as_str(), count, &new, old)
+}
+
+fn measure_as(
+    rt: &HostRuntime,
+    direction: Direction,
+    kind: &str,
+    count: usize,
+    new: &RelupRelease,
+    old: RelupRelease,
+) -> io::Result<()> {
     let start = rt.thread_cpu_time()?;
-    let relup = made(rt.alloc(), direction, &new, old);
+    let relup = made(rt.alloc(), direction, new, old);
     let end = rt.thread_cpu_time()?;
-    let Ok(kind) = format!(in rt.alloc(); "{} {}", shape.name(), name_of_direction(direction))
-    else {
-        return Ok(());
-    };
     if let Some(relup) = relup {
         for entry in entries(direction, &relup) {
-            write_orders(rt, kind.as_str(), count, entry)?;
+            write_orders(rt, kind, count, entry)?;
         }
     }
     let taken = end.as_micros().saturating_sub(start.as_micros());

@@ -23,7 +23,7 @@ use Rattle.proc_table.specs.Views.{seen, is_out}
 use Rattle.proc_table.specs.Waits.{HeldAtLast}
 use Rattle.proc_table.proofs.CountLemmas.{begins_take_one}
 use Rattle.proc_table.proofs.WaitLemmas.{held_and_released, since}
-use Rattle.rel_check.specs.Modules.{Tables}
+use Rattle.mod_table.specs.Tables.{Tables}
 use Rattle.sup_tree.specs.declared.error.StartError.{StartError}
 use Rattle.sup_tree.specs.declared.error.StartError.TheVariants.{AlreadyStarted, NoTable, Unsupported, NoSlot, NoMemory}
 use Rattle.started_members.specs.declared.member.Member.{Member}

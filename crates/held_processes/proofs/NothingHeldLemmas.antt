@@ -15,7 +15,7 @@ use Rattle.proc_table.specs.Views.{handler_view, is_out}
 use Rattle.proc_table.specs.Waits.{HeldAtLast}
 use Rattle.proc_table.proofs.WaitLemmas.{held_and_released}
 use Rattle.std.proofs.lemmas.List.{get_or-replicate}
-use Rattle.rel_check.specs.Modules.{Tables}
+use Rattle.mod_table.specs.Tables.{Tables}
 use Rattle.sup_tree.specs.declared.error.StartError.{StartError}
 use Rattle.started_members.specs.declared.member.StartedProcess.{StartedProcess}
 use Rattle.sup_tree.specs.Starts.{AppStarted, StartsApp}

@@ -3,7 +3,7 @@ use Rattle.std.proofs.Common.{◌≡◌, ◌≢◌, ℕ, ◌<◌, ◌≤◌, ◌
 use Rattle.proc_history.specs.Events.Event.{given_up}
 use Rattle.proc_table.specs.declared.pid.Pid.{Pid}
 use Rattle.proc_table.specs.declared.view.View.{View}
-use Rattle.rel_check.specs.Modules.{Tables}
+use Rattle.mod_table.specs.Tables.{Tables}
 use Rattle.sup_tree.specs.declared.error.RestartError.{RestartError}
 use Rattle.sup_tree.specs.declared.error.RestartError.TheVariants.{NoSuper, NoTable, Unsupported, NoSlot, NoMemory}
 use Rattle.started_members.specs.declared.looks.Stay.{Stay}

@@ -3,7 +3,7 @@ use Rattle.std.specs.Prelude.{◌≡◌, ℕ, ◌<◌, true, List, [], ◌++◌,
 use Rattle.proc_table.specs.declared.view.View.{View}
 use Rattle.proc_table.specs.Agrees.{slots}
 use Rattle.proc_table.specs.Views.{seen}
-use Rattle.rel_check.specs.Modules.{Tables}
+use Rattle.mod_table.specs.Tables.{Tables}
 use Rattle.sup_tree.specs.declared.error.StartError.{StartError}
 use Rattle.sup_tree.specs.declared.error.NoSuchApp.{NoSuchApp}
 use Rattle.sup_tree.specs.Starts.{StartsApp}

@@ -39,14 +39,23 @@ fn push_brought(alloc: Global, line: &str, bodies: &mut Vec<Vec<u8>>, answer: &m
 
 // The body that brings the release of these files behind these bodies. Nothing where they are none of a release.
 fn body_behind(alloc: Global, bodies: &[Vec<u8>], rel: &str, relup: &str) -> Option<String> {
-    let RelFile { term, release: _ } = read_rel_file(alloc, rel.as_bytes()).ok()?;
-    let relup = relup_in(alloc, relup)?;
     if bodies.is_empty() {
-        made_body(alloc, term, &[], relup).ok()
-    } else {
-        let list = read_list(alloc, 2, bodies).ok()?;
-        unpacked_body(alloc, &list, term, &[], relup).ok()
+        return first_body(alloc, rel, relup);
     }
+    let list = read_list(alloc, 2, bodies).ok()?;
+    further_body(alloc, &list, rel, relup)
+}
+
+fn first_body(alloc: Global, rel: &str, relup: &str) -> Option<String> {
+    let relup = relup_in(alloc, relup)?;
+    let RelFile { term, release: _ } = read_rel_file(alloc, rel.as_bytes()).ok()?;
+    made_body(alloc, term, &[], relup).ok()
+}
+
+fn further_body(alloc: Global, list: &ReleaseList, rel: &str, relup: &str) -> Option<String> {
+    let relup = relup_in(alloc, relup)?;
+    let RelFile { term, release: _ } = read_rel_file(alloc, rel.as_bytes()).ok()?;
+    unpacked_body(alloc, list, term, &[], relup).ok()
 }
 
 // The term of a relup's file. An empty text stands for none.

@@ -13,7 +13,7 @@ use Rattle.mod_table.specs.declared.table.Table.{Table}
 use Rattle.mod_table.specs.File.{vsn_of}
 use Rattle.library.specs.Library.{Library, TableTerm}
 use Rattle.library.specs.InMemory.{shared_of}
-use Rattle.rel_check.specs.Modules.{Tables}
+use Rattle.mod_table.specs.Tables.{Tables}
 use Rattle.loaded_modules.specs.declared.loaded.LoadedModule.{LoadedModule}
 use Rattle.loaded_modules.specs.declared.loaded.Loaded.{Loaded}
 

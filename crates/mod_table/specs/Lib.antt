@@ -4,3 +4,4 @@ pub mod Headed
 pub mod InMemory
 pub mod File
 pub mod Laws
+pub mod Tables

@@ -5,7 +5,8 @@ use Rattle.std.specs.Str.{bytes_eq}
 use Rattle.rel_files.specs.Name.{IsVersion}
 use Rattle.rel_list.specs.Releases.{Releases, Entry}
 use Rattle.library.specs.Library.{Library, IsLibrary}
-use Rattle.rel_check.specs.Modules.{Part, Tables, parts}
+use Rattle.rel_check.specs.Modules.{Part, parts}
+use Rattle.mod_table.specs.Tables.{Tables}
 use Rattle.loaded_modules.specs.Loaded.{Module, NamedModules, module_named}
 use Rattle.started_members.specs.Begins.{beginning_of, specification}
 use Rattle.app_members.specs.Walk.{app_starts}

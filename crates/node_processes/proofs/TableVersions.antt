@@ -18,8 +18,7 @@ use Rattle.mod_table.specs.File.{versions_of}
 use Rattle.worker_table.specs.Headed.{row_has_version}
 use Rattle.mod_table.specs.Table.{ChildSpec}
 use Rattle.library.specs.Library.{Library, TableTerm, HaveTables, IsLibrary, is_at}
-use Rattle.rel_check.specs.Modules.{Tables}
-use Rattle.rel_check.specs.Walk.{of_kind, child_table}
+use Rattle.mod_table.specs.Tables.{Tables, of_kind, child_table}
 use Rattle.loaded_modules.specs.Loaded.{Module, NamedModules, libraries_behind, loaded_behind, module_of, modules_with, modules_of, named_modules, library_modules, module_named, with_loaded}
 use Rattle.app_members.specs.Walk.{NewMember, Start, app_members, app_starts, child_members, children_members, lone_members, members_at_top, members_from, start_in, starts_among}
 use Rattle.node_processes.specs.Fresh.{tables_in}

@@ -10,7 +10,8 @@ use Rattle.rel_files.specs.Release.{Application}
 use Rattle.library.specs.Library.{Library}
 use Rattle.rel_list.specs.Releases.{Releases, Entry}
 use Rattle.rel_list.specs.Status.{is_current, is_permanent}
-use Rattle.rel_check.specs.Modules.{Part, Tables, parts}
+use Rattle.rel_check.specs.Modules.{Part, parts}
+use Rattle.mod_table.specs.Tables.{Tables}
 use Rattle.rel_check.specs.Walk.{is_started}
 use Rattle.proc_history.specs.declared.beginning.Beginning.{Beginning}
 use Rattle.proc_history.specs.declared.value.Value.{Value}

@@ -18,7 +18,8 @@ use Rattle.proc_table.specs.Parts.{Part as Known, unseen}
 use Rattle.proc_table.specs.Views.{seen, handler_view}
 use Rattle.proc_table.proofs.BeginLemmas.{began_elsewhere, began_there}
 use Rattle.library.specs.Library.{Library}
-use Rattle.rel_check.specs.Modules.{Part, Tables}
+use Rattle.rel_check.specs.Modules.{Part}
+use Rattle.mod_table.specs.Tables.{Tables}
 use Rattle.started_members.specs.declared.member.StartedProcess.{StartedProcess}
 use Rattle.started_members.specs.Laws.{FreeFrom}
 use Rattle.started_members.specs.Begins.{beginning_of, members_at, process_of, BeganInOrder}

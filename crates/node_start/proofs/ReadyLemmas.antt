@@ -18,15 +18,16 @@ use Rattle.rel_files.specs.Name.{AreDistinct}
 use Rattle.rel_files.specs.Release.{Application}
 use Rattle.rel_check.specs.Fault.{release_fault, first_fault, keeps_limits, few_modules_in, has_few_rows}
 use Rattle.rel_check.specs.Fault.Fault.{module_twice, id_twice, no_table, too_many}
-use Rattle.rel_check.specs.Modules.{Part, Tables, parts, modules_in}
+use Rattle.rel_check.specs.Modules.{Part, parts, modules_in}
+use Rattle.mod_table.specs.Tables.{Tables, first_of, of_kind}
 use Rattle.rel_check.specs.Names.{first_module_again, first_id_again}
-use Rattle.rel_check.specs.Walk.{first_of, of_kind, is_started, top_of, missing_from, part_missing, part_processes, part_members, part_is_within, first_missing, processes_in, members_in, are_within, processes_from, members_from, is_within}
+use Rattle.rel_check.specs.Walk.{is_started, top_of, missing_from, part_missing, part_processes, part_members, part_is_within, first_missing, processes_in, members_in, are_within, processes_from, members_from, is_within}
 use Rattle.rel_check.specs.Walk as walk
 use Rattle.rel_check.proofs.Members.{both, first_member, later_member, member_cases}
 use Rattle.app_members.specs.Walk.{StartFault, app_fault, app_starts, children_fault, crowd_fault, members_at_top, starts_among, super_children, top_fault}
 use Rattle.app_members.proofs.AppLemmas.{no_children, none_wrong}
 use Rattle.started_members.proofs.BeginLemmas.{first_slots}
-use Rattle.app_members.proofs.CheckLemmas.{checked_starts}
+use Rattle.node_start.proofs.CheckLemmas.{checked_starts}
 use Rattle.node_processes.specs.Fresh.{part_starts, started_parts, tables_in}
 use Rattle.node_start.specs.Starting.{AreReady, HasNoFault, IsNew, part_name, starts_in_all}
 use Rattle.node_start.proofs.TableLemmas.{same_tables}

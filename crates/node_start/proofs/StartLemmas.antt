@@ -19,7 +19,8 @@ use Rattle.rel_files.specs.Release.{Application, application_of}
 use Rattle.library.specs.declared.library.Library as declared
 use Rattle.library.specs.InMemory.{shared_of}
 use Rattle.library.specs.Library.{Library}
-use Rattle.rel_check.specs.Modules.{Part, Tables, parts}
+use Rattle.rel_check.specs.Modules.{Part, parts}
+use Rattle.mod_table.specs.Tables.{Tables}
 use Rattle.rel_check.specs.Walk.{is_started}
 use Rattle.rel_check.proofs.Members.{first_member, later_member}
 use Rattle.started_members.specs.declared.member.StartedProcess.{StartedProcess}

@@ -1,2 +1,3 @@
 pub mod Starting
 pub mod Running
+pub mod Laws

@@ -2,7 +2,8 @@
 use Rattle.std.specs.Prelude.{◌≡◌, ℕ, ◌≤◌, List, [], ◌∷◌, length, map, None}
 use Rattle.std.specs.List.{AllByRecursion, sum_by}
 use Rattle.rel_files.specs.Name.{AreDistinct}
-use Rattle.rel_check.specs.Modules.{Part, Tables}
+use Rattle.rel_check.specs.Modules.{Part}
+use Rattle.mod_table.specs.Tables.{Tables}
 use Rattle.proc_table.specs.declared.view.View.{View}
 use Rattle.proc_table.specs.Free.{free_count}
 use Rattle.sup_tree.specs.Starts.{AppStarted}

@@ -35,9 +35,13 @@ pub record IsUntouched (old new : NodeState) : Type 0 where
   pub apps : new.apps ≡ old.apps
   pub modules : new.modules ≡ old.modules
 
+-- the whole script was carried out
+abbrev pub IsCarriedOut : UpgradeForm → NodeState → NodeState → Type 0
+IsCarriedOut u old new = IsFinished (site_for u old.modules) (start_in old) u.found.script new.modules new.apps new.view
+
 -- The whole script was carried out. Told are the version and the description of its entry, and the stale modules.
 pub record IsInstalled (u : UpgradeForm) (old : NodeState) (i : Installed) (new : NodeState) : Type 0 where
-  pub finished : IsFinished (site_for u old.modules) (start_in old) u.found.script new.modules new.apps new.view
+  pub finished : IsCarriedOut u old new
   pub other : string_bytes i.other ≡ u.found.other
   pub descr : value_of i.descr ≡ u.found.descr
   pub stale : i.stale.items ≡ stale_modules new.modules u.target
@@ -48,7 +52,7 @@ abbrev pub BreaksOff : UpgradeForm → NodeState → ℕ → Cause → NodeState
 BreaksOff u old n c new =
     IsBroken (site_for u old.modules) (start_in old) u.found.script n c new.view
     ⊎ ((c ≡ no_memory) × (n ≡ length u.found.script + 1)
-    × ((modules : NamedModules) × IsFinished (site_for u old.modules) (start_in old) u.found.script modules new.apps new.view))
+    × ((modules : NamedModules) × IsCarriedOut u old (state new.view new.apps modules)))
 
 -- What is told of an instruction before the point of no return that fails. No memory is told as such.
 abbrev pub TellsRefusal : ℕ → Cause → InstallError → Type 0

@@ -2,7 +2,7 @@
 ghost use Rattle.std.specs.Prelude.{◌≡◌, []};
 
 use crate::clients::{push_calls, push_tried};
-use crate::processes::beginning;
+use crate::processes::begun;
 use proc_table::{HandlerSeat, Pid, ProcTable};
 use std::alloc::Global;
 use std::sync::Wait;
@@ -12,15 +12,11 @@ use text_cases::{Answer, first_word};
 /// calls it once more. The text is how the process begins, and the handler's inputs.
 pub(crate) fn push_own_calls<R: Wait>(rt: &R, alloc: Global, words: &str, answer: &mut Answer) {
     let (how, inputs) = first_word(words);
-    let Some(begins) = beginning(alloc, how) else {
-        return answer.note_no_memory();
-    };
-    let Ok((table, mut seat)) = ProcTable::new(alloc) else {
-        return answer.note_no_memory();
-    };
-    match table.begin_lowest(rt, &mut seat, begins) {
-        Ok(pid) => push_calls_alone(rt, &table, &mut seat, pid, inputs, answer),
-        Err(_) => answer.push("none"),
+    match begun(rt, alloc, how) {
+        Some((table, mut seat, pid)) => {
+            push_calls_alone(rt, &table, &mut seat, pid, inputs, answer);
+        }
+        None => answer.note_no_memory(),
     }
 }
 

@@ -1,5 +1,5 @@
 //! Processes that begin.
-ghost use Rattle.std.specs.Prelude.{◌≡◌};
+ghost use Rattle.std.specs.Prelude.{◌≡◌, [], IfSome};
 
 use mod_table::{Restart, Table, read_mod};
 use proc_history::{Beginning, Name};
@@ -54,6 +54,21 @@ pub(crate) fn begin<R: Wait>(
         Some(pid) => table.begin(rt, seat, pid, begins).ok(),
         None => table.begin_lowest(rt, seat, begins).ok(),
     }
+}
+
+/// A new table, and a process that begins in it. Nothing where no memory is there.
+pub(crate) fn begun<R: Wait>(
+    rt: &R,
+    alloc: Global,
+    how: &str,
+) -> Option<(ProcTable, HandlerSeat, Pid)>
+    ensures table { IfSome result (λ begun. begun.1.table ≡ begun.0) }
+    ensures alone { IfSome result (λ begun. begun.1.view.lent ≡ []) }
+{
+    let begins = beginning(alloc, how)?;
+    let (table, mut seat) = ProcTable::new(alloc).ok()?;
+    let pid = table.begin_lowest(rt, &mut seat, begins).ok()?;
+    Some((table, seat, pid))
 }
 
 /// Appends the name of a process, if there is one.

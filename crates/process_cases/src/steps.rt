@@ -18,14 +18,27 @@ use text_cases::{Answer, first_word};
 /// - `calls SLOT ROUND INPUT..`, `meet SLOT ROUND`, `held SLOT ROUND`: what clients see, as [`push_calls`], [`push_meeting`] and
 ///   [`push_held`] tell.
 pub(crate) fn follow_steps<R: Wait>(rt: &R, alloc: Global, words: &str, answer: &mut Answer) {
-    let Ok((table, mut seat)) = ProcTable::new(alloc) else {
-        return answer.note_no_memory();
-    };
+    match ProcTable::new(alloc) {
+        Ok((table, mut seat)) => take_steps(rt, alloc, &table, &mut seat, words, answer),
+        Err(_) => answer.note_no_memory(),
+    }
+}
+
+fn take_steps<R: Wait>(
+    rt: &R,
+    alloc: Global,
+    table: &ProcTable,
+    seat: &mut HandlerSeat,
+    words: &str,
+    answer: &mut Answer,
+)
+    requires { seat.old.table ≡ table.now }
+{
     for step in words.split("; ") {
         if !answer.text.is_empty() {
             answer.push("; ");
         }
-        take_step(rt, alloc, &table, &mut seat, step, answer);
+        take_step(rt, alloc, table, seat, step, answer);
     }
 }
 

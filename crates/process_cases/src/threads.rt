@@ -2,7 +2,7 @@
 ghost use Rattle.std.specs.Prelude.{◌≡◌};
 
 use crate::clients::push_peek;
-use crate::processes::begin;
+use crate::processes::begun;
 use proc_table::{HandlerSeat, Pass, Peeked, Pid, ProcTable, Tried};
 use std::alloc::Global;
 use std::sync::Wait;
@@ -86,12 +86,9 @@ pub(crate) fn push_clients<R: Threads + Wait + Sync>(
     words: &str,
     answer: &mut Answer,
 ) {
-    let Ok((table, mut seat)) = ProcTable::new(alloc) else {
-        return answer.note_no_memory();
-    };
-    match begin(rt, alloc, &table, &mut seat, None, "permanent", answer) {
-        Some(pid) => push_calls_of(rt, &table, seat, pid, words, answer),
-        None => answer.push("none"),
+    match begun(rt, alloc, "permanent") {
+        Some((table, seat, pid)) => push_calls_of(rt, &table, seat, pid, words, answer),
+        None => answer.note_no_memory(),
     }
 }
 

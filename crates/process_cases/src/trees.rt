@@ -10,7 +10,7 @@ use library::{Library, libraries_of_terms};
 use loaded_modules::Loaded;
 use proc_table::{HandlerSeat, ProcTable};
 use rel_files::parts::list_in;
-use std::alloc::Global;
+use std::alloc::{AllocError, Global};
 use std::rc::Rc;
 use std::sync::Wait;
 use sup_tree::{StartError, Tree};
@@ -51,6 +51,17 @@ struct Apps {
     tree: Tree,
 }
 
+impl Apps {
+    // Nothing is started or fetched yet, and the modules of these libraries are loaded.
+    fn new(alloc: Global, libraries: &[Rc<Library>]) -> Result<Apps, AllocError> {
+        Ok(Apps {
+            loaded: Loaded::of(alloc, libraries)?,
+            fetched: Loaded::new(alloc),
+            tree: Tree::new(alloc),
+        })
+    }
+}
+
 fn follow_with<R: Wait>(
     rt: &R,
     alloc: Global,
@@ -58,22 +69,34 @@ fn follow_with<R: Wait>(
     steps: &str,
     answer: &mut Answer,
 ) {
-    let (Ok(loaded), Ok((table, mut seat))) = (Loaded::of(alloc, libraries), ProcTable::new(alloc))
-    else {
+    let Ok(mut apps) = Apps::new(alloc, libraries) else {
         return answer.note_no_memory();
     };
-    let mut apps = Apps {
-        loaded,
-        fetched: Loaded::new(alloc),
-        tree: Tree::new(alloc),
-    };
+    match ProcTable::new(alloc) {
+        Ok((table, mut seat)) => follow_each(
+            rt, alloc, libraries, &mut apps, &table, &mut seat, steps, answer,
+        ),
+        Err(_) => answer.note_no_memory(),
+    }
+}
+
+fn follow_each<R: Wait>(
+    rt: &R,
+    alloc: Global,
+    libraries: &[Rc<Library>],
+    apps: &mut Apps,
+    table: &ProcTable,
+    seat: &mut HandlerSeat,
+    steps: &str,
+    answer: &mut Answer,
+)
+    requires { seat.old.table ≡ table.now }
+{
     for step in steps.split("; ") {
         if !answer.text.is_empty() {
             answer.push("; ");
         }
-        step_of_apps(
-            rt, alloc, libraries, &mut apps, &table, &mut seat, step, answer,
-        );
+        step_of_apps(rt, alloc, libraries, apps, table, seat, step, answer);
     }
 }
 

@@ -2,7 +2,7 @@
 ghost use Rattle.std.specs.Prelude.{◌≡◌, []};
 
 use crate::clients::{push_peek, push_tried};
-use crate::processes::{begin, beginning};
+use crate::processes::begun;
 use proc_table::{HandlerSeat, Pid, ProcTable};
 use proc_workers::{
     EndCause, Ended, FloodCounts, Inbox, Job, NoGate, Note, Sender, flood, mailbox, work,
@@ -19,19 +19,30 @@ use text_cases::{Answer, first_word};
 ///   is that of the note. `other INPUT`: a call of another process.
 /// - `suspend`, `resume`, `stop`.
 pub(crate) fn push_worker<R: Wait>(rt: &R, alloc: Global, words: &str, answer: &mut Answer) {
-    let Ok((table, mut seat)) = ProcTable::new(alloc) else {
-        return answer.note_no_memory();
-    };
-    let Some(pid) = begin(rt, alloc, &table, &mut seat, None, "temporary", answer) else {
-        return;
-    };
+    match begun(rt, alloc, "temporary") {
+        Some((table, mut seat, pid)) => push_work(rt, alloc, &table, &mut seat, pid, words, answer),
+        None => answer.note_no_memory(),
+    }
+}
+
+fn push_work<R: Wait>(
+    rt: &R,
+    alloc: Global,
+    table: &ProcTable,
+    seat: &mut HandlerSeat,
+    pid: Pid,
+    words: &str,
+    answer: &mut Answer,
+)
+    requires { seat.old.table ≡ table.now }
+{
     let Some(inbox) = with_notes(rt, alloc, pid, words) else {
         return answer.note_no_memory();
     };
-    let pass = table.new_pass(&mut seat);
-    let ended = work(rt, alloc, &table, pass, pid, inbox, &NoGate);
+    let pass = table.new_pass(seat);
+    let ended = work(rt, alloc, table, pass, pid, inbox, &NoGate);
     push_answers(&ended, answer);
-    push_ended(&table, pid, ended, answer);
+    push_ended(table, pid, ended, answer);
 }
 
 // A mailbox with these notes, whose senders are gone.
@@ -117,15 +128,11 @@ pub(crate) fn push_flood<R: Threads + Wait + Sync>(
     answer: &mut Answer,
 ) {
     let (how, words) = first_word(words);
-    let Some(begins) = beginning(alloc, how) else {
-        return answer.note_no_memory();
-    };
-    let Ok((table, mut seat)) = ProcTable::new(alloc) else {
-        return answer.note_no_memory();
-    };
-    match table.begin_lowest(rt, &mut seat, begins) {
-        Ok(pid) => push_flood_of(rt, alloc, &table, &mut seat, pid, words, answer),
-        Err(_) => answer.push("none"),
+    match begun(rt, alloc, how) {
+        Some((table, mut seat, pid)) => {
+            push_flood_of(rt, alloc, &table, &mut seat, pid, words, answer);
+        }
+        None => answer.note_no_memory(),
     }
 }
 

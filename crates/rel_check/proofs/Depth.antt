@@ -6,8 +6,8 @@ use Rattle.std.proofs.lemmas.List.Sums.{sum_by-cons}
 use Rattle.mod_table.specs.declared.table.Table.{Table}
 use Rattle.mod_table.specs.declared.table.Table.TheVariants.{Worker, Super}
 use Rattle.mod_table.specs.Table.{ChildSpec, SuperTable}
-use Rattle.rel_check.specs.Modules.{Tables}
-use Rattle.rel_check.specs.Walk.{first_of, missing_at, child_table, missing_below, processes_from, is_within}
+use Rattle.mod_table.specs.Tables.{Tables, first_of, child_table}
+use Rattle.rel_check.specs.Walk.{missing_at, missing_below, processes_from, is_within}
 use Rattle.rel_check.specs.Laws.{IsBelow, DeeperFindsTheSame, WithinItselfIsTooDeep}
 use Rattle.rel_check.specs.Laws.IsBelow.{child, further}
 use Rattle.rel_check.proofs.Members.{both, both_true, passes}

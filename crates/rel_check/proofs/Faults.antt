@@ -6,9 +6,10 @@ use Rattle.std.specs.Option.{option_map, option_or, option_and_then, option_map_
 use Rattle.mod_table.specs.declared.child.ChildKind.TheVariants as kind
 use Rattle.mod_table.specs.declared.table.Table.{Table}
 use Rattle.mod_table.specs.declared.table.Table.TheVariants.{Worker, Super}
-use Rattle.rel_check.specs.Modules.{Part, Module, Tables, table_of, modules_in}
+use Rattle.rel_check.specs.Modules.{Part, Module, table_of, modules_in}
+use Rattle.mod_table.specs.Tables.{Tables, first_of, of_kind}
 use Rattle.rel_check.specs.Names.{Named, first_again, module_names, first_id_again}
-use Rattle.rel_check.specs.Walk.{first_of, of_kind, missing_from, processes_from, members_from, is_within, top_of, part_missing, part_processes, part_members, part_is_within, first_missing, processes_in, members_in, are_within}
+use Rattle.rel_check.specs.Walk.{missing_from, processes_from, members_from, is_within, top_of, part_missing, part_processes, part_members, part_is_within, first_missing, processes_in, members_in, are_within}
 use Rattle.rel_check.specs.Fault.{first_fault, keeps_limits, few_modules_in, has_few_rows}
 use Rattle.rel_check.specs.Fault.Fault.{module_twice, id_twice, no_table, too_many}
 use Rattle.rel_check.specs.Summary.{Summary, summary, counted, known_at, top_summary, top_summary_at, nothing_started, no_table_of, release_summary, limits_kept}

@@ -3,7 +3,7 @@ use Rattle.std.proofs.Common.{◌≡◌, ℕ, ◌+◌, ◌-◌, ◌^◌, min, Bo
 use Rattle.std.specs.List.{list_all, sum_by}
 use Rattle.std.specs.Option.{option_or}
 use Rattle.std.proofs.lemmas.List.Sums.{sum_by-cons}
-use Rattle.rel_check.specs.Walk.{first_of}
+use Rattle.mod_table.specs.Tables.{first_of}
 use Rattle.rel_check.specs.Summary.{Summary, joined, all_joined, counted}
 
 pub or_none : {X : Type 0} (o : Option X) → option_or o None ≡ o

@@ -9,8 +9,9 @@ use Rattle.mod_table.specs.declared.table.Table.{Table}
 use Rattle.mod_table.specs.declared.table.Table.TheVariants.{Worker, Super}
 use Rattle.mod_table.specs.Table.{ChildSpec}
 use Rattle.rel_check.specs.declared.walk.Walk.{Walk}
-use Rattle.rel_check.specs.Modules.{Module, Tables, table_of}
-use Rattle.rel_check.specs.Walk.{of_kind, child_table, missing_at, missing_below, processes_from, members_from, is_within}
+use Rattle.rel_check.specs.Modules.{Module, table_of}
+use Rattle.mod_table.specs.Tables.{Tables, of_kind, child_table}
+use Rattle.rel_check.specs.Walk.{missing_at, missing_below, processes_from, members_from, is_within}
 use Rattle.rel_check.specs.Summary.{Summary, Known, summary, summary_of, counted, known_at, child_summary, child_summary_at, no_table_of, supervisor_alone, next_summary}
 use Rattle.rel_check.proofs.Joins.{joined_kind, joined_missing, joined_number, joined_within}
 

@@ -8,7 +8,8 @@ use Rattle.mod_table.specs.declared.table.Table.{Table}
 use Rattle.mod_table.specs.declared.table.Table.TheVariants.{Worker, Super}
 use Rattle.mod_table.specs.Table.{ChildSpec}
 use Rattle.rel_check.specs.Modules.{Part, Module, table_of, modules_in}
-use Rattle.rel_check.specs.Walk.{first_of, of_kind, child_table, missing_at, missing_below, is_started, top_of, missing_from, part_missing, tables_of}
+use Rattle.mod_table.specs.Tables.{first_of, of_kind, child_table}
+use Rattle.rel_check.specs.Walk.{missing_at, missing_below, is_started, top_of, missing_from, part_missing, tables_of}
 use Rattle.rel_check.specs.Laws.{IsNamedIn, MissingIsNamed}
 use Rattle.rel_check.specs.Laws.IsNamedIn.{as_top, as_child}
 use Rattle.rel_check.proofs.Members.{first_member, later_member}

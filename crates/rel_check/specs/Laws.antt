@@ -4,9 +4,10 @@ use Rattle.mod_table.specs.declared.table.Table.{Table}
 use Rattle.mod_table.specs.declared.table.Table.TheVariants.{Super}
 use Rattle.mod_table.specs.Table.{ChildSpec, SuperTable}
 use Rattle.rel_files.specs.Name.{AreDistinct}
-use Rattle.rel_check.specs.Modules.{Part, Module, Tables, modules_in}
+use Rattle.rel_check.specs.Modules.{Part, Module, modules_in}
+use Rattle.mod_table.specs.Tables.{Tables, child_table}
 use Rattle.rel_check.specs.Names.{Named, first_again, first_module_again}
-use Rattle.rel_check.specs.Walk.{child_table, missing_below, processes_from, is_within, tables_of, first_missing}
+use Rattle.rel_check.specs.Walk.{missing_below, processes_from, is_within, tables_of, first_missing}
 
 -- Where supervisors keep within a number of them in each other, a walk that may go deeper finds the same.
 abbrev pub DeeperFindsTheSame : Type 0

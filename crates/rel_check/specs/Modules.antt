@@ -5,6 +5,7 @@ use Rattle.std.specs.Option.{option_map, option_or}
 use Rattle.std.specs.Str.{bytes_eq}
 use Rattle.rel_files.specs.Release.{Application}
 use Rattle.mod_table.specs.declared.table.Table.{Table}
+use Rattle.mod_table.specs.Tables.{Tables}
 use Rattle.library.specs.Library.{Library, TableTerm}
 
 -- an application of a release, with its library
@@ -38,10 +39,6 @@ modules_of p = modules_with p.app p.library.app.modules p.library.tables
 -- those of all applications, in their order
 abbrev pub modules_in : List Part → List Module
 modules_in ps = flat_map modules_of ps
-
--- the tables of a release, by the names of their modules
-abbrev pub Tables : Type 0
-Tables = List ℕ → Option Table
 
 -- the table of a module of this name; of several modules the last that has one, and where modules are distinct there is one
 abbrev pub table_of : List Module → Tables

@@ -12,7 +12,8 @@ use Rattle.mod_table.specs.declared.table.Table.{Table}
 use Rattle.mod_table.specs.declared.table.Table.TheVariants.{Worker, Super}
 use Rattle.mod_table.specs.Table.{ChildSpec}
 use Rattle.rel_check.specs.declared.walk.Walk.{Walk}
-use Rattle.rel_check.specs.Modules.{Part, Module, Tables}
+use Rattle.rel_check.specs.Modules.{Part, Module}
+use Rattle.mod_table.specs.Tables.{Tables}
 use Rattle.rel_check.specs.Fault.{few_modules_in, has_few_rows}
 use Rattle.rel_check.specs.Walk.{missing_below, processes_from, members_from, is_within, top_of}
 

@@ -5,27 +5,12 @@ use Rattle.std.specs.List.{list_all, sum_by}
 use Rattle.std.specs.Option.{option_or, option_and_then, option_map_or}
 use Rattle.rel_files.specs.declared.release.StartType.{StartType}
 use Rattle.rel_files.specs.declared.release.StartType.TheVariants.{Permanent, Transient, Temporary}
-use Rattle.mod_table.specs.declared.child.ChildKind.{ChildKind}
 use Rattle.mod_table.specs.declared.child.ChildKind.TheVariants as kind
 use Rattle.mod_table.specs.declared.table.Table.{Table}
 use Rattle.mod_table.specs.declared.table.Table.TheVariants.{Worker, Super}
 use Rattle.mod_table.specs.Table.{ChildSpec}
-use Rattle.rel_check.specs.Modules.{Part, Tables, table_of, modules_in}
-
--- the first that is found
-abbrev pub first_of : {X Y : Type 0} → (X → Option Y) → List X → Option Y
-first_of f [] = None
-first_of f (x ∷ xs) = option_or (f x) (first_of f xs)
-
--- the table, if it is of this kind
-abbrev pub of_kind : ChildKind → Table → Option Table
-of_kind kind.Worker (Worker w) = Some (Worker w)
-of_kind kind.Supervisor (Super s) = Some (Super s)
-of_kind k t = None
-
--- the table of a child's module, if it is of the child's kind
-abbrev pub child_table : Tables → ChildSpec → Option Table
-child_table tables c = option_and_then (of_kind c.kind) (tables c.start)
+use Rattle.rel_check.specs.Modules.{Part, table_of, modules_in}
+use Rattle.mod_table.specs.Tables.{Tables, of_kind, child_table, first_of}
 
 -- the module itself if it has no such table, and else what is missing below
 abbrev pub missing_at : (Table → Option (List ℕ)) → List ℕ → Option Table → Option (List ℕ)

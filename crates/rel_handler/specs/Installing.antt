@@ -4,7 +4,6 @@ use Rattle.rel_disk.specs.Moments.{HasFailed}
 use Rattle.rel_list.specs.Releases.{Releases}
 use Rattle.rel_list.specs.Event.{Event, list_restarted}
 use Rattle.rel_list.specs.Event.Event.{installed, restart_installed}
-use Rattle.relup_exec.specs.Outcome.{IsFinished}
 use Rattle.relup_script.specs.Script.{restarts}
 use Rattle.relup_script.specs.Search.{FoundForm}
 use Rattle.node_command.specs.Installing.{installation}
@@ -14,8 +13,8 @@ use Rattle.node_command.specs.declared.error.HandlerError.TheVariants.{Dead, Dev
 use Rattle.node_upgrade.specs.declared.error.InstallError.{InstallError}
 use Rattle.node_upgrade.specs.declared.error.InstallError.TheVariants.{Command, Refused, MustReboot}
 use Rattle.node_upgrade.specs.declared.upgrade.Installed.{Installed}
-use Rattle.node_upgrade.specs.Running.{NodeState, IsInstalled, IsUntouched, RunRefused, start_in}
-use Rattle.node_upgrade.specs.Upgrade.{IsNoUpgrade, IsUpgrade, UpgradeForm, site_for}
+use Rattle.node_upgrade.specs.Running.{NodeState, IsCarriedOut, IsInstalled, IsUntouched, RunRefused}
+use Rattle.node_upgrade.specs.Upgrade.{IsNoUpgrade, IsUpgrade, UpgradeForm}
 use Rattle.node_store.specs.Image.{boot_size, HasSpace}
 use Rattle.node_store.specs.State.{disk_in, extent_in, list_in, is_dead, IsSame}
 use Rattle.node_store.specs.declared.node_store.NodeStore.{NodeStore}
@@ -85,7 +84,7 @@ InstallRefused failures vsn h h' old new (Command Full) =
 InstallRefused failures vsn h h' old new (Command NoMemory) = (is_dead h ≡ false) × NothingChanged h h' old new
 InstallRefused failures vsn h h' old new (Command Device) =
     (is_dead h ≡ false)
-    × ((u : UpgradeForm) × MayBegin vsn h u × IsFinished (site_for u old.modules) (start_in old) u.found.script new.modules new.apps new.view)
+    × ((u : UpgradeForm) × MayBegin vsn h u × IsCarriedOut u old new)
     × HasFailed (failures (disk_in h)) (failures (disk_in h')) × (is_dead h' ≡ true)
 InstallRefused failures vsn h h' old new (Command why) =
     (is_dead h ≡ false) × (installation vsn (list_in h) ≡ Err why) × NothingChanged h h' old new

@@ -5,6 +5,7 @@ ghost use Rattle.relup_instruction.specs.Instruction.{script_of};
 ghost use Rattle.relup_exec.specs.Outcome.{Start};
 ghost use Rattle.relup_script.specs.Script.{IsRunnable};
 
+use crate::held::push_way;
 use crate::node::{
     other_libraries, push_call, push_calls, release_list, running_libraries, script,
 };
@@ -23,7 +24,8 @@ use text_cases::Answer;
 /// answer is what the calls answer, whether the script can't be run, is refused, or is armed, and then, by the mode: `before`,
 /// what a call is answered while it is armed, and, once it was rolled back, what the further calls answer; `whole`, which
 /// instruction behind the point fails, or that the script is done and which modules are loaded then, and what the further calls
-/// answer; `tree`, the same, and behind it the ids of the members of `ch_app`, with `-` before one for which nothing stands.
+/// answer; `tree`, the same, and behind it the ids of the members of `ch_app`, with `-` before one for which nothing stands. The
+/// modes of single operations are those of [`push_way`].
 pub(crate) fn answer<R: Wait>(
     rt: &R,
     alloc: Global,
@@ -36,7 +38,7 @@ pub(crate) fn answer<R: Wait>(
         "before" => push_case(rt, alloc, Mode::Before, words, &mut answer),
         "whole" => push_case(rt, alloc, Mode::Whole, words, &mut answer),
         "tree" => push_case(rt, alloc, Mode::Tree, words, &mut answer),
-        _ => answer.push("no such mode"),
+        _ => push_way(rt, alloc, mode, words, &mut answer),
     }
     answer.finish()
 }

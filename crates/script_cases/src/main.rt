@@ -1,9 +1,12 @@
-//! The program `script_cases`: what becomes of scripts, a case a line. The modes are `before`, up to the point of no return and
-//! back, and `whole`; [`answer`] says what a text is.
+//! The program `script_cases`: what becomes of scripts, and of processes that a script holds, a case a line. [`answer`] says what
+//! the modes are of scripts, and [`held::push_way`] what they are of single operations.
 #![tactic(auto)]
 
+mod apps;
 mod cases;
+mod held;
 mod node;
+mod ways;
 
 use crate::cases::answer;
 use std::alloc::Global;

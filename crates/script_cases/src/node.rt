@@ -1,9 +1,9 @@
-//! What a case starts from: a release that runs, another one, and what a client sees of a process.
+//! What a case starts from: a release that runs, another one, and what a client sees of processes.
 ghost use Rattle.std.specs.Prelude.{◌≡◌};
 
 use erl_term::read_record;
 use library::{Library, libraries_of_terms};
-use proc_table::{Pass, Pid, ProcTable, Tried};
+use proc_table::{Pass, Peeked, Pid, ProcTable, Tried};
 use rel_files::parts::list_in;
 use rel_files::read_rel;
 use rel_list::{Bundle, Event, ReleaseList};
@@ -30,7 +30,8 @@ pub(crate) fn other_libraries(alloc: Global) -> Option<Vec<Rc<Library>>> {
     libraries(alloc, OTHER)
 }
 
-fn libraries(alloc: Global, text: &[u8]) -> Option<Vec<Rc<Library>>> {
+/// The libraries of a record.
+pub(crate) fn libraries(alloc: Global, text: &[u8]) -> Option<Vec<Rc<Library>>> {
     let term = read_record(alloc, text).ok()?;
     libraries_of_terms(alloc, list_in(&term)?).ok()?
 }
@@ -102,16 +103,30 @@ pub(crate) fn push_call(
         answer.push(", ");
     }
     match table.try_call(pass, pid, input) {
-        Tried::Done(reply) => push_counted("done ", reply, answer),
+        Tried::Done(reply) => answer.push_counted("done ", reply as u64),
         Tried::Crashed => answer.push("crashed"),
-        Tried::Ended(reply) => push_counted("ended ", reply, answer),
+        Tried::Ended(reply) => answer.push_counted("ended ", reply as u64),
         Tried::Busy => answer.push("busy"),
         Tried::Held => answer.push("held"),
         Tried::Down => answer.push("down"),
     }
 }
 
-fn push_counted(before: &str, number: u32, answer: &mut Answer) {
-    answer.push(before);
-    answer.push_number(number as u64);
+/// Appends what is seen in the first three slots.
+pub(crate) fn push_states(table: &ProcTable, pass: &mut Pass, answer: &mut Answer)
+    requires { pass.old.table ≡ table.now }
+    ensures { pass.new.table ≡ pass.old.table }
+{
+    answer.push(", states");
+    for slot in 0..3 {
+        answer.push(" ");
+        if let Some(pid) = Pid::new(slot, 1) {
+            match table.try_peek(pass, pid) {
+                Peeked::Seen(state) => answer.push_number(state as u64),
+                Peeked::Busy => answer.push("busy"),
+                Peeked::Held => answer.push("held"),
+                Peeked::Down => answer.push("down"),
+            }
+        }
+    }
 }

@@ -2,7 +2,7 @@
 use Rattle.std.proofs.Common.{◌≡◌, ℕ, Bool, true, false, List, length, if◌then◌else◌, refl, sym, ap, subst, subst₂, ◌∙◌, Option, None, Some, Ok, Err}
 use Rattle.std.proofs.lemmas.Bool.{le-ltb, lt-ltb}
 use Rattle.proc_table.specs.declared.view.View.{View}
-use Rattle.rel_check.specs.Modules.{Tables}
+use Rattle.mod_table.specs.Tables.{Tables}
 use Rattle.app_members.specs.Walk.{StartFault}
 use Rattle.app_members.specs.Walk as walk
 use Rattle.loaded_modules.specs.Loaded.{Modules, module_named, tables_of}

@@ -6,7 +6,7 @@ use Rattle.erl_term.specs.Value.Values.{value}
 use Rattle.erl_term.specs.Printing.{text_of}
 use Rattle.library.specs.Library.{Library}
 use Rattle.worker_table.specs.Table.{OldVersion, WorkerTable}
-use Rattle.rel_check.specs.Modules.{Tables}
+use Rattle.mod_table.specs.Tables.{Tables}
 use Rattle.relup_instruction.specs.declared.instruction.Direction.{Direction}
 use Rattle.relup_instruction.specs.Instruction.{ChangeForm, CallForm, Instruction}
 use Rattle.relup_instruction.specs.Instruction.Instruction.{load_object_code, load, code_change, remove, apply}

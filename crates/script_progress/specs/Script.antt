@@ -9,7 +9,7 @@ use Rattle.mod_table.specs.declared.table.Table.TheVariants.{Worker, Super}
 use Rattle.worker_table.specs.Table.{OldVersion, WorkerTable}
 use Rattle.worker_table.specs.Table.OldVersion.{up, down}
 use Rattle.library.specs.Library.{Library}
-use Rattle.rel_check.specs.Modules.{Tables}
+use Rattle.mod_table.specs.Tables.{Tables}
 use Rattle.rel_list.specs.Releases.{Releases, library_in}
 use Rattle.relup_instruction.specs.declared.instruction.Direction.{Direction}
 use Rattle.relup_instruction.specs.declared.instruction.Direction.TheVariants.{Up, Down}

@@ -7,7 +7,7 @@ use Rattle.proc_history.specs.declared.beginning.Beginning.{Beginning}
 use Rattle.proc_table.specs.declared.view.View.{View}
 use Rattle.proc_table.specs.declared.pid.Pid.{Pid}
 use Rattle.proc_table.specs.Free.{BeganLowest}
-use Rattle.rel_check.specs.Modules.{Tables}
+use Rattle.mod_table.specs.Tables.{Tables}
 use Rattle.started_members.specs.declared.member.Member.{Member}
 use Rattle.started_members.specs.declared.member.MemberState.{MemberState}
 use Rattle.started_members.specs.declared.member.MemberState.TheVariants.{Ended, Process, Supervisor}

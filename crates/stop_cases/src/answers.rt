@@ -24,11 +24,35 @@ pub(crate) fn answer<H: Threads + Wait + Sync>(
     let session = Session::of(alloc, lines)?;
     let expected = Expected::of(rt, alloc, &session)?;
     let mut answer = Answer::new(alloc);
-    match mode {
-        "stops" => push_stops(rt, alloc, &session, &expected, number(from), &mut answer)?,
-        "faults" => push_faults(rt, alloc, &session, &expected, false, &mut answer)?,
-        "parts" => push_faults(rt, alloc, &session, &expected, true, &mut answer)?,
-        _ => answer.push("no such mode"),
-    }
+    let done = push_case(
+        rt,
+        alloc,
+        mode,
+        number(from),
+        &session,
+        &expected,
+        &mut answer,
+    );
+    answer.note(done);
     answer.finish()
+}
+
+fn push_case<H: Threads + Wait + Sync>(
+    rt: &H,
+    alloc: Global,
+    mode: &str,
+    from: usize,
+    session: &Session,
+    expected: &Expected,
+    answer: &mut Answer,
+) -> Result<(), AllocError> {
+    match mode {
+        "stops" => push_stops(rt, alloc, session, expected, from, answer),
+        "faults" => push_faults(rt, alloc, session, expected, false, answer),
+        "parts" => push_faults(rt, alloc, session, expected, true, answer),
+        _ => {
+            answer.push("no such mode");
+            Ok(())
+        }
+    }
 }

@@ -8,10 +8,15 @@ use std::thread::Threads;
 /// Behind each command of a session on a disk that never fails, none of them first: what was written by then, and what a boot tells.
 #[derive(Drop)]
 pub(crate) struct Expected {
-    written: Vec<String>,
-    told: Vec<String>,
+    steps: Vec<Step>,
+}
+
+#[derive(Drop)]
+struct Step {
+    written: String,
+    told: String,
     // what a boot tells that comes in place of the one behind a restart: none where the command has none
-    within: Vec<String>,
+    within: String,
 }
 
 impl Expected {
@@ -21,9 +26,7 @@ impl Expected {
         session: &Session,
     ) -> Result<Expected, AllocError> {
         let mut expected = Expected {
-            written: Vec::new(alloc),
-            told: Vec::new(alloc),
-            within: Vec::new(alloc),
+            steps: Vec::new(alloc),
         };
         for count in 0..=session.commands.len() {
             expected.add(rt, alloc, session.lines(alloc, count)?)?;
@@ -39,22 +42,24 @@ impl Expected {
         lines: String,
     ) -> Result<(), AllocError> {
         let disk = MemDisk::new(alloc, CAPACITY, LOG)?;
-        let (disk, text) = run(rt, alloc, disk, lines.as_str())?;
-        let (_, boot) = run(rt, alloc, disk, BOOT)?;
-        self.told.push(boot)?;
-        let before = self.written.last().map_or("", |text| text.as_str());
-        let line = boot_line(text.as_str(), before);
-        self.within
-            .push(told_within(rt, alloc, lines, text.as_str(), line)?)?;
-        self.written.push(text)?;
+        let (disk, written) = run(rt, alloc, disk, lines.as_str())?;
+        let (_, told) = run(rt, alloc, disk, BOOT)?;
+        let before = self.steps.last().map_or("", |step| step.written.as_str());
+        let line = boot_line(written.as_str(), before);
+        let within = told_within(rt, alloc, lines, written.as_str(), line)?;
+        self.steps.push(Step {
+            written,
+            told,
+            within,
+        })?;
         Ok(())
     }
 
     /// How many commands a session had answered that has written this, before an answer was another one.
     pub(crate) fn answered(&self, text: &str) -> usize {
         let mut answered = 0;
-        for (count, written) in self.written.iter().enumerate() {
-            if text.starts_with(written.as_str()) {
+        for (count, step) in self.steps.iter().enumerate() {
+            if text.starts_with(step.written.as_str()) {
                 answered = count;
             }
         }
@@ -63,7 +68,9 @@ impl Expected {
 
     /// What it had written by then.
     pub(crate) fn written(&self, answered: usize) -> &str {
-        self.written.get(answered).map_or("", |text| text.as_str())
+        self.steps
+            .get(answered)
+            .map_or("", |step| step.written.as_str())
     }
 
     /// Whether a boot may tell this behind so many answers: what it tells behind these commands, or behind one more, or within that.
@@ -73,15 +80,14 @@ impl Expected {
     }
 
     fn tells_within(&self, count: usize, boot: &str) -> bool {
-        self.within
-            .get(count)
-            .is_some_and(|within| !within.is_empty() && within.as_str() == boot)
+        self.steps.get(count).is_some_and(|step| !step.within.is_empty()
+            && step.within.as_str() == boot)
     }
 
     fn tells(&self, count: usize, boot: &str) -> bool {
-        self.told
+        self.steps
             .get(count)
-            .is_some_and(|told| told.as_str() == boot)
+            .is_some_and(|step| step.told.as_str() == boot)
     }
 }
 
@@ -102,18 +108,27 @@ fn told_within<H: Threads + Wait + Sync>(
     text: &str,
     line: &str,
 ) -> Result<String, AllocError> {
-    let mut told = String::from_str(alloc, line)?;
     if line.is_empty() {
-        return Ok(told);
+        return Ok(String::new(alloc));
     }
-    let mut lines = lines;
+    let all = written_with_rest(rt, alloc, lines)?;
+    joined(alloc, line, all.strip_prefix(text).unwrap_or(""))
+}
+
+// What a session of these lines writes that asks for the releases and the start record at its end.
+fn written_with_rest<H: Threads + Wait + Sync>(
+    rt: &H,
+    alloc: Global,
+    mut lines: String,
+) -> Result<String, AllocError> {
     lines.push_str(REST)?;
-    let (_, all) = run(
-        rt,
-        alloc,
-        MemDisk::new(alloc, CAPACITY, LOG)?,
-        lines.as_str(),
-    )?;
-    told.push_str(all.strip_prefix(text).unwrap_or(""))?;
-    Ok(told)
+    let disk = MemDisk::new(alloc, CAPACITY, LOG)?;
+    let (_, written) = run(rt, alloc, disk, lines.as_str())?;
+    Ok(written)
+}
+
+fn joined(alloc: Global, first: &str, second: &str) -> Result<String, AllocError> {
+    let mut text = String::from_str(alloc, first)?;
+    text.push_str(second)?;
+    Ok(text)
 }

@@ -33,17 +33,9 @@ impl Session {
     /// The session of a text: lines parted by ` | `, and the commands behind ` || `.
     pub(crate) fn of(alloc: Global, text: &str) -> Result<Session, AllocError> {
         let (files, commands) = text.split_once(" || ").unwrap_or(("", text));
-        let mut lines = String::new(alloc);
-        for line in files.split(" | ") {
-            push_line(&mut lines, line)?;
-        }
-        let mut all = Vec::new(alloc);
-        for command in commands.split(" | ") {
-            all.push(String::from_str(alloc, command)?)?;
-        }
         Ok(Session {
-            files: lines,
-            commands: all,
+            files: lines_of(alloc, files)?,
+            commands: commands_of(alloc, commands)?,
         })
     }
 
@@ -55,6 +47,23 @@ impl Session {
         }
         Ok(lines)
     }
+}
+
+// The lines of a text that parts them by ` | `.
+fn lines_of(alloc: Global, text: &str) -> Result<String, AllocError> {
+    let mut lines = String::new(alloc);
+    for line in text.split(" | ") {
+        push_line(&mut lines, line)?;
+    }
+    Ok(lines)
+}
+
+fn commands_of(alloc: Global, text: &str) -> Result<Vec<String>, AllocError> {
+    let mut commands = Vec::new(alloc);
+    for command in text.split(" | ") {
+        commands.push(String::from_str(alloc, command)?)?;
+    }
+    Ok(commands)
 }
 
 fn push_line(lines: &mut String, line: &str) -> Result<(), AllocError> {

@@ -3,7 +3,7 @@ use Rattle.std.specs.Option.{option_map}
 use Rattle.std.proofs.lemmas.List.{drop_more, drop_all}
 use Rattle.mod_table.specs.declared.table.Table.TheVariants.{Super}
 use Rattle.mod_table.specs.InMemory.{child_of}
-use Rattle.rel_check.specs.Walk.{first_of}
+use Rattle.mod_table.specs.Tables.{first_of}
 use Rattle.app_members.specs.InMemory.{FaultIs, Reports}
 use Rattle.loaded_modules.specs.Loaded.{modules_in, tables_of}
 use Rattle.app_members.specs.Walk.{child_fault, children_fault, fault_from}

@@ -1,6 +1,6 @@
 use Rattle.std.proofs.Common.{◌≡◌, ◌+◌, ◌*◌, map, drop}
 use Rattle.mod_table.specs.InMemory.{child_of}
-use Rattle.rel_check.specs.Walk.{first_of}
+use Rattle.mod_table.specs.Tables.{first_of}
 use Rattle.app_members.specs.InMemory.{AreSound}
 use Rattle.loaded_modules.specs.Loaded.{modules_in, tables_of}
 use Rattle.app_members.specs.Walk.{fault_from}

@@ -3,7 +3,8 @@ use Rattle.library.specs.InMemory.{shared_of}
 use Rattle.proc_table.specs.Agrees.{slots}
 use Rattle.proc_table.specs.Views.{handler_view}
 use Rattle.proc_table.specs.declared.view.View.{View}
-use Rattle.rel_check.specs.Modules.{Tables, parts}
+use Rattle.rel_check.specs.Modules.{parts}
+use Rattle.mod_table.specs.Tables.{Tables}
 use Rattle.rel_files.specs.Release.{application_of}
 use Rattle.loaded_modules.specs.Loaded.{modules_in, tables_of, listed_in}
 use Rattle.sup_tree.specs.Tree.{App}

@@ -1,5 +1,0 @@
-use Rattle.app_members.proofs.CheckLemmas.{checked_starts}
-use Rattle.app_members.proofs.laws.a_release_that_passed_the_tests_starts.Goals as goal
-
-pub returns : goal.returns
-returns c = checked_starts

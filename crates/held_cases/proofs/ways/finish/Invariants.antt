@@ -1,4 +1,0 @@
-use Rattle.held_cases.proofs.ways.finish.Given as goal
-
-abbrev pub ghost-finish : goal.ghost-finish
-ghost-finish g a = g.followed

@@ -1,0 +1,16 @@
+use Rattle.erl_term.specs.Value.{value_of}
+use Rattle.worker_table.specs.InMemory.{old_of}
+use Rattle.held_processes.specs.Course.Operation.{change}
+use Rattle.held_processes.specs.Operations.{part_way, users_of}
+use Rattle.script_cases.proofs.ways.change.Goals as goal
+
+pub end-requires : goal.end-requires
+end-requires g c = (c.requires.0, (c.in-Ok.ensures g.followed.first g.followed.courses c.args.seat.now.view c.requires.1).0)
+
+pub roll_back-requires-clause-follow : goal.roll_back-requires-clause-follow
+roll_back-requires-clause-follow g c =
+    let upgrade = c.args.upgrade.now in (
+      g.followed.first,
+      part_way c.in-Err.field-0.slot (users_of upgrade.users.tree.now) upgrade.users.module.now (change (old_of upgrade.old.now) (value_of upgrade.extra.now)) g.followed.courses,
+      (c.in-Err.ensures g.followed.first g.followed.courses c.args.seat.now.view c.requires.1).0,
+    )

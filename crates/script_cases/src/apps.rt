@@ -1,0 +1,146 @@
+//! An application that a script stops and starts again, while processes of it are held.
+ghost use Rattle.std.specs.Prelude.{◌≡◌, List};
+ghost use Rattle.held_processes.specs.Following.{AllFollow, Followed, HoldsNothing};
+ghost use Rattle.sup_tree.specs.Tree.{App as Application};
+
+use crate::node::push_call;
+use app_file::App;
+use held_processes::{AppName, HeldProcesses, Users};
+use loaded_modules::Loaded;
+use proc_table::{HandlerSeat, Pass, Pid, ProcTable};
+use std::alloc::Global;
+use std::sync::Wait;
+use sup_tree::Tree;
+use text_cases::Answer;
+
+/// An application, what is loaded, the module of processes that are held, and a process that a client calls meanwhile.
+#[derive(Clone, Copy)]
+pub(crate) struct Restart<'a> {
+    pub(crate) alloc: Global,
+    pub(crate) app: &'a App,
+    pub(crate) loaded: &'a Loaded,
+    pub(crate) module: &'a str,
+    pub(crate) pid: Pid,
+}
+
+/// Stops the application and starts it again. Appends what the client is answered.
+pub(crate) fn restart_app<R: Wait>(
+    rt: &R,
+    table: &ProcTable,
+    seat: &mut HandlerSeat,
+    pass: &mut Pass,
+    tree: &mut Tree,
+    restart: &Restart<'_>,
+    answer: &mut Answer,
+)
+    requires table { seat.old.table ≡ table.now }
+    requires pass { pass.old.table ≡ table.now }
+    requires nothing { HoldsNothing seat.old.view }
+    ensures table { seat.new.table ≡ seat.old.table }
+    ensures pass { pass.new.table ≡ pass.old.table }
+{
+    let Ok(held) = HeldProcesses::new(restart.alloc) else {
+        return answer.note_no_memory();
+    };
+    suspend(rt, table, seat, pass, tree, held, restart, answer);
+}
+
+fn suspend<R: Wait>(
+    rt: &R,
+    table: &ProcTable,
+    seat: &mut HandlerSeat,
+    pass: &mut Pass,
+    tree: &mut Tree,
+    mut held: HeldProcesses,
+    restart: &Restart<'_>,
+    answer: &mut Answer,
+)
+    ghost followed: { Followed }
+    requires table { seat.old.table ≡ table.now }
+    requires pass { pass.old.table ≡ table.now }
+    requires follow { AllFollow followed.first followed.courses held seat.old.view }
+    ensures table { seat.new.table ≡ seat.old.table }
+    ensures pass { pass.new.table ≡ pass.old.table }
+{
+    let users = Users {
+        tree,
+        module: restart.module,
+    };
+    match held.suspend(rt, restart.alloc, table, seat, &users) {
+        Ok(()) => stop(rt, table, seat, pass, tree, held, restart, answer),
+        Err(_) => {
+            answer.note_no_memory();
+            held.roll_back(table, seat);
+        }
+    }
+}
+
+fn stop<R: Wait>(
+    rt: &R,
+    table: &ProcTable,
+    seat: &mut HandlerSeat,
+    pass: &mut Pass,
+    tree: &mut Tree,
+    mut held: HeldProcesses,
+    restart: &Restart<'_>,
+    answer: &mut Answer,
+)
+    ghost before: { Followed × List Application }
+    requires table { seat.old.table ≡ table.now }
+    requires pass { pass.old.table ≡ table.now }
+    requires apps { tree.old ≡ before.1 }
+    requires follow { AllFollow before.0.first before.0.courses held seat.old.view }
+    ensures table { seat.new.table ≡ seat.old.table }
+    ensures pass { pass.new.table ≡ pass.old.table }
+{
+    push_call(table, pass, restart.pid, 1, answer);
+    let app = AppName {
+        name: restart.app.name.as_str(),
+    };
+    held.stop_app(rt, table, seat, tree, &app);
+    push_call(table, pass, restart.pid, 1, answer);
+    start(rt, table, seat, pass, tree, held, restart, answer);
+}
+
+fn start<R: Wait>(
+    rt: &R,
+    table: &ProcTable,
+    seat: &mut HandlerSeat,
+    pass: &mut Pass,
+    tree: &mut Tree,
+    held: HeldProcesses,
+    restart: &Restart<'_>,
+    answer: &mut Answer,
+)
+    ghost followed: { Followed }
+    requires table { seat.old.table ≡ table.now }
+    requires pass { pass.old.table ≡ table.now }
+    requires follow { AllFollow followed.first followed.courses held seat.old.view }
+    ensures table { seat.new.table ≡ seat.old.table }
+    ensures pass { pass.new.table ≡ pass.old.table }
+{
+    let alloc = restart.alloc;
+    let started = held.start_app(rt, alloc, table, seat, tree, restart.app, restart.loaded);
+    held.roll_back(table, seat);
+    match started {
+        Ok(()) => push_first(table, pass, tree, restart, answer),
+        Err(error) => answer.push_shown(&error),
+    }
+}
+
+// A call of the first process of the application.
+fn push_first(
+    table: &ProcTable,
+    pass: &mut Pass,
+    tree: &Tree,
+    restart: &Restart<'_>,
+    answer: &mut Answer,
+)
+    requires { pass.old.table ≡ table.now }
+    ensures { pass.new.table ≡ pass.old.table }
+{
+    match tree.find(restart.app.name.as_str(), "a") {
+        Some(pid) => push_call(table, pass, pid, 1, answer),
+        None => answer.push(", not started"),
+    }
+}
