@@ -1,6 +1,6 @@
 -- The format of a node's store is changed before its first one-shot is written.
 use Rattle.std.proofs.Common.{◌≡◌, ◌⊎◌, inl, inr, ℕ, ◌≤◌, Bool, true, false, List, length, Some, Result, Ok, Err, refl, sym, ap, ◌∙◌, subst, arith}
-use Rattle.std.specs.Prelude.{is_err, IfErr}
+use Rattle.std.specs.Prelude.{is_err, IfErr, OnOk}
 use Rattle.rel_disk.specs.declared.disk.Disk.{Ghosts}
 use Rattle.rel_disk.specs.Moments.{LeavesOnly, HasFailed}
 use Rattle.rel_disk.proofs.Moments.{joined, weakened, both}
@@ -43,6 +43,12 @@ pub failed_by_it : {D : Type 0} (failures : D → ℕ) (e : Event) (size : ℕ) 
     → IfErr r (λ _. HasFailed (failures (disk_in old)) (failures (disk_in new)))
 failed_by_it failures e size old new (Ok x) refused device = tt
 failed_by_it failures e size old new (Err why) refused device = (subst (CommandRefused failures e size old new) device refused).1
+
+-- and it has left the node dead, if it does so where it succeeds
+pub dead_by_it : {D : Type 0} (failures : D → ℕ) (e : Event) (size : ℕ) (old new : NodeStore D) (r : Result (Unit {0}) HandlerError) → IfErr r (CommandRefused failures e size old new) → IfErr r (λ why. why ≡ Device)
+    → OnOk r (is_dead new ≡ true) → is_dead new ≡ true
+dead_by_it failures e size old new (Ok x) refused device dead = dead
+dead_by_it failures e size old new (Err why) refused device dead = (subst (CommandRefused failures e size old new) device refused).2
 
 -- The records of a list are those of one in a store of format 2.
 in_format_2 : (format : ℕ) (bodies : List (List ℕ)) (es : Releases) → AreRecordsOf format bodies es → AreRecordsOf 2 bodies es

@@ -1,11 +1,14 @@
 //! What happens to a list of releases.
-ghost use Rattle.std.specs.Prelude.{◌≡◌};
-ghost use Rattle.rel_list.specs.Event.{event_of, status_behind};
+ghost use Rattle.std.specs.Prelude.{◌≡◌, Some, None, IsTrue, IfErr, OnOk, OnErr};
+ghost use Rattle.rel_list.specs.Event.{event_of, own_step, status_behind};
+ghost use Rattle.rel_list.specs.Refusal.{brings_release, own_refusal};
+ghost use Rattle.rel_list.specs.declared.fault.ListError.TheVariants.{NoMemory};
 
-use crate::{Bundle, Status};
+use crate::change::StatusChange;
+use crate::{Bundle, ListError, ReleaseList, Status};
+use std::alloc::Global;
 
 /// A change of the list of releases. A release that is in the list is named by its version.
-#[derive(Drop)]
 pub enum Event {
     /// The node's first release comes in, as the permanent one.
     Made(Bundle),
@@ -25,6 +28,18 @@ pub enum Event {
     Boot,
 }
 
+// Let go by one call: a derived drop would stand variant by variant at each exit of a caller.
+impl Drop for Event {
+    fn drop(self) {
+        match self {
+            Event::Made(_bundle) | Event::Unpacked(_bundle) => {}
+            Event::Installed(_vsn) | Event::RestartInstalled(_vsn) => {}
+            Event::MadePermanent(_vsn) | Event::Removed(_vsn) | Event::RebootOld(_vsn) => {}
+            Event::Boot => {}
+        }
+    }
+}
+
 impl Event {
     /// The status that a release of this version and this status has behind the event. An event that brings a release, or
     /// takes one out, leaves the statuses of the others.
@@ -39,6 +54,40 @@ impl Event {
             }
             Event::Boot => status.booted(),
             Event::Made(_) | Event::Unpacked(_) | Event::Removed(_) => status,
+        }
+    }
+
+    // Changes a list as the event says, whose own rule allows it.
+    pub(crate) fn change(self, alloc: Global, list: &mut ReleaseList) -> Result<(), ListError>
+        requires { own_refusal (event_of self) list.old ≡ None }
+        ensures accepted { OnOk result (own_step (event_of self) list.old ≡ Some list.new) }
+        ensures refused { IfErr result
+            (λ e. (e ≡ NoMemory) × IsTrue (brings_release (event_of self))) }
+        ensures unchanged { OnErr result (list.new ≡ list.old) }
+    {
+        match self {
+            Event::Made(bundle) => list.put(alloc, bundle, Status::Permanent),
+            Event::Unpacked(bundle) => list.put(alloc, bundle, Status::Unpacked),
+            Event::Installed(vsn) => {
+                list.change(StatusChange::Install(vsn.as_str()));
+                Ok(())
+            }
+            Event::RestartInstalled(vsn) => {
+                list.change(StatusChange::Restart(vsn.as_str()));
+                Ok(())
+            }
+            Event::MadePermanent(vsn) | Event::RebootOld(vsn) => {
+                list.change(StatusChange::MakePermanent(vsn.as_str()));
+                Ok(())
+            }
+            Event::Removed(vsn) => {
+                list.remove(vsn.as_str());
+                Ok(())
+            }
+            Event::Boot => {
+                list.change(StatusChange::Boot);
+                Ok(())
+            }
         }
     }
 }

@@ -65,52 +65,23 @@ impl ReleaseList {
         if let Some(why) = self.refusal(&event) {
             return Err(why);
         }
-        self.take(alloc, event)
-    }
-
-    // Changes the list as an event says that its own rule allows.
-    fn take(&mut self, alloc: Global, event: Event) -> Result<(), ListError>
-        requires { own_refusal (event_of event) self.old ≡ None }
-        ensures accepted { OnOk result (own_step (event_of event) self.old ≡ Some self.new) }
-        ensures refused { IfErr result
-            (λ e. (e ≡ NoMemory) × IsTrue (brings_release (event_of event))) }
-        ensures unchanged { OnErr result (self.new ≡ self.old) }
-    {
-        match event {
-            Event::Made(bundle) => self.put(alloc, bundle, Status::Permanent),
-            Event::Unpacked(bundle) => self.put(alloc, bundle, Status::Unpacked),
-            Event::Installed(vsn) => {
-                self.change(StatusChange::Install(vsn.as_str()));
-                Ok(())
-            }
-            Event::RestartInstalled(vsn) => {
-                self.change(StatusChange::Restart(vsn.as_str()));
-                Ok(())
-            }
-            Event::MadePermanent(vsn) | Event::RebootOld(vsn) => {
-                self.change(StatusChange::MakePermanent(vsn.as_str()));
-                Ok(())
-            }
-            Event::Removed(vsn) => {
-                self.remove(vsn.as_str());
-                Ok(())
-            }
-            Event::Boot => {
-                self.change(StatusChange::Boot);
-                Ok(())
-            }
-        }
+        event.change(alloc, self)
     }
 
     // Takes the release of this version out of the list.
-    fn remove(&mut self, vsn: &str)
+    pub(crate) fn remove(&mut self, vsn: &str)
         ensures { self.new ≡ without vsn.now self.old }
     {
         self.releases.shift_remove(vsn);
     }
 
     // Puts a release of a new version last.
-    fn put(&mut self, alloc: Global, bundle: Bundle, status: Status) -> Result<(), ListError>
+    pub(crate) fn put(
+        &mut self,
+        alloc: Global,
+        bundle: Bundle,
+        status: Status,
+    ) -> Result<(), ListError>
         requires new { status_of (string_bytes bundle.release.vsn) self.old ≡ None }
         requires not_temporary { is_temporary status ≡ false }
         ensures added { OnOk result
@@ -161,7 +132,7 @@ impl ReleaseList {
     }
 
     // Changes the statuses of all releases.
-    fn change(&mut self, change: StatusChange<'_>)
+    pub(crate) fn change(&mut self, change: StatusChange<'_>)
         requires { MayBeMade change self.old }
         ensures { self.new ≡ with_statuses (status_after change.entry) self.old }
     {

@@ -52,3 +52,9 @@ returns-clause-started g c =
 
 pub returns-clause-start : goal.returns-clause-start
 returns-clause-start g c = c.in_ok-compact.ensures.done.start ∙ c.in_ok-write_installation.ensures.start
+
+pub returns-clause-dead : goal.returns-clause-dead
+returns-clause-dead g c = c.makes_one_shot-restarts.ensures
+
+pub returns-clause-format : goal.returns-clause-format
+returns-clause-format g c = λ makes. c.compact.ensures.format ∙ c.in_ok-write_installation.ensures.format makes

@@ -215,3 +215,8 @@ returns-in-Err-clause-refused g c =
     subst (λ d. InstallRefused g.D.Disk.failures c.args.vsn.now h (with_dead mid d) old new c.in-Err.error) (sym c.must_boot-self-inside.ensures)
     (not_run g.D.Disk.failures c.args.vsn.now h c.if-self.false mid (same_with h c.make_room.new.store c.make_room.ensures.kept) u c.in_ok-upgrade.ensures.found old new c.in-Err.error
     (subst (λ n. HasSpace (extent_in h) n) room c.in_ok-make_room.ensures.space) c.in-Err.ensures.refused))
+
+pub returns-clause-installed : goal.returns-clause-installed
+returns-clause-installed g c =
+    rw (← c.self.view_is)
+    (upgrade_of c.in_ok-upgrade.upgrade, c.in_ok-upgrade.ensures.found, c.in-Ok.ensures.installed)

@@ -9,6 +9,10 @@ use Rattle.node_command.proofs.Refusals.{refuses_with}
 use Rattle.node_store.proofs.Commits.{unchanged}
 use Rattle.node_command.proofs.ReleaseLemmas.{brings_same, still_agree, still_free, still_terms, still_whole, brought_free, agrees_so, room_so}
 use Rattle.rel_handler.proofs.ReleaseLemmas.{unchanged_handler}
+use Rattle.rel_records.specs.Limits.{is_small}
+use Rattle.rel_files.specs.Release.{release_of}
+use Rattle.rel_list.specs.Releases.{status_of}
+use Rattle.std.specs.String.{string_bytes}
 use Rattle.rel_handler.proofs.handler.Handler.set_unpacked.Goals as goal
 
 -- a dead handler takes nothing in
@@ -72,7 +76,16 @@ pub take_in-requires-clause-whole : goal.take_in-requires-clause-whole
 take_in-requires-clause-whole g c = still_whole c.in_ok-brought.brought c.in_ok-brought-2.brought c.in_ok-brought-2.ensures.brought c.in_ok-brought.ensures.whole
     (room_so c.has_room.result (brought_of c.in_ok-brought.brought) c.in_ok-brought-2.ensures.free).1
 
+pub take_in-requires-clause-small : goal.take_in-requires-clause-small
+take_in-requires-clause-small g c = subst (λ b. is_small (release_of b.file.release) ≡ true) (sym c.in_ok-brought-2.ensures.brought) c.in_ok-brought.ensures.small
+
+pub take_in-requires-clause-fresh : goal.take_in-requires-clause-fresh
+take_in-requires-clause-fresh g c = subst (λ b. status_of (string_bytes b.file.release.vsn) c.self.inside.node.list ≡ None) (sym c.in_ok-brought-2.ensures.brought) c.in_ok-vsn.ensures.fresh
+
 -- the node refused the release
+pub returns-in_err-take_in-clause-sound : goal.returns-in_err-take_in-clause-sound
+returns-in_err-take_in-clause-sound g c = c.in_err-take_in.ensures.commits.sound
+
 pub returns-in_err-take_in-clause-refused : goal.returns-in_err-take_in-clause-refused
 returns-in_err-take_in-clause-refused g c =
     rw (← c.self.view_is)
@@ -92,6 +105,9 @@ returns-in_err-take_in-clause-refused g c =
     })))))
 
 -- it was taken in
+pub returns-clause-sound : goal.returns-clause-sound
+returns-clause-sound g c = c.in_ok-take_in.ensures.commits.sound
+
 pub returns-clause-unpacked : goal.returns-clause-unpacked
 returns-clause-unpacked g c =
     rw (← c.self.view_is)

@@ -11,4 +11,4 @@ pub returns-clause-accepted : goal.returns-clause-accepted
 returns-clause-accepted c =
     let none : refusal (event_of c.args.event) c.args.self.now ≡ None = search rules in
     let free : waits_for_boot (event_of c.args.event) c.args.self.now ≡ false = (own_of_refusal (event_of c.args.event) c.args.self.now none).0 in
-    rw free c.take.ensures.accepted
+    rw free c.change.ensures.accepted

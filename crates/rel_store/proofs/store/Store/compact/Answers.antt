@@ -1,12 +1,13 @@
-use Rattle.std.proofs.Common.{◌≡◌, ℕ, length, inl, refl, sym, ◌∙◌, subst, arith, Option, Some}
+use Rattle.std.proofs.Common.{◌≡◌, ℕ, length, map, ap, inl, refl, sym, ◌∙◌, subst, arith, Option, Some}
 use Rattle.std.specs.Prelude.{◌↔◌, IfSome, IsSome}
 use Rattle.std.proofs.lemmas.Grind.{common_steps}
-use Rattle.rel_store.specs.declared.error.StoreError.TheVariants.{Full}
+use Rattle.rel_store.specs.declared.error.StoreError.TheVariants.{Device, Full}
 use Rattle.rel_disk.specs.Moments.{LeavesOnly}
 use Rattle.rel_store.specs.Changed.{KeepsOthers, IsInCompaction}
 use Rattle.rel_store.proofs.ImageBytes.{others_now, others_leave}
 use Rattle.rel_store.proofs.ImageSteps.{within_now, ends_now, ends_leave, after_compaction, replaced_now, settled_now}
 use Rattle.rel_store.proofs.Moments.{resting}
+use Rattle.rel_store.proofs.Scan.{passed_on}
 use Rattle.rel_store.proofs.Refusals.{device_not_full, memory_not_full, none_answered}
 use Rattle.rel_store.proofs.store.Store.compact.Goals as goal
 
@@ -102,3 +103,9 @@ returns-clause-settled g c =
 
 pub returns-clause-sound : goal.returns-clause-sound
 returns-clause-sound g c = record { settled = λ works. returns-clause-settled g c }
+
+pub returns-in_err-reserve-clause-full : goal.returns-in_err-reserve-clause-full
+returns-in_err-reserve-clause-full g c = memory_not_full _ _ (λ p. p.1 (fits_so _ _ _ c.in_ok-place.ensures.ok_part c.place_of_image.ensures.fits)) c.from_residual-in_err-reserve.ensures.1
+
+pub returns-in_err-put_image-clause-refused : goal.returns-in_err-put_image-clause-refused
+returns-in_err-put_image-clause-refused g c = passed_on _ _ Device c.from_residual-in_err-put_image.ensures.1 (c.in_err-put_image.ensures.cause refl, c.if-self.false, refl, ap (map (λ v. v.items)) c.reserve.ensures.items)
