@@ -1,2 +1,1 @@
-pub mod FailureLemmas
 pub mod WriteLemmas

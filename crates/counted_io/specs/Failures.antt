@@ -1,9 +1,9 @@
 -- How failures are counted.
-use Rattle.std.specs.Prelude.{◌≡◌, ◌⊎◌, ℕ, ◌-◌, ◌^◌, ◌<◌, Result, Ok, Err}
+use Rattle.std.specs.Prelude.{◌≡◌, ℕ, ◌+◌, ◌-◌, ◌^◌, min, Result, Ok, Err}
 
--- a count has risen, or can't
+-- a count has risen by one, as far as it goes
 abbrev pub HasRisen : ℕ → ℕ → Type 0
-HasRisen old new = (old < new) ⊎ (old ≡ 2 ^ 64 - 1)
+HasRisen old new = new ≡ min (old + 1) (2 ^ 64 - 1)
 
 -- a call that failed has raised the count, and one that didn't has left it
 abbrev pub Counts : {V E : Type 0} → Result V E → ℕ → ℕ → Type 0

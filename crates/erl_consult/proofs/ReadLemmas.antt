@@ -1,10 +1,11 @@
 -- What was read piece by piece.
-use Rattle.std.proofs.Common.{◌≡◌, ◌≢◌, ◌⊎◌, inl, inr, ◌∙◌, ℕ, ◌+◌, ◌≤◌, ◌<◌, List, [], ◌∷◌, ◌++◌, length, Option, None, Some, IfSome, refl, sym, ap, subst, append_assoc, append-nil, arith}
+use Rattle.std.proofs.Common.{◌≡◌, ◌≢◌, ◌⊎◌, inl, inr, ◌∙◌, ℕ, ◌+◌, ◌≤◌, ◌<◌, List, [], ◌∷◌, ◌++◌, length, Option, None, Some, IfSome, Result, Ok, Err, IfErr, refl, sym, ap, subst, append_assoc, append-nil, arith}
 use Rattle.std.proofs.lemmas.List.{length-append}
+use Rattle.std.specs.Prelude.{IsErrAnd, IsErrOf}
 use Rattle.std.specs.Io.KnownBytes.{Consumes, IsAtEnd}
-use Rattle.counted_io.specs.Failures.{HasRisen}
 use Rattle.erl_term.specs.TermFault.TheVariants.{NoMemory}
-use Rattle.erl_consult.specs.Listing.{HasTaken, HasRead, IsReported}
+use Rattle.erl_consult.specs.Failures.{Tells}
+use Rattle.erl_consult.specs.Listing.{HasTaken, HasRead, IsReported, TakesAtMost}
 use Rattle.erl_consult.specs.declared.error.ConsultError.{ConsultError}
 use Rattle.erl_consult.specs.declared.error.ConsultError.TheVariants.{Fault, Read, Write, TooLong}
 
@@ -66,15 +67,41 @@ too_much_read (Some o) (Some n) bytes s long =
     let whole : length o ≡ length (bytes ++ n) = ap length s.read in
     omega (arith, length-append bytes n)
 
--- what a read reports says nothing of the text
+-- What is passed on of a read that is refused: it says nothing of the text, and it is no failed write.
+pub passes_on : {V : Type 0} (P : ConsultError → Type 0) (e : ConsultError) (r : Result V ConsultError) → IsErrAnd r (λ x. x ≡ e) → P e → IfErr r P
+passes_on P e (Ok v) is holds = absurd is
+passes_on P e (Err x) is holds = subst P (sym is) holds
+
 pub read_reported : (known : Option (List ℕ)) (e : ConsultError) → (e ≡ Read) ⊎ (e ≡ Fault NoMemory) → IsReported known e
 read_reported known e (inl is) = subst (λ x. IsReported known x) (sym is) tt
 read_reported known e (inr is) = subst (λ x. IsReported known x) (sym is) (λ n. absurd (n refl))
 
--- and it is no failed write
 pub no_write : (e : ConsultError) → (e ≡ Read) ⊎ (e ≡ Fault NoMemory) → e ≢ Write
 no_write e (inl is) w = absurd cc
 no_write e (inr is) w = absurd cc
 
-pub risen_since : (first old new : ℕ) → old ≡ first → HasRisen old new → HasRisen first new
-risen_since first old new same risen = subst (λ n. HasRisen n new) same risen
+-- a refusal that is passed on is the same one
+told_in : {V : Type 0} (x told : ConsultError) → IsErrOf {T = V} (Err x) told → x ≡ told
+told_in x told is = cc
+
+told_so : {V : Type 0} (x told : ConsultError) → x ≡ told → IsErrOf {T = V} (Err x) told
+told_so x told is = cc
+
+pub tells_on : {V W : Type 0} (told e : ConsultError) (r : Result W ConsultError) (old new : ℕ) → IsErrAnd r (λ x. x ≡ e) → Tells {V = V} told (Err e) old new → Tells told r old new
+tells_on told e (Ok v) old new is tells = absurd is
+tells_on told e (Err x) old new is (rose, kept) =
+    (λ it. rose (told_so e told (sym is ∙ told_in x told it)), λ other. kept (λ it. other (told_so x told (is ∙ told_in e told it))))
+
+-- and a success is told in its place
+pub tells_done : {V W : Type 0} (told : ConsultError) (v : V) (w : W) (first old new : ℕ) → old ≡ first → Tells told (Ok v) old new → Tells told (Ok w) first new
+tells_done told v w first old new same (rose, kept) = (λ it. absurd cc, λ other. kept (λ it. cc) ∙ same)
+
+pub tells_since : {V : Type 0} (told : ConsultError) (r : Result V ConsultError) (first old new : ℕ) → old ≡ first → Tells told r old new → Tells told r first new
+tells_since told r first old new same tells = subst (λ n. Tells told r n new) same tells
+
+-- what is taken of a reader behind so many bytes
+pub takes_more : (old mid new : Option (List ℕ)) (bytes : List ℕ) (most : ℕ) → ReadSoFar old mid bytes → length bytes + most ≤ 1048577 → TakesAtMost most mid new → TakesAtMost 1048577 old new
+takes_more old mid new bytes most s fits (piece, short, taken) = (bytes ++ piece, omega (arith, length-append bytes piece), consumes_more old mid new bytes piece s.read taken)
+
+pub takes_so_far : (old now : Option (List ℕ)) (bytes : List ℕ) → ReadSoFar old now bytes → TakesAtMost 1048577 old now
+takes_so_far old now bytes s = (bytes, s.bound, s.read)

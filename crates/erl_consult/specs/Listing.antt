@@ -26,6 +26,10 @@ IsShort bytes = length bytes ≤ 1048576
 abbrev pub HasTaken : ℕ → Option (List ℕ) → Option (List ℕ) → List ℕ → List ℕ → Type 0
 HasTaken count known left old new = (piece : List ℕ) × (length piece ≡ count) × (new ≡ old ++ piece) × Consumes known left piece
 
+-- at most so many bytes of the reader were taken
+abbrev pub TakesAtMost : ℕ → Option (List ℕ) → Option (List ℕ) → Type 0
+TakesAtMost most known left = (piece : List ℕ) × (length piece ≤ most) × Consumes known left piece
+
 -- where the bytes of the reader are known, these are they
 abbrev pub HasRead : Option (List ℕ) → List ℕ → Type 0
 HasRead known bytes = IsShort bytes × IfSome known (λ all. bytes ≡ all)

@@ -2,8 +2,8 @@
 ghost use Rattle.std.specs.Prelude.{◌≡◌, ◌≢◌, ◌⊎◌, ◌<◌, ◌≤◌, length, OnOk, IfOk, IfErr, IsErrOf};
 ghost use Rattle.std.specs.Io.KnownBytes.{IsAtEnd};
 ghost use Rattle.counted_io.specs.Counted.{left_in, failed_reads, held_by, failed_writes};
-ghost use Rattle.counted_io.specs.Failures.{HasRisen};
-ghost use Rattle.erl_consult.specs.Listing.{HasTaken, HasRead, HasListed, HasBegun, IsReported};
+ghost use Rattle.erl_consult.specs.Listing.{HasTaken, HasRead, HasListed, HasBegun, IsReported, TakesAtMost};
+ghost use Rattle.erl_consult.specs.Failures.{Tells};
 
 use crate::error::ConsultError;
 use crate::listing::listing;
@@ -38,11 +38,15 @@ pub fn consult<R: Read, W: Write>(
     ensures prefix { IsErrOf result ConsultError.Write → HasBegun (left_in R.remaining reader.old)
         (held_by W.contents writer.old) (held_by W.contents writer.new) }
 
-    // A failure is reported only where one was.
-    ensures read { IsErrOf result ConsultError.Read
-        → HasRisen (failed_reads reader.old) (failed_reads reader.new) }
-    ensures write { IsErrOf result ConsultError.Write
-        → HasRisen (failed_writes writer.old) (failed_writes writer.new) }
+    // A failure is reported exactly where one was. It is the only one, since nothing is tried again.
+    ensures read { Tells ConsultError.Read result (failed_reads reader.old)
+        (failed_reads reader.new) }
+    ensures write { Tells ConsultError.Write result (failed_writes writer.old)
+        (failed_writes writer.new) }
+
+    // Of a longer text no byte after the first too many is read.
+    ensures bounded { TakesAtMost 1048577 (left_in R.remaining reader.old)
+        (left_in R.remaining reader.new) }
 {
     let bytes = read_text(alloc, reader)?;
     let text = listing(alloc, &bytes)?;
@@ -53,18 +57,18 @@ pub fn consult<R: Read, W: Write>(
 fn read_text<R: Read>(alloc: Global, reader: &mut CountedReader<R>) -> Result<Vec<u8>, ConsultError>
     ensures read { IfOk result (λ bytes. HasRead (left_in R.remaining reader.old) bytes.items) }
     ensures refused { IfErr result (IsReported (left_in R.remaining reader.old)) }
-    ensures cause { IsErrOf result ConsultError.Read
-        → HasRisen (failed_reads reader.old) (failed_reads reader.new) }
+    ensures cause { Tells ConsultError.Read result (failed_reads reader.old)
+        (failed_reads reader.new) }
+    ensures bounded { TakesAtMost 1048577 (left_in R.remaining reader.old)
+        (left_in R.remaining reader.new) }
     ensures unwritten { IfErr result (λ e. e ≢ ConsultError.Write) }
 {
     let mut bytes = Vec::new(alloc);
     let mut room = vec![in alloc; 0u8; ROOM]?;
     while bytes.len() <= MOST_BYTES {
         let most = room.len().min(MOST_BYTES + 1 - bytes.len());
-        match read_some(reader, &mut bytes, &mut room, most) {
-            Ok(0) => return Ok(bytes),
-            Ok(_) => {}
-            Err(error) => return Err(error),
+        if read_some(reader, &mut bytes, &mut room, most)? == 0 {
+            return Ok(bytes);
         }
     }
     Err(ConsultError::TooLong)
@@ -83,11 +87,12 @@ fn read_some<R: Read>(
         (left_in R.remaining reader.new) bytes.old.items bytes.new.items) }
     ensures end { IfOk result (λ count. count ≡ 0 → IsAtEnd (left_in R.remaining reader.new)) }
     ensures bound { IfOk result (λ count. count ≤ most) }
-    ensures same { OnOk result (failed_reads reader.new ≡ failed_reads reader.old) }
     ensures error { IfErr result
         (λ e. (e ≡ ConsultError.Read) ⊎ (e ≡ ConsultError.Fault TermFault.NoMemory)) }
-    ensures cause { IfErr result (λ e. e ≡ ConsultError.Read
-        → HasRisen (failed_reads reader.old) (failed_reads reader.new)) }
+    ensures cause { Tells ConsultError.Read result (failed_reads reader.old)
+        (failed_reads reader.new) }
+    ensures bounded { TakesAtMost most (left_in R.remaining reader.old)
+        (left_in R.remaining reader.new) }
 {
     let count = reader.read(room, most)?;
     bytes.extend_from_slice(&room[..count])?;

@@ -4,7 +4,7 @@
 //! `gives` says what a read of a path may give, and its clauses that a read gives that: the file's bytes, at most 1,048,576,
 //! or why it isn't read. Out of memory says nothing of the file.
 //!
-//! Trusted: the toolchain alone.
+//! Trusted: the toolchain and `thiserror`.
 #![tactic(auto)]
 
 mod files;

@@ -9,7 +9,7 @@
 //! The functions of `laws` say of these definitions that a term is that of one library at most, and that two libraries are
 //! the same exactly where they are equal.
 //!
-//! Only tested (`unpack_cases`): that a library is read where memory is there. Trusted: the toolchain alone.
+//! Only tested: that a library is read where memory is there. Trusted: the toolchain alone.
 #![tactic(auto)]
 
 pub mod laws;

@@ -32,18 +32,20 @@ pub enum HandlerError {
     BadFile(String, FileTrouble),
     /// There is no file of this path.
     MissingFile(String),
-    /// The file of this path is of another application, version or module than its path says.
+    /// The file of this path is of another application, version or module than its path says, or a relup of another version than
+    /// the release beside it.
     VsnMismatch(String),
     /// This module has no table, or not one of the kind that a child or a top asks for.
     NoTable(String),
-    /// A file is too large, the release passes a limit on a release or on what its applications have, or it would be one more
-    /// than a node may have.
+    /// A file is too large, the release passes a limit on a release or on what its applications have, a script of its relup has
+    /// more than 4,096 instructions, or it would be one more than a node may have.
     TooMany,
     /// The device failed. The handler is dead until the next boot, which finds the command's event or not.
     Device,
     /// The store would be longer than it may be.
     Full,
-    /// The device failed in an earlier command, and the node has to be booted.
+    /// The node has to be booted: the device failed in an earlier command, a script failed behind its point of no return, or a
+    /// reboot or a restart was done.
     Dead,
     /// No memory was left. It says nothing of the command.
     NoMemory,

@@ -98,7 +98,8 @@ impl Processes {
     }
 
     /// Calls a process so often with one input, from threads. The answer tells how often each outcome came, and how often the
-    /// process was down; or that the application has no such process. Where it is refused, some of the calls were made, or none.
+    /// process was down; or that the application has no such process. Where memory is refused, some of the calls may have been
+    /// made: nothing more is said of the processes then.
     pub fn flood<R: Threads + Wait + Sync>(
         &mut self,
         rt: &R,

@@ -46,13 +46,13 @@ pub record IsInstalled (u : UpgradeForm) (old : NodeState) (i : Installed) (new 
   pub descr : value_of i.descr ≡ u.found.descr
   pub stale : i.stale.items ≡ stale_modules new.modules u.target
 
--- An instruction behind the point of no return is the first that fails; or the script has ended, and no memory was left for the
--- answer.
-abbrev pub BreaksOff : UpgradeForm → NodeState → ℕ → Cause → NodeState → Type 0
-BreaksOff u old n c new =
-    IsBroken (site_for u old.modules) (start_in old) u.found.script n c new.view
-    ⊎ ((c ≡ no_memory) × (n ≡ length u.found.script + 1)
-    × ((modules : NamedModules) × IsCarriedOut u old (state new.view new.apps modules)))
+-- An instruction behind the point of no return is the first that fails, and the applications that are started are as they were; or
+-- the script has ended, and no memory was left for the answer. What is loaded is as it was.
+pub record BreaksOff (u : UpgradeForm) (old : NodeState) (n : ℕ) (c : Cause) (new : NodeState) : Type 0 where
+  pub modules : new.modules ≡ old.modules
+  pub stopped : (IsBroken (site_for u old.modules) (start_in old) u.found.script n c new.view × (new.apps ≡ old.apps))
+      ⊎ ((c ≡ no_memory) × (n ≡ length u.found.script + 1)
+      × ((modules : NamedModules) × IsCarriedOut u old (state new.view new.apps modules)))
 
 -- What is told of an instruction before the point of no return that fails. No memory is told as such.
 abbrev pub TellsRefusal : ℕ → Cause → InstallError → Type 0

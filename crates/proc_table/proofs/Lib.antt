@@ -5,7 +5,7 @@ pub mod SlotTurns
 pub mod StepKinds
 pub mod JoinLemmas
 pub mod Runs
-pub mod MomentLemmas
+pub mod WordLemmas
 pub mod StepLemmas
 pub mod Slots
 pub mod PartViews

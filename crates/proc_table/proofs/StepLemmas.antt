@@ -17,8 +17,6 @@ use Rattle.proc_table.specs.Agrees.{slots, States, Sits, Agrees}
 use Rattle.proc_table.specs.Moves as moves
 use Rattle.proc_table.specs.Moves.{Reached, IsHistory}
 use Rattle.proc_table.specs.Steps.{Me, Ready, Fresh, Took, Missed, took_or_missed, Adding, gave, given, with_laid, laid_down, lifted, learnt}
-use Rattle.proc_table.specs.Moments.{Once, HasAtWord}
-use Rattle.proc_table.proofs.MomentLemmas.{has_at}
 use Rattle.proc_history.proofs.Entries.{own-append, legal_prefix, append_nothing}
 use Rattle.proc_table.proofs.LentLemmas.{none_lent, nothing_behind}
 use Rattle.proc_table.proofs.Runs.{reached_agrees, next}
@@ -51,7 +49,7 @@ takes_allowed n id me p mark ready inside is s r long at fits = go (slice_index 
   where
     go : (b : Bool) → (slice_index s.words p == 0) ≡ b
         → (w : View) × (a : Act Value) × Valid s.homes me.1 a × Reached (stepped s p (either b mark (slice_index s.words p)) id me.1 w a)
-        × (MatchBool b (Took p me (w, carried_after me.1 a)) (Missed p (slice_index s.words p) me (w, carried_after me.1 a)) × Once me.0 (HasAtWord p (slice_index s.words p)))
+        × MatchBool b (Took p me (w, carried_after me.1 a)) (Missed p (slice_index s.words p) me (w, carried_after me.1 a))
     go true e =
         let a : Agrees s = reached_agrees s r in
         let h = a.history p in
@@ -72,7 +70,7 @@ takes_allowed n id me p mark ready inside is s r long at fits = go (slice_index 
             all = history_of s a p;
             is = ap (λ k. stepped s p k id me.1 (with_part me.0 p (part h (mine me.0 p) true false)) (takes p (replay h))) is;
           })),
-          (record { h = h; fresh = fresh s a p id me.0 sits; is = refl }, (s, r, (id, sits), has_at s r p)),
+          record { h = h; fresh = fresh s a p id me.0 sits; is = refl },
         )
     go false e =
         let a : Agrees s = reached_agrees s r in
@@ -84,7 +82,7 @@ takes_allowed n id me p mark ready inside is s r long at fits = go (slice_index 
           keeps,
           tt,
           next s _ r (moves.Moves.misses (record { i = id; p = p; v = me.0; sits = sits; alone = ready.alone; inside = inside; busy = busy; is = refl })),
-          (record { word = ⊎_elim (λ one. inl (word ∙ one)) (λ two. inr (word ∙ two)) (word_one_or_two holder.1.number); is = refl }, (s, r, (id, sits), has_at s r p)),
+          record { word = ⊎_elim (λ one. inl (word ∙ one)) (λ two. inr (word ∙ two)) (word_one_or_two holder.1.number); is = refl },
         )
 
 pub gives_allowed : (n id : ℕ) (me : Me) (p : ℕ) (entries : List HistoryEntry) → p < slots → Adding entries p me

@@ -3,7 +3,7 @@ pub mod Codes
 pub mod Views
 pub mod Agrees
 pub mod Moves
-pub mod Moments
+pub mod Words
 pub mod Steps
 pub mod Seats
 pub mod Calls

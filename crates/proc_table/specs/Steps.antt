@@ -10,7 +10,6 @@ use Rattle.proc_history.specs.Histories.{replay, IsLegal}
 use Rattle.proc_table.specs.Views.{seen, mine, is_out, with_part, found_more, no_guest}
 use Rattle.proc_table.specs.Agrees.{slots}
 use Rattle.proc_history.specs.Events.{MayAdd}
-use Rattle.proc_table.specs.Moments.{Once, HasAtWord}
 
 -- a view, and the slots that are out with it
 abbrev pub Me : Type 0
@@ -43,7 +42,7 @@ pub record Missed (p n : ℕ) (me w : Me) : Type 0 where
   pub is : w ≡ (found_more me.0 p n, me.1)
 
 abbrev pub took_or_missed : table.Step Value → Me → ℕ → Me → Type 0
-took_or_missed st me n w = MatchBool (n == 0) (Took st.word me w) (Missed st.word n me w) × Once me.0 (HasAtWord st.word n)
+took_or_missed st me n w = MatchBool (n == 0) (Took st.word me w) (Missed st.word n me w)
 
 -- The seat may add these entries to the slot's history and give back its value, which is then what the history leaves.
 pub record Adding (entries : List HistoryEntry) (p : ℕ) (me : Me) : Type 0 where

@@ -2,7 +2,6 @@
 ghost use Rattle.std.specs.Prelude.{◌≡◌, ◌≢◌, []};
 ghost use Rattle.proc_table.specs.Calls.{Answers, Shows, tried_of, peeked_of};
 ghost use Rattle.proc_history.specs.Histories.{replay};
-ghost use Rattle.proc_table.specs.Moments.{Once, HasAtCall, HasAtPeek};
 ghost use Rattle.proc_history.specs.Outcomes.{outcome_in, state_in, call_entries};
 ghost use Rattle.proc_table.specs.Steps.{Adding, InHand, given};
 ghost use Rattle.proc_table.specs.Views.{seen};
@@ -19,7 +18,6 @@ impl ProcTable {
         requires { pass.old.table ≡ self.now }
         ensures table { pass.new.table ≡ pass.old.table }
         ensures answer { Answers pid.slot pid.round input pass.old.view result pass.new.view }
-        ensures moment { Once pass.old.view (HasAtCall pid.slot result) }
     {
         let found = self.take(&mut pass.seat, pid.slot, 1);
         if found == 1 {
@@ -37,7 +35,6 @@ impl ProcTable {
         requires { pass.old.table ≡ self.now }
         ensures table { pass.new.table ≡ pass.old.table }
         ensures answer { Shows pid.slot pid.round pass.old.view result pass.new.view }
-        ensures moment { Once pass.old.view (HasAtPeek pid.slot result) }
     {
         let word = self.take(&mut pass.seat, pid.slot, 1);
         if word == 1 {

@@ -23,7 +23,7 @@ use mod_table::{Old, Worker};
 use proc_history::{Beginning, Entry, Value};
 use std::marker::{Brand, Model};
 
-/// A slot that the handler holds, with what stands in it. It ends in `release`.
+/// A slot that the handler holds, with what stands in it. It ends in `release` or `let_go`.
 pub struct Held {
     slot: usize,
     value: Value,

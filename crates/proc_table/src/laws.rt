@@ -4,6 +4,7 @@ ghost use Rattle.proc_table.specs.Free.{BeginsTakeOne, HandlerKnows};
 ghost use Rattle.proc_table.specs.Moves.{RunsAgree, ReachedAgrees, HeldAlone};
 ghost use Rattle.proc_table.specs.Together.{TwoClients, CallsStandApart};
 ghost use Rattle.proc_table.specs.Waits.{HoldsAndReleases};
+ghost use Rattle.proc_table.specs.Words.{WordsTell};
 
 /// Every run of the kinds of step, by any number of passes, keeps agreement.
 pub fn every_run_keeps_agreement()
@@ -13,6 +14,12 @@ pub fn every_run_keeps_agreement()
 /// What a run from the start leads to agrees.
 pub fn what_is_reached_agrees()
     ensures { ReachedAgrees }
+{}
+
+/// The word of a process tells who has it: nobody at 0, a client at 1, and else the handler. So `Busy` and `Held` are answered
+/// by a word that tells of another, and a call by one that tells of nobody.
+pub fn the_word_of_a_process_tells_who_has_it()
+    ensures { WordsTell }
 {}
 
 /// While the handler or a client has a process, no other has it, and so no call of it is answered.

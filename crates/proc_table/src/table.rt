@@ -3,7 +3,6 @@ ghost use Rattle.std.specs.Prelude.{◌≡◌, ◌≢◌, ◌<◌, ◌==◌, ℕ
 ghost use Rattle.atomic_table.specs.Seated.{TableId, table_id_coded};
 ghost use Rattle.proc_table.specs.Agrees.{slots};
 ghost use Rattle.proc_history.specs.declared.value.Value.{Value};
-ghost use Rattle.proc_table.specs.Moments.{Once, HasAtWord};
 ghost use Rattle.proc_table.specs.Parts.{part_of};
 ghost use Rattle.proc_table.specs.Steps.{Ready, Took, Missed, Adding, given, with_laid, Learnt};
 ghost use Rattle.proc_table.specs.Views.{word_of, is_out, one_more, new_pass, joined};
@@ -46,7 +45,6 @@ impl ProcTable {
         ensures table { seat.new.table_id ≡ seat.old.table_id }
         ensures told { MatchBool (result == 0)
             (Took slot seat.old.me seat.new.me) (Missed slot result seat.old.me seat.new.me) }
-        ensures moment { Once seat.old.me.0 (HasAtWord slot result) }
     {
         self.table
             .shared

@@ -13,7 +13,8 @@
 //! (specs/Floods).
 //!
 //! All wait, and say the same if they return. Only tested: that a note comes, that an inbox or a sender that is gone is
-//! noticed, and that workers run beside each other. Trusted: the toolchain alone, `crossbeam_channel` with it.
+//! noticed, and that workers run beside each other. Trusted: the toolchain, with `crossbeam_channel` and
+//! `thiserror`.
 #![tactic(auto)]
 
 mod desk;

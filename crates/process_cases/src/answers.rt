@@ -17,7 +17,8 @@ use text_cases::Answer;
 /// [`push_clients`]. `alone`: what a process answers to calls that the handler makes itself, as in [`push_own_calls`].
 ///
 /// `worker`: what a worker makes of notes, as in [`push_worker`]. `flood`: what comes of many jobs of two threads, as in
-/// [`push_flood`]. `closed`: what a send answers whose inbox is gone, as in [`push_closed`]. `gated`: whether two workers run beside each other, as in [`push_gated`].
+/// [`push_flood`]. `closed`: what a send answers whose inbox is gone, as in [`push_closed`]. `gated`: whether two workers run
+/// beside each other, as in [`push_gated`].
 pub(crate) fn answer<R: Threads + Wait + Sync>(
     rt: &R,
     alloc: Global,
@@ -34,7 +35,8 @@ pub(crate) fn answer<R: Threads + Wait + Sync>(
         "worker" => push_worker(rt, alloc, words, &mut answer),
         "flood" => push_flood(rt, alloc, words, &mut answer),
         "closed" => push_closed(rt, alloc, &mut answer),
-        _ => push_gated(rt, alloc, &mut answer),
+        "gated" => push_gated(rt, alloc, &mut answer),
+        _ => answer.push("no such mode"),
     }
     answer.finish()
 }

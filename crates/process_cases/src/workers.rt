@@ -89,7 +89,7 @@ fn note_of(number: u32, pid: Pid, word: &str, input: u32) -> Note {
     }
 }
 
-// The process that would begin in the slot behind this one.
+// The process that would begin in this slot next.
 fn next_round(pid: Pid) -> Pid {
     Pid::new(pid.slot, pid.round.saturating_add(1)).unwrap_or(pid)
 }

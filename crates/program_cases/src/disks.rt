@@ -28,7 +28,7 @@ pub(crate) fn push_disk(host: &HostRuntime, to: Use, name: &str, answer: &mut An
     }
 }
 
-/// Appends whether a file opens, the same again while it is open, and once more when it is closed.
+/// Appends whether a file opens while it is open already, and again when it is closed.
 pub(crate) fn push_openings(host: &HostRuntime, name: &str, answer: &mut Answer) {
     let first = FileDisk::open(host, host.alloc(), name);
     push_disk(host, Use::Open, name, answer);

@@ -27,7 +27,7 @@ pub(crate) fn push_host(host: &HostRuntime, mode: &str, words: &str, answer: &mu
     }
 }
 
-// `open NAME`: whether it opens as a disk. `open_twice NAME`: the same, then while it is open, then once it is closed. `edit
+// `open NAME`: whether it opens as a disk. `open_twice NAME`: whether it does while it is open, and then once it is closed. `edit
 // NAME`: the bytes of the disk, those behind three writes, a cut and an opening more, and those in the file. `store NAME`
 // makes a store of two records, and `records NAME` shows them. `faults HOW NAME STEPS`: what the steps answer of a disk over the
 // file, which is opened HOW: `reads` or `writes` or `fills`, for reads, for both, or for writes alone.

@@ -6,7 +6,7 @@ pub fn a_deeper_walk_finds_the_same()
     ensures { DeeperFindsTheSame }
 {}
 
-/// A supervisor within itself passes the limit on supervisors in each other.
+/// A supervisor within itself exceeds the limit on supervisors in each other.
 pub fn a_supervisor_within_itself_is_too_deep()
     ensures { WithinItselfIsTooDeep }
 {}

@@ -10,13 +10,12 @@
 //! was found one level below (specs/Summary). So a check takes n log n steps in the size of the files, whatever they name.
 //!
 //! The functions of `laws` say of these definitions that a walk which may go deeper finds the same where the limit is kept,
-//! that a supervisor within itself passes it, and that a module reported as missing is named in the release; that no name
+//! that a supervisor within itself exceeds it, and that a module reported as missing is named in the release; that no name
 //! stands again exactly where names are distinct, and that each module has its own table then.
 //!
 //! [`check_relup`] says whether a release can have the relup that was read for it (specs/Relup).
 //!
-//! Only tested (`rel_check_cases`): that a release is checked where memory is there, and in what time. Trusted: the
-//! toolchain alone.
+//! Only tested: that a release is checked where memory is there, and in what time. Trusted: the toolchain alone.
 #![tactic(auto)]
 
 mod check;

@@ -30,6 +30,7 @@ module _ {D : Type 0} (v : Ghosts D) (old now : D) (read : HasOnlyRead v.seen v.
     brought = b;
     read = brings;
     clear = λ other works. absurd (other is);
+    idle = λ barred. read_alone;
     any_moment = not_begun (doubted [] (made (bundle_brought b)));
     refused = subst (MakingRefused (v.seen old) (made_size b) (v.failures old) (v.failures now) (WritesNothing v.seen v.may_leave v.moment v.left_since old now)) (sym is) (there, read_alone);
   }))
@@ -37,6 +38,7 @@ module _ {D : Type 0} (v : Ghosts D) (old now : D) (read : HasOnlyRead v.seen v.
     brought = b;
     read = brings;
     clear = λ other works. absurd (works is);
+    idle = λ barred. read_alone;
     any_moment = not_begun (doubted [] (made (bundle_brought b)));
     refused = subst (MakingRefused (v.seen old) (made_size b) (v.failures old) (v.failures now) (WritesNothing v.seen v.may_leave v.moment v.left_since old now)) (sym is) failed;
   }))

@@ -36,4 +36,4 @@ module _ {D : Type 0} (v : Ghosts D) (source : Source) (path : List ℕ) (b : Br
   pub not_made_so : (r : Result (NodeStore D) (HandlerError × D)) → Begins v.seen v.may_leave v.moment v.left_since (doubted [] (made (bundle_brought b))) disk (disk_of r)
       → IfErr r (λ e. MakingRefused (v.seen disk) (made_size b) (v.failures disk) (v.failures e.1) (WritesNothing v.seen v.may_leave v.moment v.left_since disk e.1) e.0) → IfErr r (λ e. CreationRefused v source path disk e.1 e.0)
   not_made_so (Ok h) begins refused = tt
-  not_made_so (Err e) begins refused = inr (inr (record { brought = b; read = read; clear = λ other works. free; any_moment = begins; refused = refused }))
+  not_made_so (Err e) begins refused = inr (inr (record { brought = b; read = read; clear = λ other works. free; idle = λ barred. absurd (barred free); any_moment = begins; refused = refused }))

@@ -39,7 +39,7 @@ MakingRefused bytes size before now unwritten _ = ⊥
 abbrev pub LeaveNoBootSpace : ℕ → Extent → List (List ℕ) → ℕ → Type 0
 LeaveNoBootSpace format x bodies i = (es : Releases) × Makes format bodies es × (HasBootSpace x es → ⊥) × (i ≡ length bodies)
 
--- Why a boot refuses these bytes: they are no store, a record of theirs is damaged, or no command could have written one.
+-- Why a boot refuses these bytes: they are no store, a record of theirs is damaged, or the list so far can't take one.
 abbrev pub IsBootRefusal : List ℕ → BootError → Type 0
 IsBootRefusal bytes boot.NotAStore = records_of bytes ≡ Err store.NotAStore
 IsBootRefusal bytes (boot.Damaged at) = records_of bytes ≡ Err (store.Damaged at)

@@ -79,12 +79,14 @@ pub record IsNotBegun {D : Type 0} (v : Ghosts D) (source : Source) (path : List
   pub barred : IsToldAs (own_refusal brought) e
   pub unwritten : WritesNothing v.seen v.may_leave v.moment v.left_since disk now
 
--- No node was made with what the path brings. But for a store on the disk and a device that failed, its files are not why. A
--- crash at any moment from the first sync on, if there was one, leaves no store, or one that stands for the list with the release.
+-- No node was made with what the path brings. But for a store on the disk and a device that failed, its files are not why; and
+-- where they would be, nothing was written. A crash at any moment from the first sync on, if there was one, leaves no store, or
+-- one that stands for the list with the release.
 pub record IsNotMade {D : Type 0} (v : Ghosts D) (source : Source) (path : List ℕ) (disk now : D) (e : HandlerError) : Type 0 where
   pub brought : Brought
   pub read : Brings source path (Ok brought)
   pub clear : e ≢ Exists → e ≢ Device → own_refusal brought ≡ None
+  pub idle : own_refusal brought ≢ None → WritesNothing v.seen v.may_leave v.moment v.left_since disk now
   pub any_moment : Begins v.seen v.may_leave v.moment v.left_since (doubted [] (made (bundle_brought brought))) disk now
   pub refused : MakingRefused (v.seen disk) (made_size brought) (v.failures disk) (v.failures now) (WritesNothing v.seen v.may_leave v.moment v.left_since disk now) e
 

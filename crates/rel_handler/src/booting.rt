@@ -26,9 +26,9 @@ use std::alloc::Global;
 /// once, and then the start record. It writes a record that takes a one-shot away, where the list has one, so that no later
 /// boot starts it; and then the start record, where it isn't that of the permanent release.
 ///
-/// Refusals: `Device`, `NoMemory`, `NotAStore`, `Damaged`, and `BadRecord` with the number of the first record that no
-/// command could have written where it stands, or of the last one where there is no room to take a one-shot away. A disk that
-/// stands for a list is refused for memory or the device alone.
+/// Refusals: `Device`, `NoMemory`, `NotAStore`, `Damaged`, and `BadRecord` with the number of the first record that the list
+/// so far can't take, or of the last one where there is no room to take a one-shot away. A disk that stands for a list is
+/// refused for memory or the device alone.
 pub fn boot<D: Disk>(alloc: Global, disk: D) -> Result<Handler<D>, (BootError, D)>
     ensures sound { IfOk result (IsSound D.seen D.may_leave) }
     ensures works { IfOk result (λ handler. is_dead handler ≡ false) }

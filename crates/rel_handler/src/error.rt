@@ -20,7 +20,8 @@ pub enum BootError {
     Device,
     /// No memory was left. It says nothing of the disk.
     NoMemory,
-    /// The number of the first record, from 1, that no command could have written where it stands; 1 where there is none.
+    /// The number of the first record, from 1, that the list so far can't take; 1 where there is none. Or of the last record, where
+    /// they leave a one-shot and there is no room to take it away.
     BadRecord(u64),
 }
 

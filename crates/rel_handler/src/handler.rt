@@ -52,7 +52,8 @@ impl<D: Disk> Handler<D> {
         node.into_disk()
     }
 
-    /// Whether the device failed in a command, so that every call but `into_disk` answers `Dead`.
+    /// Whether every call but `into_disk` answers `Dead`: the device failed in a command, a script failed behind its point of no
+    /// return, or the node is to be booted behind a reboot or a restart.
     pub fn is_dead(&self) -> bool
         ensures { result ≡ is_dead self.now }
     {

@@ -13,7 +13,7 @@ use thiserror::Error;
 /// Why the records of a store make no list.
 #[derive(Clone, Copy, Debug, Error)]
 pub enum RecordsError {
-    /// The number of the first record, from 1, that no command could have written where it stands; 1 where there is none.
+    /// The number of the first record, from 1, that the list so far can't take; 1 where there is none.
     #[error("record {0} is bad")]
     BadRecord(u64),
     /// No memory was left. It says nothing of the records.
@@ -24,7 +24,7 @@ pub enum RecordsError {
 // Why a body isn't taken as a record.
 #[derive(Clone, Copy, Drop)]
 pub(crate) enum RecordFault {
-    // no command could have written it there
+    // the list so far can't take it
     Bad,
     NoMemory,
 }

@@ -6,7 +6,7 @@
 //! list in one record, which stands first.
 //!
 //! `read_list` gives the list that records make, each taken as what it says of the list (`Makes`), or the first record that
-//! no command could have written where it stands (`IsBadRecord`). Only a store of format 2 has records that write the status
+//! the list so far can't take (`IsBadRecord`). Only a store of format 2 has records that write the status
 //! `one_shot` (`allows`, specs/Format). Which record is that of an event (`record_of`, specs/Writing),
 //! and which is the image of a list (`image_of`, specs/Image), is said here; `record_writer` prints them.
 //!

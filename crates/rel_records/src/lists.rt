@@ -81,8 +81,7 @@ fn take_record(
 /// The list that these records of a store of this format, 1 or 2, make, each taken as what it says of the releases and their
 /// statuses. No release of it is current. In a store of format 1 no record writes the status `one_shot`.
 ///
-/// Refusals: `BadRecord` with the number of the first record that no command could have written where it stands, and
-/// `NoMemory`.
+/// Refusals: `BadRecord` with the number of the first record that the list so far can't take, and `NoMemory`.
 pub fn read_list(
     alloc: Global,
     format: u8,

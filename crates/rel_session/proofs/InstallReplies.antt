@@ -1,5 +1,5 @@
 -- What an installation replies, as the handler's clauses give it.
-use Rattle.std.proofs.Common.{◌≡◌, ◌≢◌, inl, inr, ℕ, Bool, true, false, List, [], ◌∷◌, ◌++◌, None, Some, Result, Ok, Err, refl, sym, ap, ◌∙◌, subst}
+use Rattle.std.proofs.Common.{◌≡◌, ◌≢◌, inl, inr, ⊎_elim, ℕ, Bool, true, false, List, [], ◌∷◌, ◌++◌, None, Some, Result, Ok, Err, refl, sym, ap, ◌∙◌, subst}
 use Rattle.std.specs.Prelude.{String, string_bytes, IfErr, IfOk, IsOk, IsOkAnd, MatchResult, OnOk, is_ok}
 use Rattle.std.specs.declared.alloc.AllocError.{AllocError}
 use Rattle.std.specs.declared.alloc.Global.{Global}
@@ -10,7 +10,7 @@ use Rattle.rel_list.specs.Event.Event.{installed, restart_installed}
 use Rattle.held_processes.specs.Following.{HoldsNothing}
 use Rattle.relup_exec.specs.Alone.{Outcome, outcome}
 use Rattle.relup_exec.specs.Alone.Outcome.{ends, refuses, breaks}
-use Rattle.relup_exec.specs.Outcome.{IsFinished}
+use Rattle.relup_exec.specs.Outcome.{IsBroken, IsFinished}
 use Rattle.script_progress.specs.Fault.Cause.{no_memory}
 use Rattle.script_progress.specs.Script.{Run}
 use Rattle.loaded_modules.specs.Loaded.{listed_in}
@@ -277,11 +277,13 @@ module _ {D : Type 0} (v : Device D) (laws : IsDevice v) (vsn : List ℕ) (n new
 
   broken_replies : (f : ScriptFailure) (u : UpgradeForm) → MayBegin vsn n.handler u → RunRefused u (state_in n) (state_in new) (install_error.MustReboot f) → (failure_of f).why ≢ fails no_memory → IsLost n.handler new.handler
       → Replies (refusal_line (must_reboot (failure_of f)))
-  broken_replies f u (is, fits) (c, told, inr (memory, at_its_end, finished)) known lost = absurd (known (ap (λ (g : Failure). g.why) told ∙ ap fails memory))
-  broken_replies f u (is, fits) (c, told, inl broken) known lost = where_it_runs (RepliesAt (refusal_line (must_reboot (failure_of f)))) there
+  broken_replies f u (is, fits) (c, told, broke) known lost =
+      ⊎_elim (λ (broken, apps). where_it_runs (RepliesAt (refusal_line (must_reboot (failure_of f)))) (there broken))
+      (λ (memory, at_its_end, finished). absurd (known (ap (λ (g : Failure). g.why) told ∙ ap fails memory))) broke.stopped
     where
-      there : (events : Events) (extent : Extent) → IsAt v (memory.Made n) (running events extent ps) → RepliesAt (refusal_line (must_reboot (failure_of f))) (running events extent ps)
-      there events extent (here, living, after, stop, has) =
+      there : IsBroken (site_for u ps.modules) (start_in (state_in n)) u.found.script f.instr c new.processes.seat.view
+          → (events : Events) (extent : Extent) → IsAt v (memory.Made n) (running events extent ps) → RepliesAt (refusal_line (must_reboot (failure_of f))) (running events extent ps)
+      there broken events extent (here, living, after, stop, has) =
           let comes =
           script_breaks (site_for u ps.modules) n.processes.seat.view n.processes.tree ps.modules u.found.script f.instr c new.processes.seat.view sound.alone
           (λ memory. known (ap (λ (g : Failure). g.why) told ∙ ap fails memory)) broken in

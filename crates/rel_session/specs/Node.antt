@@ -17,7 +17,7 @@ pub data Place : Type 0 where
   closed : Stored → Place
   -- a node with these events, whose store reaches so far, and with these processes
   running : Events → Extent → Processes → Place
-  -- the device failed the node
+  -- a node that answers Dead until a boot: the device failed it, or a script failed behind its point of no return
   dead : Stored → Place
 
 abbrev pub list_or_none : Option Releases → Releases

@@ -114,7 +114,7 @@ impl<D: Disk> Place<D> {
     }
 }
 
-/// Has a node do what the command says, unless the device has failed it.
+/// Has a node do what the command says, unless it is dead.
 fn done_by<D: Disk, R: Threads + Wait + Sync, F: Files>(
     rt: &R,
     alloc: Global,

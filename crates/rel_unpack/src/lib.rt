@@ -7,7 +7,7 @@
 //! so that they can be compared with those that a node has, and why the relup is refused is told apart. The definitions stand
 //! over files as a relation between paths and what a read of them gives.
 //!
-//! Only tested (`unpack_cases`): that files are read where memory is there. Trusted: the toolchain and `thiserror`.
+//! Only tested: that files are read where memory is there. Trusted: the toolchain and `thiserror`.
 #![tactic(auto)]
 
 mod applications;

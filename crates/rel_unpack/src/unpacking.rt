@@ -38,7 +38,7 @@ pub struct ReleaseFiles {
 }
 
 /// The release of a path, what the files of its applications give, as [`unpack_applications`] answers it, and then its relup,
-/// as [`read_relup_beside`] answers it. So all files are read before a release is refused for one of them.
+/// as [`read_relup_beside`] answers it. So files are read, up to the first that isn't taken, before anything else is asked.
 pub fn unpack_release<F: Files>(
     alloc: Global,
     files: &F,

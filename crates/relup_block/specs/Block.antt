@@ -74,7 +74,8 @@ changing direction xs = over (λ cs. code_change (record { mode = Some direction
 abbrev pub resuming : List BlockItemForm → List Instruction
 resuming xs = over resume (reverse (filter_map resumption xs))
 
--- Going up, code is loaded before states are changed; going down, that of dynamic modules and of modules without an update behind it.
+-- Going up, code is loaded before states are changed. Going down, that of static modules is loaded before it, and all other
+-- code behind it: that of dynamic modules, and of modules that are loaded without an update.
 abbrev pub updating : Direction → List BlockItemForm → List Instruction
 updating Up xs = loading xs ++ changing Up xs
 updating Down xs = loading (filter (is_of_kind true) xs) ++ (changing Down xs ++ loading (filter (is_of_kind false) xs))

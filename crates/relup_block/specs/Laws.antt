@@ -61,7 +61,7 @@ abbrev pub FollowsDependencies : Type 0
 FollowsDependencies = (rule : ChoiceRule) (number : BlockItemForm → ℕ) (xs : List BlockItemForm)
     → HaveNoCycle rule number xs → StandBehind rule (order rule xs)
 
--- Each module of a block is loaded exactly once.
+-- The module of each item of a block is loaded exactly once for it; a module named twice is two items.
 abbrev pub LoadsEachOnce : Type 0
 LoadsEachOnce = (d : Direction) (xs : List BlockItemForm) → Loads xs (block d xs)
 
@@ -69,7 +69,7 @@ LoadsEachOnce = (d : Direction) (xs : List BlockItemForm) → Loads xs (block d 
 abbrev pub ChangesEachOnce : Type 0
 ChangesEachOnce = (d : Direction) (xs : List BlockItemForm) → Changes xs (flat_map changed_by (block d xs))
 
--- The updated modules are suspended, each once.
+-- The module of each update is suspended, exactly once for it.
 abbrev pub SuspendsEachOnce : Type 0
 SuspendsEachOnce = (d : Direction) (xs : List BlockItemForm)
     → IsPermutation (filter_map resumption xs) (flat_map suspended_by (block d xs))

@@ -12,8 +12,8 @@ pub fn an_order_follows_dependencies_without_a_cycle()
     ensures { FollowsDependencies }
 {}
 
-/// Each module of a block is loaded exactly once.
-pub fn each_module_is_loaded_once()
+/// The module of each item of a block is loaded exactly once for it.
+pub fn each_item_is_loaded_once()
     ensures { LoadsEachOnce }
 {}
 
@@ -22,7 +22,7 @@ pub fn each_state_is_changed_once()
     ensures { ChangesEachOnce }
 {}
 
-/// The updated modules are suspended, each exactly once.
+/// The module of each update is suspended, exactly once for it.
 pub fn each_update_is_suspended_once()
     ensures { SuspendsEachOnce }
 {}

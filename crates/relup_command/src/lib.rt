@@ -5,7 +5,7 @@
 //! `relup_translate` gives of these, the first refusal of a file, or the fault of the appups (clauses `made`, `refused`).
 //! [`relup_answer`] tells it in lines, as a session answers.
 //!
-//! Only tested (`relup_command_cases`): that files are read where memory is there. Trusted: the toolchain alone.
+//! Only tested: that files are read where memory is there. Trusted: the toolchain and `thiserror`.
 #![tactic(auto)]
 
 mod answer;

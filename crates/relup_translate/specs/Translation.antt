@@ -24,7 +24,7 @@ use Rattle.relup_row.specs.Script.{script}
 use Rattle.relup_translate.specs.Fault.{FaultForm, Says}
 use Rattle.relup_translate.specs.Fault.FaultForm.{no_appup, no_entry, unknown_module, regex_version, needs_new_emulator, unsupported}
 
--- Instructions are refused that can't be translated,
+-- refused for this fault, unless what is asked for is known
 abbrev pub known : Bool → FaultForm → Option FaultForm
 known true f = None
 known false f = Some f
@@ -49,7 +49,7 @@ deleted_fault b name = known (is_among name b.modules) (unknown_module name)
 abbrev pub restart_fault : WayForm → List ℕ → List ℕ → Option FaultForm
 restart_fault w app asked = option_or (left_has_app w app asked) (target_has_app w app asked)
 
--- where the appup of an application that is left in this version has them.
+-- why an instruction can't be translated, in the appup of an application that is left in this version
 abbrev pub instruction_fault : WayForm → RelupAppForm → AppupInstruction → Option FaultForm
 instruction_fault w b (update u) = target_has_module w u.name
 instruction_fault w b (load_module l) = target_has_module w l.name

@@ -13,7 +13,8 @@ pub enum TranslateError {
     NoAppup(String),
     /// The appup of this application has no entry for this version.
     NoEntry(String, String),
-    /// No application of the target has this module; of one that is deleted, not the application that is left.
+    /// No application of the target has this module. For a module that is deleted: the version of the application that is left
+    /// doesn't have it.
     UnknownModule(String),
     /// The appup of this application has a regular expression before the version.
     RegexVersion(String),

@@ -12,7 +12,8 @@ pub enum Command {
     SetUnpacked(String),
     /// Installs the release of this version.
     Install(String),
-    /// Tells from which release an installation of this version would start, and by which script. It changes nothing.
+    /// Tells the version and the description of the entry by which the release of this version would be installed. It changes
+    /// nothing.
     Check(String),
     /// Makes the release of this version, the current one, permanent.
     Permanent(String),

@@ -9,18 +9,20 @@ use text_cases::Answer;
 
 /// Appends for how many of the disk's calls it is so, up to the first for which it isn't, that where this call fails its command
 /// is answered Device, all behind it Dead up to the next boot, and that a boot behind the session tells what it had acknowledged, or
-/// that with the command which failed.
+/// that with the command which failed. The calls are those from the first that the command of number `from` makes, counted from 0.
 pub(crate) fn push_faults<H: Threads + Wait + Sync>(
     rt: &H,
     alloc: Global,
     session: &Session,
     expected: &Expected,
+    from: usize,
     in_part: bool,
     answer: &mut Answer,
 ) -> Result<(), AllocError> {
-    let lines = session.lines(alloc, session.commands.len())?;
-    let all = calls_of(rt, alloc, lines.as_str())?;
-    let explained = explained_of(rt, alloc, session, expected, in_part, all)?;
+    let first = calls_of(rt, alloc, session, from)?;
+    let all = calls_of(rt, alloc, session, session.commands.len())?;
+    let all = all.saturating_sub(first);
+    let explained = explained_from(rt, alloc, session, expected, in_part, first, all)?;
     answer.push_number(explained);
     answer.push(" of ");
     answer.push_number(all);
@@ -29,18 +31,19 @@ pub(crate) fn push_faults<H: Threads + Wait + Sync>(
 }
 
 // For how many of so many calls it is so, up to the first for which it isn't.
-fn explained_of<H: Threads + Wait + Sync>(
+fn explained_from<H: Threads + Wait + Sync>(
     rt: &H,
     alloc: Global,
     session: &Session,
     expected: &Expected,
     in_part: bool,
+    first: u64,
     all: u64,
 ) -> Result<u64, AllocError> {
-    for call in 0..all {
-        let disk = failing(alloc, call, in_part)?;
+    for count in 0..all {
+        let disk = failing(alloc, first.saturating_add(count), in_part)?;
         if !is_explained(rt, alloc, session, expected, disk)? {
-            return Ok(call);
+            return Ok(count);
         }
     }
     Ok(all)
@@ -52,14 +55,16 @@ fn failing(alloc: Global, call: u64, in_part: bool) -> Result<FailDisk<MemDisk>,
     Ok(FailDisk::failing(disk, call.saturating_add(1), in_part))
 }
 
-// How many calls of the disk a session of these lines makes.
+// How many calls of the disk so many commands make.
 fn calls_of<H: Threads + Wait + Sync>(
     rt: &H,
     alloc: Global,
-    lines: &str,
+    session: &Session,
+    count: usize,
 ) -> Result<u64, AllocError> {
     let disk = FailDisk::new(MemDisk::new(alloc, CAPACITY, LOG)?, u64::MAX);
-    let (disk, _) = run(rt, alloc, disk, lines)?;
+    let lines = session.lines(alloc, count)?;
+    let (disk, _) = run(rt, alloc, disk, lines.as_str())?;
     Ok(u64::MAX - disk.fault.left)
 }
 

@@ -14,11 +14,11 @@ pub(crate) const CAPACITY: usize = 65_536;
 /// The bytes of its log.
 pub(crate) const LOG: usize = 4 * CAPACITY;
 
-/// What is asked behind a session: a boot, the releases and the start record.
-pub(crate) const BOOT: &str = "boot\nreleases\nstart\n";
+/// What is asked behind a session: a boot, the releases, the start record, and what runs.
+pub(crate) const BOOT: &str = "boot\nreleases\nstart\nprocs\nmodules\n";
 
 /// So behind the boot.
-pub(crate) const REST: &str = "releases\nstart\n";
+pub(crate) const REST: &str = "releases\nstart\nprocs\nmodules\n";
 
 /// The lines of a session.
 #[derive(Drop)]

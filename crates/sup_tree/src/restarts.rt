@@ -19,9 +19,9 @@ use std::sync::Wait;
 impl Tree {
     /// Begins the child of this id of the one supervisor of this module again, with the tables that are loaded, and where it is a
     /// supervisor all below it, as [`Tree::start_app`] does (OTP: supervisor:restart_child/2). Where a process stands for it, that
-    /// is given up. It answers whether nothing was done: the child is up, or it is temporary and its process wasn't given up, or
-    /// there is no such child. It waits for the slots, and without end for one that the handler itself holds. Where it answers an
-    /// error, nothing was done; but before NoSlot the process that stood for the child was given up.
+    /// is given up. It answers whether nothing was done: the child is up, or its process began as a temporary one and wasn't given
+    /// up, or there is no such child. It waits for the slots, and without end for one that the handler itself holds. Where it
+    /// answers an error, nothing was done; but before NoSlot the process that stood for the child was given up.
     pub fn restart_child<R: Wait>(
         &mut self,
         rt: &R,

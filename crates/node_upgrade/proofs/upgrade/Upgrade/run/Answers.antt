@@ -7,5 +7,11 @@ use Rattle.node_upgrade.proofs.upgrade.Upgrade.run.Goals as goal
 
 -- the script has ended, and no memory was left for the stale modules
 pub returns-in-Err-clause-refused : goal.returns-in-Err-clause-refused
-returns-in-Err-clause-refused g c =
-    (no_memory, refl, inr (refl, ap (λ n. n + 1) (sym (length-map c.args.self.found.script.now instruction_of)), (listed_in c.in_ok-next.next, c.in_ok-next.ensures.finished)))
+returns-in-Err-clause-refused g c = (
+  no_memory,
+  refl,
+  record {
+    modules = refl;
+    stopped = inr (refl, ap (λ n. n + 1) (sym (length-map c.args.self.found.script.now instruction_of)), (listed_in c.in_ok-next.next, c.in_ok-next.ensures.finished));
+  },
+)
