@@ -62,7 +62,7 @@ changes_not past p v (Some h) old extra b next f c lacks =
     subst (λ (k : Option HeldForm). Steps past p past.course v k v) (sym same) (record { follows = f.follows; elsewhere = stays p v })
 
 -- what is said of holds
-really_held : (k : Hold) → ((k ≡ not_held) → ⊥) → is_held k ≡ true
+pub really_held : (k : Hold) → ((k ≡ not_held) → ⊥) → is_held k ≡ true
 really_held not_held really = absurd (really refl)
 really_held until_point really = refl
 really_held until_resumed really = refl

@@ -38,7 +38,7 @@ use Rattle.held_processes.proofs.ChangeLemmas.{held_value}
 use Rattle.held_processes.proofs.FollowLemmas.{at_slot, follow_same, past_of}
 use Rattle.held_processes.proofs.LongerLemmas.{end_longer, look_longer, same_longer}
 use Rattle.held_processes.proofs.LookLemmas.{looked_at}
-use Rattle.held_processes.proofs.SlotLemmas.{gives_back, longer_both, looked_value}
+use Rattle.held_processes.proofs.SlotLemmas.{gives_back, longer_both, longer_still, looked_value}
 
 pub terminates_in : {X E : Type 0} (followed : Followed) (hs : HeldSlots) (v : View) (apps : List App) (name id : List ℕ) (r : Result X E) (apps' : List App) (w : View) → has_one_supervisor name apps ≡ true
     → AllFollow followed.first (held_ended (pids_of (processes_among (child_members name id apps))) followed.courses) hs v → TerminatesChild name id apps v r apps' w
@@ -146,8 +146,8 @@ pub seen_where : (first : View) (cs : Courses) (hs : HeldSlots) (v : View) → A
 seen_where first cs hs v f = λ p inside. (f.each p inside).stand
 
 -- so it is where the handler has seen more since then
-pub later_stay : (first : View) (stay : Stay) (cs : Courses) (o : Option Place) (stays : Bool) (v w : View) → AreLonger v w → IsStay first stay cs o stays v → IsStay first stay cs o stays w
-later_stay first stay cs o stays v w more is = (is.0, is.1, is.2, longer_both is.0 v w is.3 more)
+pub later_stay : (first : View) (stay : Stay) (cs : Courses) (o : Option Place) (stays : Bool) (b v w : View) → AreLonger v w → IsStay first stay cs o stays b v → IsStay first stay cs o stays b w
+later_stay first stay cs o stays b v w more is = (is.0, is.1, is.2, is.3, longer_both is.0 v w is.4 more)
 
 -- What stands for a child was given up, unless it stays.
 StateEnded : Bool → MemberState → View → View → Type 0
@@ -155,41 +155,45 @@ StateEnded true m v w = w ≡ v
 StateEnded false m v w = MemberEnded (state_process m) v w
 
 -- what is known of it then
-record StateGiven (first : View) (stay : Stay) (cs : Courses) (m : MemberState) (stays : Bool) (hs : HeldSlots) (w : View) : Type 0 where
+record StateGiven (first : View) (stay : Stay) (cs : Courses) (m : MemberState) (stays : Bool) (hs : HeldSlots) (v w : View) : Type 0 where
   seen : View
   are_seen : AreSeen first cs seen
   told : stays ≡ state_stays stay (now_in (values_seen seen) cs) m
+  since : AreLonger v seen
   longer : AreLonger seen w
   follow : AllFollow first (if stays then cs else all_stopped (values_seen first) (pids_of (process_and (state_process m) [])) cs) hs w
 
 -- where no process stands for it, nothing happens
-quiet_given : (first : View) (stay : Stay) (cs : Courses) (m : MemberState) (hs : HeldSlots) (u look w : View) → AllFollow first cs hs u → state_process m ≡ None → look ≡ u → (stays : Bool)
-    → stays ≡ state_stays stay (now_in (values_seen u) cs) m → StateEnded stays m look w → StateGiven first stay cs m stays hs w
+quiet_given : (first : View) (stay : Stay) (cs : Courses) (m : MemberState) (hs : HeldSlots) (v u look w : View) → AreLonger v u → AllFollow first cs hs u → state_process m ≡ None → look ≡ u → (stays : Bool)
+    → stays ≡ state_stays stay (now_in (values_seen u) cs) m → StateEnded stays m look w → StateGiven first stay cs m stays hs v w
 unfolding StateEnded
-quiet_given first stay cs m hs u look w f none same true told ended =
-    record { seen = u; are_seen = seen_where first cs hs u f; told = told; longer = same_longer u w (ended ∙ same); follow = subst (AllFollow first cs hs) (sym (ended ∙ same)) f }
-quiet_given first stay cs m hs u look w f none same false told ended =
+quiet_given first stay cs m hs v u look w since f none same true told ended =
+    record { seen = u; are_seen = seen_where first cs hs u f; told = told; since = since; longer = same_longer u w (ended ∙ same); follow = subst (AllFollow first cs hs) (sym (ended ∙ same)) f }
+quiet_given first stay cs m hs v u look w since f none same false told ended =
     let at : w ≡ look = subst (λ o. MemberEnded o look w) none ended in record {
       seen = u;
       are_seen = seen_where first cs hs u f;
       told = told;
+      since = since;
       longer = same_longer u w (at ∙ same);
       follow = subst (λ o. AllFollow first (all_stopped (values_seen first) (pids_of (process_and o [])) cs) hs w) (sym none) (subst (AllFollow first cs hs) (sym (at ∙ same)) f);
     }
 
 -- a process that isn't held
-free_given : (first : View) (stay : Stay) (cs : Courses) (q : StartedProcess) (hs : HeldSlots) (u look w : View) → (cs q.pid.slot).hold ≡ not_held → AllFollow first cs hs u
-    → (stays : Bool) → LookedAt stay q.pid stays u look → StateEnded stays (Process q) look w → StateGiven first stay cs (Process q) stays hs w
+free_given : (first : View) (stay : Stay) (cs : Courses) (q : StartedProcess) (hs : HeldSlots) (v u look w : View) → AreLonger v u → (cs q.pid.slot).hold ≡ not_held → AllFollow first cs hs u
+    → (stays : Bool) → LookedAt stay q.pid stays u look → StateEnded stays (Process q) look w → StateGiven first stay cs (Process q) stays hs v w
 unfolding StateEnded
-free_given first stay cs q hs u look w hold f true looked ended =
+free_given first stay cs q hs v u look w before hold f true looked ended =
     let at = looked_follow first cs hs u stay q.pid true look f hold looked in
-    record { seen = look; are_seen = seen_where first cs hs look at.0; told = at.1; longer = same_longer look w ended; follow = subst (AllFollow first cs hs) (sym ended) at.0 }
-free_given first stay cs q hs u look w hold f false looked ended =
+    let since = longer_both v u look before (look_longer stay (Process q) true u look looked) in
+    record { seen = look; are_seen = seen_where first cs hs look at.0; told = at.1; since = since; longer = same_longer look w ended; follow = subst (AllFollow first cs hs) (sym ended) at.0 }
+free_given first stay cs q hs v u look w before hold f false looked ended =
     let ds = give_up_at q.pid.slot cs in
     let at = looked_follow first cs hs u stay q.pid false look f hold looked in record {
       seen = look;
       are_seen = seen_where first cs hs look at.0;
       told = at.1;
+      since = longer_both v u look before (look_longer stay (Process q) false u look looked);
       longer = end_longer (Some q) look w ended;
       follow = ended_follow first ds hs look q.pid w (follow_same first cs ds hs look (λ p inside. sym (left_alone q.pid.slot cs hold p)) at.0) (free_there q.pid.slot cs) ended;
     }
@@ -197,7 +201,7 @@ free_given first stay cs q hs u look w hold f false looked ended =
 -- a process that is held, and doesn't stay
 held_given : (first : View) (stay : Stay) (cs : Courses) (q : StartedProcess) (hs hs' : HeldSlots) (v u look w : View) → (cs q.pid.slot).hold ≢ not_held → AllFollow first cs hs v
     → held_stays stay q.pid (values_seen v) cs ≡ false → AllFollow first (give_up_at q.pid.slot cs) hs' u → AreLonger v u → (stays : Bool) → LookedAt stay q.pid stays u look
-    → StateEnded stays (Process q) look w → StateGiven first stay cs (Process q) stays hs' w
+    → StateEnded stays (Process q) look w → StateGiven first stay cs (Process q) stays hs' v w
 unfolding StateEnded
 held_given first stay cs q hs hs' v u look w really before not_stays f longer true looked ended = absurd (true≢false (not_staying first cs hs' u stay q.pid true look f really looked))
 held_given first stay cs q hs hs' v u look w really before not_stays f longer false looked ended =
@@ -206,6 +210,7 @@ held_given first stay cs q hs hs' v u look w really before not_stays f longer fa
       seen = v;
       are_seen = seen_where first cs hs v before;
       told = sym not_stays;
+      since = longer_still v;
       longer = longer_both v u w longer (longer_both u look w (look_longer stay (Process q) false u look looked) (end_longer (Some q) look w ended));
       follow = ended_follow first ds hs' look q.pid w at.0 (free_there q.pid.slot cs) ended;
     }
@@ -222,32 +227,32 @@ told_not NotHeld not = tt
 
 process_given : (first : View) (stay : Stay) (cs : Courses) (q : StartedProcess) (hs hs' : HeldSlots) (v u look w : View) (e : HeldEnd) → NotStaying e → AllFollow first cs hs v
     → ProcessEndsHeld first stay q.pid cs v e hs' u → AreLonger v u → (stays : Bool) → LookedAt stay q.pid stays u look → StateEnded stays (Process q) look w
-    → StateGiven first stay cs (Process q) stays hs' w
+    → StateGiven first stay cs (Process q) stays hs' v w
 process_given first stay cs q hs hs' v u look w Stays not before f longer stays looked ended = absurd not
 process_given first stay cs q hs hs' v u look w GivenUp not before f longer stays looked ended = held_given first stay cs q hs hs' v u look w f.1 before f.0 f.2 longer stays looked ended
-process_given first stay cs q hs hs' v u look w NotHeld not before f longer stays looked ended = free_given first stay cs q hs' u look w f.0 f.1 stays looked ended
+process_given first stay cs q hs hs' v u look w NotHeld not before f longer stays looked ended = free_given first stay cs q hs' v u look w longer f.0 f.1 stays looked ended
 
 state_given : (first : View) (stay : Stay) (cs : Courses) (m : MemberState) (hs hs' : HeldSlots) (v u look w : View) (e : HeldEnd) → NotStaying e → AllFollow first cs hs v
-    → StateEndsHeld first stay m cs v e hs' u → AreLonger v u → (stays : Bool) → StateLookedAt stay m stays u look → StateEnded stays m look w → StateGiven first stay cs m stays hs' w
-state_given first stay cs Ended hs hs' v u look w e not before f longer stays looked ended = quiet_given first stay cs Ended hs' u look w f.1 refl looked.1 stays looked.0 ended
+    → StateEndsHeld first stay m cs v e hs' u → AreLonger v u → (stays : Bool) → StateLookedAt stay m stays u look → StateEnded stays m look w → StateGiven first stay cs m stays hs' v w
+state_given first stay cs Ended hs hs' v u look w e not before f longer stays looked ended = quiet_given first stay cs Ended hs' v u look w longer f.1 refl looked.1 stays looked.0 ended
 state_given first stay cs (Process q) hs hs' v u look w e not before f longer stays looked ended = process_given first stay cs q hs hs' v u look w e not before f longer stays looked ended
-state_given first stay cs (Supervisor m) hs hs' v u look w e not before f longer stays looked ended = quiet_given first stay cs (Supervisor m) hs' u look w f.1 refl looked.1 stays looked.0 ended
+state_given first stay cs (Supervisor m) hs hs' v u look w e not before f longer stays looked ended = quiet_given first stay cs (Supervisor m) hs' v u look w longer f.1 refl looked.1 stays looked.0 ended
 
 -- what is known of a child that stays, or that was given up
-pub record Given (first : View) (stay : Stay) (cs : Courses) (o : Option Place) (stays : Bool) (hs : HeldSlots) (w : View) : Type 0 where
-  pub stay_is : IsStay first stay cs o stays w
+pub record Given (first : View) (stay : Stay) (cs : Courses) (o : Option Place) (stays : Bool) (hs : HeldSlots) (v w : View) : Type 0 where
+  pub stay_is : IsStay first stay cs o stays v w
   pub follow : AllFollow first (if stays then cs else all_stopped (values_seen first) (child_pids o) cs) hs w
 
 pub given : (first : View) (stay : Stay) (cs : Courses) (o : Option Place) (hs hs' : HeldSlots) (v u look w : View) (e : HeldEnd) → NotStaying e → AllFollow first cs hs v
-    → ChildEndsHeld first stay o cs v e hs' u → AreLonger v u → (stays : Bool) → ChildLookedAt stay o stays u look → ChildEndedUnless stays o look w → Given first stay cs o stays hs' w
+    → ChildEndsHeld first stay o cs v e hs' u → AreLonger v u → (stays : Bool) → ChildLookedAt stay o stays u look → ChildEndedUnless stays o look w → Given first stay cs o stays hs' v w
 unfolding StateEnded
 given first stay cs None hs hs' v u look w e not before f longer true looked ended =
-    record { stay_is = (u, seen_where first cs hs' u f.1, refl, same_longer u w (ended ∙ looked.1)); follow = subst (AllFollow first cs hs') (sym (ended ∙ looked.1)) f.1 }
+    record { stay_is = (u, seen_where first cs hs' u f.1, refl, longer, same_longer u w (ended ∙ looked.1)); follow = subst (AllFollow first cs hs') (sym (ended ∙ looked.1)) f.1 }
 given first stay cs None hs hs' v u look w e not before f longer false looked ended = absurd (true≢false (sym looked.0))
 given first stay cs (Some p) hs hs' v u look w e not before f longer true looked ended =
-    let is = state_given first stay cs p.child.state hs hs' v u look w e not before f longer true looked ended in record { stay_is = (is.seen, is.are_seen, is.told, is.longer); follow = is.follow }
+    let is = state_given first stay cs p.child.state hs hs' v u look w e not before f longer true looked ended in record { stay_is = (is.seen, is.are_seen, is.told, is.since, is.longer); follow = is.follow }
 given first stay cs (Some p) hs hs' v u look w e not before f longer false looked ended =
-    let is = state_given first stay cs p.child.state hs hs' v u look w e not before f longer false looked ended in record { stay_is = (is.seen, is.are_seen, is.told, is.longer); follow = is.follow }
+    let is = state_given first stay cs p.child.state hs hs' v u look w e not before f longer false looked ended in record { stay_is = (is.seen, is.are_seen, is.told, is.since, is.longer); follow = is.follow }
 
 state_held_on : (first : View) (stay : Stay) (cs : Courses) (m : MemberState) (hs : HeldSlots) (v w : View) → StateEndsHeld first stay m cs v Stays hs w
     → (true ≡ state_stays stay (now_in (values_seen v) cs) m) × AllFollow first cs hs w
@@ -257,15 +262,15 @@ state_held_on first stay cs (Supervisor m) hs v w f = absurd (cc f.0)
 
 -- a child that is held, and stays
 pub held_on : (first : View) (stay : Stay) (cs : Courses) (o : Option Place) (hs hs' : HeldSlots) (v w : View) → AllFollow first cs hs v → ChildEndsHeld first stay o cs v Stays hs' w → AreLonger v w
-    → Given first stay cs o true hs' w
+    → Given first stay cs o true hs' v w
 held_on first stay cs None hs hs' v w before f longer = absurd (cc f.0)
 held_on first stay cs (Some p) hs hs' v w before f longer =
-    let is = state_held_on first stay cs p.child.state hs' v w f in record { stay_is = (v, seen_where first cs hs v before, is.0, longer); follow = is.1 }
+    let is = state_held_on first stay cs p.child.state hs' v w f in record { stay_is = (v, seen_where first cs hs v before, is.0, longer_still v, longer); follow = is.1 }
 
 -- a child is deleted, or stays
 pub deletes_in : {E : Type 0} (followed : Followed) (hs hs' : HeldSlots) (v u : View) (apps : List App) (name id : List ℕ) (e : HeldEnd) (r : Result Bool E) (apps' : List App) (w : View) → NotStaying e
     → has_one_supervisor name apps ≡ true → AllFollow followed.first followed.courses hs v → ChildEndsHeld followed.first Up (child_place name id apps) followed.courses v e hs' u
-    → AreLonger v u → DeletesChild name id apps u r apps' w → DeletesIn followed.first name id (scene_at followed apps) r apps' hs' w
+    → AreLonger v u → DeletesChild name id apps u r apps' w → DeletesIn followed.first name id (scene_at followed apps) r apps' hs' v w
 deletes_in followed hs hs' v u apps name id e (Ok stays) apps' w not one before f longer t =
     let is = given followed.first Up followed.courses (child_place name id apps) hs hs' v u t.look w e not before f longer stays t.looked t.ended in
     record { one = one; stay = is.stay_is; tree = t.tree; follow = is.follow }

@@ -27,9 +27,10 @@ use Rattle.held_processes.specs.Applications.{all_stopped, ended_at, known, scen
 use Rattle.held_processes.specs.Children.{AreSeen, ChildEndsHeld, ProcessEndsHeld, StateEndsHeld, state_stays}
 use Rattle.held_processes.specs.Course.{Courses, add_alone}
 use Rattle.held_processes.specs.Following.{AllFollow, AreLonger, Followed, HeldSlots}
-use Rattle.held_processes.specs.Operations.{Values, give_up_at, now_in, values_seen}
-use Rattle.held_processes.specs.Restarts.{IsKeptIn, IsNotRestartedIn, IsRestartedIn, IsWhyItDidNot, RestartsIn, child_ended, restart_starts, was_given_up}
+use Rattle.held_processes.specs.Operations.{Values, give_up_at, is_held, now_in, values_seen}
+use Rattle.held_processes.specs.Restarts.{IsKeptIn, IsNotRestartedIn, IsRestartedIn, IsWhyItDidNot, RestartsIn, child_ended, gives_up, is_held_state, restart_starts, was_given_up}
 use Rattle.held_processes.proofs.ApplicationLemmas.{began_all, began_in_room, free_there, is_slot, legal_behind}
+use Rattle.held_processes.proofs.ChangeLemmas.{really_held}
 use Rattle.held_processes.proofs.ChildLemmas.{NotStaying, given, given_up_gone, later_stay, looked_follow, seen_where}
 use Rattle.held_processes.proofs.FollowLemmas.{follow_same}
 use Rattle.held_processes.proofs.LongerLemmas.{began_longer, look_longer}
@@ -49,16 +50,25 @@ abbrev pub is_given_up : HeldEnd → Bool
 is_given_up GivenUp = true
 is_given_up e = false
 
+-- it was exactly where its process was held
+state_given_up : (first : View) (stay : Stay) (m : MemberState) (cs : Courses) (v : View) (e : HeldEnd) (hs : HeldSlots) (w : View) → NotStaying e → StateEndsHeld first stay m cs v e hs w → is_given_up e ≡ is_held_state m cs
+state_given_up first stay (Process q) cs v Stays hs w not f = absurd not
+state_given_up first stay (Process q) cs v GivenUp hs w not f = sym (really_held (cs q.pid.slot).hold f.1)
+state_given_up first stay (Process q) cs v NotHeld hs w not f = sym (ap is_held f.0)
+state_given_up first stay Ended cs v e hs w not f = ap is_given_up f.0
+state_given_up first stay (Supervisor m) cs v e hs w not f = ap is_given_up f.0
+
 -- what is known of what stands for a child that doesn't stay, behind a look alone
-pub record Looked (first : View) (stay : Stay) (cs : Courses) (m : MemberState) (e : HeldEnd) (hs : HeldSlots) (w : View) : Type 0 where
+pub record Looked (first : View) (stay : Stay) (cs : Courses) (m : MemberState) (e : HeldEnd) (hs : HeldSlots) (v w : View) : Type 0 where
   pub seen : View
   pub are_seen : AreSeen first cs seen
   pub told : false ≡ state_stays stay (now_in (values_seen seen) cs) m
+  pub since : AreLonger v seen
   pub longer : AreLonger seen w
   pub follow : AllFollow first (if is_given_up e then all_stopped (values_seen first) (pids_of (process_and (state_process m) [])) cs else cs) hs w
 
 process_looked : (first : View) (stay : Stay) (cs : Courses) (q : StartedProcess) (hs hs' : HeldSlots) (v u look : View) (e : HeldEnd) → NotStaying e → AllFollow first cs hs v
-    → ProcessEndsHeld first stay q.pid cs v e hs' u → AreLonger v u → LookedAt stay q.pid false u look → Looked first stay cs (Process q) e hs' look
+    → ProcessEndsHeld first stay q.pid cs v e hs' u → AreLonger v u → LookedAt stay q.pid false u look → Looked first stay cs (Process q) e hs' v look
 process_looked first stay cs q hs hs' v u look Stays not before f longer looked = absurd not
 process_looked first stay cs q hs hs' v u look GivenUp not before f longer looked =
     let ds = give_up_at q.pid.slot cs in
@@ -66,19 +76,22 @@ process_looked first stay cs q hs hs' v u look GivenUp not before f longer looke
       seen = v;
       are_seen = seen_where first cs hs v before;
       told = sym f.0;
+      since = longer_still v;
       longer = longer_both v u look longer (look_longer stay (Process q) false u look looked);
       follow = follow_same first ds (ended_at (values_seen first) q.pid ds) hs' look (λ p inside. sym (ended_nothing (values_seen first) q.pid ds (given_up_gone (values_seen first) q.pid cs f.1) p)) at.0;
     }
 process_looked first stay cs q hs hs' v u look NotHeld not before f longer looked =
     let at = looked_follow first cs hs' u stay q.pid false look f.1 f.0 looked in
-    record { seen = look; are_seen = seen_where first cs hs' look at.0; told = at.1; longer = longer_still look; follow = at.0 }
+    let since = longer_both v u look longer (look_longer stay (Process q) false u look looked) in
+    record { seen = look; are_seen = seen_where first cs hs' look at.0; told = at.1; since = since; longer = longer_still look; follow = at.0 }
 
 state_looked : (first : View) (stay : Stay) (cs : Courses) (m : MemberState) (hs hs' : HeldSlots) (v u look : View) (e : HeldEnd) → NotStaying e → AllFollow first cs hs v
-    → StateEndsHeld first stay m cs v e hs' u → AreLonger v u → StateLookedAt stay m false u look → Looked first stay cs m e hs' look
+    → StateEndsHeld first stay m cs v e hs' u → AreLonger v u → StateLookedAt stay m false u look → Looked first stay cs m e hs' v look
 state_looked first stay cs Ended hs hs' v u look e not before f longer looked = record {
   seen = u;
   are_seen = seen_where first cs hs' u f.1;
   told = refl;
+  since = longer;
   longer = look_longer stay Ended false u look looked;
   follow = subst (λ x. AllFollow first (if is_given_up x then cs else cs) hs' look) (sym f.0) (subst (AllFollow first cs hs') (sym looked.1) f.1);
 }
@@ -98,7 +111,7 @@ legal_end (Some q) v w legal (h, u, at, r) = legal_behind q.pid.slot _ v h u w l
 -- a child that stays
 kept_in : (followed : Followed) (hs hs' : HeldSlots) (v u look w : View) (apps apps' : List App) (name id : List ℕ) (e : HeldEnd) → NotStaying e → has_one_supervisor name apps ≡ true
     → AllFollow followed.first followed.courses hs v → ChildEndsHeld followed.first UpOrTemporary (child_place name id apps) followed.courses v e hs' u → AreLonger v u
-    → ChildLookedAt UpOrTemporary (child_place name id apps) true u look → w ≡ look → apps' ≡ apps → IsKeptIn followed.first name id (scene_at followed apps) apps' hs' w
+    → ChildLookedAt UpOrTemporary (child_place name id apps) true u look → w ≡ look → apps' ≡ apps → IsKeptIn followed.first name id (scene_at followed apps) apps' hs' v w
 kept_in followed hs hs' v u look w apps apps' name id e not one before f longer looked ended same =
     let is = given followed.first UpOrTemporary followed.courses (child_place name id apps) hs hs' v u look w e not before f longer true looked ended in
     record { one = one; stay = is.stay_is; tree = same; follow = is.follow }
@@ -107,7 +120,7 @@ kept_in followed hs hs' v u look w apps apps' name id e not one before f longer 
 begun_in : (followed : Followed) (hs hs' : HeldSlots) (v u look w : View) (apps apps' : List App) (name id : List ℕ) (tables : Tables) (p : Place) (e : HeldEnd) → NotStaying e → has_one_supervisor name apps ≡ true
     → child_place name id apps ≡ Some p → AllFollow followed.first followed.courses hs v → ChildEndsHeld followed.first UpOrTemporary (Some p) followed.courses v e hs' u → AllLegal u → AreLonger v u
     → ChildLookedAt UpOrTemporary (Some p) false u look
-    → HasRestarted tables (super_app name apps) p (λ (ms : List Member). apps_with (in_place ms) name id apps) look apps' w → IsRestartedIn followed.first name id tables (scene_at followed apps) apps' hs' w
+    → HasRestarted tables (super_app name apps) p (λ (ms : List Member). apps_with (in_place ms) name id apps) look apps' w → IsRestartedIn followed.first name id tables (scene_at followed apps) apps' hs' v w
 begun_in followed hs hs' v u look w apps apps' name id tables p e not one there before f legal longer looked t =
     let first = followed.first in
     let s = scene_at followed apps in
@@ -121,7 +134,7 @@ begun_in followed hs hs' v u look w apps apps' name id tables p e not one there 
       one = one;
       place = p;
       there = there;
-      stay = later_stay first UpOrTemporary followed.courses (Some p) false t.after_end w (began_longer app starts t.after_end t.processes w t.began) is.stay_is;
+      stay = later_stay first UpOrTemporary followed.courses (Some p) false v t.after_end w (began_longer app starts t.after_end t.processes w t.began) is.stay_is;
       sound = t.sound;
       room = subst (λ n. length starts ≤ n) (free_is first cs hs' t.after_end is.follow legal_now) (began_in_room app starts t.after_end t.processes w t.began);
       tree = t.is ∙ ap (λ (pids : List Pid). apps_with (in_place (members_at (restart_members tables p.child) pids)) name id apps) began.places;
@@ -132,7 +145,7 @@ begun_in followed hs hs' v u look w apps apps' name id tables p e not one there 
 slotless_in : (followed : Followed) (hs hs' : HeldSlots) (v u look w : View) (apps apps' : List App) (name id : List ℕ) (tables : Tables) (p : Place) (e : HeldEnd) → NotStaying e → has_one_supervisor name apps ≡ true
     → child_place name id apps ≡ Some p → AllFollow followed.first followed.courses hs v → ChildEndsHeld followed.first UpOrTemporary (Some p) followed.courses v e hs' u → AllLegal u → AreLonger v u
     → ChildLookedAt UpOrTemporary (Some p) false u look → HasNoSlot tables p look w → apps' ≡ apps
-    → IsNotRestartedIn followed.first name id tables (scene_at followed apps) (record { error = NoSlot; given_up = was_given_up e NoSlot }) apps' hs' w
+    → IsNotRestartedIn followed.first name id tables (scene_at followed apps) (record { error = NoSlot; given_up = was_given_up e NoSlot }) apps' hs' v w
 slotless_in followed hs hs' v u look w apps apps' name id tables p e not one there before f legal longer looked t same =
     let first = followed.first in
     let s = scene_at followed apps in
@@ -146,9 +159,15 @@ slotless_in followed hs hs' v u look w apps apps' name id tables p e not one the
       stay = is.stay_is;
       why = (t.sound, subst (λ n. n < length (restart_starts tables p)) (free_is first cs hs' w is.follow legal_now) t.few);
       tree = same;
+      given_up = given_always e;
       follow = by e is.follow;
     }
   where
+    given_always : (x : HeldEnd) → was_given_up x NoSlot ≡ true
+    given_always Stays = refl
+    given_always GivenUp = refl
+    given_always NotHeld = refl
+
     by : (x : HeldEnd) → AllFollow followed.first (child_ended (scene_at followed apps) (Some p)) hs' w
         → AllFollow followed.first (if was_given_up x NoSlot then child_ended (scene_at followed apps) (Some p) else followed.courses) hs' w
     by Stays g = g
@@ -158,18 +177,20 @@ slotless_in followed hs hs' v u look w apps apps' name id tables p e not one the
 -- a child that has a fault, or for which no memory is left
 faulty_in : (followed : Followed) (hs hs' : HeldSlots) (v u look w : View) (apps apps' : List App) (name id : List ℕ) (tables : Tables) (p : Place) (e : HeldEnd) (x : RestartError) → NotStaying e
     → has_one_supervisor name apps ≡ true → child_place name id apps ≡ Some p → AllFollow followed.first followed.courses hs v → ChildEndsHeld followed.first UpOrTemporary (Some p) followed.courses v e hs' u
-    → AreLonger v u → ChildLookedAt UpOrTemporary (Some p) false u look → was_given_up e x ≡ is_given_up e → IsWhyItDidNot x tables p (scene_at followed apps) → w ≡ look → apps' ≡ apps
-    → IsNotRestartedIn followed.first name id tables (scene_at followed apps) (record { error = x; given_up = was_given_up e x }) apps' hs' w
-faulty_in followed hs hs' v u look w apps apps' name id tables p e x not one there before f longer looked given_so why ended same =
+    → AreLonger v u → ChildLookedAt UpOrTemporary (Some p) false u look → was_given_up e x ≡ is_given_up e → gives_up x p followed.courses ≡ is_held_state p.child.state followed.courses
+    → IsWhyItDidNot x tables p (scene_at followed apps) → w ≡ look → apps' ≡ apps
+    → IsNotRestartedIn followed.first name id tables (scene_at followed apps) (record { error = x; given_up = was_given_up e x }) apps' hs' v w
+faulty_in followed hs hs' v u look w apps apps' name id tables p e x not one there before f longer looked given_so as_held why ended same =
     let first = followed.first in
     let is = state_looked first UpOrTemporary followed.courses p.child.state hs hs' v u look e not before f longer looked in
     record {
       one = one;
       place = p;
       there = there;
-      stay = (is.seen, is.are_seen, is.told, subst (AreLonger is.seen) (sym ended) is.longer);
+      stay = (is.seen, is.are_seen, is.told, is.since, subst (AreLonger is.seen) (sym ended) is.longer);
       why = why;
       tree = same;
+      given_up = given_so ∙ (state_given_up first UpOrTemporary p.child.state followed.courses v e hs' u not f ∙ sym as_held);
       follow = subst (λ b. AllFollow first (if b then child_ended (scene_at followed apps) (Some p) else followed.courses) hs' w) (sym given_so)
           (subst (AllFollow first (if is_given_up e then child_ended (scene_at followed apps) (Some p) else followed.courses) hs') (sym ended) is.follow);
     }
@@ -197,7 +218,7 @@ module _ (followed : Followed) (hs hs' : HeldSlots) (v u w : View) (apps apps' :
   outcome_in : (o : Option Place) (stays : Bool) (look : View) (r : Result Bool RestartError) → child_place name id apps ≡ o → ChildEndsHeld followed.first UpOrTemporary o followed.courses v e hs' u
       → ChildLookedAt UpOrTemporary o stays u look
       → RestartsUnless stays tables (super_app name apps) o (λ (ms : List Member). apps_with (in_place ms) name id apps) apps look r apps' w
-      → RestartsIn followed.first name id tables (scene_at followed apps) (told_of e r) apps' hs' w
+      → RestartsIn followed.first name id tables (scene_at followed apps) (told_of e r) apps' hs' v w
   outcome_in o true look (Ok true) there f looked is =
       kept_in followed hs hs' v u look w apps apps' name id e not one before (subst (λ q. ChildEndsHeld followed.first UpOrTemporary q followed.courses v e hs' u) (sym there) f) longer
       (subst (λ q. ChildLookedAt UpOrTemporary q true u look) (sym there) looked) is.2 is.1
@@ -209,14 +230,14 @@ module _ (followed : Followed) (hs hs' : HeldSlots) (v u w : View) (apps apps' :
   outcome_in (Some p) false look (Err NoSuper) there f looked is = absurd is.0.0
   outcome_in (Some p) false look (Err NoSlot) there f looked is = slotless_in followed hs hs' v u look w apps apps' name id tables p e not one there before f legal longer looked is.0 is.1
   outcome_in (Some p) false look (Err NoTable) there f looked is =
-      faulty_in followed hs hs' v u look w apps apps' name id tables p e NoTable not one there before f longer looked (given_alike e NoTable (λ no. cc no)) is.0.0 is.0.1 is.1
+      faulty_in followed hs hs' v u look w apps apps' name id tables p e NoTable not one there before f longer looked (given_alike e NoTable (λ no. cc no)) refl is.0.0 is.0.1 is.1
   outcome_in (Some p) false look (Err Unsupported) there f looked is =
-      faulty_in followed hs hs' v u look w apps apps' name id tables p e Unsupported not one there before f longer looked (given_alike e Unsupported (λ no. cc no)) is.0.0 is.0.1 is.1
+      faulty_in followed hs hs' v u look w apps apps' name id tables p e Unsupported not one there before f longer looked (given_alike e Unsupported (λ no. cc no)) refl is.0.0 is.0.1 is.1
   outcome_in (Some p) false look (Err NoMemory) there f looked is =
-      faulty_in followed hs hs' v u look w apps apps' name id tables p e NoMemory not one there before f longer looked (given_alike e NoMemory (λ no. cc no)) is.0.0 is.0.1 is.1
+      faulty_in followed hs hs' v u look w apps apps' name id tables p e NoMemory not one there before f longer looked (given_alike e NoMemory (λ no. cc no)) refl is.0.0 is.0.1 is.1
 
   pub restarts_in : (r : Result Bool RestartError) → ChildEndsHeld followed.first UpOrTemporary (child_place name id apps) followed.courses v e hs' u → RestartsChild name id tables apps u r apps' w
-      → RestartsIn followed.first name id tables (scene_at followed apps) (told_of e r) apps' hs' w
+      → RestartsIn followed.first name id tables (scene_at followed apps) (told_of e r) apps' hs' v w
   restarts_in (Ok b) f t = outcome_in (child_place name id apps) t.1.stays t.1.look (Ok b) refl f t.1.looked t.1.outcome
   restarts_in (Err NoSuper) f t = absurd (true≢false (sym one ∙ t.0))
   restarts_in (Err NoTable) f t = outcome_in (child_place name id apps) t.1.stays t.1.look (Err NoTable) refl f t.1.looked t.1.outcome

@@ -56,9 +56,10 @@ child_stays stay values (Some p) = state_stays stay values p.child.state
 abbrev pub AreSeen : View → Courses → View → Type 0
 AreSeen first cs v = (p : ℕ) → p < slots → Stand first.lent (seen first p) (cs p).blocks (seen v p)
 
--- So it is in histories that the handler has seen, and which are in front of those that it has seen now.
-abbrev pub IsStay : View → Stay → Courses → Option Place → Bool → View → Type 0
-IsStay first stay cs o stays w = (u : View) × AreSeen first cs u × (stays ≡ child_stays stay (now_in (values_seen u) cs) o) × AreLonger u w
+-- So it is in histories that the handler has seen: behind those that it had seen before, and in front of those that it has seen now.
+abbrev pub IsStay : View → Stay → Courses → Option Place → Bool → View → View → Type 0
+IsStay first stay cs o stays v w =
+    (u : View) × AreSeen first cs u × (stays ≡ child_stays stay (now_in (values_seen u) cs) o) × AreLonger v u × AreLonger u w
 
 -- where the process of a child is, if one stands for it
 abbrev pub child_pids : Option Place → List Pid
@@ -72,16 +73,16 @@ with_deleted name id s = record s {
 }
 
 -- The child stays, or it is deleted.
-pub record IsDeletedIn (first : View) (name id : List ℕ) (s : Scene) (stays : Bool) (apps : List App) (hs : HeldSlots) (w : View) : Type 0 where
+pub record IsDeletedIn (first : View) (name id : List ℕ) (s : Scene) (stays : Bool) (apps : List App) (hs : HeldSlots) (v w : View) : Type 0 where
   pub one : has_one_supervisor name s.apps ≡ true
-  pub stay : IsStay first Up s.courses (child_place name id s.apps) stays w
+  pub stay : IsStay first Up s.courses (child_place name id s.apps) stays v w
   pub tree : apps ≡ (if stays then s.apps else (with_deleted name id s).apps)
   pub follow : AllFollow first (if stays then s.courses else (with_deleted name id s).courses) hs w
 
 -- The child stays or is deleted, or nothing was done: not exactly one supervisor of the module is started.
-abbrev pub DeletesIn : {E : Type 0} → View → List ℕ → List ℕ → Scene → Result Bool E → List App → HeldSlots → View → Type 0
-DeletesIn first name id s (Ok stays) apps hs w = IsDeletedIn first name id s stays apps hs w
-DeletesIn first name id s (Err e) apps hs w = (has_one_supervisor name s.apps ≡ false) × (apps ≡ s.apps) × AllFollow first s.courses hs w
+abbrev pub DeletesIn : {E : Type 0} → View → List ℕ → List ℕ → Scene → Result Bool E → List App → HeldSlots → View → View → Type 0
+DeletesIn first name id s (Ok stays) apps hs v w = IsDeletedIn first name id s stays apps hs v w
+DeletesIn first name id s (Err e) apps hs v w = (has_one_supervisor name s.apps ≡ false) × (apps ≡ s.apps) × AllFollow first s.courses hs w
 
 -- whether a process that is held stays
 abbrev pub held_stays : Stay → Pid → Values → Courses → Bool

@@ -1,5 +1,5 @@
 -- What an operation on the processes of a module leaves.
-use Rattle.std.specs.Prelude.{◌≡◌, ℕ, zero, suc, ◌==◌, Bool, ◌&&◌, ◌||◌, not, true, false, List, nat_lt, is_ok, is_some, if◌then◌else◌, Result, Ok, Err}
+use Rattle.std.specs.Prelude.{◌≡◌, ℕ, zero, suc, ◌==◌, ◌<◌, Bool, ◌&&◌, ◌||◌, not, true, false, List, nat_lt, is_some, if◌then◌else◌, Result, Ok, Err}
 use Rattle.erl_term.specs.Value as term
 use Rattle.worker_table.specs.Table.{OldVersion}
 use Rattle.proc_history.specs.declared.value.Value.{Value}
@@ -52,6 +52,10 @@ any_below test (suc n) = any_below test n || test n
 abbrev pub any_slot : (ℕ → Bool) → Bool
 any_slot test = any_below test slots
 
+-- whether this slot is the lowest of which it holds
+abbrev pub is_lowest : (ℕ → Bool) → ℕ → Bool
+is_lowest test p = test p && not (any_below test p)
+
 abbrev pub is_held : Hold → Bool
 is_held h = if_held h true false
 
@@ -81,10 +85,15 @@ uses_up seen users name cs = any_slot (is_up_user seen users name cs)
 abbrev pub is_used : Users → List ℕ → Bool
 is_used users name = any_slot (λ p. runs name (users p))
 
+-- Each process of the module that is held has its row, or the one in this slot is the first that lacks it.
+abbrev pub FindsRows : {X : Type 0} → OldVersion → term.Value → Values → Users → List ℕ → Courses → Result X Undone → Type 0
+FindsRows old extra seen users name cs (Ok x) = lacks_row old extra seen users name cs ≡ false
+FindsRows old extra seen users name cs (Err e) = e.slot < slots × (is_lowest (lacks_row_at old extra seen users name cs) e.slot ≡ true)
+
 -- What a change leaves, and answers: of each start and courses that were followed.
 abbrev pub Changes : Users → List ℕ → OldVersion → term.Value → HeldSlots → {X : Type 0} → Result X Undone → HeldSlots → Type 0
 Changes users name old extra hs r hs' = (first : View) (cs : Courses) (v : View) → AllFollow first cs hs v
-    → IsDone first users name (change old extra) cs r hs' v × (is_ok r ≡ not (lacks_row old extra (values_seen v) users name cs))
+    → IsDone first users name (change old extra) cs r hs' v × FindsRows old extra (values_seen v) users name cs r
 
 -- whether a process of the module is held, by any start and courses that were followed
 abbrev pub TellsHeldUser : Users → List ℕ → HeldSlots → Bool → Type 0

@@ -65,7 +65,7 @@ impl HeldProcesses {
         requires follow { AllFollow followed.first followed.courses self.old seat.old.view }
         ensures table { seat.new.table ≡ seat.old.table }
         ensures deleted { DeletesIn followed.first child.now.supervisor.now child.now.id.now
-            (scene_at followed tree.old) result tree.new self.new seat.new.view }
+            (scene_at followed tree.old) result tree.new self.new seat.old.view seat.new.view }
         ensures longer { AreLonger seat.old.view seat.new.view }
     {
         if !tree.has_one_supervisor(child.supervisor) {

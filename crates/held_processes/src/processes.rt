@@ -228,7 +228,7 @@ impl HeldProcesses {
     }
 
     /// The process of this slot is given up and let go, if it is held. It waits for nobody.
-    pub fn give_up_slot(&mut self, table: &ProcTable, seat: &mut HandlerSeat, slot: usize)
+    pub(crate) fn give_up_slot(&mut self, table: &ProcTable, seat: &mut HandlerSeat, slot: usize)
         ghost followed: { Followed }
         requires table { seat.old.table ≡ table.now }
         requires follow { AllFollow followed.first followed.courses self.old seat.old.view }

@@ -40,7 +40,7 @@ impl HeldProcesses {
         ensures table { seat.new.table ≡ seat.old.table }
         ensures restarted { RestartsIn followed.first child.now.supervisor.now child.now.id.now
             (tables_of (modules_in loaded.now)) (scene_at followed tree.old)
-            result tree.new self.new seat.new.view }
+            result tree.new self.new seat.old.view seat.new.view }
         ensures longer { AreLonger seat.old.view seat.new.view }
     {
         if !tree.has_one_supervisor(child.supervisor) {

@@ -11,7 +11,7 @@ use relup_script::{Found, find_script};
 /// The script by which the release of this version is installed: the upgrade from the running version in its relup, or else the
 /// downgrade to it in the relup of the release that runs (OTP: release_handler:check_install_release/1). It takes no memory.
 ///
-/// Refusals, in this order: `NoSuchRelease`, `AlreadyInstalled`; `NoMatchingRelup`.
+/// Refusals, in this order: `BadStatus` beside a one-shot; `NoSuchRelease`, `AlreadyInstalled`; `NoMatchingRelup`.
 pub fn find_installation<'a>(list: &'a ReleaseList, vsn: &str) -> Result<Found<'a>, HandlerError>
     ensures { MatchResult result
         (λ found. installation vsn.now list.now ≡ Ok (found_of found))

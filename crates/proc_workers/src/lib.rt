@@ -1,20 +1,16 @@
 //! Workers: threads that call a process each, and take the calls from a mailbox.
 //!
-//! [`mailbox`] makes a mailbox that holds at most 64 notes. Its one [`Inbox`] takes the notes, any number of [`Sender`]s add
-//! them. `Sender::send` adds its note at the back, once, or hands it back where the inbox is gone (`added`). What each end has
-//! added or taken is said of it (specs/Hands), and the mailbox keeps [`Delivery`]: the notes stand in one order, in which those
-//! of each sender are what it sent, and of which the inbox took all but those that wait. So none is lost, and none comes twice
-//! (`laws`).
-//! [`work`] calls one process for each [`Job`] that it takes, until it is stopped (specs/Notes, specs/Work). Jobs that come
-//! while it is suspended are kept until it goes on. The jobs that it took are those of its answers and then those that are left,
-//! in order, each once (`jobs`). Each answer but `Down` is a call of its pass in the history of the process (`calls`). It makes
-//! room for a job and its answer before it takes a note, so nothing that it took is lost where memory is refused.
-//! [`flood`] calls a process so often with one input, for jobs that two threads send, and counts the outcomes: an equation
-//! (specs/Floods).
-//!
-//! All wait, and say the same if they return. Only tested: that a note comes, that an inbox or a sender that is gone is
-//! noticed, and that workers run beside each other. Trusted: the toolchain, with `crossbeam_channel` and
-//! `thiserror`.
+//! [`mailbox`] makes a mailbox that holds at most 64 notes. Its one [`Inbox`] takes the notes, any number of [`Sender`]s add them.
+//! `Sender::send` adds its note at the back, once, or hands it back where the inbox is gone (`added`). What each end has added or
+//! taken is said of it (specs/Hands), and the mailbox keeps [`Delivery`]: the notes stand in one order, in which those of each
+//! sender are what it sent, and of which the inbox took all but those that wait. So none is lost, and none comes twice (`laws`).
+//! [`work`] calls one process for each [`Job`] that it takes, until it is stopped (specs/Notes, specs/Work). Jobs that come while
+//! it is suspended are kept until it goes on. The jobs that it took are those of its answers and then those that are left, in
+//! order, each once (`jobs`). Each answer but `Down` is a call of its pass in the history of the process (`calls`). Nothing that
+//! it took is lost where memory is refused: it makes room for a job and its answer first.
+//! [`flood`] calls a process so often with one input, for jobs that two threads send, and counts the outcomes (specs/Floods).
+//! All wait, and say the same if they return. Only tested: that a note comes, that an inbox or a sender that is gone is noticed,
+//! and that workers run beside each other. Trusted: the toolchain, with `crossbeam_channel` and `thiserror`.
 #![tactic(auto)]
 
 mod desk;

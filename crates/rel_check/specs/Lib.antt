@@ -6,3 +6,4 @@ pub mod Fault
 pub mod Summary
 pub mod Laws
 pub mod Relup
+pub mod Limits

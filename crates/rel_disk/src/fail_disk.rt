@@ -44,15 +44,7 @@ impl<D: Disk> FailDisk<D> {
         FailDisk::failing(disk, call, false)
     }
 
-    /// Such a disk, on which the call has a part of its effect.
-    pub fn failing_in_part(disk: D, call: u64) -> Self
-        ensures { (result.disk ≡ disk)
-            × (result.fault ≡ record { left = call; in_part = true; refused = 0 }) }
-    {
-        FailDisk::failing(disk, call, true)
-    }
-
-    /// The one or the other.
+    /// Such a disk, on which the call has a part of its effect where it is `in_part`.
     pub fn failing(disk: D, call: u64, in_part: bool) -> Self
         ensures { (result.disk ≡ disk)
             × (result.fault ≡ record { left = call; in_part = in_part; refused = 0 }) }

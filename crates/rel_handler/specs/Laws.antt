@@ -1,8 +1,8 @@
 -- Laws of the bytes of disks, whatever boots them.
-use Rattle.std.specs.Prelude.{◌≡◌, ◌⊎◌, ℕ, List}
+use Rattle.std.specs.Prelude.{◌≡◌, ◌⊎◌, ℕ, List, true}
 use Rattle.rel_list.specs.Releases.{Releases}
 use Rattle.rel_list.specs.Event.{booted, recorded}
-use Rattle.node_store.specs.Image.{Extent, booted_extent, IsImageOf}
+use Rattle.node_store.specs.Image.{Extent, booted_extent, holds_a_store, IsImageOf}
 use Rattle.rel_handler.specs.Refusals.{IsBootRefusal}
 use Rattle.rel_handler.specs.declared.error.BootError.{BootError}
 
@@ -19,6 +19,10 @@ pub record BootAlike (es fs : Releases) : Type 0 where
 
 abbrev pub StandsForOneList : Type 0
 StandsForOneList = (bytes : List ℕ) (es fs : Releases) → IsImageOf bytes es → IsImageOf bytes fs → BootAlike es fs
+
+-- Bytes that stand for a list hold a store.
+abbrev pub ImagesAreStores : Type 0
+ImagesAreStores = (bytes : List ℕ) (es : Releases) → IsImageOf bytes es → holds_a_store bytes ≡ true
 
 -- A boot refuses no bytes that stand for a list.
 abbrev pub RefusesNoImage : Type 0

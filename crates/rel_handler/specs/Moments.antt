@@ -23,14 +23,14 @@ pub record HasRead {D : Type 0} (v : Ghosts D) (old new : NodeStore D) : Type 0 
   pub only_read : HasOnlyRead v.seen v.may_leave v.moment v.left_since (disk_in old) (disk_in new)
   pub counted : v.failures (disk_in old) ≤ v.failures (disk_in new)
 
--- At this moment the first sync of a creation has succeeded. From it on a crash leaves no store, or one that stands for the
--- list of such a prefix; before it what it left before the call, but for a torn gate.
+-- Up to this moment of a creation a crash leaves what it left before the call, but for a torn gate, and the disk is synced then. From
+-- it on a crash leaves no store, or one that stands for the list of such a prefix.
 pub record BeginsAt {D : Type 0} (seen : D → List ℕ) (may_leave : D → List ℕ → Type 0) (moment : D → ℕ) (left_since : D → ℕ → List ℕ → Type 0) (k : Known) (old new at : D) : Type 0 where
   pub until : LeavesOnly moment left_since old at (IsTornFrom (may_leave old) 0 1)
   pub synced : Only (seen at) (may_leave at)
   pub from : LeavesOnly moment left_since at new (IsNoneOrOfPrefix k)
 
--- At each moment of a creation: as long as its first sync hasn't succeeded, nothing but the gate of a store is torn.
+-- At each moment of a creation: nothing but the gate of a store is torn; or so it is up to such a moment.
 abbrev pub Begins : {D : Type 0} → (D → List ℕ) → (D → List ℕ → Type 0) → (D → ℕ) → (D → ℕ → List ℕ → Type 0) → Known → D → D → Type 0
 Begins {D = D} seen may_leave moment left_since k old new =
     LeavesOnly moment left_since old new (IsTornFrom (may_leave old) 0 1) ⊎ ((at : D) × BeginsAt seen may_leave moment left_since k old new at)

@@ -96,8 +96,8 @@ CreationRefused v source path disk now e =
     (IsOfFiles source path e × WritesNothing v.seen v.may_leave v.moment v.left_since disk now)
     ⊎ (IsNotBegun v source path disk now e ⊎ IsNotMade v source path disk now e)
 
--- What is told of what brings no libraries, for this reason, on a disk with these bytes: they hold a store, the device has
--- failed, or the reason.
+-- What is told of a release that is refused for its other files, for this reason, on a disk with these bytes: they hold a store, the
+-- device has failed, or the reason.
 abbrev pub IsExistingOr : HandlerError → List ℕ → ℕ → ℕ → HandlerError → Type 0
 IsExistingOr why bytes before now e =
     ((e ≡ Exists) × (holds_a_store bytes ≡ true)) ⊎ (((e ≡ Device) × HasFailed before now) ⊎ ((e ≡ why) × (holds_a_store bytes ≡ false)))

@@ -1,4 +1,12 @@
 // A node is read from its disk again.
+//
+// The start record is that of the permanent release between two calls of a handler that isn't dead (`HasStarted`), and at each
+// moment that, or the one of the release that was permanent before the last event of the prefix (`HasStart`): a boot repairs it.
+//
+// A boot has a one-shot as the current release, and has taken it away from the disk by a record of its own before it is `Ok`
+// (`only`, `acknowledged`): no later boot starts it. A store for which a list with a one-shot stands has room for that record
+// (`HasBootSpace`). A list with a one-shot is never compacted (`may_be_compacted`), and a store in which a handler writes one is
+// of format 2 (`format`).
 ghost use Rattle.std.specs.Prelude.{◌≡◌, ◌⊎◌, ◌↔◌, ℕ, ◌≤◌, List, false, IsTrue, IfOk, IfErr, OnOk, MatchResult};
 ghost use Rattle.rel_disk.specs.Moments.{LeavesOnly};
 ghost use Rattle.rel_list.specs.Releases.{Releases, has_one_shot};

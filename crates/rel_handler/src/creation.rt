@@ -1,7 +1,7 @@
 // A node is made.
 ghost use Rattle.std.specs.Prelude.{◌≡◌, ℕ, ◌≤◌, List, [], ◌∷◌, length, true, false, string_bytes, IfOk, IfErr, OnOk, IsErr};
 ghost use Rattle.rel_files.specs.Release.{release_of};
-ghost use Rattle.rel_list.specs.Releases.{Releases, entry};
+ghost use Rattle.rel_list.specs.Releases.{entry};
 ghost use Rattle.rel_list.specs.Event.Event.{made};
 ghost use Rattle.rel_list.specs.Keyed.{bundle_of};
 ghost use Rattle.rel_records.specs.Limits.{is_small};
@@ -13,7 +13,7 @@ ghost use Rattle.node_store.specs.Events.{doubted};
 ghost use Rattle.node_command.specs.Files.{HasFileTerms, IsWhole, bundle_brought, made_size};
 ghost use Rattle.node_command.specs.Place.{own_refusal};
 ghost use Rattle.node_store.specs.Start.{start_text};
-ghost use Rattle.node_store.specs.Image.{extent_behind, first_extent, IsImageOf, IsImageAt, holds_a_store, HasSpace};
+ghost use Rattle.node_store.specs.Image.{extent_behind, first_extent, IsImageAt, holds_a_store, HasSpace};
 ghost use Rattle.rel_handler.specs.Moments.{Begins, BeginsAt, WritesNothing};
 ghost use Rattle.rel_handler.specs.Refusals.{MakingRefused, told_create, IsCreateError};
 ghost use Rattle.node_store.specs.State.{disk_in, disk_of, extent_in, list_in, is_dead, start_in, IsSound};
@@ -52,10 +52,6 @@ impl<D: Disk> Handler<D> {
         ensures made { IfOk result (IsMade D.Disk (F.gives files.now) path.now disk) }
         ensures taken { holds_a_store (D.seen disk) ≡ true → IfErr result
             (λ e. WritesNothing D.seen D.may_leave D.moment D.left_since disk e.1) × IsErr result }
-
-        // Bytes that stand for a list hold a store, so no node is made over one.
-        ensures node { (es : Releases) → IsImageOf (D.seen disk) es
-            → holds_a_store (D.seen disk) ≡ true }
 
         ensures counted { D.failures disk ≤ D.failures (disk_of result) }
         ensures refused { IfErr result (λ e.
@@ -121,8 +117,8 @@ impl<D: Disk> Handler<D> {
     }
 }
 
-// Why no node is made with a release that is refused for its applications, for this reason: a store on the disk is told
-// before it.
+// Why no node is made with a release that is refused for its applications or its relup, for this reason: a store on the disk is
+// told before it.
 fn existing_or<D: Disk>(disk: &mut D, why: HandlerError) -> HandlerError
     ensures read { HasOnlyRead D.seen D.may_leave D.moment D.left_since disk.old disk.new }
     ensures counted { D.failures disk.old ≤ D.failures disk.new }

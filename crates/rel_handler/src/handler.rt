@@ -1,4 +1,9 @@
 // A node's releases on a disk, and the commands on them.
+//
+// Behind its commit a command compacts the store, where that has 64 records or more: one record stands for the whole list then
+// (`compacted`). Where memory is refused to it, or the list has no such record that fits, the store stays as it was, and the
+// command succeeds (`MayReach`). Where the device fails in it, the command answers `Device`, and its event is on the disk.
+// Neither a creation nor a boot compacts.
 ghost use Rattle.std.specs.Prelude.{◌≡◌, true, false, Some, IfOk, IfErr, OnOk, MatchResult, Ok, Err};
 ghost use Rattle.rel_files.specs.Release.{Release};
 ghost use Rattle.rel_list.specs.Event.Event.{made_permanent, removed, reboot_old};

@@ -1,4 +1,11 @@
 // A release is installed: its script is carried out, and then its event is committed.
+//
+// An installation finds its script and makes room for its record first. Then the script runs (`node_upgrade`), and behind it the
+// event is committed (`IsInstalledBy`). What is refused before the script's point of no return has changed nothing, of the
+// handler and of the processes (`NothingChanged`). A script that fails behind it leaves the handler dead, its list and its disk
+// as they were (`IsLost`). Behind a script that ends with a restart the handler is dead too. The release is a one-shot then,
+// unless it is the permanent one: the next boot starts it, and has room for its record, which was asked for together with that of
+// the installation (`install_room`).
 ghost use Rattle.std.specs.Prelude.{◌≡◌, true, IfErr, IfOk, OnOk};
 ghost use Rattle.held_processes.specs.Following.{HoldsNothing};
 ghost use Rattle.loaded_modules.specs.Loaded.{listed_in};

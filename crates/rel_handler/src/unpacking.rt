@@ -1,4 +1,9 @@
 // A release is taken in from its file.
+//
+// `create` and `set_unpacked` take what `node_command` says that a path brings (`IsMade`, `IsUnpacked`). They are refused for the
+// release's own file first, for its applications and its relup where the node would take it (`IsNotBegun`, `IsBarred`). The list
+// keeps the libraries of each release, and its relup. The release's record carries the relup and the libraries that are new, and
+// a boot gives the list both back from the records.
 ghost use Rattle.std.specs.Prelude.{◌≡◌, true, false, string_bytes, None, IfOk, IfErr, OnOk};
 ghost use Rattle.rel_files.specs.Release.{release_of};
 ghost use Rattle.rel_list.specs.Event.Event.{unpacked};
@@ -30,7 +35,7 @@ impl<D: Disk> Handler<D> {
     ///
     /// All files are read first. Refusals, in this order: `Dead`; `MissingFile`, `BadFile`, `TooMany` for the release's file
     /// or its number of applications; `ExistingRelease`; application by application `MissingFile`, `BadFile`,
-    /// `VsnMismatch` for its files and `LibDiffers` for the list's library of its name and version; `BadFile`, `NoTable`,
+    /// `TooMany`, `VsnMismatch` for its files and `LibDiffers` for the list's library of its name and version; `BadFile`, `NoTable`,
     /// `TooMany` for the release as a whole; `TooMany` for the node's releases; `BadFile`, `TooMany`, `VsnMismatch` for its
     /// relup; `Full`. `NoMemory` may come in place of each but the first. Nothing has changed then. `Device` comes only where
     /// the list allows the release and its record fits; then the handler is dead, and the disk stands for its list with the

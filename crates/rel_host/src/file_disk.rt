@@ -248,29 +248,17 @@ fn open_locked<R: Files<File = File>>(host: &R, path: &str) -> Result<File, Open
     Ok(file)
 }
 
-// Opens a file for reads and writes, or makes it. What is no file is refused.
+// Opens a file for reads and writes, or makes it. What is no file is refused. A file outlives a crash once its folder is synced,
+// also one that was there: the run that made it may have ended before that.
 fn open_file<R: Files<File = File>>(host: &R, path: &str) -> io::Result<File> {
-    let file = open_or_make(host, path)?;
-    if !file.metadata()?.is_file() {
-        return Err(io::Error::from(ErrorKind::InvalidInput));
-    }
-    Ok(file)
-}
-
-fn open_or_make<R: Files<File = File>>(host: &R, path: &str) -> io::Result<File> {
-    match OpenOptions::new().read(true).write(true).open(host, path) {
-        Err(e) if e.kind() == ErrorKind::NotFound => make_file(host, path),
-        found => found,
-    }
-}
-
-// Makes a file, which outlives a crash once its folder is synced.
-fn make_file<R: Files<File = File>>(host: &R, path: &str) -> io::Result<File> {
     let file = OpenOptions::new()
         .read(true)
         .write(true)
         .create(true)
         .open(host, path)?;
+    if !file.metadata()?.is_file() {
+        return Err(io::Error::from(ErrorKind::InvalidInput));
+    }
     sync_folder(host, path)?;
     Ok(file)
 }

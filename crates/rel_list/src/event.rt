@@ -1,4 +1,7 @@
 //! What happens to a list of releases.
+//!
+//! An installation with a restart makes a release a one-shot: the next boot starts it, and the one behind that doesn't. Beside a
+//! one-shot the list takes a boot alone.
 ghost use Rattle.std.specs.Prelude.{◌≡◌, Some, None, IsTrue, IfErr, OnOk, OnErr};
 ghost use Rattle.rel_list.specs.Event.{event_of, own_step, status_behind};
 ghost use Rattle.rel_list.specs.Refusal.{brings_release, own_refusal};
@@ -22,7 +25,7 @@ pub enum Event {
     MadePermanent(String),
     /// This release leaves the list.
     Removed(String),
-    /// This release, an old one, becomes the permanent one again. A boot has to follow.
+    /// This release, an old one, becomes the permanent one. A boot has to follow.
     RebootOld(String),
     /// The node boots.
     Boot,

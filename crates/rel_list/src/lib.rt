@@ -1,28 +1,16 @@
-//! The list of a node's releases, each with its status, in memory.
+//! The list of a node's releases, each with its status, its libraries and its relup, in memory (OTP: release_handler(3)).
 //!
-//! A [`ReleaseList`] is changed by events alone: a release is made, unpacked, installed, installed with a restart, made
-//! permanent, removed or rebooted, or the node boots. `accept` is `Ok` exactly where `step` is defined on the event
-//! and the list, out of memory aside; then the list is what `step` makes of it (clause `accepted`). After
-//! a refusal the list is unchanged (`unchanged`), and the refusal is the first condition that the event
-//! fails, in the order of docs/RULES.md (`refused`). Only an event that brings a release takes memory.
-//! Whatever is asked of the list is answered from its entries, in order of coming; `boot_events` gives
-//! all that a boot would change. A look-up by version goes through a map, which no clause speaks of.
-//!
-//! With each release the list keeps the libraries of its applications. A release is refused of which a
-//! library differs from the list's of the same name and version (`first_different` finds it). For one that
-//! fits, `share` puts the list's own libraries in place of those that it has already, so that the terms of a
-//! library are in memory once; clauses speak of the values alone. `libs` tells each library once. A library
-//! leaves the list with the last release that names it. It keeps the relup of a release too, as it was brought (`relup`).
-//!
-//! An installation with a restart makes a release a one-shot: the next boot starts it, and the one behind that doesn't. Beside a
-//! one-shot the list takes a boot alone.
-//!
-//! The functions of `laws` say of these definitions alone that versions are distinct, that one release is
-//! permanent and at most one is current or a one-shot, that a boot undoes nothing but installations and leaves no one-shot, and
-//! that events lead from a list as records tell it to each other one of the same releases.
-//!
-//! Only tested: that an event is accepted where memory is there, and the texts of the refusals. Trusted:
-//! the toolchain, `indexmap` and `thiserror`.
+//! A [`ReleaseList`] is changed by events alone: a release is made, unpacked, installed, installed with a restart, made permanent,
+//! removed or rebooted, or the node boots. `accept` is `Ok` exactly where `step` is defined on the event and the list, out of
+//! memory aside; then the list is what `step` makes of it (clause `accepted`). After a refusal the list is unchanged
+//! (`unchanged`), and the refusal is the first condition that the event fails, in the order of docs/RULES.md (`refused`). Only an
+//! event that brings a release takes memory. What is asked of the list is answered from its entries, in order of coming;
+//! `boot_events` gives all that a boot would change.
+//! The functions of `laws` say of these definitions alone that versions are distinct, that one release is permanent and at most
+//! one is current or a one-shot, that a boot undoes nothing but installations and leaves no one-shot, and that events lead from a
+//! list as records tell it to each other one of the same releases.
+//! Only tested: that an event is accepted where memory is there, and the texts of the refusals. Trusted: the toolchain,
+//! `indexmap`, of whose look-up by version no clause speaks, and `thiserror`.
 #![tactic(auto)]
 
 mod bundle;

@@ -4,7 +4,7 @@ ghost use Rattle.std.specs.Prelude.{◌≡◌};
 /// The status of a release of the list.
 #[derive(Clone, Copy, Debug, PartialEq, Eq)]
 pub enum Status {
-    /// It is there, and hasn't been installed since.
+    /// It is there to be installed.
     Unpacked,
     /// It runs until the next boot.
     Current,
@@ -17,7 +17,7 @@ pub enum Status {
 }
 
 impl Status {
-    ghost use Rattle.rel_list.specs.Status.{status_word, is_current, is_old, is_one_shot, is_permanent, is_temporary};
+    ghost use Rattle.rel_list.specs.Status.{status_word, is_current, is_one_shot, is_permanent, is_temporary};
     ghost use Rattle.rel_list.specs.Event.{booted_status, installed_status, permanent_status, recorded_status, replaced_status, restarted_status};
 
     /// The atom for it.
@@ -38,13 +38,6 @@ impl Status {
         ensures { result ≡ is_current self }
     {
         matches!(self, Status::Current)
-    }
-
-    /// Whether it is the status of a release that was current or permanent.
-    pub fn is_old(self) -> bool
-        ensures { result ≡ is_old self }
-    {
-        matches!(self, Status::Old)
     }
 
     /// Whether it is the status of the release that is booted.

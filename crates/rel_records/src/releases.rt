@@ -9,15 +9,18 @@ ghost use Rattle.relup_file.specs.Relup.{relup_of};
 
 use crate::bundle::bring;
 use crate::fault::RecordFault;
-use crate::limits::{MOST_RELEASES, is_small};
 use crate::new_release::NewRelease;
 use crate::reading::Record;
 use library::Library;
+use rel_check::is_small;
 use rel_files::Rel;
 use rel_list::{Event, ReleaseList};
 use relup_file::Relup;
 use std::alloc::Global;
 use std::rc::Rc;
+
+/// How many releases a node has at most.
+pub const MOST_RELEASES: usize = 32;
 
 // Makes the list with the release of a record.
 pub(crate) fn make_new(

@@ -11,8 +11,8 @@ use Rattle.rel_unpack.specs.Source.{Source}
 use Rattle.rel_session.specs.Files.{Files, files_behind, source_of}
 use Rattle.rel_session.specs.Node.{Place, at_rest, Outcome, Reply}
 use Rattle.rel_session.specs.Node.Place.{raw, closed, running, dead}
-use Rattle.rel_session.specs.Run.{Starts, Holds, Moments, Executes, MayLeave, IsReply, Replies, Ending, IsReached, events_of}
-use Rattle.rel_session.specs.Run.Ending.{ended, cut_off, early}
+use Rattle.rel_session.specs.Run.{EndsInFull, Starts, Holds, Moments, Executes, MayLeave, IsReply, Replies, Ending, IsReached, events_of}
+use Rattle.rel_session.specs.Run.Ending.{ended, cut_off, unread, early}
 use Rattle.rel_session.specs.RunLaws.{acknowledged_at, IsKnown, Finds, Keeps, place_after, HaveAll, StandsForAll, BecomesKnown, LosesNothing, IsOfAccepted, BeginsWhereOneEnded, BeginsBehindACrash, IsNextDisk, Lasts, LosesNothingEver}
 use Rattle.rel_session.specs.Transition.{Transition}
 use Rattle.rel_session.proofs.Prefixes.{prefix_of}
@@ -22,26 +22,30 @@ use Rattle.rel_session.proofs.Transitions.{each_left_keeps}
 left_by : (source : Source) (p : Place) (c : Command) (ending : Ending) (a : Reply) (more : List Reply) → IsReply source p c ending more a → MayLeave source p c a
 left_by source p c ended a more is = inl is
 left_by source p c cut_off a more is = inl is
+left_by source p c unread a more is = inl is
 left_by source p c early a [] is = is
 left_by source p c early a (b ∷ more) is = inl is
 
-whole : (source : Source) (p : Place) (c : Command) (ending : Ending) (a : Reply) (more : List Reply) → ending ≢ early → IsReply source p c ending more a → Transition source p c a
-whole source p c ended a more not_early is = is
-whole source p c cut_off a more not_early is = is
-whole source p c early a more not_early is = absurd (not_early refl)
+whole : (source : Source) (p : Place) (c : Command) (ending : Ending) (a : Reply) (more : List Reply) → EndsInFull ending → IsReply source p c ending more a → Transition source p c a
+whole source p c ended a more full is = is
+whole source p c cut_off a more full is = is
+whole source p c unread a more full is = is
+whole source p c early a more full is = absurd full
 
 -- the first of some replies is that to the first command, and the others are those to the commands behind it
-pub next_answered : (base : Source) (files : Files) (p : Place) (c : Command) (rest : Feed Command) (ending : Ending) (a : Reply) (more : List Reply) → ending ≢ early → Replies base files p (next c rest) ending (a ∷ more)
+pub next_answered : (base : Source) (files : Files) (p : Place) (c : Command) (rest : Feed Command) (ending : Ending) (a : Reply) (more : List Reply) → EndsInFull ending → Replies base files p (next c rest) ending (a ∷ more)
     → Transition (source_of base files) p c a × Replies base (files_behind files c) a.after rest ending more
-next_answered base files p c rest ending a more not_early right = (whole (source_of base files) p c ending a more not_early right.0, right.1)
+next_answered base files p c rest ending a more full right = (whole (source_of base files) p c ending a more full right.0, right.1)
 
 -- where no command is left there is none
 pub none_left : (base : Source) (files : Files) (p : Place) (commands : Feed Command) (ending : Ending) (a : Reply) (more : List Reply) → (commands ≡ over) ⊎ (commands ≡ cut) → Replies base files p commands ending (a ∷ more) → ⊥
 none_left base files p over ended a more none right = right
 none_left base files p over cut_off a more none right = right
+none_left base files p over unread a more none right = right
 none_left base files p over early a more none right = right
 none_left base files p cut ended a more none right = right
 none_left base files p cut cut_off a more none right = right
+none_left base files p cut unread a more none right = right
 none_left base files p cut early a more none right = right
 none_left base files p (next c rest) ending a more (inl none) right = cc none
 none_left base files p (next c rest) ending a more (inr none) right = cc none

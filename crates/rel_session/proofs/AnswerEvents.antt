@@ -76,10 +76,15 @@ effect o k = record { outcome = o; kind = k }
 abbrev pub effect_of : Reply → Effect
 effect_of a = effect a.outcome (kind_of a.after)
 
-abbrev created : Kind → Bundle → Report → Effect
-created k p it_is_done = effect (done (made p ∷ booting ∷ [])) runs
-created k p it_failed = effect (failed_with (Some (made p))) k
-created k p t = effect nothing k
+-- a release comes into doubt on bytes alone, and where its files aren't refused
+abbrev made_in_doubt : Kind → Bundle → Option Refusal → Option Event
+made_in_doubt of_bytes p None = Some (made p)
+made_in_doubt k p why = None
+
+abbrev created : Kind → Bundle → Option Refusal → Report → Effect
+created k p why it_is_done = effect (done (made p ∷ booting ∷ [])) runs
+created k p why it_failed = effect (failed_with (made_in_doubt k p why)) k
+created k p why t = effect nothing k
 
 -- a change is done on a node that runs, and refused on any other
 abbrev changed : Kind → Transition.Change → Report → Effect
@@ -197,22 +202,26 @@ reboots events extent ps vsn l o plain =
     commits (reboot_old vsn) (rebooted runs vsn) refl refl events extent ps _ o _ plain (λ x a (b, boot, is). boots_behind vsn (Transition.rebooted events x vsn) a b boot is)
 
 -- create
-makes_with : (x : List ℕ) (p : Bundle) (size : ℕ) (why : Option Refusal) (a : Reply) → Transition.MakesWith x p size why a → HasEffect (created of_bytes p) a
-makes_with x p size (Some why) a is = effect_as (created of_bytes p) a _ is (sym (ap (created of_bytes p) (plain_files why)))
-makes_with x p size None a (inl (fits, is)) = effect_as (created of_bytes p) a _ is refl
-makes_with x p size None a (inr (over_it, is)) = effect_as (created of_bytes p) a _ is refl
+makes_with : (x : List ℕ) (p : Bundle) (size : ℕ) (why : Option Refusal) (a : Reply) → Transition.MakesWith x p size why a → HasEffect (created of_bytes p why) a
+makes_with x p size (Some why) a is = effect_as (created of_bytes p (Some why)) a _ is (sym (ap (created of_bytes p (Some why)) (plain_files why)))
+makes_with x p size None a (inl (fits, is)) = effect_as (created of_bytes p None) a _ is refl
+makes_with x p size None a (inr (over_it, is)) = effect_as (created of_bytes p None) a _ is refl
 
-makes_on : (x : List ℕ) (b : Brought) (there : Bool) (a : Reply) → Transition.MakesOn x b there a → HasEffect (created of_bytes (bundle_brought b)) a
-makes_on x b true a is = effect_as (created of_bytes (bundle_brought b)) a _ is refl
+makes_on : (x : List ℕ) (b : Brought) (there : Bool) (a : Reply) → Transition.MakesOn x b there a → HasEffect (created of_bytes (bundle_brought b) (own_refusal b)) a
+makes_on x b true a is = effect_as (created of_bytes (bundle_brought b) (own_refusal b)) a _ is refl
 makes_on x b false a is = makes_with x (bundle_brought b) (made_size b) (own_refusal b) a is
 
-makes : (p : Place) (b : Brought) (a : Reply) → Transition.MakesNode p b a → HasEffect (created (kind_of p) (bundle_brought b)) a
+makes_fails : (x : List ℕ) (p : Bundle) (why : Option Refusal) (a : Reply) → Transition.FailsToMake x p why a → HasEffect (created of_bytes p why) a
+makes_fails x p (Some why) a is = effect_as (created of_bytes p (Some why)) a _ is refl
+makes_fails x p None a (torn, kept, is) = effect_as (created of_bytes p None) a _ is refl
+
+makes : (p : Place) (b : Brought) (a : Reply) → Transition.MakesNode p b a → HasEffect (created (kind_of p) (bundle_brought b) (own_refusal b)) a
 makes (raw x) b a (inl is) = makes_on x b (holds_a_store x) a is
-makes (raw x) b a (inr (torn, is)) = effect_as (created of_bytes (bundle_brought b)) a _ is refl
-makes (closed s) b a (inl is) = effect_as (created at_rest (bundle_brought b)) a _ is refl
-makes (closed s) b a (inr is) = effect_as (created at_rest (bundle_brought b)) a _ is refl
-makes (running events extent ps) b a is = effect_as (created runs (bundle_brought b)) a _ is refl
-makes (dead s) b a is = effect_as (created fails (bundle_brought b)) a _ is refl
+makes (raw x) b a (inr is) = makes_fails x (bundle_brought b) (own_refusal b) a is
+makes (closed s) b a (inl is) = effect_as (created at_rest (bundle_brought b) (own_refusal b)) a _ is refl
+makes (closed s) b a (inr is) = effect_as (created at_rest (bundle_brought b) (own_refusal b)) a _ is refl
+makes (running events extent ps) b a is = effect_as (created runs (bundle_brought b) (own_refusal b)) a _ is refl
+makes (dead s) b a is = effect_as (created fails (bundle_brought b) (own_refusal b)) a _ is refl
 
 -- boot
 boots_store : (k : Kind) (s : Stored) (a : Reply) → left k ≡ at_rest → Transition.BootsStore s a → HasEffect (booted k) a
@@ -293,7 +302,7 @@ idle a b x y is also same = ap effect_of is ∙ same ∙ sym (ap effect_of also)
 -- an action but an installation has the effect that its answer tells
 abbrev acted : Kind → Transition.Action → Report → Effect
 acted k (answers text) t = effect nothing k
-acted k (makes_node b) t = created k (bundle_brought b) t
+acted k (makes_node b) t = created k (bundle_brought b) (own_refusal b) t
 acted k (changes_node c) t = changed k c t
 acted k (installs vsn) t = effect nothing k
 acted k (reboots_node vsn) t = rebooted k vsn t

@@ -155,20 +155,34 @@ module _ {D : Type 0} (v : Device D) (laws : IsDevice v) (source : Source) (path
         right_for = making is_not.brought is_not.read
 
         device_fails : HasFailed v disk new → (p : Place) → IsAt v (memory.Idle disk) p → Replied v p (λ a. Creates p a × (a.answer ≡ refusal_line device)) (memory.Idle disk) (memory.Idle new)
-        device_fails cause (raw bytes) at = record {
-          given = failed (Some (made (bundle_brought found))) (raw (v.seen new));
-          right = (right_for (raw bytes) _ (inr (v.seen new, refl)), refl);
-          at = refl;
-          happens = record { moments = is_not.any_moment; holds = refl; cause = λ e. cause; counted = counted };
-        }
+        device_fails cause (raw bytes) at = by (own_refusal found) refl
+          where
+            fails_with : (o : Option of_files.Refusal) (a : Reply) → own_refusal found ≡ o → Transition.FailsToMake bytes (bundle_brought found) o a → Creates (raw bytes) a
+            fails_with o a is fails = right_for (raw bytes) a (inr (subst (λ w. Transition.FailsToMake bytes (bundle_brought found) w a) (sym is) fails))
+
+            by : (o : Option of_files.Refusal) → own_refusal found ≡ o → Replied v (raw bytes) (λ a. Creates (raw bytes) a × (a.answer ≡ refusal_line device)) (memory.Idle disk) (memory.Idle new)
+            by None is = record {
+              given = failed (Some (made (bundle_brought found))) (raw (v.seen new));
+              right = (fails_with None _ is (v.seen new, (λ there. (taken (ap holds_a_store at ∙ there)).same ∙ at), refl), refl);
+              at = refl;
+              happens = record { moments = (is_not.any_moment, λ there. (taken there).any_moment); holds = refl; cause = λ e. cause; counted = counted };
+            }
+            by (Some why) is =
+                let u = is_not.idle (λ none. cc (sym none ∙ is)) in
+                record {
+                  given = failed None (raw bytes);
+                  right = (fails_with (Some why) _ is refl, refl);
+                  at = unwritten_at (raw bytes) at u;
+                  happens = record { moments = u.any_moment; holds = unwritten_at (raw bytes) at u; cause = λ e. cause; counted = counted };
+                }
         device_fails cause (closed s) at =
             let u = taken (store_there s at) in
             let holds = kept v laws (IsStoredAs s) disk new at u.any_moment in
             record {
-              given = failed (Some (made (bundle_brought found))) (closed s);
+              given = failed None (closed s);
               right = (right_for (closed s) _ (inr refl), refl);
               at = holds;
-              happens = record { moments = quiet v laws s (made (bundle_brought found) ∷ []) disk new at u.any_moment; holds = holds; cause = λ e. cause; counted = counted };
+              happens = record { moments = quiet v laws s [] disk new at u.any_moment; holds = holds; cause = λ e. cause; counted = counted };
             }
         device_fails cause (running events extent ps) at = absurd at
         device_fails cause (dead s) at = absurd at

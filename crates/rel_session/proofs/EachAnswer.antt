@@ -284,12 +284,12 @@ one_more base files p c rest a is works compact behind = record {
 }
 
 each : BootLaws → (base : Source) → GivesEach base → (files : Files) (p : Place) (commands : Feed Command) → IsFair p → HasAnswer base files p commands
-each laws base some files p over fair = record { ending = ended; whole = λ e. cc e; replies = []; works = tt; compact = tt; right = refl }
-each laws base some files p cut fair = record { ending = cut_off; whole = λ e. cc e; replies = []; works = tt; compact = tt; right = refl }
+each laws base some files p over fair = record { ending = ended; whole = tt; replies = []; works = tt; compact = tt; right = refl }
+each laws base some files p cut fair = record { ending = cut_off; whole = tt; replies = []; works = tt; compact = tt; right = refl }
 each laws base some files p (next c rest) fair = by_action (some_action (source_of base files) (gives_each base files some) p c) (λ next_files q there. each laws base some next_files q rest there)
   where
     by_action : (c ≡ quit) ⊎ ((does : Transition.Action) × Transition.ComesTo (source_of base files) p c does) → ((next_files : Files) (q : Place) → IsFair q → HasAnswer base next_files q rest) → HasAnswer base files p (next c rest)
-    by_action (inl is) behind = record { ending = ended; whole = λ e. cc e; replies = []; works = tt; compact = tt; right = (is, refl) }
+    by_action (inl is) behind = record { ending = ended; whole = tt; replies = []; works = tt; compact = tt; right = (is, refl) }
     by_action (inr (does, comes)) behind =
         let has = acts laws p does fair in
         one_more base files p c rest has.given (does, comes, has.is) has.works has.compact (behind (files_behind files c) has.given.after has.fair)

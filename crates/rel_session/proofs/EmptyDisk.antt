@@ -38,9 +38,13 @@ makes_with p size (Some why) a is = on_empty_as a _ is (inl (refl, inl refl))
 makes_with p size None a (inl (fits, is)) = on_empty_as a _ is (inr (record { bundle = p; acknowledged = refl; after = refl }))
 makes_with p size None a (inr (over_it, is)) = on_empty_as a _ is (inl (refl, inl refl))
 
+makes_fails : (p : Bundle) (why : Option Refusal) (a : Reply) → Transition.FailsToMake [] p why a → OnEmpty a
+makes_fails p (Some why) a is = on_empty_as a _ is (inl (refl, inl refl))
+makes_fails p None a (torn, kept, is) = on_empty_as a _ is (inl (refl, inr refl))
+
 makes : (b : Brought) (a : Reply) → Transition.MakesNode (raw []) b a → OnEmpty a
 makes b a (inl is) = makes_with (bundle_brought b) (made_size b) (own_refusal b) a is
-makes b a (inr (torn, is)) = on_empty_as a _ is (inl (refl, inr refl))
+makes b a (inr is) = makes_fails (bundle_brought b) (own_refusal b) a is
 
 boots : (a : Reply) → Transition.BootsBytes [] a → OnEmpty a
 boots a (inl (events, list, extent, after, image, is)) = cc image.image_of.store

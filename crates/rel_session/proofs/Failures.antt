@@ -58,11 +58,15 @@ makes_on : (bytes : List ℕ) (b : Brought) (there : Bool) (a : Reply) → Trans
 makes_on bytes b true a is = plain a _ is (inl refl)
 makes_on bytes b false a is = makes_with bytes (bundle_brought b) (made_size b) (own_refusal b) a is
 
+makes_fails : (bytes : List ℕ) (p : Bundle) (why : Option Refusal) (a : Reply) → Transition.FailsToMake bytes p why a → IsPlain a
+makes_fails bytes p (Some why) a is = plain a _ is (inl refl)
+makes_fails bytes p None a (torn, kept, is) = plain a _ is (inr (refl, inl refl))
+
 makes : (p : Place) (found : Brought) (a : Reply) → Transition.MakesNode p found a → IsPlain a
 makes (raw bytes) found a (inl is) = makes_on bytes found (holds_a_store bytes) a is
-makes (raw bytes) found a (inr (torn, is)) = plain a _ is (inr (refl, inl refl))
+makes (raw bytes) found a (inr is) = makes_fails bytes (bundle_brought found) (own_refusal found) a is
 makes (closed s) found a (inl is) = plain a _ is (inl refl)
-makes (closed s) found a (inr is) = plain a _ is (inr (refl, inl refl))
+makes (closed s) found a (inr is) = plain a _ is (inl refl)
 makes (running events extent ps) found a is = plain a _ is (inl refl)
 makes (dead s) found a is = plain a _ is (inl refl)
 

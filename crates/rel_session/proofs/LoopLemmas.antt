@@ -27,7 +27,7 @@ use Rattle.rel_session.specs.Node.Place.{raw, closed, running, dead}
 use Rattle.counted_io.specs.Prefixes.{AppendsPrefix}
 use Rattle.rel_session.specs.Output.{Writes}
 use Rattle.rel_session.specs.Run.{Starts, Executes, MayLeave, IsReply, Replies, Ending, IsTextOf, IsRun, answers_of, commands_in}
-use Rattle.rel_session.specs.Run.Ending.{ended, cut_off, early}
+use Rattle.rel_session.specs.Run.Ending.{ended, cut_off, unread, early}
 use Rattle.rel_session.specs.Transition.{Transition}
 use Rattle.rel_session.proofs.DeviceLemmas.{IsDevice, still}
 use Rattle.rel_session.proofs.Replies.{held}
@@ -73,6 +73,7 @@ are_all (Some input) commands left = left
 is_reply : (source : Source) (p : Place) (c : Command) (ending : Ending) (a : Reply) (more : List Reply) → Transition source p c a → IsReply source p c ending more a
 is_reply source p c ended a more is = is
 is_reply source p c cut_off a more is = is
+is_reply source p c unread a more is = is
 is_reply source p c early a [] is = inl is
 is_reply source p c early a (b ∷ more) is = is
 
@@ -87,10 +88,16 @@ replies_none base files p over = tt
 replies_none base files p cut = tt
 replies_none base files p (next c rest) = tt
 
+replies_unread : (base : Source) (files : Files) (p : Place) (commands : Feed Command) → Replies base files p commands unread []
+replies_unread base files p over = tt
+replies_unread base files p cut = tt
+replies_unread base files p (next c rest) = tt
+
 -- the text of one more reply in front
 written_next : (ending : Ending) (a : Reply) (more : List Reply) (text : List ℕ) → IsTextOf ending more text → IsTextOf ending (a ∷ more) (a.answer ++ text)
 written_next ended a more text is = ap (λ (l : List ℕ). a.answer ++ l) is
 written_next cut_off a more text is = ap (λ (l : List ℕ). a.answer ++ l) is
+written_next unread a more text is = ap (λ (l : List ℕ). a.answer ++ l) is
 written_next early a more text (inl is) = inl (ap (λ (l : List ℕ). a.answer ++ l) is)
 written_next early a more text (inr (first, last, part, left, are, parts, is)) =
     inr (a ∷ first, last, part, left, ap (λ (l : List Reply). a ∷ l) are, parts, ap (λ (l : List ℕ). a.answer ++ l) is ∙ sym (append_assoc a.answer (answers_of first) part))
@@ -184,6 +191,10 @@ module _ {D : Type 0} (v : Device D) (laws : IsDevice v) (base : Source) where
     pub ends_cut : (final : D) → final ≡ disk_of node → EndsAs cut now new → (start : Place) → Starts v start disk
         → (commands : Feed Command) × AreLeft all commands × Writes old mid (λ text. IsRun v base no_files start commands cut_off disk final text)
     ends_cut final is gone = ends_with cut_off cut final (are_ended now new cut gone) is (λ files p. refl) refl
+
+    pub ends_unread : (final : D) → final ≡ disk_of node → (start : Place) → Starts v start disk
+        → (commands : Feed Command) × AreLeft all commands × Writes old mid (λ text. IsRun v base no_files start commands unread disk final text)
+    ends_unread final is = ends_with unread (some_left now) final (are_some now) is (λ files p. replies_unread base files p (some_left now)) refl
 
     pub ends_early : (final : D) → final ≡ disk_of node → (start : Place) → Starts v start disk
         → (commands : Feed Command) × AreLeft all commands × Writes old mid (λ text. IsRun v base no_files start commands early disk final text)

@@ -31,8 +31,8 @@ use Rattle.rel_session.specs.LawsBelow.{BootLaws}
 use Rattle.rel_session.specs.Node.{Place, Outcome, Reply, reply, releases_after, list_or_none, just_booted, done, behind, with_text}
 use Rattle.rel_session.specs.Node.Place.{raw, closed, running, dead}
 use Rattle.rel_session.specs.Booting.{boot_line}
-use Rattle.rel_session.specs.Run.{Replies, Ending}
-use Rattle.rel_session.specs.Run.Ending.{ended, cut_off, early}
+use Rattle.rel_session.specs.Run.{EndsInFull, Replies, Ending}
+use Rattle.rel_session.specs.Run.Ending.{ended, cut_off, unread, early}
 use Rattle.rel_session.specs.AnswerLaws.{AreSame, HaveOneAnswer, IsCertain, IsCompact, LeaveCompactStores, LeavesCompactStore, RunsOneShot}
 use Rattle.rel_session.specs.RunLaws.{NoneFails}
 use Rattle.rel_session.specs.Transition
@@ -156,10 +156,14 @@ module _ (a b : Reply) (both : Both a b) where
   makes_on x found true is also = as_these a b _ _ is also (refl, refl, same_bytes x)
   makes_on x found false is also = makes_with x (bundle_brought found) (made_size found) (own_refusal found) is also
 
+  makes_fails : {T : Type 0} (x : List ℕ) (p : Bundle) (why : Option Refusal) (c : Reply) → Transition.FailsToMake x p why c → c.outcome.failed ≡ false → T
+  makes_fails x p (Some why) c is works = failure c _ is refl works
+  makes_fails x p None c (torn, kept, is) works = failure c _ is refl works
+
   makes : (p q : Place) (found : Brought) → Alike p q → Transition.MakesNode p found a → Transition.MakesNode q found b → Same a b
   makes p q found (same_bytes x) (inl is) (inl also) = makes_on x found (holds_a_store x) is also
-  makes p q found (same_bytes x) (inl is) (inr (torn, also)) = failure b _ also refl both.1
-  makes p q found (same_bytes x) (inr (torn, is)) other = failure a _ is refl both.0
+  makes p q found (same_bytes x) (inl is) (inr also) = makes_fails x (bundle_brought found) (own_refusal found) b also both.1
+  makes p q found (same_bytes x) (inr is) other = makes_fails x (bundle_brought found) (own_refusal found) a is both.0
   makes p q found (same_store events extent) (inl is) (inl also) = as_these a b _ _ is also (refl, refl, same_store events extent)
   makes p q found (same_store events extent) (inl is) (inr also) = failure b _ also refl both.1
   makes p q found (same_store events extent) (inr is) other = failure a _ is refl both.0
@@ -405,14 +409,15 @@ Ends over ending = ending ≡ ended
 Ends cut ending = ending ≡ cut_off
 Ends (next c rest) ending = (c ≡ quit) × (ending ≡ ended)
 
-pub ends : (base : Source) (files : Files) (p : Place) (commands : Feed Command) (ending : Ending) → ending ≢ early → Replies base files p commands ending [] → Ends commands ending
-ends base files p commands early not_early right = absurd (not_early refl)
-ends base files p over ended not_early right = right
-ends base files p over cut_off not_early right = right
-ends base files p cut ended not_early right = right
-ends base files p cut cut_off not_early right = right
-ends base files p (next c rest) ended not_early right = right
-ends base files p (next c rest) cut_off not_early right = right
+pub ends : (base : Source) (files : Files) (p : Place) (commands : Feed Command) (ending : Ending) → EndsInFull ending → Replies base files p commands ending [] → Ends commands ending
+ends base files p commands early full right = absurd full
+ends base files p commands unread full right = absurd full
+ends base files p over ended full right = right
+ends base files p over cut_off full right = right
+ends base files p cut ended full right = right
+ends base files p cut cut_off full right = right
+ends base files p (next c rest) ended full right = right
+ends base files p (next c rest) cut_off full right = right
 
 pub one_end : (commands : Feed Command) (a b : Ending) → Ends commands a → Ends commands b → a ≡ b
 one_end over a b p q = p ∙ sym q
@@ -420,13 +425,13 @@ one_end cut a b p q = p ∙ sym q
 one_end (next c rest) a b p q = p.1 ∙ sym q.1
 
 -- a session that ends does not go on
-pub never_goes_on : (base : Source) (files : Files) (p : Place) (commands : Feed Command) (a b : Ending) (r : Reply) (more : List Reply) → b ≢ early → Ends commands a → Replies base files p commands b (r ∷ more) → ⊥
-never_goes_on base files p over a b r more not_early end right = none_left base files p over b r more (inl refl) right
-never_goes_on base files p cut a b r more not_early end right = none_left base files p cut b r more (inr refl) right
-never_goes_on base files p (next c rest) a b r more not_early (quitting, end) right =
-    let (does, comes, is) = subst (λ d. Transition.Transition (source_of base files) p d r) quitting (next_answered base files p c rest b r more not_early right).0 in comes
+pub never_goes_on : (base : Source) (files : Files) (p : Place) (commands : Feed Command) (a b : Ending) (r : Reply) (more : List Reply) → EndsInFull b → Ends commands a → Replies base files p commands b (r ∷ more) → ⊥
+never_goes_on base files p over a b r more full end right = none_left base files p over b r more (inl refl) right
+never_goes_on base files p cut a b r more full end right = none_left base files p cut b r more (inr refl) right
+never_goes_on base files p (next c rest) a b r more full (quitting, end) right =
+    let (does, comes, is) = subst (λ d. Transition.Transition (source_of base files) p d r) quitting (next_answered base files p c rest b r more full right).0 in comes
 
-one_run : BootLaws → (base : Source) → GivesOne base → (files : Files) (p q : Place) (commands : Feed Command) (a b : Ending) (first second : List Reply) → Alike p q → a ≢ early → b ≢ early → NoneFails first → NoneFails second
+one_run : BootLaws → (base : Source) → GivesOne base → (files : Files) (p q : Place) (commands : Feed Command) (a b : Ending) (first second : List Reply) → Alike p q → EndsInFull a → EndsInFull b → NoneFails first → NoneFails second
     → LeaveCompactStores first → LeaveCompactStores second → Replies base files p commands a first → Replies base files q commands b second → (a ≡ b) × AreSame first second
 one_run laws base single files p q commands a b [] [] alike not_a not_b works works_too small small_too right right_too = (one_end commands a b (ends base files p commands a not_a right) (ends base files q commands b not_b right_too), tt)
 one_run laws base single files p q commands a b [] (s ∷ second) alike not_a not_b works works_too small small_too right right_too = absurd (never_goes_on base files q commands a b s second not_b (ends base files p commands a not_a right) right_too)

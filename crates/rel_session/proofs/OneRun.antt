@@ -1,13 +1,12 @@
 -- A text tells one run.
-use Rattle.std.proofs.Common.{◌≡◌, ◌≢◌, ◌⊎◌, inl, inr, ℕ, List, [], ◌∷◌, ◌++◌, refl, sym, ap, ◌∙◌, subst}
+use Rattle.std.proofs.Common.{◌≡◌, ◌⊎◌, inl, inr, ℕ, List, [], ◌∷◌, ◌++◌, refl, sym, ap, ◌∙◌, subst}
 use Rattle.session_input.specs.Commands.{Command}
 use Rattle.session_input.specs.Feed.{Feed}
 use Rattle.session_input.specs.Feed.Feed.{over, cut, next}
 use Rattle.rel_unpack.specs.Source.{Source, GivesOne}
 use Rattle.rel_session.specs.Files.{Files, files_behind, source_of}
 use Rattle.rel_session.specs.Node.{Place, Reply}
-use Rattle.rel_session.specs.Run.{Replies, Ending, answers_of, events_of}
-use Rattle.rel_session.specs.Run.Ending.{early}
+use Rattle.rel_session.specs.Run.{EndsInFull, Replies, Ending, answers_of, events_of}
 use Rattle.rel_session.specs.AnswerLaws.{HaveLinePaths, HasVersionsAt, HasModuleVersionsAt, AreSame, RestartAlike, TellsOneRun, have_restart}
 use Rattle.rel_session.specs.Transition.{Action, ComesTo}
 use Rattle.rel_session.specs.Transition.Action.{answers, makes_node, changes_node, installs, reboots_node, boots_node, tells_start, calls}
@@ -42,7 +41,7 @@ one_answer source single p q c does again r s kinds comes comes_too of of_too al
     go (inr (says, here, here_too)) = one_front r.answer s.answer (subst (λ d. LinesOf d r) here of) (subst (λ d. LinesOf d s) here_too of_too) x y same
 
 one_run : (base : Source) → GivesOne base → (files : Files) (p q : Place) (commands : Feed Command) (a b : Ending) (first second : List Reply) → kind_of p ≡ kind_of q → HasVersionsAt p → HasVersionsAt q → HasModuleVersionsAt p → HasModuleVersionsAt q → HaveLinePaths commands
-    → a ≢ early → b ≢ early → RestartAlike first second → Replies base files p commands a first → Replies base files q commands b second → answers_of first ≡ answers_of second → (a ≡ b) × AreSame first second
+    → EndsInFull a → EndsInFull b → RestartAlike first second → Replies base files p commands a first → Replies base files q commands b second → answers_of first ≡ answers_of second → (a ≡ b) × AreSame first second
 one_run base single files p q commands a b [] [] kinds all all_too tells tells_too lines not_a not_b restarts right right_too same = (one_end commands a b (ends base files p commands a not_a right) (ends base files q commands b not_b right_too), tt)
 one_run base single files p q commands a b [] (s ∷ second) kinds all all_too tells tells_too lines not_a not_b restarts right right_too same = absurd (never_goes_on base files q commands a b s second not_b (ends base files p commands a not_a right) right_too)
 one_run base single files p q commands a b (r ∷ first) [] kinds all all_too tells tells_too lines not_a not_b restarts right right_too same = absurd (never_goes_on base files p commands b a r first not_a (ends base files q commands b not_b right_too) right)

@@ -1,12 +1,12 @@
 -- Sessions in which neither the device failed nor memory was refused to a compaction have written one text.
-use Rattle.std.proofs.Common.{◌≡◌, ◌≢◌, ℕ, List, [], ◌∷◌, ◌++◌, refl, sym, ◌∙◌}
+use Rattle.std.proofs.Common.{◌≡◌, ℕ, List, [], ◌∷◌, ◌++◌, refl, sym, ◌∙◌}
 use Rattle.rel_unpack.specs.Source.{Source}
 use Rattle.rel_session.specs.AnswerLaws.{AreSame, HaveOneText}
 use Rattle.rel_session.specs.Device.{Device}
 use Rattle.rel_session.specs.LawsBelow.{BootLaws}
 use Rattle.rel_session.specs.Node.{Reply}
-use Rattle.rel_session.specs.Run.{Ending, IsTextOf, answers_of}
-use Rattle.rel_session.specs.Run.Ending.{ended, cut_off, early}
+use Rattle.rel_session.specs.Run.{EndsInFull, Ending, IsTextOf, answers_of}
+use Rattle.rel_session.specs.Run.Ending.{ended, cut_off, unread, early}
 use Rattle.rel_session.proofs.Failures.{fails_only_with_the_device}
 use Rattle.rel_session.proofs.OneAnswer.{have_one_answer}
 
@@ -17,10 +17,11 @@ same_text [] (b ∷ second) same = absurd same
 same_text (a ∷ first) [] same = absurd same
 
 -- a session that is not ended early has written all its answers
-whole_text : (ending : Ending) (replies : List Reply) (text : List ℕ) → ending ≢ early → IsTextOf ending replies text → text ≡ answers_of replies
+whole_text : (ending : Ending) (replies : List Reply) (text : List ℕ) → EndsInFull ending → IsTextOf ending replies text → text ≡ answers_of replies
 whole_text ended replies text whole is = is
 whole_text cut_off replies text whole is = is
-whole_text early replies text whole is = absurd (whole refl)
+whole_text unread replies text whole is = absurd whole
+whole_text early replies text whole is = absurd whole
 
 pub have_one_text : BootLaws → {D : Type 0} (v : Device D) (base : Source) → HaveOneText v base
 have_one_text laws v base single files p commands a b old new other later text written sure not_a not_b works works_too one two small small_too =

@@ -102,9 +102,13 @@ makes_on : (x : List ℕ) (b : Brought) (there : Bool) → BringsLibraries b →
 makes_on x b true of a is = versions_as a _ is tt
 makes_on x b false of a is = makes_with x (bundle_brought b) (made_size b) (own_refusal b) of a is
 
+makes_fails : (x : List ℕ) (p : Bundle) (why : Option Refusal) (a : Reply) → Transition.FailsToMake x p why a → KeepsVersions a
+makes_fails x p (Some why) a is = versions_as a _ is tt
+makes_fails x p None a (torn, kept, is) = versions_as a _ is tt
+
 makes : (p : Place) (b : Brought) → BringsLibraries b → HasModuleVersionsAt p → (a : Reply) → Transition.MakesNode p b a → KeepsVersions a
 makes (raw x) b of versions a (inl is) = makes_on x b (holds_a_store x) of a is
-makes (raw x) b of versions a (inr (torn, is)) = versions_as a _ is tt
+makes (raw x) b of versions a (inr is) = makes_fails x (bundle_brought b) (own_refusal b) a is
 makes (closed s) b of versions a (inl is) = versions_as a _ is tt
 makes (closed s) b of versions a (inr is) = versions_as a _ is tt
 makes (running events extent ps) b of versions a is = versions_as a _ is versions

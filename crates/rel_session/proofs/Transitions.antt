@@ -87,9 +87,13 @@ torn_as bytes torn answer doubt a is = keeps_as (raw bytes) a _ is (record { fou
 failed_as : (s : Stored) (answer : List ℕ) (doubt : Option Event) (p : Place) (a : Reply) → Finds p s.known.acknowledged → a ≡ reply answer (record { acknowledged = []; in_doubt = doubt; failed = true }) (closed s) → Keeps p a
 failed_as s answer doubt p a finds is = keeps_as p a _ is (keeps_known p _ s.known.acknowledged finds (sym (append-nil s.known.acknowledged)) tt)
 
+makes_fails : (bytes : List ℕ) (p : Bundle) (why : Option Refusal) (a : Reply) → Transition.FailsToMake bytes p why a → Keeps (raw bytes) a
+makes_fails bytes p (Some why) a is = torn_as bytes bytes _ _ a is
+makes_fails bytes p None a (torn, kept, is) = torn_as bytes torn _ _ a is
+
 makes : (p : Place) (found : Brought) (a : Reply) → Transition.MakesNode p found a → Keeps p a
 makes (raw bytes) found a (inl is) = makes_on bytes found (holds_a_store bytes) a is
-makes (raw bytes) found a (inr (torn, is)) = torn_as bytes torn _ _ a is
+makes (raw bytes) found a (inr is) = makes_fails bytes (bundle_brought found) (own_refusal found) a is
 makes (closed s) found a (inl is) = still_as (closed s) _ a is
 makes (closed s) found a (inr is) = failed_as s _ _ (closed s) a (inl refl) is
 makes (running events extent ps) found a is = still_as (running events extent ps) _ a is

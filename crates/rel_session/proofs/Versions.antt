@@ -193,9 +193,13 @@ makes_on : (x : List ℕ) (b : Brought) (there : Bool) → IsGoodAction (makes_n
 makes_on x b true good a is = good_as a _ is ((λ behind. refl), tt)
 makes_on x b false good a is = makes_with x (bundle_brought b) (made_size b) (own_refusal b) good.0 good.1 a is
 
+makes_fails : (x : List ℕ) (p : Bundle) (why : Option Refusal) (a : Reply) → Transition.FailsToMake x p why a → IsGood a
+makes_fails x p (Some why) a is = good_as a _ is ((λ behind. refl), tt)
+makes_fails x p None a (torn, kept, is) = good_as a _ is ((λ behind. refl), tt)
+
 makes : (p : Place) (found : Brought) → IsGoodAction (makes_node found) → HasVersionsAt p → (a : Reply) → Transition.MakesNode p found a → IsGood a
 makes (raw x) found good all a (inl is) = makes_on x found (holds_a_store x) good a is
-makes (raw x) found good all a (inr (torn, is)) = good_as a _ is ((λ behind. refl), tt)
+makes (raw x) found good all a (inr is) = makes_fails x (bundle_brought found) (own_refusal found) a is
 makes (closed s) found good all a (inl is) = good_as a _ is ((λ behind. refl), all)
 makes (closed s) found good all a (inr is) = good_as a _ is ((λ behind. refl), all)
 makes (running events extent ps) found good all a is = good_as a _ is ((λ behind. refl), all)

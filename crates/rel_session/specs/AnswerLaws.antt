@@ -1,5 +1,5 @@
 -- What is so of the answers of whole sessions.
-use Rattle.std.specs.Prelude.{◌≡◌, ◌≢◌, ◌⊎◌, Bool, true, false, ℕ, List, [], ◌∷◌, ◌++◌, None, Some}
+use Rattle.std.specs.Prelude.{◌≡◌, ◌⊎◌, Bool, true, false, ℕ, List, [], ◌∷◌, ◌++◌, None, Some}
 use Rattle.std.specs.List.{AllByRecursion}
 use Rattle.erl_term.specs.Lines.{is_one_line}
 use Rattle.erl_term.specs.Value.{Value}
@@ -26,8 +26,7 @@ use Rattle.rel_session.specs.Node.Place.{raw, closed, running, dead}
 use Rattle.node_answer.specs.Refusals.{refusal_line}
 use Rattle.rel_session.specs.Booting.{boot_line}
 use Rattle.node_answer.specs.Refusals.Refusal.{device}
-use Rattle.rel_session.specs.Run.{Starts, Holds, Executes, Replies, Ending, answers_of, commands_in, events_of, IsRun}
-use Rattle.rel_session.specs.Run.Ending.{early}
+use Rattle.rel_session.specs.Run.{EndsInFull, Starts, Holds, Executes, Replies, Ending, answers_of, commands_in, events_of, IsRun}
 use Rattle.rel_session.specs.RunLaws.{MayBe, NoneFails}
 use Rattle.rel_session.specs.Transition.{Transition}
 
@@ -105,7 +104,7 @@ AreSame first second = ⊥
 abbrev pub HaveOneAnswer : Source → Type 0
 HaveOneAnswer base =
     GivesOne base → (files : Files) (p : Place) (commands : Feed Command) (a b : Ending) (first second : List Reply)
-    → IsCertain p → a ≢ early → b ≢ early → NoneFails first → NoneFails second
+    → IsCertain p → EndsInFull a → EndsInFull b → NoneFails first → NoneFails second
     → LeaveCompactStores first → LeaveCompactStores second
     → Replies base files p commands a first → Replies base files p commands b second → (a ≡ b) × AreSame first second
 
@@ -113,7 +112,7 @@ HaveOneAnswer base =
 abbrev pub HaveOneText : {D : Type 0} → Device D → Source → Type 0
 HaveOneText {D} v base =
     GivesOne base → (files : Files) (p : Place) (commands : Feed Command) (a b : Ending) (old new other later : D) (text written : List ℕ)
-    → IsCertain p → a ≢ early → b ≢ early → (HasFailed v old new → ⊥) → (HasFailed v other later → ⊥)
+    → IsCertain p → EndsInFull a → EndsInFull b → (HasFailed v old new → ⊥) → (HasFailed v other later → ⊥)
     → (run : IsRun v base files p commands a old new text) (again : IsRun v base files p commands b other later written)
     → LeaveCompactStores run.replies → LeaveCompactStores again.replies
     → (a ≡ b) × (text ≡ written)
@@ -128,7 +127,7 @@ HasList (dead s) = (list : Releases) × (list_after s.known.acknowledged ≡ Som
 -- The commands have answers in which neither the device fails nor memory is refused to a compaction.
 pub record HasAnswer (base : Source) (files : Files) (p : Place) (commands : Feed Command) : Type 0 where
   pub ending : Ending
-  pub whole : ending ≢ early
+  pub whole : EndsInFull ending
   pub replies : List Reply
   pub works : NoneFails replies
   pub compact : LeaveCompactStores replies
@@ -192,7 +191,7 @@ RestartAlike first second = Unit {0}
 abbrev pub TellsOneRun : Source → Type 0
 TellsOneRun base =
     GivesOne base → (files : Files) (p : Place) (commands : Feed Command) (a b : Ending) (first second : List Reply)
-    → HasVersionsAt p → HasModuleVersionsAt p → HaveLinePaths commands → a ≢ early → b ≢ early → RestartAlike first second
+    → HasVersionsAt p → HasModuleVersionsAt p → HaveLinePaths commands → EndsInFull a → EndsInFull b → RestartAlike first second
     → Replies base files p commands a first → Replies base files p commands b second → answers_of first ≡ answers_of second
     → (a ≡ b) × AreSame first second
 

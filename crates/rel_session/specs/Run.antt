@@ -1,10 +1,10 @@
 -- A session as a run: the commands of its input lead its disk, one after another, from one place to the next.
-use Rattle.std.specs.Prelude.{◌≡◌, ◌⊎◌, ℕ, ◌≤◌, Bool, true, false, List, [], ◌∷◌, ◌++◌, Option, None, Some}
+use Rattle.std.specs.Prelude.{◌≡◌, ◌⊎◌, ℕ, ◌≤◌, true, List, [], ◌∷◌, ◌++◌, Option, None, Some}
 use Rattle.rel_list.specs.Releases.{Releases}
 use Rattle.rel_list.specs.Event.{Event, list_after}
 use Rattle.rel_list.specs.Event.Event.{made}
 use Rattle.node_store.specs.Events.{Known, Events, settled, IsPrefix, with_doubt, StartsBehind, HasStart, IsStoredAs, certain}
-use Rattle.node_store.specs.Image.{IsImageOf, IsLeftByBoot}
+use Rattle.node_store.specs.Image.{holds_a_store, IsImageOf, IsLeftByBoot}
 use Rattle.rel_handler.specs.Moments.{Begins, BeginsAt}
 use Rattle.node_store.specs.Events.{doubted}
 use Rattle.session_input.specs.Commands.{Command, commands_of}
@@ -20,8 +20,8 @@ use Rattle.rel_session.specs.Node.{Place, Outcome, Reply}
 use Rattle.rel_session.specs.Node.Place.{raw, closed, running, dead}
 use Rattle.rel_session.specs.Transition.{Transition, IsStopped}
 
--- This is so of the disk of a node between two commands: whatever a crash leaves of it is the store that the place tells.
--- Where a node runs, the start record is that of its permanent release.
+-- This is so of the disk of a node between two commands: a read gives the bytes that the place tells, or whatever a crash leaves of
+-- it is the store that the place tells. Where a node runs, the start record is that of its permanent release.
 abbrev pub Holds : {D : Type 0} → Device D → Place → D → Type 0
 Holds v (raw bytes) disk = v.seen disk ≡ bytes
 Holds v (closed s) disk = (c : List ℕ) → v.may_leave disk c → IsStoredAs s c
@@ -52,20 +52,21 @@ pub record IsReached (k : Known) (command : Events) (image : List ℕ) : Type 0 
   pub image_of : IsImageOf image list
   pub start : HasStart (events ++ more) image
 
--- At each moment of a command on a disk on which no node is known: a creation has this from its first sync on, and one in
--- doubt if there was such a sync. A boot that is done or that the device failed leaves nothing new but what it has written; any
--- other command nothing at all.
-abbrev pub MomentsOf : {D : Type 0} → Device D → Events → Option Event → Bool → D → D → Type 0
-MomentsOf {D} v (made p ∷ more) doubt failed old new =
+-- At each moment of a command on a disk on which no node is known. A creation leaves no store, or one with its event, behind a
+-- moment up to which no more than the first byte was written; one in doubt may have had no such moment, and leaves nothing new on a
+-- store. A boot that is done or that the device failed leaves nothing new but what it has written; any other command nothing at all.
+abbrev pub MomentsOf : {D : Type 0} → Device D → Events → Option Event → D → D → Type 0
+MomentsOf {D} v (made p ∷ more) doubt old new =
     (at : D) × BeginsAt v.seen v.may_leave v.moment v.left_since (doubted [] (made p)) old new at
-MomentsOf v [] (Some (made p)) failed old new =
+MomentsOf v [] (Some (made p)) old new =
     Begins v.seen v.may_leave v.moment v.left_since (doubted [] (made p)) old new
-MomentsOf v [] None false old new = LeavesOnly v old new (v.may_leave old)
-MomentsOf v acknowledged doubt failed old new = LeavesOnly v old new (λ c. v.may_leave old c ⊎ IsLeftByBoot (v.seen old) c)
+    × (holds_a_store (v.seen old) ≡ true → LeavesOnly v old new (v.may_leave old))
+MomentsOf v [] None old new = LeavesOnly v old new (v.may_leave old)
+MomentsOf v acknowledged doubt old new = LeavesOnly v old new (λ c. v.may_leave old c ⊎ IsLeftByBoot (v.seen old) c)
 
 -- At each moment of a command with this outcome.
 abbrev pub Moments : {D : Type 0} → Device D → Place → Outcome → D → D → Type 0
-Moments v (raw bytes) o old new = MomentsOf v o.acknowledged o.in_doubt o.failed old new
+Moments v (raw bytes) o old new = MomentsOf v o.acknowledged o.in_doubt old new
 Moments v (closed s) o old new = LeavesOnly v old new (IsReached s.known (events_of o))
 Moments v (running events extent ps) o old new = LeavesOnly v old new (IsReached (settled events) (events_of o))
 Moments v (dead s) o old new = LeavesOnly v old new (IsReached s.known (events_of o))
@@ -83,11 +84,18 @@ abbrev pub Executes : {D : Type 0} → Device D → Place → List Reply → D �
 Executes v p [] old new = LeavesOnly v old new (v.may_leave old) × Holds v p new × (v.failures old ≤ v.failures new)
 Executes {D} v p (a ∷ more) old new = (mid : D) × Happens v p a old mid × Executes v a.after more mid new
 
--- how a session ends: at the end of its input or `quit`, where its input is cut off, or early
+-- how a session ends: at the end of its input or `quit`, where its input is cut off, where a read of it failed, or early
 pub data Ending : Type 0 where
   ended : Ending
   cut_off : Ending
+  unread : Ending
   early : Ending
+
+-- It came to the end of what it may take.
+abbrev pub EndsInFull : Ending → Type 0
+EndsInFull ended = Unit {0}
+EndsInFull cut_off = Unit {0}
+EndsInFull ending = ⊥
 
 -- A command was followed with this reply, or stopped within.
 abbrev pub MayLeave : Source → Place → Command → Reply → Type 0
@@ -98,12 +106,13 @@ abbrev pub IsReply : Source → Place → Command → Ending → List Reply → 
 IsReply source p c early [] a = MayLeave source p c a
 IsReply source p c ending more a = Transition source p c a
 
--- These are the replies to the commands, in order, over a source of files: to each up to the end or `quit`, or to the first
--- of them.
+-- These are the replies to the commands, in order, over a source of files: to each up to the end or `quit`, or to the first of
+-- them, where a read failed or the session ended early.
 abbrev pub Replies : Source → Files → Place → Feed Command → Ending → List Reply → Type 0
 Replies base files p (next c commands) ending (a ∷ more) =
     IsReply (source_of base files) p c ending more a × Replies base (files_behind files c) a.after commands ending more
 Replies base files p commands early [] = Unit {0}
+Replies base files p commands unread [] = Unit {0}
 Replies base files p over ending [] = ending ≡ ended
 Replies base files p cut ending [] = ending ≡ cut_off
 Replies base files p (next c commands) ending [] = (c ≡ quit) × (ending ≡ ended)

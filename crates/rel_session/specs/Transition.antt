@@ -185,12 +185,16 @@ abbrev pub MakesOn : List ℕ → Brought → Bool → Reply → Type 0
 MakesOn bytes b true a = a ≡ refused exists (raw bytes)
 MakesOn bytes b false a = MakesWith bytes (bundle_brought b) (made_size b) (own_refusal b) a
 
--- Where the device fails in it, the event is in doubt.
+-- The device fails in it. The event is in doubt, unless the files are refused: nothing was written then, nor on a store.
+abbrev pub FailsToMake : List ℕ → Bundle → Option FilesRefusal → Reply → Type 0
+FailsToMake bytes p (Some why) a = a ≡ failed None (raw bytes)
+FailsToMake bytes p None a =
+    (torn : List ℕ) × (holds_a_store bytes ≡ true → torn ≡ bytes) × (a ≡ failed (Some (made p)) (raw torn))
+
+-- It is made, or refused, or the device fails in it. Beside a store that a boot has read nothing is in doubt.
 abbrev pub MakesNode : Place → Brought → Reply → Type 0
-MakesNode (raw bytes) b a =
-    MakesOn bytes b (holds_a_store bytes) a
-    ⊎ ((torn : List ℕ) × (a ≡ failed (Some (made (bundle_brought b))) (raw torn)))
-MakesNode (closed s) b a = (a ≡ refused exists (closed s)) ⊎ (a ≡ failed (Some (made (bundle_brought b))) (closed s))
+MakesNode (raw bytes) b a = MakesOn bytes b (holds_a_store bytes) a ⊎ FailsToMake bytes (bundle_brought b) (own_refusal b) a
+MakesNode (closed s) b a = (a ≡ refused exists (closed s)) ⊎ (a ≡ failed None (closed s))
 MakesNode p b a = a ≡ refused exists p
 
 -- the store of a node with these events behind a reboot to the release of this version, which reaches so far

@@ -1,11 +1,16 @@
 //! A session of a node.
+//!
+//! The commands come from `session_input`. A failed read, a failed write and an input that is too long are reported only where one
+//! was. At most 16,777,216 bytes of the input are taken, and each answer is written once its command was read. Where memory is
+//! refused to the processes, or to a boot behind a commit, the session ends without an answer, and what the command has committed
+//! is on the disk.
 ghost use Rattle.std.specs.Prelude.{◌≡◌, ◌≤◌, None, IsErrOf, OnOk, OnErr};
 ghost use Rattle.counted_io.specs.Counted.{held_by, failed_writes};
 ghost use Rattle.counted_io.specs.Failures.{HasRisen};
 ghost use Rattle.rel_session.specs.Session.{IsSession};
 ghost use Rattle.rel_session.specs.Files.{no_files};
 ghost use Rattle.session_input.specs.Input.{IsFresh, left_in, taken, failed_reads, most_bytes};
-ghost use Rattle.rel_session.specs.Run.Ending.{ended, cut_off, early};
+ghost use Rattle.rel_session.specs.Run.Ending.{ended, cut_off, unread, early};
 
 use crate::node::Node;
 use counted_io::CountedWriter;
@@ -37,6 +42,12 @@ pub fn session<H: Threads + Wait + Sync, D: Disk, F: Files, R: Read + Drop, W: W
         (held_by W.contents output.old) (held_by W.contents output.new)) }
     ensures cut { IsErrOf result.1 SessionError.Limit
         → IsSession D.Disk (F.gives files.now) no_files cut_off
+        (left_in R.remaining input.old) disk result.0
+        (held_by W.contents output.old) (held_by W.contents output.new) }
+
+    // After a failed read it is such a run up to some command, and all answers are written.
+    ensures unread { IsErrOf result.1 SessionError.Read
+        → IsSession D.Disk (F.gives files.now) no_files unread
         (left_in R.remaining input.old) disk result.0
         (held_by W.contents output.old) (held_by W.contents output.new) }
 

@@ -1,4 +1,7 @@
 //! The files of a session.
+//!
+//! A release is read by `rel_unpack`, and `relup` is answered by `relup_command`, from the files that were given in the session
+//! and behind them those of a source.
 ghost use Rattle.std.specs.Prelude.{◌≡◌, ◌≢◌, ◌≤◌, None, Some, Ok, Err, string_bytes, IfOk, IfErr, OnOk, length};
 ghost use Rattle.session_input.specs.Commands.{given_of};
 ghost use Rattle.rel_session.specs.Files.{give, no_files, read_of};

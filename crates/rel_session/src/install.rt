@@ -1,4 +1,7 @@
 //! Installs a release.
+//!
+//! Behind an installation whose script ends with a restart the node boots at once, and the answer has two lines: its own, and that
+//! of the boot.
 ghost use Rattle.std.specs.Prelude.{◌≡◌, ◌++◌, string_bytes, IfErr, IfOk, IsOkAnd};
 ghost use Rattle.node_store.specs.Commits.{Commits};
 ghost use Rattle.rel_handler.specs.Installing.{install_event, install_size, InstallRefused};

@@ -1,4 +1,7 @@
 //! Commands on the processes of a node that runs.
+//!
+//! The processes are those of `node_processes`: a boot starts them, a command lists, peeks at or calls them, and an installation
+//! upgrades them by its script; other changes of the releases leave them as they are.
 ghost use Rattle.std.specs.Prelude.{◌≡◌, false};
 ghost use Rattle.node_processes.specs.Answers.{processes_line, modules_line, peek_line};
 ghost use Rattle.node_store.specs.State.{is_dead};

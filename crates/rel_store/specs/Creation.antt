@@ -29,7 +29,7 @@ pub record IsUnwritten {D : Type 0} (seen : D → List ℕ) (may_leave : D → L
   pub same : seen new ≡ seen old
   pub any_moment : LeavesOnly moment left_since old new (may_leave old)
 
--- Up to this moment nothing but the gate of a store has been written, and it is closed and synced; from then on each
+-- Up to this moment nothing but the gate of a store has been written, and it is closed and synced then; from then on each
 -- image is no store or the new one, and all bytes are as they were but those of the new store.
 pub record IsBegunAt {D : Type 0} (seen : D → List ℕ) (may_leave : D → List ℕ → Type 0) (moment : D → ℕ) (left_since : D → ℕ → List ℕ → Type 0) (first start : List ℕ) (old new at : D) : Type 0 where
   pub until : LeavesOnly moment left_since old at (IsTornFrom (may_leave old) 0 1)
@@ -38,8 +38,8 @@ pub record IsBegunAt {D : Type 0} (seen : D → List ℕ) (may_leave : D → Lis
   pub from : LeavesOnly moment left_since at new (IsNoneOrNew first start)
   pub others : LeavesOnly moment left_since at new (LeavesOthers (IsInNewStore (length first)) (seen at))
 
--- At each moment of a creation: before its first sync the images are those from before it, but for a gate that is torn;
--- from its first sync on each is no store or the new one.
+-- At each moment of a creation: the images are those from before it, but for a gate that is torn; or so they are up to a moment at
+-- which the gate is closed and synced, and from then on each is no store or the new one.
 abbrev pub Creates : {D : Type 0} → (D → List ℕ) → (D → List ℕ → Type 0) → (D → ℕ) → (D → ℕ → List ℕ → Type 0) → List ℕ → List ℕ → D → D → Type 0
 Creates {D = D} seen may_leave moment left_since first start old new =
     LeavesOnly moment left_since old new (IsTornFrom (may_leave old) 0 1) ⊎ ((at : D) × IsBegunAt seen may_leave moment left_since first start old new at)

@@ -18,8 +18,8 @@ use std::mem;
 
 impl<D: Disk> Store<D> {
     /// Replaces all records by one, the image. It is put at 288 if it and the closed gate behind it end below the old
-    /// records, and else behind the store's closed gate. From 288 on the disk is cut behind it. The start text stays. At
-    /// `Ok` it is acknowledged: from then on each crash leaves the image alone.
+    /// records, where the disk is cut behind it, and else behind the store's closed gate. The start text stays. At `Ok` it is
+    /// acknowledged: from then on each crash leaves the image alone.
     ///
     /// Told in this order: `MustReopen`, `Full` where the body is longer than a record's may be, or where the store would
     /// end past its bound, `NoMemory`; nothing has changed then. After `Device` the store has to be opened again, and has

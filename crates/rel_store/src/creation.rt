@@ -18,7 +18,8 @@ impl<D: Disk> Store<D> {
     /// What stands on the disk behind the store's closed gate stays.
     ///
     /// Told in this order: `Exists` where the disk begins with an open gate and the magic, `Full` where the record is
-    /// longer than a record may be, `NoMemory`. Nothing has been written then.
+    /// longer than a record may be, `NoMemory`. Nothing has been written then. `Device` may come instead of each: once
+    /// the first sync has succeeded a crash leaves no store, or this one, and before it at most the first byte was written.
     pub fn create(
         alloc: Global,
         disk: D,

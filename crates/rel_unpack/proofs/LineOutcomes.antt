@@ -21,7 +21,8 @@ use Rattle.rel_unpack.specs.Paths.{app_path}
 use Rattle.rel_unpack.specs.Refusal.{Refusal}
 use Rattle.rel_unpack.specs.Refusal.Refusal.{missing_file, bad_file, vsn_mismatch, lib_differs, no_table, too_many, no_memory}
 use Rattle.rel_unpack.specs.Refusal.Trouble.{unreadable, faulty, misshapen, faulty_relup}
-use Rattle.rel_unpack.specs.Release.{Found, ReleaseAt, is_small, rel_form}
+use Rattle.rel_unpack.specs.Release.{Found, ReleaseAt, rel_form}
+use Rattle.rel_check.specs.Limits.{is_small}
 use Rattle.rel_unpack.specs.Source.{Source, Form, HasBytes, HasValue, FileSays, IfThere}
 
 -- what a refusal tells is within a line

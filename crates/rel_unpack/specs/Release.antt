@@ -1,9 +1,10 @@
 -- The release of a `.rel` file; docs/RULES.md tells the limits.
-use Rattle.std.specs.Prelude.{◌≡◌, ℕ, Bool, List, length, nat_le, if◌then◌else◌, Ok, Err}
+use Rattle.std.specs.Prelude.{◌≡◌, ℕ, List, if◌then◌else◌, Ok, Err}
 use Rattle.erl_term.specs.Value.{Value, value_of}
 use Rattle.rel_files.specs.File.{HasFileTerm, IsReleaseTerm, HasFault}
 use Rattle.rel_files.specs.Release.{Release, release_of}
 use Rattle.rel_files.specs.declared.reader.RelFile.{RelFile}
+use Rattle.rel_check.specs.Limits.{is_small}
 use Rattle.rel_unpack.specs.Refusal.{IsFault}
 use Rattle.rel_unpack.specs.Refusal.Refusal.{too_many}
 use Rattle.rel_unpack.specs.Order.{Outcome, Then}
@@ -19,10 +20,6 @@ found_of f = record { release = release_of f.release; term = value_of f.term }
 
 abbrev pub rel_form : Form Found
 rel_form = record { says = λ bytes f. HasFileTerm bytes f.term × IsReleaseTerm f.term f.release; fails = λ bytes t. IsFault (HasFault bytes) t }
-
--- a release has no more applications than it may have
-abbrev pub is_small : Release → Bool
-is_small r = nat_le (length r.apps) 64
 
 -- the release of a path
 abbrev pub ReleaseAt : Source → List ℕ → Outcome Found

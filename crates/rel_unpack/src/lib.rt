@@ -21,7 +21,7 @@ mod unpacking;
 
 pub use applications::{ApplicationFiles, read_application, read_libraries};
 pub use error::{FileTrouble, UnpackError};
-pub use release::{MOST_APPLICATIONS, is_small, read_release};
+pub use release::read_release;
 pub use relup::read_relup_beside;
 pub use source::{read_bytes, unless_missing};
 pub use unpacking::{ReleaseFiles, unpack_applications, unpack_release};

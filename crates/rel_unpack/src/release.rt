@@ -5,18 +5,16 @@ ghost use Rattle.erl_term.specs.Within.{IsWithin};
 ghost use Rattle.rel_files.specs.Release.{release_of};
 ghost use Rattle.rel_unpack.specs.Order.{Answers};
 ghost use Rattle.rel_unpack.specs.Source.{FileSays};
-ghost use Rattle.rel_unpack.specs.Release.{ReleaseAt, found_of, is_small, rel_form};
+ghost use Rattle.rel_unpack.specs.Release.{ReleaseAt, found_of, rel_form};
 
 use crate::error::UnpackError;
 use crate::source::{read_bytes, refusal_for};
 use file_source::Files;
-use rel_files::{Rel, RelFile, read_rel_file};
+use rel_check::is_small;
+use rel_files::{RelFile, read_rel_file};
 use std::alloc::Global;
 
-/// How many applications a release has at most.
-pub const MOST_APPLICATIONS: usize = 64;
-
-/// The release of the `.rel` file of a path.
+/// The release of the `.rel` file of a path. It has at most so many applications as `rel_check` says.
 pub fn read_release<F: Files>(alloc: Global, files: &F, path: &str) -> Result<RelFile, UnpackError>
     ensures answer { Answers found_of (ReleaseAt (F.gives files.now) path.now) result }
     ensures within { IfOk result (λ file. IsWithin 65 (value_of file.term)) }
@@ -27,13 +25,6 @@ pub fn read_release<F: Files>(alloc: Global, files: &F, path: &str) -> Result<Re
     } else {
         Err(UnpackError::TooMany)
     }
-}
-
-/// Whether the release has no more applications than it may have.
-pub fn is_small(release: &Rel) -> bool
-    ensures { result ≡ is_small (release_of release.now) }
-{
-    release.apps.len() <= MOST_APPLICATIONS
 }
 
 // Of as many applications as the file has.

@@ -17,4 +17,4 @@ pub mod laws;
 mod order;
 
 pub use block::{push_block, push_instr};
-pub use order::{BlockItem, is_among};
+pub use order::BlockItem;

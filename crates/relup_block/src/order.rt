@@ -74,8 +74,8 @@ impl<'a> BlockItem<'a> {
     }
 }
 
-/// Whether a name is among these.
-pub fn is_among(name: &str, names: &[String]) -> bool
+// Whether a name is among these.
+fn is_among(name: &str, names: &[String]) -> bool
     ensures { result ≡ is_among name.now (map string_bytes names.now) }
 {
     for other in names {

@@ -2,3 +2,6 @@ pub mod AppupLemmas
 pub mod AnswerLemmas
 pub mod RelupOutcomes
 pub mod RelupLines
+pub mod NameLemmas
+pub mod TextLemmas
+pub mod FileLemmas

@@ -63,7 +63,7 @@ spelled_all (v ∷ vs) (i ∷ is') all = (all.0.1, spelled_all vs is' all.1)
 spelled_all [] (i ∷ is') all = absurd all
 spelled_all (v ∷ vs) [] all = tt
 
-entries_all : (vs : List Value) (es : List AppupEntryForm) → AllZip IsEntryTerm vs es → AllByRecursion (λ (e : AppupEntryForm). AllByRecursion IsAppupInstruction e.instrs) es
+pub entries_all : (vs : List Value) (es : List AppupEntryForm) → AllZip IsEntryTerm vs es → AllByRecursion (λ (e : AppupEntryForm). AllByRecursion IsAppupInstruction e.instrs) es
 entries_all [] [] all = tt
 entries_all (v ∷ vs) (e ∷ es) all = (spelled_all all.0.instrs e.instrs all.0.each, entries_all vs es all.1)
 entries_all [] (e ∷ es) all = absurd all

@@ -2,3 +2,4 @@ pub mod Appups
 pub mod Releases
 pub mod Relup
 pub mod Answer
+pub mod Laws

@@ -22,7 +22,7 @@ use Rattle.started_members.specs.Looks.{process_stays}
 use Rattle.sup_tree.specs.Tree.{supervises}
 use Rattle.held_processes.specs.Children.{child_stays, state_stays}
 use Rattle.held_processes.specs.Course.{Courses, added, runs}
-use Rattle.held_processes.specs.Operations.{Values, is_held_user, now_in, uses_up, values_seen}
+use Rattle.held_processes.specs.Operations.{Values, is_held_user, lacks_row_at, now_in, uses_up, values_seen}
 use Rattle.held_processes.proofs.AnyLemmas.{any_alike}
 use Rattle.held_processes.proofs.StandLemmas.{stand_alone}
 use Rattle.script_progress.specs.Calls.{ChildCall, app_call, child_call, is_on_child}
@@ -30,7 +30,7 @@ use Rattle.script_progress.specs.Calls.ChildCall.{terminates, deletes, restarts,
 use Rattle.script_progress.specs.Script.{Run, Site, changed_once, child_stays_at, mode_of, old_version, run_after, stays_at, users_in}
 use Rattle.script_progress.specs.Fault.{Cause, app_call_fault, change_fault, child_call_fault, error_cause, fault, is_stuck, restart_call_fault, super_fault_or}
 use Rattle.script_progress.specs.Fault.Cause.{in_use, no_change, no_memory}
-use Rattle.script_progress.specs.Steps.{HasNoFault, IsFault, IsSeen}
+use Rattle.script_progress.specs.Steps.{IsFault, IsSeen, HasNoFaultAt}
 use Rattle.relup_exec.specs.Outcome.{IsInstructionAt, RanAll, Start, began_at, run_behind, run_through, still_early}
 use Rattle.relup_exec.specs.Alone.{HasOneOutcome, fails_at, outcome, outcome_from, step_alone, unless_fault, values_alone}
 use Rattle.relup_exec.proofs.RunLemmas.{step_values, still_before, through_values}
@@ -39,10 +39,14 @@ use Rattle.relup_exec.proofs.RunLemmas.{step_values, still_before, through_value
 abbrev pub Alike : Values → Values → Type 0
 Alike f g = (p : ℕ) → p < slots → f p ≡ g p
 
-stuck_alike : (old : Option OldVersion) (c : ChangeForm) (f g : Values) (r : Run) → Alike f g → is_stuck old c f r ≡ is_stuck old c g r
+pub row_alike : (old : OldVersion) (c : ChangeForm) (f g : Values) (r : Run) → Alike f g → (p : ℕ) → p < slots
+    → lacks_row_at old c.extra f (users_in r) c.name r.courses p ≡ lacks_row_at old c.extra g (users_in r) c.name r.courses p
+row_alike old c f g r same p inside =
+    ap (λ x. is_held_user (users_in r) c.name r.courses p && not (finds_row old c.extra (replay_from x (r.courses p).pending))) (same p inside)
+
+pub stuck_alike : (old : Option OldVersion) (c : ChangeForm) (f g : Values) (r : Run) → Alike f g → is_stuck old c f r ≡ is_stuck old c g r
 stuck_alike None c f g r same = refl
-stuck_alike (Some old) c f g r same =
-    any_alike _ _ slots (λ p inside. ap (λ x. is_held_user (users_in r) c.name r.courses p && not (finds_row old c.extra (replay_from x (r.courses p).pending))) (same p inside))
+stuck_alike (Some old) c f g r same = any_alike _ _ slots (row_alike old c f g r same)
 
 change_alike : (s : Site) (mode : Direction) (cs : List ChangeForm) (f g : Values) (r : Run) → Alike f g → change_fault s mode cs f r ≡ change_fault s mode cs g r
 change_alike s mode [] f g r same = refl
@@ -67,13 +71,13 @@ place_alike stay f g (Some p) same = state_alike stay f g p.child.state same
 pub now_alike : (f g : Values) (cs : Courses) → Alike f g → Alike (now_in f cs) (now_in g cs)
 now_alike f g cs same p inside = ap (λ x. replay_from x (cs p).pending) (same p inside)
 
-child_alike : (f g : Values) (c : ChildCall) (r : Run) → Alike f g → child_stays_at f c r ≡ child_stays_at g c r
+pub child_alike : (f g : Values) (c : ChildCall) (r : Run) → Alike f g → child_stays_at f c r ≡ child_stays_at g c r
 child_alike f g (terminates super id) r same = refl
 child_alike f g (deletes super id) r same = place_alike Up (now_in f r.courses) (now_in g r.courses) (child_place super id r.apps) (now_alike f g r.courses same)
 child_alike f g (restarts super id) r same = place_alike UpOrTemporary (now_in f r.courses) (now_in g r.courses) (child_place super id r.apps) (now_alike f g r.courses same)
 child_alike f g no_call r same = refl
 
-stays_alike : (f g : Values) (i : Instruction) (r : Run) → Alike f g → stays_at f i r ≡ stays_at g i r
+pub stays_alike : (f g : Values) (i : Instruction) (r : Run) → Alike f g → stays_at f i r ≡ stays_at g i r
 stays_alike f g (apply c) r same = ap (λ (b : Bool). if is_on_child c then b else false) (child_alike f g (child_call c) r same)
 stays_alike f g i r same = refl
 
@@ -93,7 +97,7 @@ fault_alike s f g r (apply c) same =
 fault_alike s f g r i same = refl
 
 -- what the handler has seen alone
-seen_alone : (first : View) (r : Run) (v : View) → first.lent ≡ [] → r.values ≡ values_seen first → IsSeen first r v → Alike (values_seen v) (values_alone r)
+pub seen_alone : (first : View) (r : Run) (v : View) → first.lent ≡ [] → r.values ≡ values_seen first → IsSeen first r v → Alike (values_seen v) (values_alone r)
 seen_alone first r v none values at p inside =
     ap replay (stand_alone first.lent (seen first p) (r.courses p).blocks (seen v p) none (at p inside))
     ∙ (replay-append nothing (seen first p) (added (r.courses p).blocks)
@@ -103,46 +107,46 @@ fault_alone : (first : View) (s : Site) (r : Run) (v : View) (i : Instruction) �
 fault_alone first s r v i none values at = fault_alike s (values_seen v) (values_alone r) r i (seen_alone first r v none values at)
 
 -- one instruction that was carried out, of which this is told
-step_is : (s : Site) (first now : View) (e b : Bool) (i : Instruction) (rest : List Instruction) (n : ℕ) (r : Run) → first.lent ≡ [] → r.values ≡ values_seen first → HasNoFault s first now r b i
+step_is : (s : Site) (first u : View) (e b : Bool) (i : Instruction) (rest : List Instruction) (n : ℕ) (r : Run) → first.lent ≡ [] → r.values ≡ values_seen first → HasNoFaultAt s first r b i u
     → outcome_from s e n (i ∷ rest) r ≡ outcome_from s (e && not (is_point i)) (n + 1) rest (run_after s e b i r)
-step_is s first now e b i rest n r none values ran =
-    let here : fault s (values_alone r) r i ≡ None = sym (fault_alone first s r ran.0 i none values ran.1) ∙ ran.2 in
-    let told : stays_at (values_alone r) i r ≡ b = sym (ran.3 ∙ stays_alike (values_seen ran.0) (values_alone r) i r (seen_alone first r ran.0 none values ran.1)) in
+step_is s first u e b i rest n r none values sound =
+    let here : fault s (values_alone r) r i ≡ None = sym (fault_alone first s r u i none values sound.0) ∙ sound.1 in
+    let told : stays_at (values_alone r) i r ≡ b = sym (sound.2 ∙ stays_alike (values_seen u) (values_alone r) i r (seen_alone first r u none values sound.0)) in
     ap (λ f. unless_fault f e (n + 1) (outcome_from s (e && not (is_point i)) (n + 1) rest (step_alone s e i r))) here
     ∙ ap (λ (c : Bool). outcome_from s (e && not (is_point i)) (n + 1) rest (run_after s e c i r)) told
 
 -- instructions that were carried out
-ran_alone : (s : Site) (first now : View) (e : Bool) (told : List Bool) (is rest : List Instruction) (n : ℕ) (r : Run) → first.lent ≡ [] → r.values ≡ values_seen first → RanAll s first now e told is r
+ran_alone : (s : Site) (first since now : View) (e : Bool) (told : List Bool) (is rest : List Instruction) (n : ℕ) (r : Run) → first.lent ≡ [] → r.values ≡ values_seen first → RanAll s first since now e told is r
     → outcome_from s e n (is ++ rest) r ≡ outcome_from s (still_early e is) (n + length is) rest (run_through s e told is r)
-ran_alone s first now e told [] rest n r none values ran = ap (λ m. outcome_from s e m rest r) (omega arith)
-ran_alone s first now true told (i ∷ is) rest n r none values ran =
+ran_alone s first since now e told [] rest n r none values ran = ap (λ m. outcome_from s e m rest r) (omega arith)
+ran_alone s first since now true told (i ∷ is) rest n r none values ran =
     let e' = not (is_point i) in
     let r' = run_after s true false i r in
-    step_is s first now true false i (is ++ rest) n r none values ran.0
-    ∙ (ran_alone s first now e' told is rest (n + 1) r' none (step_values s true false i r ∙ values) ran.1
+    step_is s first ran.0 true false i (is ++ rest) n r none values ran.1
+    ∙ (ran_alone s first ran.0 now e' told is rest (n + 1) r' none (step_values s true false i r ∙ values) ran.3
     ∙ ap (λ m. outcome_from s (still_early e' is) m rest (run_through s e' told is r')) (omega arith))
-ran_alone s first now false [] (i ∷ is) rest n r none values ran = absurd ran
-ran_alone s first now false (b ∷ told) (i ∷ is) rest n r none values ran =
+ran_alone s first since now false [] (i ∷ is) rest n r none values ran = absurd ran
+ran_alone s first since now false (b ∷ told) (i ∷ is) rest n r none values ran =
     let r' = run_after s false b i r in
-    step_is s first now false b i (is ++ rest) n r none values ran.0
-    ∙ (ran_alone s first now false told is rest (n + 1) r' none (step_values s false b i r ∙ values) ran.1
+    step_is s first ran.0 false b i (is ++ rest) n r none values ran.1
+    ∙ (ran_alone s first ran.0 now false told is rest (n + 1) r' none (step_values s false b i r ∙ values) ran.3
     ∙ ap (λ m. outcome_from s (still_early false is) m rest (run_through s false told is r')) (omega arith))
 
 -- a cause that isn't memory
-fault_is : (first : View) (s : Site) (v : View) (r : Run) (i : Instruction) (c : Cause) → c ≢ no_memory → IsFault first s v r i c → (fault s (values_seen v) r i ≡ Some c) × IsSeen first r v
+pub fault_is : (first : View) (s : Site) (v : View) (r : Run) (i : Instruction) (c : Cause) → c ≢ no_memory → IsFault first s v r i c → (fault s (values_seen v) r i ≡ Some c) × IsSeen first r v
 fault_is first s v r i no_memory other fails = absurd (other refl)
 fault_is first s v r i c other fails = fails
 
 -- the first instruction that fails
 failed_alone : (s : Site) (start : Start) (script : List Instruction) (number : ℕ) (c : Cause) (told : List Bool) (front : List Instruction) (i : Instruction) (now v : View) → start.first.lent ≡ [] → c ≢ no_memory
-    → IsInstructionAt script number front i → RanAll s start.first now true told front (began_at s start) → IsFault start.first s v (run_behind s start told front) i c
+    → IsInstructionAt script number front i → RanAll s start.first start.first now true told front (began_at s start) → IsFault start.first s v (run_behind s start told front) i c
     → outcome s (began_at s start) script ≡ fails_at (still_early true front) number c
 failed_alone s start script number c told front i now v none other at ran fails =
     let r = run_behind s start told front in
     let is = fault_is start.first s v r i c other fails in
     let values : r.values ≡ values_seen start.first = through_values s true told front (began_at s start) in
     ap (outcome s (began_at s start)) at.is
-    ∙ (ran_alone s start.first now true told front (i ∷ at.rest) 0 (began_at s start) none refl ran
+    ∙ (ran_alone s start.first start.first now true told front (i ∷ at.rest) 0 (began_at s start) none refl ran
     ∙ (ap (λ f. unless_fault f (still_early true front) (0 + length front + 1) (outcome_from s (still_early true front && not (is_point i)) (0 + length front + 1) at.rest (step_alone s (still_early true front) i r)))
     (sym (fault_alone start.first s r v i none values is.1) ∙ is.0)
     ∙ ap (λ n. fails_at (still_early true front) n c) (omega (arith, at.counted))))
@@ -150,9 +154,9 @@ failed_alone s start script number c told front i now v none other at ran fails 
 pub has_one_outcome : HasOneOutcome
 has_one_outcome = record {
   finished = λ s start script loaded apps v none done.
-      ap (outcome s (began_at s start)) (sym (append-nil script)) ∙ ran_alone s start.first v true done.told script [] 0 (began_at s start) none refl done.ran;
+      ap (outcome s (began_at s start)) (sym (append-nil script)) ∙ ran_alone s start.first start.first v true done.told script [] 0 (began_at s start) none refl done.ran;
   refused = λ s start script number c v none other is.
       failed_alone s start script number c [] is.front is.instruction v v none other is.at is.ran is.fails ∙ ap (λ e. fails_at e number c) (still_before is.front is.early);
   broken = λ s start script number c v none other is.
-      failed_alone s start script number c is.told is.front is.instruction v is.then_view none other is.at is.ran is.fails ∙ ap (λ e. fails_at e number c) is.late;
+      failed_alone s start script number c is.told is.front is.instruction is.then_view is.then_view none other is.at is.ran is.fails ∙ ap (λ e. fails_at e number c) is.late;
 }

@@ -3,3 +3,4 @@ pub mod QuietLemmas
 pub mod OutcomeLemmas
 pub mod AloneLemmas
 pub mod PointLemmas
+pub mod BrokenLemmas

@@ -23,24 +23,25 @@ use Rattle.relup_exec.specs.Stepwise.{IsStopped, start_at}
 use Rattle.script_steps.proofs.RowLemmas.{all_front}
 use Rattle.script_steps.proofs.CourseLemmas.{within_adds_no_block}
 use Rattle.relup_exec.proofs.QuietLemmas.{early_quiet}
+use Rattle.held_processes.proofs.SlotLemmas.{longer_still}
 use Rattle.relup_exec.proofs.RunLemmas.{ran_later, ran_push_early, ran_push_late, run_push_early, run_push_late, still_before, through_values}
 
 -- one instruction more was done, before the point
 pub run_more_early : (s : Site) (start : Start) (is : List Instruction) (i : Instruction) (a : ProgressForm) (tree : List App) (v w : View) → still_early true is ≡ true → Ran s start v [] is
-    → AreLonger v w → IsCarriedOut s (past_behind s start [] is) true false i a tree w
+    → IsCarriedOut s (past_behind s start [] is) true false i a tree v w
     → Ran s start w [] (is ++ i ∷ []) × HasDone (past_behind s start [] (is ++ i ∷ [])) a tree w
-run_more_early s start is i a tree v w early ran longer carried = (
-  ran_push_early s start.first w true [] is i (began_at s start) early (ran_later s start.first v w true [] is (began_at s start) longer ran) carried.0,
+run_more_early s start is i a tree v w early ran carried = (
+  ran_push_early s start.first start.first v w true [] is i (began_at s start) early ran carried.0,
   subst (λ (r : Run). HasDone (record { first = start.first; run = r }) a tree w) (sym (run_push_early s true [] is i (began_at s start) early)) carried.1,
 )
 
 -- and behind it
 pub run_more_late : (s : Site) (start : Start) (told : List Bool) (is : List Instruction) (b : Bool) (i : Instruction) (a : ProgressForm) (tree : List App) (v w : View) → still_early true is ≡ false
-    → Ran s start v told is → AreLonger v w → IsCarriedOut s (past_behind s start told is) false b i a tree w
+    → Ran s start v told is → IsCarriedOut s (past_behind s start told is) false b i a tree v w
     → Ran s start w (told ++ b ∷ []) (is ++ i ∷ []) × HasDone (past_behind s start (told ++ b ∷ []) (is ++ i ∷ [])) a tree w
-run_more_late s start told is b i a tree v w late ran longer carried = (
-  ran_push_late s start.first w true told is b i (began_at s start) late (ran_later s start.first v w true told is (began_at s start) longer ran) carried.0,
-  subst (λ (r : Run). HasDone (record { first = start.first; run = r }) a tree w) (sym (run_push_late s start.first v true told is b i (began_at s start) late ran)) carried.1,
+run_more_late s start told is b i a tree v w late ran carried = (
+  ran_push_late s start.first start.first v w true told is b i (began_at s start) late ran carried.0,
+  subst (λ (r : Run). HasDone (record { first = start.first; run = r }) a tree w) (sym (run_push_late s start.first start.first v true told is b i (began_at s start) late ran)) carried.1,
 )
 
 -- the point of no return was passed
@@ -53,8 +54,8 @@ point_passed s start script a hs v w armed follow longer =
     let r = run_behind s start [] front in
     let early = still_before front armed.point.early in
     let values : r.values ≡ values_seen start.first = through_values s true [] front (began_at s start) in (
-      ran_push_early s start.first w true [] front point_of_no_return (began_at s start) early (ran_later s start.first v w true [] front (began_at s start) longer armed.ran)
-          (v, λ p inside. (armed.follow.each p inside).stand, refl, refl, longer),
+      ran_push_early s start.first start.first v w true [] front point_of_no_return (began_at s start) early armed.ran
+          (v, (λ p inside. (armed.follow.each p inside).stand, refl, refl), longer_still v, longer),
       subst (λ (q : Run). HasDone (record { first = start.first; run = q }) (record { held = hs; fetched = a.fetched; next = a.next }) a.apps w)
           (sym (run_push_early s true [] front point_of_no_return (began_at s start) early))
           (record { follow = follow; fetched = armed.fetched; next = armed.next; apps = armed.apps; values = values }),
@@ -105,7 +106,7 @@ refused_well s start script place is number c hs v w point same stopped kept lef
         counted = stopped.at.counted;
       };
       early = early;
-      ran = ran_later s start.first v w true [] stopped.front (began_at s start) (λ p. ([], append-nil (seen v p) ∙ sym (kept p))) stopped.ran;
+      ran = ran_later s start.first start.first v w true [] stopped.front (began_at s start) (λ p. ([], append-nil (seen v p) ∙ sym (kept p))) stopped.ran;
       fails = fault_later start.first s v w (run_behind s start [] stopped.front) stopped.instruction c kept stopped.fails;
       untouched = no_block_is_nothing start.first (courses_within s true stopped.instruction stopped.modules stopped.slot (run_behind s start [] stopped.front)) w left
           (λ p _. within_adds_no_block s stopped.instruction stopped.modules stopped.slot (run_behind s start [] stopped.front) p ∙ early_quiet s start stopped.front early p);
@@ -134,7 +135,7 @@ refused_at_first s apps script v runnable free = go runnable.before runnable.is
       instruction = point_of_no_return;
       at = record { rest = runnable.after; is = e; counted = refl };
       early = tt;
-      ran = refl;
+      ran = (refl, longer_still v);
       fails = tt;
       untouched = nothing_held v free;
     }
@@ -143,7 +144,7 @@ refused_at_first s apps script v runnable free = go runnable.before runnable.is
       instruction = b;
       at = record { rest = bs ++ (point_of_no_return ∷ runnable.after); is = e; counted = refl };
       early = tt;
-      ran = refl;
+      ran = (refl, longer_still v);
       fails = tt;
       untouched = nothing_held v free;
     }

@@ -37,47 +37,47 @@ run_push_early s false told [] i r early = absurd (cc early)
 run_push_early s true told (k ∷ is) i r early = run_push_early s (not (is_point k)) told is i (run_after s true false k r) early
 run_push_early s false told (k ∷ is) i r early = absurd (let no = sym (still_behind is) ∙ early in cc no)
 
-pub ran_push_early : (s : Site) (first now : View) (e : Bool) (told : List Bool) (is : List Instruction) (i : Instruction) (r : Run) → still_early e is ≡ true → RanAll s first now e told is r
-    → HasNoFault s first now (run_through s e told is r) false i → RanAll s first now e told (is ++ i ∷ []) r
-ran_push_early s first now true told [] i r early ran one = (one, ran)
-ran_push_early s first now false told [] i r early ran one = absurd (cc early)
-ran_push_early s first now true told (k ∷ is) i r early ran one = (ran.0, ran_push_early s first now (not (is_point k)) told is i (run_after s true false k r) early ran.1 one)
-ran_push_early s first now false told (k ∷ is) i r early ran one = absurd (let no = sym (still_behind is) ∙ early in cc no)
+pub ran_push_early : (s : Site) (first since mid now : View) (e : Bool) (told : List Bool) (is : List Instruction) (i : Instruction) (r : Run) → still_early e is ≡ true
+    → RanAll s first since mid e told is r → HasNoFault s first mid now (run_through s e told is r) false i → RanAll s first since now e told (is ++ i ∷ []) r
+ran_push_early s first since mid now true told [] i r early ran one = (one.0, one.1, longer_both since mid one.0 ran.1 one.2, (ran.0, one.3))
+ran_push_early s first since mid now false told [] i r early ran one = absurd (cc early)
+ran_push_early s first since mid now true told (k ∷ is) i r early ran one =
+    (ran.0, ran.1, ran.2, ran_push_early s first ran.0 mid now (not (is_point k)) told is i (run_after s true false k r) early ran.3 one)
+ran_push_early s first since mid now false told (k ∷ is) i r early ran one = absurd (let no = sym (still_behind is) ∙ early in cc no)
 
 -- one instruction more, of which this is told, behind the point
-pub run_push_late : (s : Site) (first now : View) (e : Bool) (told : List Bool) (is : List Instruction) (b : Bool) (i : Instruction) (r : Run) → still_early e is ≡ false → RanAll s first now e told is r
-    → run_through s e (told ++ b ∷ []) (is ++ i ∷ []) r ≡ run_after s false b i (run_through s e told is r)
-run_push_late s first now true told [] b i r late ran = absurd (cc late)
-run_push_late s first now false [] [] b i r late ran = refl
-run_push_late s first now false (t ∷ ts) [] b i r late ran = absurd (cc ran)
-run_push_late s first now true told (k ∷ is) b i r late ran = run_push_late s first now (not (is_point k)) told is b i (run_after s true false k r) late ran.1
-run_push_late s first now false [] (k ∷ is) b i r late ran = absurd ran
-run_push_late s first now false (t ∷ ts) (k ∷ is) b i r late ran = run_push_late s first now false ts is b i (run_after s false t k r) late ran.1
+pub run_push_late : (s : Site) (first since now : View) (e : Bool) (told : List Bool) (is : List Instruction) (b : Bool) (i : Instruction) (r : Run) → still_early e is ≡ false
+    → RanAll s first since now e told is r → run_through s e (told ++ b ∷ []) (is ++ i ∷ []) r ≡ run_after s false b i (run_through s e told is r)
+run_push_late s first since now true told [] b i r late ran = absurd (cc late)
+run_push_late s first since now false [] [] b i r late ran = refl
+run_push_late s first since now false (t ∷ ts) [] b i r late ran = absurd (let none = ran.0 in cc none)
+run_push_late s first since now true told (k ∷ is) b i r late ran = run_push_late s first ran.0 now (not (is_point k)) told is b i (run_after s true false k r) late ran.3
+run_push_late s first since now false [] (k ∷ is) b i r late ran = absurd ran
+run_push_late s first since now false (t ∷ ts) (k ∷ is) b i r late ran = run_push_late s first ran.0 now false ts is b i (run_after s false t k r) late ran.3
 
-pub ran_push_late : (s : Site) (first now : View) (e : Bool) (told : List Bool) (is : List Instruction) (b : Bool) (i : Instruction) (r : Run) → still_early e is ≡ false → RanAll s first now e told is r
-    → HasNoFault s first now (run_through s e told is r) b i → RanAll s first now e (told ++ b ∷ []) (is ++ i ∷ []) r
-ran_push_late s first now true told [] b i r late ran one = absurd (cc late)
-ran_push_late s first now false [] [] b i r late ran one = (one, refl)
-ran_push_late s first now false (t ∷ ts) [] b i r late ran one = absurd (cc ran)
-ran_push_late s first now true told (k ∷ is) b i r late ran one = (ran.0, ran_push_late s first now (not (is_point k)) told is b i (run_after s true false k r) late ran.1 one)
-ran_push_late s first now false [] (k ∷ is) b i r late ran one = absurd ran
-ran_push_late s first now false (t ∷ ts) (k ∷ is) b i r late ran one = (ran.0, ran_push_late s first now false ts is b i (run_after s false t k r) late ran.1 one)
+pub ran_push_late : (s : Site) (first since mid now : View) (e : Bool) (told : List Bool) (is : List Instruction) (b : Bool) (i : Instruction) (r : Run) → still_early e is ≡ false
+    → RanAll s first since mid e told is r → HasNoFault s first mid now (run_through s e told is r) b i → RanAll s first since now e (told ++ b ∷ []) (is ++ i ∷ []) r
+ran_push_late s first since mid now true told [] b i r late ran one = absurd (cc late)
+ran_push_late s first since mid now false [] [] b i r late ran one = (one.0, one.1, longer_both since mid one.0 ran.1 one.2, (refl, one.3))
+ran_push_late s first since mid now false (t ∷ ts) [] b i r late ran one = absurd (let none = ran.0 in cc none)
+ran_push_late s first since mid now true told (k ∷ is) b i r late ran one =
+    (ran.0, ran.1, ran.2, ran_push_late s first ran.0 mid now (not (is_point k)) told is b i (run_after s true false k r) late ran.3 one)
+ran_push_late s first since mid now false [] (k ∷ is) b i r late ran one = absurd ran
+ran_push_late s first since mid now false (t ∷ ts) (k ∷ is) b i r late ran one =
+    (ran.0, ran.1, ran.2, ran_push_late s first ran.0 mid now false ts is b i (run_after s false t k r) late ran.3 one)
 
 pub still_push : (e : Bool) (is : List Instruction) (i : Instruction) → still_early e (is ++ i ∷ []) ≡ (still_early e is && not (is_point i))
 still_push e [] i = refl
 still_push e (k ∷ is) i = still_push (e && not (is_point k)) is i
 
--- what was so by histories that are in front is so when more is seen
-later : (s : Site) (first v w : View) (r : Run) (b : Bool) (i : Instruction) → AreLonger v w → HasNoFault s first v r b i → HasNoFault s first w r b i
-later s first v w r b i longer one = (one.0, one.1, one.2, one.3, longer_both one.0 v w one.4 longer)
-
-pub ran_later : (s : Site) (first v w : View) (e : Bool) (told : List Bool) (is : List Instruction) (r : Run) → AreLonger v w → RanAll s first v e told is r → RanAll s first w e told is r
-ran_later s first v w e told [] r longer ran = ran
-ran_later s first v w true told (i ∷ is) r longer ran =
-    (later s first v w r false i longer ran.0, ran_later s first v w (not (is_point i)) told is (run_after s true false i r) longer ran.1)
-ran_later s first v w false [] (i ∷ is) r longer ran = ran
-ran_later s first v w false (b ∷ told) (i ∷ is) r longer ran =
-    (later s first v w r b i longer ran.0, ran_later s first v w false told is (run_after s false b i r) longer ran.1)
+-- what was so is so when more is seen
+pub ran_later : (s : Site) (first since v w : View) (e : Bool) (told : List Bool) (is : List Instruction) (r : Run) → AreLonger v w → RanAll s first since v e told is r → RanAll s first since w e told is r
+ran_later s first since v w e told [] r longer ran = (ran.0, longer_both since v w ran.1 longer)
+ran_later s first since v w true told (i ∷ is) r longer ran =
+    (ran.0, ran.1, ran.2, ran_later s first ran.0 v w (not (is_point i)) told is (run_after s true false i r) longer ran.3)
+ran_later s first since v w false [] (i ∷ is) r longer ran = absurd ran
+ran_later s first since v w false (b ∷ told) (i ∷ is) r longer ran =
+    (ran.0, ran.1, ran.2, ran_later s first ran.0 v w false told is (run_after s false b i r) longer ran.3)
 
 -- what may stand before the point isn't the point
 pub not_the_point : (i : Instruction) → IsEarly i → is_point i ≡ false

@@ -1,7 +1,9 @@
 -- What comes of a script where the handler has lent no pass, so that nobody but it comes to the processes. It is determined then.
-use Rattle.std.specs.Prelude.{◌≡◌, ◌≢◌, ℕ, ◌+◌, Bool, true, false, ◌&&◌, not, List, [], ◌∷◌, Option, Some, None}
+use Rattle.std.specs.Prelude.{◌≡◌, ◌≢◌, ℕ, ◌+◌, ◌<◌, Bool, true, false, ◌&&◌, not, List, [], ◌∷◌, Option, Some, None}
 use Rattle.proc_history.specs.Histories.{replay_from}
 use Rattle.proc_table.specs.declared.view.View.{View}
+use Rattle.proc_table.specs.Agrees.{slots}
+use Rattle.proc_table.specs.Views.{seen}
 use Rattle.relup_instruction.specs.Instruction.{Instruction}
 use Rattle.relup_script.specs.Script.{is_point}
 use Rattle.loaded_modules.specs.Loaded.{NamedModules}
@@ -53,3 +55,9 @@ pub record HasOneOutcome : Type 0 where
       → start.first.lent ≡ [] → c ≢ no_memory → IsRefused s start script number c v → outcome s (began_at s start) script ≡ refuses number c
   pub broken : (s : Site) (start : Start) (script : List Instruction) (number : ℕ) (c : Cause) (v : View)
       → start.first.lent ≡ [] → c ≢ no_memory → IsBroken s start script number c v → outcome s (began_at s start) script ≡ breaks number c
+
+-- Where an instruction fails behind the point, the handler that carries the script out alone leaves one history in each slot, memory
+-- aside.
+abbrev pub LeavesOneHistory : Type 0
+LeavesOneHistory = (s : Site) (start : Start) (script : List Instruction) (number : ℕ) (c : Cause) (v w : View) → start.first.lent ≡ [] → c ≢ no_memory
+    → IsBroken s start script number c v → IsBroken s start script number c w → (p : ℕ) → p < slots → seen v p ≡ seen w p

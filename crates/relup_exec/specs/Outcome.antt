@@ -14,7 +14,8 @@ use Rattle.held_processes.specs.Operations.{values_seen}
 use Rattle.script_progress.specs.Script.{Site, Run, began, courses_within, run_after}
 use Rattle.script_progress.specs.Fault.{Cause}
 use Rattle.script_progress.specs.Steps.{IsLate}
-use Rattle.script_progress.specs.Steps.{HasNoFault, IsEarly, IsFault, Past}
+use Rattle.script_progress.specs.Steps.{IsEarly, IsFault, HasNoFaultAt, Past}
+use Rattle.script_progress.specs.Stops.{StopsAt}
 
 -- What the handler had seen when a script began, and which applications were started then.
 pub record Start : Type 0 where
@@ -44,17 +45,18 @@ run_behind s start told is = run_through s true told is (began_at s start)
 abbrev pub past_behind : Site → Start → List Bool → List Instruction → Past
 past_behind s start told is = record { first = start.first; run = run_behind s start told is }
 
--- None of these failed, by histories in front of those that the handler has seen now; and of each behind the point this is told.
-abbrev pub RanAll : Site → View → View → Bool → List Bool → List Instruction → Run → Type 0
-RanAll s first now early told [] r = told ≡ []
-RanAll s first now true told (i ∷ is) r =
-    HasNoFault s first now r false i × RanAll s first now (not (is_point i)) told is (run_after s true false i r)
-RanAll s first now false [] (i ∷ is) r = ⊥
-RanAll s first now false (b ∷ told) (i ∷ is) r =
-    HasNoFault s first now r b i × RanAll s first now false told is (run_after s false b i r)
+-- None of these failed, each by the histories that the handler had seen at a moment of its own: one behind another, between these
+-- two. And of each behind the point this is told.
+abbrev pub RanAll : Site → View → View → View → Bool → List Bool → List Instruction → Run → Type 0
+RanAll s first since now early told [] r = (told ≡ []) × AreLonger since now
+RanAll s first since now true told (i ∷ is) r =
+    (u : View) × HasNoFaultAt s first r false i u × AreLonger since u × RanAll s first u now (not (is_point i)) told is (run_after s true false i r)
+RanAll s first since now false [] (i ∷ is) r = ⊥
+RanAll s first since now false (b ∷ told) (i ∷ is) r =
+    (u : View) × HasNoFaultAt s first r b i u × AreLonger since u × RanAll s first u now false told is (run_after s false b i r)
 
 abbrev pub Ran : Site → Start → View → List Bool → List Instruction → Type 0
-Ran s start now told is = RanAll s start.first now true told is (began_at s start)
+Ran s start now told is = RanAll s start.first start.first now true told is (began_at s start)
 
 -- A script that has come to its point of no return. place: how many instructions stand before the point. next and apps: what is
 -- loaded, and what is started, once the script has ended well. told, room: nothing is told yet, and of how many instructions can be.
@@ -117,17 +119,19 @@ pub record IsFinished (s : Site) (start : Start) (script : List Instruction) (lo
   pub left : AreLeft start.first (on_all finish (run_behind s start told script).courses) v
 
 -- An instruction behind the point is the first that fails. What was held is let go with what was done to it by then: by those in
--- front, and by this one for so many of its modules and for the next in the slots below this.
+-- front, and by this one for so many of its modules and for the next in the slots below this. It fails by the histories that the
+-- handler had seen behind those by which the others didn't.
 pub record IsBroken (s : Site) (start : Start) (script : List Instruction) (number : ℕ) (c : Cause) (v : View) : Type 0 where
   pub front : List Instruction
   pub instruction : Instruction
   pub at : IsInstructionAt script number front instruction
   pub late : still_early true front ≡ false
   pub told : List Bool
-  pub ran : Ran s start v told front
   pub then_view : View
+  pub ran : Ran s start then_view told front
   pub fails : IsFault start.first s then_view (run_behind s start told front) instruction c
   pub modules : ℕ
   pub slot : ℕ
+  pub stops : StopsAt start.first s then_view (run_behind s start told front) instruction c modules slot
   pub left : AreLeft start.first (on_all finish (courses_within s false instruction modules slot (run_behind s start told front))) v
   pub longer : AreLonger then_view v

@@ -1,7 +1,7 @@
 //! A script up to its point of no return.
 ghost use Rattle.std.specs.Prelude.{◌≡◌, IfErr, IfOk};
 ghost use Rattle.std.specs.List.{AllByRecursion};
-ghost use Rattle.held_processes.specs.Following.{HoldsNothing};
+ghost use Rattle.held_processes.specs.Following.{AreLonger, HoldsNothing};
 ghost use Rattle.script_progress.specs.InMemory.{cause_of, site_of};
 ghost use Rattle.relup_exec.specs.Outcome.{IsArmed, IsPointAt, IsRefused, Start};
 ghost use Rattle.relup_exec.specs.InMemory.{armed_of};
@@ -105,6 +105,7 @@ fn run_early<R: Wait>(
     requires early { AllByRecursion IsEarly (script_of instrs.now) }
     requires begun { HasBegun (site_of site.now) start
         (progress_of progress.old) progress.old.tree seat.old.view }
+    requires since { AreLonger start.first seat.old.view }
     ensures table { seat.new.table ≡ seat.old.table }
     ensures ran { RunsAll (site_of site.now) start (script_of instrs.now)
         result (progress_of progress.new) progress.new.tree seat.new.view }

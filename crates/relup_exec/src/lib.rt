@@ -8,8 +8,9 @@
 //! script says (`finished`); else the first instruction that fails is told, and what was held is let go with the changes made so
 //! far (`broken`). All but the way back wait for processes that clients have.
 //!
-//! The law `a_script_alone_has_one_outcome` says that while no pass is lent a script has one outcome, memory aside: the one that
-//! `outcome` (specs/Alone) gives by what stood in the slots.
+//! The laws say that while no pass is lent a script has one outcome, memory aside: the one that `outcome` (specs/Alone) gives by
+//! what stood in the slots (`a_script_alone_has_one_outcome`); and where an instruction fails behind the point, one history is left
+//! in each slot (`a_broken_script_leaves_one_history`).
 //!
 //! Only tested: that a script is carried out where memory is there. Trusted: the toolchain alone.
 #![tactic(auto)]

@@ -8,7 +8,7 @@ use Rattle.erl_term.specs.Value.{Value, Values, values_of}
 use Rattle.erl_term.specs.Value.Value.{int, atom, list, tuple}
 use Rattle.erl_term.specs.Value.Values.{no_values, value}
 use Rattle.rel_files.specs.Name.{is_name, IsName, IsVersion}
-use Rattle.rel_files.specs.Parts.{list_in, pair_in, three as rel_three}
+use Rattle.rel_files.specs.Parts.{list_in, pair_in}
 use Rattle.rel_files.specs.Sketch.{name_in, names_of, text_in}
 use Rattle.rel_files.proofs.Options.{mapped, chained, passed}
 use Rattle.rel_files.proofs.Texts.{names_of-atoms, from_names, text_in-numbers, from_text}
@@ -19,7 +19,7 @@ use Rattle.relup_instruction.specs.declared.instruction.Timeout.TheVariants.{Def
 use Rattle.relup_instruction.specs.declared.instruction.PurgeMode.{PurgeMode}
 use Rattle.relup_instruction.specs.declared.instruction.PurgeMode.TheVariants.{Soft, Brutal}
 use Rattle.relup_instruction.specs.Form.{one, pair_term, triple_term, text_term, atoms_term, purge_word, direction_word, timeout_term, is_natural, IsTimeout}
-use Rattle.relup_instruction.specs.Parts.{all_in, one_in, three, triple_in, word_in, version_in, modules_in, purge_mode_of, purge_mode_in, direction_of, mode_in, timeout_in}
+use Rattle.relup_instruction.specs.Parts.{all_in, one_in, triple_in, word_in, version_in, modules_in, purge_mode_of, purge_mode_in, direction_of, mode_in, timeout_in}
 
 -- which of two words a text is
 pub choose : {A : Type 0} (P : Type 0) (s w : List ℕ) (a b : Option A) (x : A) → (s ≡ w → a ≡ Some x → P) → (b ≡ Some x → P)
@@ -62,14 +62,6 @@ from_one vs v e = absurd cc
 pub from_pair : (v : Value) (p : Value × Value) → pair_in v ≡ Some p → v ≡ pair_term p.0 p.1
 from_pair (tuple (value v (value w no_values))) p e = let same : (v, w) ≡ p = cc in ap (λ (q : Value × Value). pair_term q.0 q.1) same
 from_pair v p e = absurd cc
-
--- a row of three, as a release's file reads it too
-pub three_members : (vs : Values) → rel_three vs ≡ three vs
-three_members no_values = refl
-three_members (value v no_values) = refl
-three_members (value v (value w no_values)) = refl
-three_members (value v (value w (value x no_values))) = refl
-three_members (value v (value w (value x (value y vs)))) = refl
 
 pub from_triple : (v : Value) (t : Value × Value × Value) → triple_in v ≡ Some t → v ≡ triple_term t.0 t.1 t.2
 from_triple (tuple (value v (value w (value x no_values)))) t e =

@@ -1,3 +1,4 @@
 pub mod Instruction
 pub mod Form
 pub mod Parts
+pub mod Laws

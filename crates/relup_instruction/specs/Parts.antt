@@ -5,7 +5,7 @@ use Rattle.std.specs.Str.{bytes_eq}
 use Rattle.erl_term.specs.Value.{Value, Values}
 use Rattle.erl_term.specs.Value.Value.{int, atom, tuple}
 use Rattle.erl_term.specs.Value.Values.{no_values, value}
-use Rattle.rel_files.specs.Parts.{list_in, pair_in}
+use Rattle.rel_files.specs.Parts.{list_in, pair_in, three}
 use Rattle.rel_files.specs.Sketch.{name_in, names_of, text_in}
 use Rattle.relup_instruction.specs.declared.instruction.Direction.{Direction}
 use Rattle.relup_instruction.specs.declared.instruction.Direction.TheVariants.{Up, Down}
@@ -28,10 +28,6 @@ one_in (value v no_values) = Some v
 one_in vs = None
 
 -- the three members of a tuple
-abbrev pub three : Values → Option (Value × Value × Value)
-three (value v (value w vs)) = option_map (λ x. (v, w, x)) (one_in vs)
-three vs = None
-
 abbrev pub triple_in : Value → Option (Value × Value × Value)
 triple_in (tuple vs) = three vs
 triple_in v = None

@@ -16,7 +16,7 @@ pub(crate) enum Side {
 }
 
 /// Whether a script can be run: it has one point of no return, each of its instructions is run on its side of it, and a restart
-/// is its last instruction.
+/// of the runtime system stands at its end alone.
 pub fn check(script: &[Instr]) -> Result<(), ScriptFault>
     ensures runnable { IsOk result ↔ IsRunnable (script_of script.now) }
 

@@ -1,3 +1,4 @@
 pub mod OutcomeLemmas
 pub mod ScriptLemmas
 pub mod ItselfLemmas
+pub mod NameLemmas

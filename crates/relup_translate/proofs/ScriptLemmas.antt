@@ -46,12 +46,12 @@ module _ {A : Type 0} (P : A → Type 0) where
   of_each f each [] = tt
   of_each f each (b ∷ bs) = (each b, of_each f each bs)
 
-  of_parts : {B : Type 0} (Q : B → Type 0) (f : B → List A) → ((b : B) → Q b → AllByRecursion P (f b)) → (bs : List B) → AllByRecursion Q bs
+  pub of_parts : {B : Type 0} (Q : B → Type 0) (f : B → List A) → ((b : B) → Q b → AllByRecursion P (f b)) → (bs : List B) → AllByRecursion Q bs
       → AllByRecursion P (flat_map f bs)
   of_parts Q f each [] h = tt
   of_parts Q f each (b ∷ bs) h = of_both (f b) (flat_map f bs) (each b h.0) (of_parts Q f each bs h.1)
 
-  of_some : {B : Type 0} (Q : B → Type 0) (f : B → Option A) → ((b : B) (a : A) → Q b → f b ≡ Some a → P a) → (bs : List B) → AllByRecursion Q bs
+  pub of_some : {B : Type 0} (Q : B → Type 0) (f : B → Option A) → ((b : B) (a : A) → Q b → f b ≡ Some a → P a) → (bs : List B) → AllByRecursion Q bs
       → AllByRecursion P (filter_map f bs)
   of_some Q f each [] h = tt
   of_some Q f each (b ∷ bs) h = go (f b) refl (of_some Q f each bs h.1)
@@ -60,7 +60,7 @@ module _ {A : Type 0} (P : A → Type 0) where
       go None e k = k
       go (Some a) e k = (each b a h.0 e, k)
 
-  of_reverse : (xs : List A) → AllByRecursion P xs → AllByRecursion P (reverse xs)
+  pub of_reverse : (xs : List A) → AllByRecursion P xs → AllByRecursion P (reverse xs)
   of_reverse [] h = tt
   of_reverse (x ∷ xs) h = subst (AllByRecursion P) (sym (reverse-append (x ∷ []) xs)) (of_both (reverse xs) (x ∷ []) (of_reverse xs h.1) (h.0, tt))
 
@@ -190,7 +190,7 @@ early_written : (i : AppupInstruction) → Unit {0} → AllPrecede (written_fetc
 early_written (low_level (load_object_code f)) h = (refl, tt)
 early_written i h = tt
 
-trivially : {A : Type 0} (xs : List A) → AllByRecursion (λ x. Unit {0}) xs
+pub trivially : {A : Type 0} (xs : List A) → AllByRecursion (λ x. Unit {0}) xs
 trivially [] = tt
 trivially (x ∷ xs) = (tt, trivially xs)
 

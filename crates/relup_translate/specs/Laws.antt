@@ -6,6 +6,7 @@ use Rattle.erl_term.specs.Value.Values.{no_values}
 use Rattle.relup_instruction.specs.declared.instruction.Direction.TheVariants.{Up, Down}
 use Rattle.relup_instruction.specs.Instruction.{Instruction}
 use Rattle.relup_instruction.specs.Instruction.Instruction.{point_of_no_return}
+use Rattle.relup_file.specs.Form.{IsRelup}
 use Rattle.relup_file.specs.Relup.{EntryForm, RelupForm}
 use Rattle.relup_script.specs.declared.fault.ScriptFault.{ScriptFault}
 use Rattle.relup_script.specs.declared.fault.ScriptFault.TheVariants.{Unsupported}
@@ -13,6 +14,7 @@ use Rattle.relup_script.specs.Script.{IsScriptFault}
 use Rattle.relup_row.specs.Release.{RelupAppForm, RelupReleaseForm, WayForm, way_between}
 use Rattle.relup_translate.specs.Fault.{FaultForm}
 use Rattle.relup_translate.specs.Translation.{way_fault, relup_between, translation}
+use Rattle.relup_translate.specs.WellFormed.{IsWellFormedRelease, HasWellFormedAppups}
 
 -- the ways of a relup: its upgrades, then its downgrades
 abbrev pub ways : RelupReleaseForm → List RelupReleaseForm → List RelupReleaseForm → List WayForm
@@ -74,3 +76,9 @@ idle r = record { vsn = r.vsn; descr = list no_values; script = point_of_no_retu
 abbrev pub StaysItself : Type 0
 StaysItself = (r : RelupReleaseForm) → IsDistinct bytes_eq (app_names r)
     → translation r (r ∷ []) (r ∷ []) ≡ Ok (record { vsn = r.vsn; ups = idle r ∷ []; downs = idle r ∷ [] })
+
+-- Of releases that are well formed, and appups of the higher one that are, a relup is made that a file can say.
+abbrev pub MadeRelupsAreSaid : Type 0
+MadeRelupsAreSaid = (new : RelupReleaseForm) (ups downs : List RelupReleaseForm) (r : RelupForm)
+    → IsWellFormedRelease new → HasWellFormedAppups new → AllByRecursion IsWellFormedRelease ups → AllByRecursion IsWellFormedRelease downs
+    → translation new ups downs ≡ Ok r → IsRelup r

@@ -1,4 +1,5 @@
 pub mod Fault
 pub mod Translation
 pub mod Memory
+pub mod WellFormed
 pub mod Laws

@@ -1,5 +1,5 @@
 //! Laws of the translation, above its definition. Each function does nothing: its contract is the law.
-ghost use Rattle.relup_translate.specs.Laws.{MakesSoundWays, RefusesFirstFault, HaveOneFirstFault, NeverBoth, AreSoundOrFail, StandsRight, StaysItself};
+ghost use Rattle.relup_translate.specs.Laws.{MakesSoundWays, RefusesFirstFault, HaveOneFirstFault, NeverBoth, AreSoundOrFail, StandsRight, StaysItself, MadeRelupsAreSaid};
 
 /// A relup is made exactly where no way between the releases has a fault.
 pub fn a_relup_is_made_exactly_without_a_fault()
@@ -35,4 +35,10 @@ pub fn made_scripts_have_only_unsupported_instructions()
 /// A relup from a release to itself changes nothing, where its applications have names of their own.
 pub fn a_release_stays_itself()
     ensures { StaysItself }
+{}
+
+/// A relup that is made is one that a file can say, and no script in it is empty: where the names of the releases and of the
+/// higher one's appups are names, and the versions are versions.
+pub fn a_made_relup_is_one_that_a_file_can_say()
+    ensures { MadeRelupsAreSaid }
 {}

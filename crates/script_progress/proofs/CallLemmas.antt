@@ -1,5 +1,5 @@
 -- Calls of a script, by what they are on.
-use Rattle.std.proofs.Common.{◌≡◌, ℕ, ◌&&◌, ◌||◌, Bool, true, false, List, if◌then◌else◌, refl, sym, ap, subst, ◌∙◌, Option, Result, Ok, Err, codes}
+use Rattle.std.proofs.Common.{◌≡◌, ℕ, ◌&&◌, ◌||◌, Bool, true, false, true≢false, List, if◌then◌else◌, refl, sym, ap, ap₂, subst, ◌∙◌, Option, Result, Ok, Err, codes}
 use Rattle.std.proofs.lemmas.Slice.Eq.{bytes_eq-Decides}
 use Rattle.std.specs.Str.{bytes_eq}
 use Rattle.proc_table.specs.declared.view.View.{View}
@@ -8,7 +8,7 @@ use Rattle.held_processes.specs.Following.{AllFollow, AreLonger}
 use Rattle.held_processes.specs.Operations.{Values, values_seen}
 use Rattle.relup_instruction.specs.Instruction.{CallForm}
 use Rattle.relup_instruction.specs.Instruction.Instruction.{apply}
-use Rattle.relup_script.specs.Script.{has_one, is_app, is_application, is_child, is_child_call, is_child_word, is_error, is_one_app_word, is_supported_call, is_typed_app}
+use Rattle.relup_script.specs.Script.{has_one, is_app, is_application, is_child, is_child_call, is_child_word, is_error, is_one_app_word, is_supported, is_supported_call, is_typed_app}
 use Rattle.sup_tree.specs.Tree.{App}
 use Rattle.script_progress.specs.declared.cause.Failure.{Failure}
 use Rattle.script_progress.specs.Apps.{CallsApp}
@@ -17,7 +17,8 @@ use Rattle.script_progress.specs.Children.{CallsChild}
 use Rattle.script_progress.specs.Fault.{Cause, app_call_fault, call_fault, child_call_fault, error_cause}
 use Rattle.script_progress.specs.InMemory.{cause_of}
 use Rattle.script_progress.specs.Script.{Run, Site, call_after, call_within, called_after, child_after, child_stays_at, child_within, stays_at}
-use Rattle.script_progress.specs.Steps.{CarriesOutLate, HasDone, IsCause, IsCauseIn, IsFailed, Past, ProgressForm, on_no_child}
+use Rattle.script_progress.specs.Steps.{CarriesOutLate, HasDone, IsCause, IsCauseIn, IsEarly, IsFailed, Past, ProgressForm, on_no_child}
+use Rattle.script_progress.specs.Stops.{AsksMemory, app_takes_memory, call_takes_memory, child_takes_memory}
 use Rattle.script_progress.proofs.SeenLemmas.{cause_seen, seen_in, seen_of}
 use Rattle.held_processes.proofs.SlotLemmas.{longer_still}
 
@@ -37,13 +38,43 @@ record IsCall (s : Site) (call : CallForm) (r : Run) (o : Values → Option Caus
   run : (b : Bool) → call_after s call b r ≡ after b
   courses : (n : ℕ) → call_within call n r ≡ within n
 
+-- a call on an application is on no child
+app_on_no_child : (call : CallForm) → bytes_eq call.name (codes "application") ≡ true → is_on_child call ≡ false
+app_on_no_child call is = ap (λ (n : List ℕ). bytes_eq n (codes "supervisor")) ((bytes_eq-Decides call.name (codes "application")).0 is)
+
+-- nor is one that raises an error
+pub error_on_no_child : (call : CallForm) → is_error call ≡ true → is_on_child call ≡ false
+error_on_no_child call raises =
+    ap (λ (n : List ℕ). bytes_eq n (codes "supervisor"))
+    ((bytes_eq-Decides call.name (codes "erlang")).0 (left_true (bytes_eq call.name (codes "erlang")) (bytes_eq call.function (codes "error") && has_one call.args) raises))
+
+-- which call asks for memory
+pub asks_memory : {X : Type 0} (r : Result X Failure) → AsksMemory true r
+asks_memory (Ok x) = tt
+asks_memory (Err e) = λ _. refl
+
+pub error_memory : (call : CallForm) → is_error call ≡ true → call_takes_memory call ≡ true
+error_memory call raises = ap (λ (b : Bool). b || (if is_on_child call then child_takes_memory (child_call call) else app_takes_memory (app_call call))) raises
+
+no_error : (call : CallForm) (name : List ℕ) → bytes_eq call.name name ≡ true → bytes_eq name (codes "erlang") ≡ false → is_error call ≡ false
+no_error call name is other =
+    ap (λ (b : Bool). b && (bytes_eq call.function (codes "error") && has_one call.args)) (ap (λ (n : List ℕ). bytes_eq n (codes "erlang")) ((bytes_eq-Decides call.name name).0 is) ∙ other)
+
+app_memory : (call : CallForm) → bytes_eq call.name (codes "application") ≡ true → call_takes_memory call ≡ app_takes_memory (app_call call)
+app_memory call is =
+    ap₂ (λ (e k : Bool). e || (if k then child_takes_memory (child_call call) else app_takes_memory (app_call call))) (no_error call (codes "application") is refl) (app_on_no_child call is)
+
+child_memory : (call : CallForm) → bytes_eq call.name (codes "supervisor") ≡ true → call_takes_memory call ≡ child_takes_memory (child_call call)
+child_memory call is =
+    ap₂ (λ (e k : Bool). e || (if k then child_takes_memory (child_call call) else app_takes_memory (app_call call))) (no_error call (codes "supervisor") is refl) is
+
 -- a call by this name is neither an error, nor one on a child; or it is one on a child
 on_app : (s : Site) (call : CallForm) (r : Run) → bytes_eq call.name (codes "application") ≡ true
     → IsCall s call r (λ seen. app_call_fault s (app_call call) r) (λ seen. false) (λ b. called_after s (app_call call) r) (λ n. r.courses)
 on_app s call r is =
     let named : call.name ≡ codes "application" = (bytes_eq-Decides call.name (codes "application")).0 is in
     let error : is_error call ≡ false = ap (λ (n : List ℕ). bytes_eq n (codes "erlang") && (bytes_eq call.function (codes "error") && has_one call.args)) named in
-    let child : is_on_child call ≡ false = ap (λ (n : List ℕ). bytes_eq n (codes "supervisor")) named in
+    let child = app_on_no_child call is in
     record {
       fault = λ seen. ap (λ (b : Bool). if b then error_cause call.args else if is_on_child call then child_call_fault seen (child_call call) r else app_call_fault s (app_call call) r) error
           ∙ ap (λ (b : Bool). if b then child_call_fault seen (child_call call) r else app_call_fault s (app_call call) r) child;
@@ -84,52 +115,72 @@ other_raises call supported not_app not_child =
     by false true c is not_b not_c = absurd (cc not_b)
     by false false c is not_b not_c = sym not_c ∙ is
 
+-- which is why it fails
+pub error_fault : (s : Site) (call : CallForm) (seen : Values) (r : Run) → is_error call ≡ true → call_fault s seen call r ≡ error_cause call.args
+error_fault s call seen r raises =
+    ap (λ (b : Bool). if b then error_cause call.args else if is_on_child call then child_call_fault seen (child_call call) r else app_call_fault s (app_call call) r) raises
+
+-- before the point of no return there is no other call
+pub early_error : (call : CallForm) → IsEarly (apply call) → is_error call ≡ true
+early_error call early = right_true (is_supported (apply call)) (is_error call) early
+
 pub raised : (s : Site) (past : Past) (call : CallForm) (e : Failure) (a : ProgressForm) (tree : List App) (v : View) → HasDone past a tree v → is_error call ≡ true
-    → IsCause (error_cause call.args) (cause_of e.cause) → IsFailed s past (apply call) e a.held v
+    → IsCause (error_cause call.args) (cause_of e.cause) → IsFailed s past (apply call) e a.held v v
 raised s past call e a tree v done raises cause =
     let r = past.run in
-    let named : call.name ≡ codes "erlang" = (bytes_eq-Decides call.name (codes "erlang")).0 (left_true (bytes_eq call.name (codes "erlang")) (bytes_eq call.function (codes "error") && has_one call.args) raises) in
-    let child : is_on_child call ≡ false = ap (λ (n : List ℕ). bytes_eq n (codes "supervisor")) named in
-    let fault : call_fault s (values_seen v) call r ≡ error_cause call.args =
-    ap (λ (b : Bool). if b then error_cause call.args else if is_on_child call then child_call_fault (values_seen v) (child_call call) r else app_call_fault s (app_call call) r) raises in
+    let child = error_on_no_child call raises in
+    let fault = error_fault s call (values_seen v) r raises in
     record {
       then_view = v;
       fails = cause_seen past.first v r (call_fault s (values_seen v) call r) (cause_of e.cause) (subst (λ (f : Option Cause). IsCause f (cause_of e.cause)) (sym fault) cause) (seen_in past a tree v done);
+      stops = (λ _. error_memory call raises, λ on_child. absurd (true≢false (sym on_child ∙ child)));
+      since = longer_still v;
       longer = longer_still v;
       partly = subst (λ (cs : Courses). AllFollow past.first cs a.held v) (sym (ap (λ (b : Bool). if b then child_within (child_call call) e.modules r else r.courses) child)) done.follow;
     }
 
 -- a call on an application was made, or fails
 pub app_called : {X : Type 0} (s : Site) (past : Past) (call : CallForm) (r : Result X Failure) (a a' : ProgressForm) (tree tree' : List App) (v w : View) → HasDone past a tree v → AreLonger v w
-    → bytes_eq call.name (codes "application") ≡ true → CallsApp s past (app_call call) r a' tree' w → CarriesOutLate s past (apply call) (on_no_child r) a' tree' w
-app_called s past call (Ok x) a a' tree tree' v w done longer named called =
+    → bytes_eq call.name (codes "application") ≡ true → CallsApp s past (app_call call) r a' tree' w → AsksMemory (app_takes_memory (app_call call)) r
+    → CarriesOutLate s past (apply call) (on_no_child r) a' tree' v w
+app_called s past call (Ok x) a a' tree tree' v w done longer named called asks =
     let is = on_app s call past.run named in (
-      (v, seen_in past a tree v done, is.fault (values_seen v) ∙ called.0, sym (is.stay (values_seen v)), longer),
+      (v, (seen_in past a tree v done, is.fault (values_seen v) ∙ called.0, sym (is.stay (values_seen v))), longer_still v, longer),
       subst (λ (q : Run). HasDone (record past { run = q }) a' tree' w) (sym (is.run false)) called.1,
     )
-app_called s past call (Err e) a a' tree tree' v w done longer named called =
+app_called s past call (Err e) a a' tree tree' v w done longer named called asks =
     let is = on_app s call past.run named in
     record {
       then_view = w;
       fails = cause_seen past.first w past.run (call_fault s (values_seen w) call past.run) (cause_of e.cause) (subst (λ (f : Option Cause). IsCause f (cause_of e.cause)) (sym (is.fault (values_seen w))) called.0)
           (seen_of past.first past.run past.run.courses a'.held w (λ p. refl) called.1);
+      stops = (λ m. app_memory call named ∙ asks m, λ on_child. absurd (true≢false (sym on_child ∙ app_on_no_child call named)));
+      since = longer;
       longer = longer_still w;
       partly = subst (λ (cs : Courses). AllFollow past.first cs a'.held w) (sym (is.courses e.modules)) called.1;
     }
 
 -- a call on a child of a supervisor was made, or fails
-pub child_called : (s : Site) (past : Past) (call : CallForm) (r : Result Bool Failure) (a : ProgressForm) (tree : List App) (w : View)
-    → bytes_eq call.name (codes "supervisor") ≡ true → CallsChild past (child_call call) r a tree w → CarriesOutLate s past (apply call) r a tree w
-child_called s past call (Ok stays) a tree w named called =
+pub child_called : (s : Site) (past : Past) (call : CallForm) (r : Result Bool Failure) (a : ProgressForm) (tree : List App) (v w : View)
+    → bytes_eq call.name (codes "supervisor") ≡ true → CallsChild past (child_call call) r a tree v w → AsksMemory (child_takes_memory (child_call call)) r
+    → CarriesOutLate s past (apply call) r a tree v w
+child_called s past call (Ok stays) a tree v w named called asks =
     let is = on_child s call past.run named in (
-      (called.then_view, called.seen, is.fault (values_seen called.then_view) ∙ called.sound, called.told ∙ sym (is.stay (values_seen called.then_view)), called.longer),
+      (
+        called.then_view,
+        (called.seen, is.fault (values_seen called.then_view) ∙ called.sound, called.told ∙ sym (is.stay (values_seen called.then_view))),
+        called.since,
+        called.longer,
+      ),
       subst (λ (q : Run). HasDone (record past { run = q }) a tree w) (sym (is.run stays)) called.done,
     )
-child_called s past call (Err e) a tree w named called =
+child_called s past call (Err e) a tree v w named called asks =
     let is = on_child s call past.run named in
     record {
       then_view = called.then_view;
       fails = subst (λ (f : Option Cause). IsCauseIn past.first called.then_view past.run f (cause_of e.cause)) (sym (is.fault (values_seen called.then_view))) called.fails;
+      stops = (λ m. child_memory call named ∙ asks m, λ on_child. (called.seen, called.counted));
+      since = called.since;
       longer = called.longer;
       partly = subst (λ (cs : Courses). AllFollow past.first cs a.held w) (sym (is.courses e.modules)) called.partly;
     }

@@ -16,6 +16,7 @@ use Rattle.script_progress.specs.Fault.Cause.{no_table, unsupported, no_slot, no
 use Rattle.script_progress.specs.InMemory.{cause_of}
 use Rattle.script_progress.specs.Script.{child_after, child_stays_at, child_within}
 use Rattle.script_progress.specs.Steps.{HasDone, IsCauseIn, IsSeen, Past, ProgressForm}
+use Rattle.script_progress.specs.Stops.{child_count}
 
 abbrev pub child_call_of : declared.ChildCall → ChildCall
 child_call_of (Terminates child) = terminates child.supervisor.now child.id.now
@@ -31,23 +32,27 @@ restart_cause Unsupported = unsupported
 restart_cause NoSlot = no_slot
 restart_cause NoMemory = no_memory
 
--- A call on a child of a supervisor was made, by histories that are in front of those that the handler has seen now; by these the
--- child stays as it is, or doesn't.
-pub record IsMade (past : Past) (c : ChildCall) (stays : Bool) (a : ProgressForm) (tree : List App) (v : View) : Type 0 where
+-- A call on a child of a supervisor was made, by the histories that the handler had seen at a moment between these two; by these
+-- the child stays as it is, or doesn't.
+pub record IsMade (past : Past) (c : ChildCall) (stays : Bool) (a : ProgressForm) (tree : List App) (v w : View) : Type 0 where
   pub then_view : View
   pub seen : IsSeen past.first past.run then_view
   pub sound : child_call_fault (values_seen then_view) c past.run ≡ None
   pub told : stays ≡ child_stays_at (values_seen then_view) c past.run
-  pub longer : AreLonger then_view v
-  pub done : HasDone (record past { run = child_after c stays past.run }) a tree v
+  pub since : AreLonger v then_view
+  pub longer : AreLonger then_view w
+  pub done : HasDone (record past { run = child_after c stays past.run }) a tree w
 
--- It fails. What stood for the child may be given up.
-pub record IsNotMade (past : Past) (c : ChildCall) (e : Failure) (hs : HeldSlots) (v : View) : Type 0 where
+-- It fails. What stood for the child is given up, or isn't.
+pub record IsNotMade (past : Past) (c : ChildCall) (e : Failure) (hs : HeldSlots) (v w : View) : Type 0 where
   pub then_view : View
   pub fails : IsCauseIn past.first then_view past.run (child_call_fault (values_seen then_view) c past.run) (cause_of e.cause)
-  pub longer : AreLonger then_view v
-  pub partly : AllFollow past.first (child_within c e.modules past.run) hs v
+  pub since : AreLonger v then_view
+  pub longer : AreLonger then_view w
+  pub seen : IsSeen past.first past.run then_view
+  pub counted : e.modules ≡ child_count (values_seen then_view) (cause_of e.cause) c past.run
+  pub partly : AllFollow past.first (child_within c e.modules past.run) hs w
 
-abbrev pub CallsChild : Past → ChildCall → Result Bool Failure → ProgressForm → List App → View → Type 0
-CallsChild past c (Ok stays) a tree v = IsMade past c stays a tree v
-CallsChild past c (Err e) a tree v = IsNotMade past c e a.held v
+abbrev pub CallsChild : Past → ChildCall → Result Bool Failure → ProgressForm → List App → View → View → Type 0
+CallsChild past c (Ok stays) a tree v w = IsMade past c stays a tree v w
+CallsChild past c (Err e) a tree v w = IsNotMade past c e a.held v w

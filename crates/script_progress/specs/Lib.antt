@@ -5,3 +5,4 @@ pub mod InMemory
 pub mod Steps
 pub mod Apps
 pub mod Children
+pub mod Stops

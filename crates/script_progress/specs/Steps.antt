@@ -15,6 +15,7 @@ use Rattle.script_progress.specs.Script.{Site, Run, courses_within, run_after, s
 use Rattle.script_progress.specs.Fault.{Cause, fault}
 use Rattle.script_progress.specs.Fault.Cause.{no_memory}
 use Rattle.script_progress.specs.InMemory.{cause_of}
+use Rattle.script_progress.specs.Stops.{StopsAt}
 
 -- The instruction may stand before the point of no return.
 abbrev pub IsEarly : Instruction → Type 0
@@ -45,11 +46,14 @@ followed_in past = record { first = past.first; courses = past.run.courses }
 abbrev pub IsSeen : View → Run → View → Type 0
 IsSeen first r v = AreSeen first r.courses v
 
--- Nothing makes the instruction fail, in histories that are in front of those that the handler has seen now. By these it leaves the
--- child that it is on as it is, or doesn't.
-abbrev pub HasNoFault : Site → View → View → Run → Bool → Instruction → Type 0
-HasNoFault s first now r stays i =
-    (v : View) × IsSeen first r v × (fault s (values_seen v) r i ≡ None) × (stays ≡ stays_at (values_seen v) i r) × AreLonger v now
+-- Nothing makes the instruction fail, in the histories that the handler has seen at this moment. By these it leaves the child that
+-- it is on as it is, or doesn't.
+abbrev pub HasNoFaultAt : Site → View → Run → Bool → Instruction → View → Type 0
+HasNoFaultAt s first r stays i u = IsSeen first r u × (fault s (values_seen u) r i ≡ None) × (stays ≡ stays_at (values_seen u) i r)
+
+-- So it is at a moment between these two.
+abbrev pub HasNoFault : Site → View → View → View → Run → Bool → Instruction → Type 0
+HasNoFault s first since now r stays i = (u : View) × HasNoFaultAt s first r stays i u × AreLonger since u × AreLonger u now
 
 -- The cause is this one, if any; or it is out of memory.
 abbrev pub IsCause : Option Cause → Cause → Type 0
@@ -73,29 +77,32 @@ pub record HasDone (past : Past) (a : ProgressForm) (tree : List App) (v : View)
   pub apps : tree ≡ past.run.apps
   pub values : past.run.values ≡ values_seen past.first
 
--- The instruction was carried out.
-abbrev pub IsCarriedOut : Site → Past → Bool → Bool → Instruction → ProgressForm → List App → View → Type 0
-IsCarriedOut s past early stays i a tree v =
-    HasNoFault s past.first v past.run stays i × HasDone (record past { run = run_after s early stays i past.run }) a tree v
+-- The instruction was carried out, from the one moment to the other.
+abbrev pub IsCarriedOut : Site → Past → Bool → Bool → Instruction → ProgressForm → List App → View → View → Type 0
+IsCarriedOut s past early stays i a tree v w =
+    HasNoFault s past.first v w past.run stays i × HasDone (record past { run = run_after s early stays i past.run }) a tree w
 
--- It was carried out, or fails; then it was done in part. It leaves no child as it is.
-abbrev pub CarriesOut : {X : Type 0} → Site → Past → Bool → Instruction → Result X Failure → ProgressForm → List App → View → Type 0
-CarriesOut s past early i (Ok x) a tree v = IsCarriedOut s past early false i a tree v
-CarriesOut s past early i (Err e) a tree v =
-    IsFault past.first s v past.run i (cause_of e.cause)
-    × AllFollow past.first (courses_within s early i e.modules e.slot past.run) a.held v
+-- It was carried out, or fails, and stops where it does; then it was done in part. It leaves no child as it is.
+abbrev pub CarriesOut : {X : Type 0} → Site → Past → Bool → Instruction → Result X Failure → ProgressForm → List App → View → View → Type 0
+CarriesOut s past early i (Ok x) a tree v w = IsCarriedOut s past early false i a tree v w
+CarriesOut s past early i (Err e) a tree v w =
+    IsFault past.first s w past.run i (cause_of e.cause)
+    × StopsAt past.first s w past.run i (cause_of e.cause) e.modules e.slot
+    × AllFollow past.first (courses_within s early i e.modules e.slot past.run) a.held w
 
--- The instruction fails behind the point of no return, by histories that are in front of those that the handler has seen now.
-pub record IsFailed (s : Site) (past : Past) (i : Instruction) (e : Failure) (hs : HeldSlots) (v : View) : Type 0 where
+-- The instruction fails behind the point of no return, by the histories that the handler had seen at a moment between these two.
+pub record IsFailed (s : Site) (past : Past) (i : Instruction) (e : Failure) (hs : HeldSlots) (v w : View) : Type 0 where
   pub then_view : View
   pub fails : IsFault past.first s then_view past.run i (cause_of e.cause)
-  pub longer : AreLonger then_view v
-  pub partly : AllFollow past.first (courses_within s false i e.modules e.slot past.run) hs v
+  pub stops : StopsAt past.first s then_view past.run i (cause_of e.cause) e.modules e.slot
+  pub since : AreLonger v then_view
+  pub longer : AreLonger then_view w
+  pub partly : AllFollow past.first (courses_within s false i e.modules e.slot past.run) hs w
 
 -- It was carried out behind the point of no return, and this is told of the child that it is on; or it fails.
-abbrev pub CarriesOutLate : Site → Past → Instruction → Result Bool Failure → ProgressForm → List App → View → Type 0
-CarriesOutLate s past i (Ok stays) a tree v = IsCarriedOut s past false stays i a tree v
-CarriesOutLate s past i (Err e) a tree v = IsFailed s past i e a.held v
+abbrev pub CarriesOutLate : Site → Past → Instruction → Result Bool Failure → ProgressForm → List App → View → View → Type 0
+CarriesOutLate s past i (Ok stays) a tree v w = IsCarriedOut s past false stays i a tree v w
+CarriesOutLate s past i (Err e) a tree v w = IsFailed s past i e a.held v w
 
 -- what is told where an instruction is on no child
 abbrev pub on_no_child : {X : Type 0} → Result X Failure → Result Bool Failure

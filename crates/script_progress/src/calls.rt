@@ -13,6 +13,7 @@ ghost use Rattle.script_progress.specs.Calls.AppCall.{stops};
 ghost use Rattle.script_progress.specs.Calls.{app_call, first_atom};
 ghost use Rattle.script_progress.specs.Script.{called_after, target_library};
 ghost use Rattle.script_progress.specs.Steps.{CarriesOutLate, HasDone, Past, progress_of};
+ghost use Rattle.script_progress.specs.Stops.{AsksMemory, app_takes_memory};
 ghost use Rattle.held_processes.specs.Following.{AreLonger};
 
 use crate::cause::failed;
@@ -54,7 +55,7 @@ pub fn apply<R: Wait>(
     ensures table { seat.new.table ≡ seat.old.table }
     ensures longer { AreLonger seat.old.view seat.new.view }
     ensures carried { CarriesOutLate (site_of site.now) past (apply (call_of call.now))
-        result (progress_of progress.new) progress.new.tree seat.new.view }
+        result (progress_of progress.new) progress.new.tree seat.old.view seat.new.view }
 {
     match call.name.as_str() {
         "application" => on_no_child(call_app(progress, rt, alloc, site, seat, app_call(call))),
@@ -79,6 +80,7 @@ fn call_app<R: Wait>(
     ensures longer { AreLonger seat.old.view seat.new.view }
     ensures called { CallsApp (site_of site.now) past (app_call_of call.entry)
         result (progress_of progress.new) progress.new.tree seat.new.view }
+    ensures memory { AsksMemory (app_takes_memory (app_call_of call.entry)) result }
 {
     match call {
         AppCall::Starts(app) => match target_library(site, app) {

@@ -15,7 +15,8 @@ pub enum Cause {
     NoModule,
     /// No instruction fetched the module before.
     NotFetched,
-    /// A process runs the module, and no table of a worker was fetched, or is loaded.
+    /// A process runs the module, and no table of a worker was fetched; or no table is loaded, or one of the other kind, for a child
+    /// or a top that begins.
     NoTable,
     /// A process of the module is held, and no row of its table says how its code is changed, or there is no version to change
     /// it from.
@@ -28,11 +29,11 @@ pub enum Cause {
     NoApp,
     /// There are too few slots for the processes of an application, or of a child that begins again.
     NoSlot,
-    /// An application, or a child that begins again, starts in a way that isn't supported.
+    /// The instruction isn't supported, or an application, or a child that begins again, starts in a way that isn't.
     Unsupported,
     /// Not exactly one supervisor of the module is started.
     NoSuper,
-    /// No memory was left. It may come in place of any other.
+    /// No memory was left, where the instruction asks for some.
     NoMemory,
 }
 

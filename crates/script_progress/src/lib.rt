@@ -1,21 +1,15 @@
-//! What a script has done so far, and the calls that it makes (OTP: release_handler(3), appup(4), application(3),
-//! supervisor(3), erlang:error/1).
+//! What a script has done so far, and the calls that it makes (OTP: release_handler(3), appup(4), application(3), supervisor(3)).
 //!
 //! A script's [`Progress`] is what it holds and has fetched so far, and what is loaded and started once it has ended well.
-//! [`Progress::new`] is that of a script that has done nothing yet (`begun`), and [`Progress::roll_back`] gives each process
-//! that is held back as it was (`left`). A [`Failure`] tells why an instruction fails, and how far it came; [`Cause::text`] is
-//! how the cause is shown.
-//!
-//! What the instructions do is defined here, also for the crate that carries out the others: what is done so far
-//! (specs/Script), why an instruction fails (specs/Fault), and that an instruction was carried out or fails (specs/Steps:
-//! `CarriesOut`, `CarriesOutLate`).
-//!
-//! [`apply`] makes a call behind the point of no return: an application is started or stopped, a child of a supervisor ends,
-//! goes or begins again, or the script raises an error. It was made where it has no fault, and else fails (`carried`).
-//! [`raise`] is how an error of the script fails, also before the point. A call that takes a child of a supervisor away, or
-//! begins it again, leaves one that is up as it is. `apply` tells which it did, since what the rest of a script does goes by
-//! that.
-//!
+//! [`Progress::new`] is that of a script that has done nothing yet (`begun`), and [`Progress::roll_back`] gives each process that
+//! is held back as it was (`left`). What the instructions do is defined here, also for the crate that carries out the others: what
+//! is done so far (specs/Script), why an instruction fails (specs/Fault) and how far it comes then (specs/Stops), and that it was
+//! carried out or fails (specs/Steps: `CarriesOut`, `CarriesOutLate`). A [`Failure`] tells both; [`Cause::text`] is how the cause
+//! is shown.
+//! [`apply`] makes a call behind the point of no return: an application is started or stopped, a child of a supervisor ends, goes
+//! or begins again, or the script raises an error, as [`raise`] does before the point. A call that takes a child away, or begins
+//! it again, leaves one that is up as it is, and `apply` tells which it did, since what the rest of a script does goes by that
+//! (`carried`).
 //! Only tested: that a script begins, that a call is made, and that a cause is shown, where memory is there. Trusted: the
 //! toolchain alone.
 #![tactic(auto)]

@@ -45,9 +45,9 @@ plain_run s Start names r = refl
 
 pub plain_carried : (s : Site) (past : Past) (plain : Plain) (names : List (List ℕ)) (a : ProgressForm) (hs : HeldSlots) (tree : List App) (v w : View) → HasDone past a tree v → AreLonger v w
     → AllFollow past.first (on_each (plain_operation plain) names (users_of tree) past.run.courses) hs w
-    → CarriesOut {X = Unit {0}} s past false (plain_instruction plain names) (Ok tt) (record a { held = hs }) tree w
+    → CarriesOut {X = Unit {0}} s past false (plain_instruction plain names) (Ok tt) (record a { held = hs }) tree v w
 plain_carried s past plain names a hs tree v w done longer follow = (
-  (v, seen_in past a tree v done, plain_is_sound s plain names v past.run, sym (plain_stays plain names (values_seen v) past.run), longer),
+  (v, (seen_in past a tree v done, plain_is_sound s plain names v past.run, sym (plain_stays plain names (values_seen v) past.run)), longer_still v, longer),
   subst (λ (r : Run). HasDone (record past { run = r }) (record a { held = hs }) tree w) (sym (plain_run s plain names past.run))
       (record {
         follow = subst (λ (apps : List App). AllFollow past.first (on_each (plain_operation plain) names (users_of apps) past.run.courses) hs w) done.apps follow;
@@ -65,7 +65,7 @@ is_idle restart_emulator = true
 is_idle i = false
 
 pub nothing_done : (s : Site) (past : Past) (i : Instruction) (a : ProgressForm) (tree : List App) (v : View) → is_idle i ≡ true → HasDone past a tree v
-    → CarriesOut {X = Unit {0}} s past false i (Ok tt) a tree v
-nothing_done s past (purge names) a tree v idle done = ((v, seen_in past a tree v done, refl, refl, longer_still v), done)
-nothing_done s past restart_emulator a tree v idle done = ((v, seen_in past a tree v done, refl, refl, longer_still v), done)
+    → CarriesOut {X = Unit {0}} s past false i (Ok tt) a tree v v
+nothing_done s past (purge names) a tree v idle done = ((v, (seen_in past a tree v done, refl, refl), longer_still v, longer_still v), done)
+nothing_done s past restart_emulator a tree v idle done = ((v, (seen_in past a tree v done, refl, refl), longer_still v, longer_still v), done)
 nothing_done s past i a tree v idle done = absurd cc

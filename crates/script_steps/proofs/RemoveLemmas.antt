@@ -1,7 +1,7 @@
 -- A module that isn't loaded any more.
 use Rattle.std.proofs.Common.{◌≡◌, ℕ, ◌||◌, Bool, false, List, if◌then◌else◌, refl, sym, ap, ◌∙◌, None, Some, Ok}
 use Rattle.proc_table.specs.declared.view.View.{View}
-use Rattle.held_processes.specs.Following.{AllFollow}
+use Rattle.held_processes.specs.Following.{AllFollow, AreLonger}
 use Rattle.held_processes.specs.Operations.{uses_up, users_of, values_seen}
 use Rattle.relup_instruction.specs.Instruction.{PurgingForm}
 use Rattle.relup_instruction.specs.Instruction.Instruction.{remove}
@@ -26,11 +26,11 @@ nothing_told past name a tree v w b done is unused =
     ap (λ (c : Bool). if c then Some in_use else None) (sym (told_here past name a tree v w done) ∙ (sym is ∙ unused))
 
 -- nothing runs it
-pub removed_well : (s : Site) (past : Past) (p : PurgingForm) (m : List ℕ) (a : ProgressForm) (next : NamedModules) (tree : List App) (v w : View) (b : Bool) → HasDone past a tree v
+pub removed_well : (s : Site) (past : Past) (p : PurgingForm) (m : List ℕ) (a : ProgressForm) (next : NamedModules) (tree : List App) (v w : View) (b : Bool) → HasDone past a tree v → AreLonger v w
     → AllFollow past.first past.run.courses a.held w → m ≡ p.name → b ≡ (supervises p.name tree || uses_up (values_seen w) (users_of tree) p.name past.run.courses) → b ≡ false → next ≡ without_module m a.next
-    → CarriesOut {X = Unit {0}} s past false (remove p) (Ok tt) (record a { next = next }) tree w
-removed_well s past p m a next tree v w b done follow named is unused removed = (
-  (w, seen_of past.first past.run past.run.courses a.held w (λ p. refl) follow, nothing_told past p.name a tree v w b done is unused, refl, longer_still w),
+    → CarriesOut {X = Unit {0}} s past false (remove p) (Ok tt) (record a { next = next }) tree v w
+removed_well s past p m a next tree v w b done longer follow named is unused removed = (
+  (w, (seen_of past.first past.run past.run.courses a.held w (λ p. refl) follow, nothing_told past p.name a tree v w b done is unused, refl), longer, longer_still w),
   record {
     follow = follow;
     fetched = done.fetched;

@@ -1,5 +1,5 @@
 -- What a step leaves, of what its parts leave.
-use Rattle.std.proofs.Common.{◌≡◌, ℕ, ◌<◌, ◌+◌, Bool, true, false, not, List, [], ◌∷◌, ◌++◌, map, take, drop, length, get_or, if◌then◌else◌, refl, sym, ap, subst, ◌∙◌, Option, Some, None, IsSome, is_ok, unwrap_or, Result, Ok, Err, IsErrAnd, arith}
+use Rattle.std.proofs.Common.{◌≡◌, ℕ, ◌<◌, ◌+◌, ◌&&◌, Bool, true, false, not, List, [], ◌∷◌, ◌++◌, map, take, drop, length, get_or, if◌then◌else◌, nat_lt, refl, sym, ap, ap₂, subst, ◌∙◌, Option, Some, None, IsSome, unwrap_or, Result, Ok, Err, IsErrAnd, arith}
 use Rattle.library.specs.Library.{Library}
 use Rattle.worker_table.specs.Table.{OldVersion}
 use Rattle.proc_table.specs.declared.view.View.{View}
@@ -10,7 +10,7 @@ use Rattle.held_processes.specs.Course as course
 use Rattle.held_processes.specs.Course.{Courses, Operation, Users, on_module}
 use Rattle.held_processes.specs.declared.steps.Undone.{Undone}
 use Rattle.held_processes.specs.Following.{AllFollow, AreLonger, HeldSlots}
-use Rattle.held_processes.specs.Operations.{Changes, IsDone, TellsHeldUser, Values, holds_user, lacks_row, part_way, users_of, values_seen}
+use Rattle.held_processes.specs.Operations.{Changes, FindsRows, IsDone, TellsHeldUser, Values, any_below, holds_user, is_lowest, lacks_row, lacks_row_at, part_way, users_of, values_seen}
 use Rattle.relup_instruction.specs.declared.instruction.Direction.{Direction}
 use Rattle.relup_instruction.specs.declared.instruction.Direction.TheVariants.{Up}
 use Rattle.relup_instruction.specs.declared.instruction.Suspension.{Suspension}
@@ -24,9 +24,12 @@ use Rattle.script_progress.specs.Fault.Cause.{no_change, no_memory, not_fetched}
 use Rattle.script_progress.specs.InMemory.{cause_of}
 use Rattle.script_progress.specs.Script.{Run, Site, change_courses, change_within, changed, changed_once, changed_within, each_within, fetched_from, fetched_of, library_for, load_within, mode_of, old_version, on_each, processes_changed, supervisors_changed, suspended_in, tables_among, users_in, worker_in}
 use Rattle.script_progress.specs.Steps.{CarriesOut, HasDone, IsCause, IsCauseIn, Past, ProgressForm, followed_in}
+use Rattle.script_progress.specs.Stops.{UnlessMemory, is_first_stuck, is_stuck_at}
 use Rattle.script_steps.specs.Steps.{AreDone, ChangesOnce, ChangesProcesses, FailsToChange, GivesTable}
+use Rattle.script_progress.proofs.CallLemmas.{left_true}
 use Rattle.script_progress.proofs.SeenLemmas.{cause_seen, memory_in, seen_in, seen_of}
 use Rattle.script_steps.proofs.CourseLemmas.{change_none_within, changed_push, changed_stopped, changed_within_same, each_push, each_stopped}
+use Rattle.held_processes.proofs.AnyLemmas.{any_found}
 use Rattle.held_processes.proofs.FollowLemmas.{follow_same}
 use Rattle.held_processes.proofs.SlotLemmas.{longer_still}
 use Rattle.script_steps.proofs.RowLemmas.{more, parted}
@@ -34,9 +37,9 @@ use Rattle.script_steps.proofs.RowLemmas.{more, parted}
 -- the processes of all modules are suspended, or memory was refused
 pub suspended : (s : Site) (past : Past) (early : Bool) (ss : List SuspensionForm) (r : Result (Unit {0}) Failure) (a : ProgressForm) (tree : List App) (hs : HeldSlots) (v w : View) → HasDone past a tree v → AreLonger v w
     → AreDone (followed_in past) (users_of tree) course.Operation.suspend (suspended_in ss) r hs w
-    → CarriesOut s past early (suspend ss) r (record a { held = hs }) tree w
+    → CarriesOut s past early (suspend ss) r (record a { held = hs }) tree v w
 suspended s past early ss (Ok x) a tree hs v w done longer did = (
-  (v, seen_in past a tree v done, refl, refl, longer),
+  (v, (seen_in past a tree v done, refl, refl), longer_still v, longer),
   record {
     follow = subst (λ (as' : List App). AllFollow past.first (on_each course.Operation.suspend (suspended_in ss) (users_of as') past.run.courses) hs w) done.apps did;
     fetched = done.fetched;
@@ -47,6 +50,7 @@ suspended s past early ss (Ok x) a tree hs v w done longer did = (
 )
 suspended s past early ss (Err e) a tree hs v w done longer did = (
   memory_in past.first w past.run None (cause_of e.cause) did.0,
+  (λ _. refl, tt),
   subst (λ (as' : List App). AllFollow past.first (each_within course.Operation.suspend (suspended_in ss) e.modules e.slot (users_of as') past.run.courses) hs w) done.apps did.1,
 )
 
@@ -83,9 +87,9 @@ fetched_push l (m ∷ ns) n ms = fetched_push l ns n (with_loaded (library_modul
 -- modules were fetched
 pub fetched_well : (s : Site) (past : Past) (early : Bool) (f : FetchForm) (a : ProgressForm) (ms : NamedModules) (tree : List App) (v : View) → HasDone past a tree v
     → (fetch_fault (library_for s f) f.modules ≡ None) × (ms ≡ fetched_from (library_for s f) f.modules a.fetched)
-    → CarriesOut {X = Unit {0}} s past early (load_object_code f) (Ok tt) (record a { fetched = ms }) tree v
+    → CarriesOut {X = Unit {0}} s past early (load_object_code f) (Ok tt) (record a { fetched = ms }) tree v v
 fetched_well s past early f a ms tree v done did = (
-  (v, seen_in past a tree v done, did.0, refl, longer_still v),
+  (v, (seen_in past a tree v done, did.0, refl), longer_still v, longer_still v),
   record {
     follow = done.follow;
     fetched = did.1 ∙ ap (fetched_from (library_for s f) f.modules) done.fetched;
@@ -104,11 +108,11 @@ load_fault_is (Some m) users name there = refl
 pub loaded_well : (s : Site) (past : Past) (early : Bool) (p : PurgingForm) (a : ProgressForm) (n : List ℕ) (hs : HeldSlots) (got before next : NamedModules) (tree tree' : List App) (v w : View)
     → n ≡ p.name → IsSome (module_named p.name past.run.fetched) → HasDone past a tree v → AreLonger v w → GivesTable {X = Unit {0}} past early p.name (Ok tt) hs w
     → got ≡ a.fetched → before ≡ a.next → tree' ≡ tree → next ≡ with_loaded (module_named n got) n before
-    → CarriesOut {X = Unit {0}} s past early (load p) (Ok tt) (record { held = hs; fetched = got; next = next }) tree' w
+    → CarriesOut {X = Unit {0}} s past early (load p) (Ok tt) (record { held = hs; fetched = got; next = next }) tree' v w
 loaded_well s past early p a n hs got before next tree tree' v w named there done longer given same kept stays loaded =
     let fetched : got ≡ past.run.fetched = same ∙ done.fetched in
     let modules : before ≡ past.run.modules = kept ∙ done.next in (
-      (v, seen_in past a tree v done, load_fault_is (module_named p.name past.run.fetched) (users_in past.run) p.name there ∙ given.0, refl, longer),
+      (v, (seen_in past a tree v done, load_fault_is (module_named p.name past.run.fetched) (users_in past.run) p.name there ∙ given.0, refl), longer_still v, longer),
       record {
         follow = given.1;
         fetched = fetched;
@@ -121,20 +125,13 @@ loaded_well s past early p a n hs got before next tree tree' v w named there don
 -- it wasn't fetched
 pub load_of_nothing : (s : Site) (past : Past) (early : Bool) (p : PurgingForm) (e : Failure) (a : ProgressForm) (tree : List App) (v : View)
     → module_named p.name past.run.fetched ≡ None → HasDone past a tree v → cause_of e.cause ≡ not_fetched
-    → CarriesOut {X = Unit {0}} s past early (load p) (Err e) a tree v
+    → CarriesOut {X = Unit {0}} s past early (load p) (Err e) a tree v v
 load_of_nothing s past early p e a tree v none done is = (
   subst (λ (c : Cause). IsCauseIn past.first v past.run (load_fault (module_named p.name past.run.fetched) (users_in past.run) p.name) c) (sym is)
       (ap (λ (o : Option Module). load_fault o (users_in past.run) p.name) none, seen_in past a tree v done),
+  (λ _. refl, tt),
   subst (λ (o : Option Module). AllFollow past.first (load_within early p.name (worker_in o) e.slot (users_in past.run) past.run.courses) a.held v) (sym none) done.follow,
 )
-
-not_true : (b : Bool) → true ≡ not b → b ≡ false
-not_true true e = absurd (cc e)
-not_true false e = refl
-
-not_false : (b : Bool) → false ≡ not b → b ≡ true
-not_false true e = refl
-not_false false e = absurd (cc e)
 
 -- why a single change of code fails
 abbrev once_fault : Bool → Option Cause
@@ -148,7 +145,7 @@ stuck_by s mode c seen r o b there stuck = ap (λ (q : Option OldVersion). once_
 changes_by : (past : Past) (c : ChangeForm) (tree : List App) (n : List ℕ) (old : OldVersion) (a : ProgressForm) (hs : HeldSlots) (v : View) (r q : Result (Unit {0}) Undone) → n ≡ c.name
     → HasDone past a tree v → Changes (users_of tree) n old c.extra a.held r hs → r ≡ q
     → IsDone past.first (users_in past.run) c.name (course.Operation.change old c.extra) past.run.courses q hs v
-    × (is_ok q ≡ not (lacks_row old c.extra (values_seen v) (users_in past.run) c.name past.run.courses))
+    × FindsRows old c.extra (values_seen v) (users_in past.run) c.name past.run.courses q
 changes_by past c tree n old a hs v r q named done changes is =
     let at_q : Changes (users_of tree) n old c.extra a.held q hs = subst (λ (x : Result (Unit {0}) Undone). Changes (users_of tree) n old c.extra a.held x hs) is changes in
     let here : Changes (users_in past.run) n old c.extra a.held q hs = subst (λ (as' : List App). Changes (users_of as') n old c.extra a.held q hs) done.apps at_q in
@@ -160,7 +157,7 @@ pub changed_by_row : (s : Site) (past : Past) (mode : Direction) (number : ℕ) 
     → ChangesProcesses {X = Unit {0}} s past mode number c (Ok tt) (record a { held = hs }) tree v
 changed_by_row s past mode number c tree n old a hs v r named there done changes is =
     let did = changes_by past c tree n old a hs v r (Ok tt) named done changes is in (
-      stuck_by s mode c (values_seen v) past.run (Some old) false there (not_true (lacks_row old c.extra (values_seen v) (users_in past.run) c.name past.run.courses) did.1),
+      stuck_by s mode c (values_seen v) past.run (Some old) false there did.1,
       record {
         follow = subst (λ (o : Option OldVersion). AllFollow past.first (change_courses c.name o c (users_in past.run) past.run.courses) hs v) (sym there) did.0;
         fetched = done.fetched;
@@ -176,9 +173,16 @@ pub changed_without_row : (s : Site) (past : Past) (mode : Direction) (number : 
     → ChangesProcesses {X = Unit {0}} s past mode number c (Err k) (record a { held = hs }) tree v
 changed_without_row s past mode number c tree n old a hs v r e k named there done changes is cause counted at =
     let did = changes_by past c tree n old a hs v r (Err e) named done changes is in
-    let stuck = stuck_by s mode c (values_seen v) past.run (Some old) true there (not_false (lacks_row old c.extra (values_seen v) (users_in past.run) c.name past.run.courses) did.1) in (
-      subst (λ (x : Cause). IsCause (change_fault s mode (c ∷ []) (values_seen v) past.run) x) (sym cause) stuck,
+    let seen = values_seen v in
+    let test = lacks_row_at old c.extra seen (users_in past.run) c.name past.run.courses in
+    let lacks : lacks_row old c.extra seen (users_in past.run) c.name past.run.courses ≡ true =
+    any_found test slots e.slot did.1.0 (left_true (test e.slot) (not (any_below test e.slot)) did.1.1) in
+    let here : is_stuck_at (old_version s mode c.name past.run) c k.slot seen past.run ≡ true =
+    ap (λ (o : Option OldVersion). is_stuck_at o c k.slot seen past.run) there
+    ∙ (ap (λ (n : ℕ). nat_lt n slots && is_lowest test n) at ∙ ap₂ (λ (a b : Bool). a && b) (lt-ltb e.slot slots did.1.0) did.1.1) in (
+      subst (λ (x : Cause). IsCause (change_fault s mode (c ∷ []) seen past.run) x) (sym cause) (stuck_by s mode c seen past.run (Some old) true there lacks),
       counted,
+      subst (λ (x : Cause). UnlessMemory x (is_stuck_at (old_version s mode c.name past.run) c k.slot seen past.run ≡ true)) (sym cause) here,
       subst (λ (o : Option OldVersion). AllFollow past.first (change_within c.name o c k.slot (users_in past.run) past.run.courses) hs v) (sym there)
           (subst (λ (m : ℕ). AllFollow past.first (part_way m (users_in past.run) c.name (course.Operation.change old c.extra) past.run.courses) hs v) (sym at) did.0),
     )
@@ -203,8 +207,14 @@ pub held_without_version : (s : Site) (past : Past) (mode : Direction) (number :
     → old_version s mode c.name past.run ≡ None → HasDone past a tree v → TellsHeldUser (users_of tree) n a.held b → b ≡ true
     → cause_of k.cause ≡ no_change → k.modules ≡ number → k.slot ≡ 0 → ChangesProcesses {X = Unit {0}} s past mode number c (Err k) a tree v
 held_without_version s past mode number c tree n k a v b named none done told is_held cause counted at =
-    let stuck = stuck_by s mode c (values_seen v) past.run None true none (sym (told_of past c tree n a v b named done told) ∙ is_held) in
-    (subst (λ (x : Cause). IsCause (change_fault s mode (c ∷ []) (values_seen v) past.run) x) (sym cause) stuck, counted, not_changed s past mode c k a tree v done at)
+    let seen = values_seen v in
+    let held = sym (told_of past c tree n a v b named done told) ∙ is_held in (
+      subst (λ (x : Cause). IsCause (change_fault s mode (c ∷ []) seen past.run) x) (sym cause) (stuck_by s mode c seen past.run None true none held),
+      counted,
+      subst (λ (x : Cause). UnlessMemory x (is_stuck_at (old_version s mode c.name past.run) c k.slot seen past.run ≡ true)) (sym cause)
+          (ap (λ (o : Option OldVersion). is_stuck_at o c k.slot seen past.run) none ∙ held),
+      not_changed s past mode c k a tree v done at,
+    )
 
 -- there is none, and no process is held
 pub free_without_version : (s : Site) (past : Past) (mode : Direction) (number : ℕ) (c : ChangeForm) (tree : List App) (n : List ℕ) (a : ProgressForm) (v : View) (b : Bool) → n ≡ c.name
@@ -259,6 +269,7 @@ supervisors_not_changed s past mode number c k a b before tree v did held cause 
     let users = users_in past.run in (
       subst (λ (x : Cause). IsCause (change_fault s mode (c ∷ []) (values_seen v) past.run) x) (sym cause) tt,
       counted,
+      subst (λ (x : Cause). UnlessMemory x (is_stuck_at old c k.slot (values_seen v) past.run ≡ true)) (sym cause) tt,
       subst (λ (m : ℕ). AllFollow past.first (change_within c.name old c m users past.run.courses) b.held v) (sym at)
           (subst (λ (hs : HeldSlots). AllFollow past.first (change_within c.name old c slots users past.run.courses) hs v) (sym held)
           (follow_same past.first (change_courses c.name old c users past.run.courses) (change_within c.name old c slots users past.run.courses) a.held v
@@ -293,6 +304,20 @@ first_fails true o k is = is
 first_fails false o no_memory is = tt
 first_fails false o k is = absurd (cc is)
 
+no_fault_first : (b : Bool) (o : Option Cause) → (if b then Some no_change else o) ≡ None → (b ≡ false) × (o ≡ None)
+no_fault_first true o e = absurd (cc e)
+no_fault_first false o e = (refl, e)
+
+-- where those in front can be made, it is the first that can't
+first_behind : (s : Site) (mode : Direction) (front : List ChangeForm) (c : ChangeForm) (rest : List ChangeForm) (slot : ℕ) (seen : Values) (r : Run) → change_fault s mode front seen r ≡ None
+    → is_stuck_at (old_version s mode c.name (changed s mode front r)) c slot seen (changed s mode front r) ≡ is_first_stuck s mode (front ++ (c ∷ rest)) (length front) slot seen r
+first_behind s mode [] c rest slot seen r none = refl
+first_behind s mode (d ∷ front) c rest slot seen r none =
+    let next = changed_once s mode d r in
+    let both = no_fault_first (is_stuck (old_version s mode d.name r) d seen r) (change_fault s mode front seen next) none in
+    first_behind s mode front c rest slot seen next both.1
+    ∙ ap (λ (b : Bool). not b && is_first_stuck s mode (front ++ (c ∷ rest)) (length front) slot seen next) (sym both.0)
+
 -- one more change was made
 pub changed_more : (s : Site) (past : Past) (mode : Direction) (number : ℕ) (front : List ChangeForm) (c : ChangeForm) (all : List ChangeForm) (a : ProgressForm) (tree : List App) (v : View) → all ≡ front ++ c ∷ []
     → change_fault s mode front (values_seen v) past.run ≡ None → ChangesOnce {X = Unit {0}} s (past_changes s mode front past) mode number c (Ok tt) a tree v
@@ -306,9 +331,9 @@ changed_more s past mode number front c all a tree v grown none once = (
 -- all changes were made
 pub all_changed : (s : Site) (past : Past) (early : Bool) (conversion : ConversionForm) (mode : Direction) (cs : List ChangeForm) (b a : ProgressForm) (before tree : List App) (v : View) → mode ≡ mode_of conversion.mode
     → cs ≡ conversion.changes → HasDone past b before v → (change_fault s mode cs (values_seen v) past.run ≡ None) × HasDone (past_changes s mode cs past) a tree v
-    → CarriesOut {X = Unit {0}} s past early (code_change conversion) (Ok tt) a tree v
+    → CarriesOut {X = Unit {0}} s past early (code_change conversion) (Ok tt) a tree v v
 all_changed s past early conversion mode cs b a before tree v moded whole done did = (
-  (v, seen_in past b before v done, sym (λ j. change_fault s (moded j) (whole j) (values_seen v) past.run) ∙ did.0, refl, longer_still v),
+  (v, (seen_in past b before v done, sym (λ j. change_fault s (moded j) (whole j) (values_seen v) past.run) ∙ did.0, refl), longer_still v, longer_still v),
   subst (λ (m : Direction). HasDone (record past { run = changed s m conversion.changes past.run }) a tree v) moded
       (subst (λ (ds : List ChangeForm). HasDone (record past { run = changed s mode ds past.run }) a tree v) whole did.1),
 )
@@ -317,7 +342,7 @@ all_changed s past early conversion mode cs b a before tree v moded whole done d
 pub change_stops : (s : Site) (past : Past) (early : Bool) (conversion : ConversionForm) (mode : Direction) (number : ℕ) (front : List ChangeForm) (c : ChangeForm) (rest : List ChangeForm) (e : Failure) (a : ProgressForm) (tree : List App) (v : View)
     → mode ≡ mode_of conversion.mode → conversion.changes ≡ front ++ (c ∷ rest) → length front ≡ number → change_fault s mode front (values_seen v) past.run ≡ None
     → ChangesOnce {X = Unit {0}} s (past_changes s mode front past) mode number c (Err e) a tree v
-    → CarriesOut {X = Unit {0}} s past early (code_change conversion) (Err e) a tree v
+    → CarriesOut {X = Unit {0}} s past early (code_change conversion) (Err e) a tree v v
 change_stops s past early conversion mode number front c rest e a tree v moded parts long none once =
     let seen = values_seen v in
     let behind = changed s mode front past.run in
@@ -326,7 +351,10 @@ change_stops s past early conversion mode number front c rest e a tree v moded p
     (first_fails (is_stuck (old_version s mode c.name behind) c seen behind) (change_fault s mode rest seen (changed_once s mode c behind)) (cause_of e.cause) once.0) in
     let at : changed_within s mode (front ++ (c ∷ rest)) e.modules e.slot past.run ≡ change_within c.name (old_version s mode c.name behind) c e.slot (users_in behind) behind.courses =
     ap (λ (n : ℕ). changed_within s mode (front ++ (c ∷ rest)) n e.slot past.run) (once.1 ∙ sym long) ∙ changed_stopped s mode front c rest e.slot past.run in
-    let its : AllFollow past.first (changed_within s mode (front ++ (c ∷ rest)) e.modules e.slot past.run) a.held v = subst (λ (cs : Courses). AllFollow past.first cs a.held v) (sym at) once.2 in
+    let its : AllFollow past.first (changed_within s mode (front ++ (c ∷ rest)) e.modules e.slot past.run) a.held v = subst (λ (cs : Courses). AllFollow past.first cs a.held v) (sym at) once.3 in
+    let first : UnlessMemory (cause_of e.cause) (is_first_stuck s mode (front ++ (c ∷ rest)) e.modules e.slot seen past.run ≡ true) =
+    subst (λ (b : Bool). UnlessMemory (cause_of e.cause) (b ≡ true))
+    (first_behind s mode front c rest e.slot seen past.run none ∙ ap (λ (n : ℕ). is_first_stuck s mode (front ++ (c ∷ rest)) n e.slot seen past.run) (long ∙ sym once.1)) once.2 in
     let follow : AllFollow past.first (changed_within s (mode_of conversion.mode) conversion.changes e.modules e.slot past.run) a.held v =
     subst (λ (m : Direction). AllFollow past.first (changed_within s m conversion.changes e.modules e.slot past.run) a.held v) moded
     (subst (λ (cs : List ChangeForm). AllFollow past.first (changed_within s mode cs e.modules e.slot past.run) a.held v) (sym parts) its) in (
@@ -335,6 +363,11 @@ change_stops s past early conversion mode number front c rest e a tree v moded p
           (subst (λ (cs : List ChangeForm). IsCause (change_fault s mode cs seen past.run) (cause_of e.cause)) (sym parts) why))
           (seen_of past.first past.run (changed_within s (mode_of conversion.mode) conversion.changes e.modules e.slot past.run) a.held v
           (changed_within_same s (mode_of conversion.mode) conversion.changes e.modules e.slot past.run) follow),
+      (
+        λ _. refl,
+        subst (λ (m : Direction). UnlessMemory (cause_of e.cause) (is_first_stuck s m conversion.changes e.modules e.slot seen past.run ≡ true)) moded
+            (subst (λ (cs : List ChangeForm). UnlessMemory (cause_of e.cause) (is_first_stuck s mode cs e.modules e.slot seen past.run ≡ true)) (sym parts) first),
+      ),
       follow,
     )
 
@@ -342,8 +375,8 @@ change_stops s past early conversion mode number front c rest e a tree v moded p
 pub change_passes : {X : Type 0} (s : Site) (past : Past) (early : Bool) (conversion : ConversionForm) (mode : Direction) (number : ℕ) (front : List ChangeForm) (c : ChangeForm) (rest : List ChangeForm) (e : Failure) (r : Result X Failure) (a : ProgressForm) (tree : List App) (v : View)
     → mode ≡ mode_of conversion.mode → conversion.changes ≡ front ++ (c ∷ rest) → length front ≡ number → change_fault s mode front (values_seen v) past.run ≡ None
     → ChangesOnce {X = Unit {0}} s (past_changes s mode front past) mode number c (Err e) a tree v → IsErrAnd r (λ k. k ≡ e)
-    → CarriesOut s past early (code_change conversion) r a tree v
+    → CarriesOut s past early (code_change conversion) r a tree v v
 change_passes s past early conversion mode number front c rest e (Ok x) a tree v moded parts long none once passed = absurd passed
 change_passes {X} s past early conversion mode number front c rest e (Err k) a tree v moded parts long none once passed =
-    subst (λ (q : Failure). CarriesOut {X = X} s past early (code_change conversion) (Err q) a tree v) (sym passed)
+    subst (λ (q : Failure). CarriesOut {X = X} s past early (code_change conversion) (Err q) a tree v v) (sym passed)
     (change_stops s past early conversion mode number front c rest e a tree v moded parts long none once)

@@ -17,6 +17,7 @@ use Rattle.script_progress.specs.Fault.{change_fault, fetch_fault, table_fault}
 use Rattle.script_progress.specs.Fault.Cause.{no_memory}
 use Rattle.script_progress.specs.InMemory.{cause_of}
 use Rattle.script_progress.specs.Steps.{HasDone, IsCause, IsCauseIn, Past, ProgressForm}
+use Rattle.script_progress.specs.Stops.{UnlessMemory, is_stuck_at}
 
 -- The instruction makes a call.
 abbrev pub is_call : Instruction → Bool
@@ -43,10 +44,11 @@ GivesTable past early name (Err e) hs v =
     IsCauseIn past.first v past.run (table_fault (worker_in (module_named name past.run.fetched)) (users_in past.run) name) (cause_of e.cause)
     × AllFollow past.first (load_within early name (worker_in (module_named name past.run.fetched)) e.slot (users_in past.run) past.run.courses) hs v
 
--- The change of code can't be made, behind so many others.
+-- The change of code can't be made, behind so many others, for the process in this slot.
 abbrev pub FailsToChange : Site → Past → Direction → ℕ → ChangeForm → Failure → ProgressForm → View → Type 0
 FailsToChange s past mode number c e a v =
     IsCause (change_fault s mode (c ∷ []) (values_seen v) past.run) (cause_of e.cause) × (e.modules ≡ number)
+    × UnlessMemory (cause_of e.cause) (is_stuck_at (old_version s mode c.name past.run) c e.slot (values_seen v) past.run ≡ true)
     × AllFollow past.first (change_within c.name (old_version s mode c.name past.run) c e.slot (users_in past.run) past.run.courses) a.held v
 
 -- It was made, or can't be made.

@@ -30,7 +30,7 @@ pub(crate) fn change_code(
     ensures { (past : Past) (v : View) (early : Bool)
         → HasDone past (progress_of progress.old) progress.old.tree v
         → CarriesOut (site_of site.now) past early (code_change (conversion_of conversion.now))
-        result (progress_of progress.new) progress.new.tree v }
+        result (progress_of progress.new) progress.new.tree v v }
 {
     let mode = conversion.mode.unwrap_or(Direction::Up);
     for (i, change) in conversion.changes.iter().enumerate() {

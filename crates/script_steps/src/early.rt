@@ -33,7 +33,7 @@ pub fn carry_out_early<R: Wait>(
     ensures table { seat.new.table ≡ seat.old.table }
     ensures longer { AreLonger seat.old.view seat.new.view }
     ensures carried { CarriesOut (site_of site.now) past true (instruction_of instr.now)
-        result (progress_of progress.new) progress.new.tree seat.new.view }
+        result (progress_of progress.new) progress.new.tree seat.old.view seat.new.view }
 {
     match instr {
         Instr::LoadObjectCode(modules) => fetch(progress, alloc, site, modules),

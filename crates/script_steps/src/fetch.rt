@@ -27,7 +27,7 @@ pub(crate) fn fetch(
     ensures { (past : Past) (v : View) (early : Bool)
         → HasDone past (progress_of progress.old) progress.old.tree v
         → CarriesOut (site_of site.now) past early (load_object_code (fetch_of fetch.now))
-        result (progress_of progress.new) progress.new.tree v }
+        result (progress_of progress.new) progress.new.tree v v }
 {
     match fetch_from(alloc, site, &mut progress.fetched, fetch) {
         Ok(()) => Ok(()),

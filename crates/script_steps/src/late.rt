@@ -37,7 +37,7 @@ pub fn carry_out_late<R: Wait>(
     ensures table { seat.new.table ≡ seat.old.table }
     ensures longer { AreLonger seat.old.view seat.new.view }
     ensures carried { CarriesOutLate (site_of site.now) past (instruction_of instr.now)
-        result (progress_of progress.new) progress.new.tree seat.new.view }
+        result (progress_of progress.new) progress.new.tree seat.old.view seat.new.view }
 {
     match instr {
         Instr::Apply(call) => apply(progress, rt, alloc, site, seat, call),
@@ -62,7 +62,7 @@ fn carry_out_other<R: Wait>(
     ensures table { seat.new.table ≡ seat.old.table }
     ensures longer { AreLonger seat.old.view seat.new.view }
     ensures carried { CarriesOut (site_of site.now) past false (instruction_of instr.now)
-        result (progress_of progress.new) progress.new.tree seat.new.view }
+        result (progress_of progress.new) progress.new.tree seat.old.view seat.new.view }
 {
     match instr {
         Instr::Suspend(suspensions) => suspend(progress, rt, alloc, site, seat, suspensions),

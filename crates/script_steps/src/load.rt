@@ -36,7 +36,7 @@ pub(crate) fn load<R: Wait>(
     ensures table { seat.new.table ≡ seat.old.table }
     ensures longer { AreLonger seat.old.view seat.new.view }
     ensures carried { CarriesOut (site_of site.now) past early (load (purging_of purging.now))
-        result (progress_of progress.new) progress.new.tree seat.new.view }
+        result (progress_of progress.new) progress.new.tree seat.old.view seat.new.view }
 {
     match progress.fetched.vsn(purging.name.as_str()) {
         Some(_) => load_fetched(progress, rt, alloc, site, seat, early, purging),
@@ -65,7 +65,7 @@ fn load_fetched<R: Wait>(
     ensures table { seat.new.table ≡ seat.old.table }
     ensures longer { AreLonger seat.old.view seat.new.view }
     ensures carried { CarriesOut (site_of site.now) past early (load (purging_of purging.now))
-        result (progress_of progress.new) progress.new.tree seat.new.view }
+        result (progress_of progress.new) progress.new.tree seat.old.view seat.new.view }
 {
     give_table(progress, rt, alloc, site, seat, early, purging)?;
     let module = purging.name.as_str();

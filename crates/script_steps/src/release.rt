@@ -38,7 +38,7 @@ pub(crate) fn do_plain<R: Wait>(
     ensures longer { AreLonger seat.old.view seat.new.view }
     ensures carried { CarriesOut {X = Unit {0}} (site_of site.now) past false
         (plain_instruction plain (map string_bytes names.now)) (Ok tt)
-        (progress_of progress.new) progress.new.tree seat.new.view }
+        (progress_of progress.new) progress.new.tree seat.old.view seat.new.view }
 {
     do_all(
         rt,

@@ -28,7 +28,7 @@ pub(crate) fn remove<R: Wait>(
     ensures table { seat.new.table ≡ seat.old.table }
     ensures longer { AreLonger seat.old.view seat.new.view }
     ensures carried { CarriesOut (site_of site.now) past false (remove (purging_of purging.now))
-        result (progress_of progress.new) progress.new.tree seat.new.view }
+        result (progress_of progress.new) progress.new.tree seat.old.view seat.new.view }
 {
     if is_in_use(progress, rt, site, seat, purging) {
         return Err(Failure {

@@ -34,7 +34,7 @@ pub(crate) fn suspend<R: Wait>(
     ensures longer { AreLonger seat.old.view seat.new.view }
     ensures carried { (early : Bool) → CarriesOut (site_of site.now) past early
         (instruction.Instruction.suspend (map suspension_of suspensions.now))
-        result (progress_of progress.new) progress.new.tree seat.new.view }
+        result (progress_of progress.new) progress.new.tree seat.old.view seat.new.view }
 {
     let held = &mut progress.held;
     hold_all(

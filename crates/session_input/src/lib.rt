@@ -5,8 +5,8 @@
 //! as far as the bytes of the reader can be named. A line has at most 4,096 bytes and a given file 1,048,576; nothing longer
 //! is kept.
 //!
-//! [`SessionError`] says why a session ends early, with its exit status and text. A failed read, an input that is too long
-//! and out of memory are reported only where they were.
+//! [`SessionError`] says why a session ends early, with its exit status and text. A failed read and an input that is
+//! too long are reported only where they were.
 //!
 //! Only tested: that no byte is read before it is needed. Trusted: the toolchain and `thiserror`.
 #![tactic(auto)]

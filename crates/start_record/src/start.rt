@@ -74,8 +74,8 @@ fn start_in(alloc: Global, slot: &[u8; 128]) -> Result<Start, StartError>
     })
 }
 
-/// Writes a start over the one that the slot spells. Takes no memory. What is read again are two texts of versions, and no
-/// others are refused but those that are too long.
+/// Writes a start over the one that the slot spells. Takes no memory. It is read back where both versions are texts of
+/// versions (`spelled`); that they are isn't tested.
 ///
 /// Reported in this order: `TooLong` where a version is longer than 62 bytes, `MustReopen`, `Device`. Nothing has changed
 /// after the first two; after `Device` the slot has the old text or the new.

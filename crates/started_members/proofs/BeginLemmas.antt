@@ -20,9 +20,9 @@ use Rattle.started_members.specs.declared.begins.NewProcess.{NewProcess}
 use Rattle.started_members.specs.declared.begins.Preparation.{Preparation}
 use Rattle.started_members.specs.declared.member.Member.{Member}
 use Rattle.started_members.specs.declared.member.StartedProcess.{StartedProcess}
-use Rattle.started_members.specs.Preparations.{process_in_table, preparation_of, process_and, to_begin, IsBegun, IsBegunWith, AllBegan}
+use Rattle.started_members.specs.Preparations.{process_in_table, preparation_of, to_begin, IsBegun, IsBegunWith, AllBegan}
 use Rattle.started_members.specs.Begins.{beginning_of, member_with, state_at, left_behind, members_at, BeganInOrder}
-use Rattle.started_members.specs.Members.{pids_of}
+use Rattle.started_members.specs.Members.{pids_of, process_and}
 use Rattle.app_members.specs.Walk.{NewMember, Start, start_in, starts_among}
 use Rattle.started_members.specs.Laws.{WhatBeganStands, FreeFrom, AreFrom, FirstSlots}
 

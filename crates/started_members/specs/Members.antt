@@ -17,7 +17,7 @@ state_process s = None
 abbrev pub process_in : Member → Option StartedProcess
 process_in m = state_process m.state
 
-abbrev pub process_and : Option StartedProcess → List StartedProcess → List StartedProcess
+abbrev pub process_and : {P : Type 0} → Option P → List P → List P
 process_and None more = more
 process_and (Some p) more = p ∷ more
 

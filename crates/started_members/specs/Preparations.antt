@@ -11,6 +11,7 @@ use Rattle.started_members.specs.declared.begins.Preparation.{Preparation}
 use Rattle.started_members.specs.declared.member.Member.{Member}
 use Rattle.started_members.specs.declared.member.MemberState.TheVariants.{Process}
 use Rattle.app_members.specs.Walk.{NewMember}
+use Rattle.started_members.specs.Members.{process_and}
 use Rattle.started_members.specs.Begins.{beginning_of, state_before, member_with}
 
 abbrev pub process_in_table : List ℕ → ChildSpec → Table → Option NewProcess
@@ -23,10 +24,6 @@ new_process_of app m = process_in_table app m.child m.table
 
 abbrev pub preparation_of : List ℕ → NewMember → Preparation
 preparation_of app m = record { member = member_with m (state_before m); process = new_process_of app m }
-
-abbrev pub process_and : Option NewProcess → List NewProcess → List NewProcess
-process_and None more = more
-process_and (Some p) more = p ∷ more
 
 -- the processes that are to begin
 abbrev pub to_begin : List Preparation → List NewProcess

@@ -1,23 +1,16 @@
-//! The members of a started application: what stands for each, and how they begin, end, are looked at, and change (OTP: supervisor).
+//! The members of a started application: what stands for each, and how they begin, end, are looked at, and change (OTP:
+//! supervisor).
 //!
 //! A list of [`Member`]s has an application's supervisors and their children, in the order of the walk (`app_members`): each
 //! supervisor before its children, a child with those below it before its next sibling. What stands for a member is a process with
-//! its id, its module and its [`Pid`], or a supervisor, or nothing ([`MemberState`]).
-//!
+//! its id, its module and its `Pid`, or a supervisor, or nothing ([`MemberState`]).
 //! [`prepare_all`] takes all memory that members need, and [`begin_all`] begins their processes one after another, each in the
-//! lowest slot in which one can (specs/Begins, specs/Preparations). [`end_all`] gives processes up, the last first, but for those
-//! that were given up before (specs/Ends). [`member_stays`] looks at what stands for a member and leaves it as it is
-//! (specs/Looks).
-//!
-//! [`process_with`], [`add_using`] and [`module_among`] look processes up, and [`supervises_in`] and [`supervisor_count`]
-//! supervisors (specs/Members). [`range_of_child`] tells where a child of a supervisor stands, with those below it; [`terminate`]
-//! ends it, and [`delete`] takes it away, unless it is up (specs/Places). [`changed_members`] gives the supervisors of a module
-//! other children (specs/Changes), and [`copy_members`] gives equal members. What begins, ends or looks at a process waits for its
-//! slot, and takes no memory.
-//!
-//! The functions of `laws` say of these definitions where the processes of a new table stand, and what stands there once they
-//! began.
-//!
+//! lowest slot in which one can (specs/Begins, Preparations). [`end_all`] gives processes up, the last first, but for those that
+//! were given up before (specs/Ends). [`member_stays`] looks at what stands for a member and leaves it as it is (specs/Looks).
+//! [`terminate`] ends a child of a supervisor with those below it, and [`delete`] takes it away, unless it is up (specs/Places).
+//! [`changed_members`] gives the supervisors of a module other children (specs/Changes). What begins, ends or looks at a process
+//! waits for its slot, and takes no memory.
+//! The functions of `laws` say where the processes of a new table stand, and what stands there once they began.
 //! Only tested: that members begin, are copied and change where memory is there. Trusted: the toolchain alone.
 #![tactic(auto)]
 
@@ -41,4 +34,3 @@ pub use finds::{add_using, module_among, process_with, supervises_in, supervisor
 pub use looks::{Stay, member_stays};
 pub use member::{Member, MemberState, StartedProcess};
 pub use places::{put_in, range_of_child, take_out, with_below};
-pub use proc_table::Pid;

@@ -1,7 +1,7 @@
 //! The supervision tree: the processes of started applications (OTP: supervisor, application).
 //!
 //! A [`Tree`] holds which applications are started, each with its members (`started_members`): its supervisors and their children,
-//! what stands for each, and of a process its id, its module and its [`Pid`] (specs/Tree). [`Tree::start_app`] begins a process for
+//! what stands for each, and of a process its id, its module and its `Pid` (specs/Tree). [`Tree::start_app`] begins a process for
 //! each worker below the application's top: children in the order of their list, those of a supervisor before its next sibling
 //! (`app_members`), each in the lowest slot in which one can begin (specs/Starts). It starts all of them, or nothing.
 //! [`Tree::stop_app`] gives them up, the last first, but for those that were given up before (specs/Stops). Both wait for the
@@ -24,6 +24,5 @@ mod stops;
 mod tree;
 
 pub use error::{NoSuchApp, NoSuper, RestartError, StartError};
-pub use proc_table::Pid;
 pub use started_members::{Member, MemberState, StartedProcess, Stay};
 pub use tree::{StartedApp, Tree};

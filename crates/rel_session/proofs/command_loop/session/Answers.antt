@@ -6,8 +6,8 @@ use Rattle.session_input.specs.declared.error.SessionError.TheVariants.{Read, Wr
 use Rattle.session_input.specs.Commands.{command_of}
 use Rattle.session_input.specs.Input.{commands_left}
 use Rattle.rel_session.specs.Run.{commands_in}
-use Rattle.rel_session.specs.Run.Ending.{ended, cut_off, early}
-use Rattle.rel_session.proofs.LoopLemmas.{fresh_left, begins, goes_on, ends, ends_cut, ends_early, quits, stops_within, stops_before, sessions, cut_told, no_error, read_told, write_told, limit_told, one_error, Write≢Read, Write≢Limit, NoMemory≢Read, NoMemory≢Write, NoMemory≢Limit}
+use Rattle.rel_session.specs.Run.Ending.{ended, cut_off, unread, early}
+use Rattle.rel_session.proofs.LoopLemmas.{fresh_left, begins, goes_on, ends, ends_cut, ends_unread, ends_early, quits, stops_within, stops_before, sessions, cut_told, no_error, read_told, write_told, limit_told, one_error, Write≢Read, Write≢Limit, NoMemory≢Read, NoMemory≢Write, NoMemory≢Limit}
 use Rattle.rel_session.proofs.DeviceLemmas.{IsDevice}
 use Rattle.rel_session.proofs.command_loop.session.Goals as goal
 
@@ -45,6 +45,7 @@ returns-in-Ok-None g c =
           (g.W.Write.contents c.args.output.now.writer) (g.W.Write.contents c.loop-command.output.writer) c.loop-command.invariant.0 c.into_disk.result c.into_disk.ensures (rw c.in-Ok-None.field-0-is at c.in-Ok-None.ensures.command));
       cut = λ is. absurd (no_error Limit is);
       broken = tt;
+      unread = λ is. absurd (no_error Read is);
       read = λ is. absurd (no_error Read is);
       write = λ is. absurd (no_error Write is);
       limit = λ is. absurd (no_error Limit is);
@@ -69,6 +70,12 @@ returns-in-Err g c =
           (g.W.Write.contents c.args.output.now.writer) (g.W.Write.contents c.loop-command.output.writer) refl
           (ends_early g.D.Disk laws (g.F.Files.gives c.args.files.now) (option_map commands_in (g.R.Read.remaining c.args.input.now.reader.reader)) (commands_left g.R.Read.remaining c.loop-command.input) (commands_left g.R.Read.remaining c.next_command.new.self) c.args.disk c.loop-command.node
           (g.W.Write.contents c.args.output.now.writer) (g.W.Write.contents c.loop-command.output.writer) c.loop-command.invariant.0 c.into_disk-in-Err.result c.into_disk-in-Err.ensures);
+      unread =
+          λ is.
+          sessions g.D.Disk laws (g.F.Files.gives c.args.files.now) (g.R.Read.remaining c.args.input.now.reader.reader) (option_map commands_in (g.R.Read.remaining c.args.input.now.reader.reader)) unread c.args.disk c.into_disk-in-Err.result
+          (g.W.Write.contents c.args.output.now.writer) (g.W.Write.contents c.loop-command.output.writer) refl
+          (ends_unread g.D.Disk laws (g.F.Files.gives c.args.files.now) (option_map commands_in (g.R.Read.remaining c.args.input.now.reader.reader)) (commands_left g.R.Read.remaining c.loop-command.input) (commands_left g.R.Read.remaining c.next_command.new.self) c.args.disk c.loop-command.node
+          (g.W.Write.contents c.args.output.now.writer) (g.W.Write.contents c.loop-command.output.writer) c.loop-command.invariant.0 c.into_disk-in-Err.result c.into_disk-in-Err.ensures);
       read = λ is. read_told c.in-Err.error c.args.input.now.reader.failures c.loop-command.input c.next_command.new.self c.loop-command.invariant.2 c.in-Err.ensures.cause is;
       write = λ is. absurd (write_told c.in-Err.error c.loop-command.input c.next_command.new.self c.in-Err.ensures.cause is);
       limit = λ is. limit_told c.in-Err.error c.loop-command.input c.next_command.new.self c.in-Err.ensures.cause is;
@@ -89,6 +96,7 @@ returns-in-Err-write g c =
           (command_of c.in-Ok-Some.command) c.in-Ok-Some-text.text c.follow-next.result.0 c.into_disk-in-Err-write.result (g.W.Write.contents c.write.new.self.writer) c.into_disk-in-Err-write.ensures
           (rw c.in-Ok-Some.field-0-is at c.in-Ok-Some.ensures.command) (rw (c.in-Ok-Some-text.is, c.in-Ok-Some-text.field-0-is) at c.follow-next.ensures.followed)
           (rw c.as_bytes.ensures.value at c.in-Err-write.ensures.prefix));
+      unread = λ is. absurd (one_error c.from.result Write Read c.from.ensures Write≢Read is);
       read = λ is. absurd (one_error c.from.result Write Read c.from.ensures Write≢Read is);
       write = λ is. subst (λ n. HasRisen n c.write.new.self.failures) c.loop-command.invariant.3 c.in-Err-write.ensures.counted;
       limit = λ is. absurd (one_error c.from.result Write Limit c.from.ensures Write≢Limit is);
@@ -108,6 +116,7 @@ returns-in-Ok-None-text g c =
           (rw c.in-Ok-Some.field-0-is at c.in-Ok-Some.ensures.command) (rw (c.in-Ok-None-text.is, c.in-Ok-None-text.field-0-is) at c.follow-next.ensures.followed));
       cut = λ is. absurd (no_error Limit is);
       broken = tt;
+      unread = λ is. absurd (no_error Read is);
       read = λ is. absurd (no_error Read is);
       write = λ is. absurd (no_error Write is);
       limit = λ is. absurd (no_error Limit is);
@@ -127,6 +136,7 @@ returns-in-Err-text g c =
           (g.W.Write.contents c.args.output.now.writer) (g.W.Write.contents c.loop-command.output.writer) c.loop-command.invariant.0
           (command_of c.in-Ok-Some.command) c.in-Err-text.error c.follow-next.result.0 c.into_disk-in-Err-text.result c.into_disk-in-Err-text.ensures
           (rw c.in-Ok-Some.field-0-is at c.in-Ok-Some.ensures.command) (rw c.in-Err-text.is at c.follow-next.ensures.followed));
+      unread = λ is. absurd (one_error c.in-Err-text.error NoMemory Read (rw c.in-Err-text.is at c.follow-next.ensures.memory) NoMemory≢Read is);
       read = λ is. absurd (one_error c.in-Err-text.error NoMemory Read (rw c.in-Err-text.is at c.follow-next.ensures.memory) NoMemory≢Read is);
       write = λ is. absurd (one_error c.in-Err-text.error NoMemory Write (rw c.in-Err-text.is at c.follow-next.ensures.memory) NoMemory≢Write is);
       limit = λ is. absurd (one_error c.in-Err-text.error NoMemory Limit (rw c.in-Err-text.is at c.follow-next.ensures.memory) NoMemory≢Limit is);

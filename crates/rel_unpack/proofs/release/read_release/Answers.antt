@@ -3,7 +3,8 @@ use Rattle.erl_term.specs.Value.{value_of}
 use Rattle.std.proofs.Common.{sym, ◌∙◌, inl}
 use Rattle.rel_unpack.specs.Refusal.Refusal.{too_many}
 use Rattle.rel_unpack.specs.Source.{FileSays}
-use Rattle.rel_unpack.specs.Release.{Found, found_of, rel_form, is_small, ReleaseAt}
+use Rattle.rel_unpack.specs.Release.{Found, found_of, rel_form, ReleaseAt}
+use Rattle.rel_check.specs.Limits.{is_small}
 use Rattle.rel_unpack.proofs.Steps.{passes, fails_test, passed_on, nothing_given}
 use Rattle.rel_unpack.proofs.release.read_release.Goals as goal
 

@@ -11,6 +11,7 @@ use Rattle.relup_exec.specs.Stepwise.{HasBegun, IsStopped, start_at}
 use Rattle.sup_tree.specs.Tree.{App}
 use Rattle.relup_exec.proofs.PointLemmas.{front_is}
 use Rattle.relup_exec.proofs.OutcomeLemmas.{armed_well, refused_at_first, refused_well}
+use Rattle.held_processes.proofs.SlotLemmas.{longer_still}
 use Rattle.relup_exec.proofs.before.run_before.Goals as goal
 
 pub run_early-requires : goal.run_early-requires
@@ -19,7 +20,7 @@ run_early-requires g c =
     subst (AllByRecursion IsEarly) (sym (front_is c.args.script.now c.point_in-place.result c.point_in-place.ensures)) c.point_in-place.ensures.early in
     let begun : HasBegun (site_of c.args.site.now) (start_at c.args.seat.now.view c.in-Ok-new.progress.tree) (progress_of c.in-Ok-new.progress) c.in-Ok-new.progress.tree c.args.seat.now.view =
     c.in-Ok-new.ensures.begun c.args.seat.now.view c.requires.free in
-    λ κs live. (live, (c.requires.table, (early, begun)))
+    λ κs live. (live, (c.requires.table, (early, (begun, longer_still c.args.seat.now.view))))
 
 pub returns-in-Err-clause-refused : goal.returns-in-Err-clause-refused
 returns-in-Err-clause-refused g c =

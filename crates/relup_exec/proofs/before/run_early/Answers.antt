@@ -28,11 +28,11 @@ returns-in-Err-clause-ran g c =
       front = so_far;
       instruction = instruction_of c.index-instrs-i.result;
       at = record { rest = script_of (drop (c.loop-i.i + 1) instrs); is = parts; counted = ap (λ n. n + 1) (sym long) };
-      ran = ran_later (site_of c.args.site.now) g.start.first c.loop-i.seat.view c.carry_out_early-done.new.seat.view true [] so_far (began_at (site_of c.args.site.now) g.start) c.carry_out_early-done.ensures.longer c.loop-i.invariant.1;
+      ran = ran_later (site_of c.args.site.now) g.start.first g.start.first c.loop-i.seat.view c.carry_out_early-done.new.seat.view true [] so_far (began_at (site_of c.args.site.now) g.start) c.carry_out_early-done.ensures.longer c.loop-i.invariant.1;
       fails = c.in-Err.ensures.carried.0;
       modules = c.in-Err.field-0.modules;
       slot = c.in-Err.field-0.slot;
-      partly = c.in-Err.ensures.carried.1;
+      partly = c.in-Err.ensures.carried.2;
     }
 
 pub loop-i-preserved : goal.loop-i-preserved
@@ -44,7 +44,7 @@ loop-i-preserved g c =
     let early : AllByRecursion IsEarly so_far = all_front IsEarly so_far (i ∷ script_of (drop (c.loop-i.i + 1) c.args.instrs.now)) (subst (AllByRecursion IsEarly) parts c.requires.1.1.0) in
     let grown = more instruction_of c.args.instrs.now c.loop-i.i c.index-instrs-i.result c.loop-i-test.true c.index-instrs-i.is in
     let done = run_more_early s g.start so_far i (progress_of c.carry_out_early-done.new.progress) c.carry_out_early-done.new.progress.tree c.loop-i.seat.view c.carry_out_early-done.new.seat.view (still_before so_far early)
-    c.loop-i.invariant.1 c.carry_out_early-done.ensures.longer c.in_default.ensures.carried in (
+    c.loop-i.invariant.1 c.in_default.ensures.carried in (
       c.carry_out_early-done.ensures.table ∙ c.loop-i.invariant.0,
       subst (Ran s g.start c.carry_out_early-done.new.seat.view []) (sym grown) done.0,
       subst (λ (is : List Instruction). HasDone (past_behind s g.start [] is) (progress_of c.carry_out_early-done.new.progress) c.carry_out_early-done.new.progress.tree c.carry_out_early-done.new.seat.view) (sym grown) done.1,

@@ -1,4 +1,4 @@
-use Rattle.std.proofs.Common.{◌∙◌, Option, Some, ap, subst, sym}
+use Rattle.std.proofs.Common.{◌∙◌, Option, Some, Err, refl, ap, subst, sym}
 use Rattle.std.specs.Option.{option_map}
 use Rattle.library.specs.InMemory.{library_of, shared_of}
 use Rattle.library.specs.Library.{Library}
@@ -6,6 +6,8 @@ use Rattle.script_progress.specs.declared.calls.AppCall.{AppCall}
 use Rattle.script_progress.specs.Apps.{CallsApp, StartsFrom, app_call_of}
 use Rattle.script_progress.specs.InMemory.{site_of}
 use Rattle.script_progress.specs.Steps.{progress_of}
+use Rattle.script_progress.specs.Stops.{AsksMemory, app_takes_memory}
+use Rattle.script_progress.proofs.CallLemmas.{asks_memory}
 use Rattle.script_progress.proofs.calls.call_app.Goals as goal
 
 pub returns-in-Some-clause-called : goal.returns-in-Some-clause-called
@@ -15,3 +17,10 @@ returns-in-Some-clause-called g c =
     subst (λ (k : AppCall). CallsApp (site_of c.args.site.now) g.past (app_call_of k) c.start_from.result (progress_of w.progress) w.progress.tree w.seat.view) (sym c.in-Starts.is)
     (subst (λ (o : Option Library). StartsFrom o g.past c.start_from.result (progress_of w.progress) w.progress.tree w.seat.view) (sym there)
     (subst (λ l. StartsFrom (Some (library_of l)) g.past c.start_from.result (progress_of w.progress) w.progress.tree w.seat.view) c.as_ref.ensures c.start_from.ensures.started))
+
+pub returns-in-Some-clause-memory : goal.returns-in-Some-clause-memory
+returns-in-Some-clause-memory g c =
+    subst (λ (k : AppCall). AsksMemory (app_takes_memory (app_call_of k)) c.start_from.result) (sym c.in-Starts.is) (asks_memory c.start_from.result)
+
+pub returns-in-None-clause-memory : goal.returns-in-None-clause-memory
+returns-in-None-clause-memory g c = subst (λ (k : AppCall). AsksMemory {X = Unit {0}} (app_takes_memory (app_call_of k)) (Err c.failed.result)) (sym c.in-Starts.is) (λ _. refl)

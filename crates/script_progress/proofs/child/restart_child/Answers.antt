@@ -14,4 +14,4 @@ pub returns-in-Err-clause-called : goal.returns-in-Err-clause-called
 returns-in-Err-clause-called g c =
     let w = c.restart_child.new in
     not_restarted g.past c.args.child.now.supervisor.now c.args.child.now.id.now c.in-Err.error c.not_restarted.result (progress_of c.args.progress.now) c.args.progress.now.tree w.tree w.self c.args.seat.now.view w.seat.view
-    (modules_in c.args.progress.now.next) c.requires.1.1 (found_as_listed c.args.progress.now.next) c.not_restarted.ensures.cause c.not_restarted.ensures.modules c.in-Err.ensures.restarted
+    (modules_in c.args.progress.now.next) c.requires.1.1 c.restart_child.ensures.longer (found_as_listed c.args.progress.now.next) c.not_restarted.ensures.cause c.not_restarted.ensures.modules c.in-Err.ensures.restarted

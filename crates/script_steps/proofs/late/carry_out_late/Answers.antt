@@ -11,5 +11,5 @@ returns-in_default-clause-carried g c =
     let s = site_of c.args.site.now in
     let i = instruction_of c.args.instr.now in
     let w = c.carry_out_other.new in
-    subst (λ (r : Result Bool Failure). CarriesOutLate s g.past i r (progress_of w.progress) w.progress.tree w.seat.view) (sym c.on_no_child.ensures)
-    (late_of s g.past i c.carry_out_other.result (progress_of w.progress) w.progress.tree w.seat.view c.carry_out_other.ensures.carried)
+    subst (λ (r : Result Bool Failure). CarriesOutLate s g.past i r (progress_of w.progress) w.progress.tree c.args.seat.now.view w.seat.view) (sym c.on_no_child.ensures)
+    (late_of s g.past i c.carry_out_other.result (progress_of w.progress) w.progress.tree c.args.seat.now.view w.seat.view c.carry_out_other.ensures.longer c.carry_out_other.ensures.carried)

@@ -1,6 +1,7 @@
 use Rattle.std.proofs.Common.{[], length, ap, sym, subst, refl, arith}
 use Rattle.proc_table.proofs.CountLemmas.{begins_take_one}
-use Rattle.started_members.specs.Preparations.{IsBegunWith, begun_with, process_and}
+use Rattle.started_members.specs.Preparations.{IsBegunWith, begun_with}
+use Rattle.started_members.specs.Members.{process_and}
 use Rattle.started_members.proofs.begins.begin.Goals as goal
 
 -- there is a slot for it

@@ -1,4 +1,4 @@
-use Rattle.std.proofs.Common.{◌<◌, ◌≤◌, not, true, false, refl, ap, sym, subst, arith, None}
+use Rattle.std.proofs.Common.{◌<◌, ◌≤◌, Bool, ◌&&◌, not, true, false, refl, ap₂, sym, subst, arith, None}
 use Rattle.std.proofs.lemmas.List.{get_or_read_under}
 use Rattle.erl_term.specs.Value.{value_of}
 use Rattle.worker_table.specs.InMemory.{old_of}
@@ -8,7 +8,7 @@ use Rattle.held_processes.specs.Course.Operation.{change}
 use Rattle.held_processes.specs.Following.{AllFollow, HeldSlots}
 use Rattle.held_processes.specs.Operations.{lacks_row_at, up_to, users_of, values_seen}
 use Rattle.held_processes.specs.Slots.{Steps}
-use Rattle.held_processes.proofs.AnyLemmas.{any_found, any_none, one_more}
+use Rattle.held_processes.proofs.AnyLemmas.{any_none, one_more}
 use Rattle.held_processes.proofs.ChangeLemmas.{changes_at, changes_not, found_is, lacks_none}
 use Rattle.held_processes.proofs.FollowLemmas.{past_of, at_slot, step_over, step_none, pass_over, none_reached, all_reached, on_user, on_other, up_to_here}
 use Rattle.held_processes.proofs.processes.HeldProcesses.change.Goals as goal
@@ -75,8 +75,12 @@ returns-then-not-change c = λ first cs v all.
     let lacks = c.if-not-change.ensures in (
       step_none first (on_module users name op cs) cs hs v v slot c.change.new.place inside now
           (changes_not (past_of first cs slot) slot v c.index_mut.result.now old extra false c.change.new.place here lacks refl),
-      sym (ap not (any_found (lacks_row_at old extra (values_seen v) users name cs) slots slot inside
-          (found_is users name cs slot v (past_of first cs slot) c.index_mut.result.now old extra false c.change.new.place refl user here lacks))),
+      (
+        inside,
+        ap₂ (λ (a b : Bool). a && not b)
+            (found_is users name cs slot v (past_of first cs slot) c.index_mut.result.now old extra false c.change.new.place refl user here lacks)
+            (any_none (lacks_row_at old extra (values_seen v) users name cs) slot (c.loop-slot.invariant.1 first cs v all).1),
+      ),
     )
 
 pub returns : goal.returns
@@ -86,6 +90,6 @@ returns c = λ first cs v all.
     let extra = value_of c.args.extra.now in
     let far : slots ≤ c.loop-slot.slot = omega (arith, c.loop-slot-test.false, c.loop-slot.invariant.0, c.loop-slot.self-inside.places.ok.0, now.long) in (
       all_reached first _ cs _ v c.loop-slot.slot far now,
-      sym (ap not (any_none (lacks_row_at old extra (values_seen v) (users_of c.args.users.now.tree.now) c.args.users.now.module.now cs) slots
-          (λ p inside. (c.loop-slot.invariant.1 first cs v all).1 p (omega (arith, inside, far))))),
+      any_none (lacks_row_at old extra (values_seen v) (users_of c.args.users.now.tree.now) c.args.users.now.module.now cs) slots
+          (λ p inside. (c.loop-slot.invariant.1 first cs v all).1 p (omega (arith, inside, far))),
     )

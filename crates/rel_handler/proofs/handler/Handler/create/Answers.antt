@@ -5,7 +5,6 @@ use Rattle.rel_unpack.specs.declared.unpacking.ReleaseFiles.{ReleaseFiles}
 use Rattle.rel_unpack.specs.Unpacking.{brought_of}
 use Rattle.rel_handler.proofs.Boots.{unwritten}
 use Rattle.rel_handler.proofs.CreationLemmas.{not_made_of, read_alone}
-use Rattle.rel_handler.proofs.NewNodes.{has_a_store}
 use Rattle.node_command.proofs.ReleaseLemmas.{brings_same, still_free, still_terms, still_whole}
 use Rattle.rel_handler.proofs.ReleaseLemmas.{made_so, not_made_so}
 use Rattle.rel_handler.proofs.handler.Handler.create.Goals as goal
@@ -52,16 +51,6 @@ pub returns-in-Err-unless_refused-clause-refused : goal.returns-in-Err-unless_re
 returns-in-Err-unless_refused-clause-refused g c =
     not_made_of g.D.Disk c.args.disk c.existing_or-error.new.disk c.existing_or-error.ensures.read (g.F.Files.gives c.args.files.now) c.args.path.now (brought_of c.in-Ok.brought) c.in-Ok.ensures.brought
     c.in-Err-unless_refused.why c.existing_or-error.result c.in-Err-unless_refused.ensures.refused c.existing_or-error.ensures.told
-
--- no node is made over one
-pub returns-in-Ok-unless_refused-clause-node : goal.returns-in-Ok-unless_refused-clause-node
-returns-in-Ok-unless_refused-clause-node g c = has_a_store (g.D.Disk.seen c.args.disk)
-
-pub returns-in-Err-clause-node : goal.returns-in-Err-clause-node
-returns-in-Err-clause-node g c = has_a_store (g.D.Disk.seen c.args.disk)
-
-pub returns-in-Err-unless_refused-clause-node : goal.returns-in-Err-unless_refused-clause-node
-returns-in-Err-unless_refused-clause-node g c = has_a_store (g.D.Disk.seen c.args.disk)
 
 -- nothing is written over what was only read
 pub returns-in-Err-unless_refused-clause-taken : goal.returns-in-Err-unless_refused-clause-taken

@@ -9,6 +9,7 @@ use Rattle.held_processes.proofs.SlotLemmas.{longer_both}
 use Rattle.script_progress.specs.Script.{courses_within}
 use Rattle.script_progress.specs.InMemory.{cause_of, site_of}
 use Rattle.script_progress.specs.Steps.{IsLate}
+use Rattle.script_progress.specs.Stops.{StopsAt}
 use Rattle.relup_exec.specs.Outcome.{Ran, began_at, past_behind, run_behind, still_early}
 use Rattle.relup_exec.specs.InMemory.{armed_of}
 use Rattle.script_progress.specs.Steps.{HasDone, IsCarriedOut, IsFault, ProgressForm, progress_of}
@@ -68,8 +69,8 @@ loop-i-preserved g c =
     let i = instruction_of c.index-script-i.result in
     let grown = more instruction_of script c.loop-i.i c.index-script-i.result c.loop-i-test.true c.index-script-i.is in
     let w = c.carry_out_late-done.new in
-    let carried = subst (λ (told : List Bool). IsCarriedOut s (past_behind s g.start told so_far) false c.in-Ok.stays i (progress_of w.progress) w.progress.tree w.seat.view) c.as_slice.ensures.value c.in-Ok.ensures.carried in
-    let done = run_more_late s g.start c.loop-i.told.items so_far c.in-Ok.stays i (progress_of w.progress) w.progress.tree c.loop-i.seat.view w.seat.view c.loop-i.invariant.2 c.loop-i.invariant.5 c.carry_out_late-done.ensures.longer carried in (
+    let carried = subst (λ (told : List Bool). IsCarriedOut s (past_behind s g.start told so_far) false c.in-Ok.stays i (progress_of w.progress) w.progress.tree c.loop-i.seat.view w.seat.view) c.as_slice.ensures.value c.in-Ok.ensures.carried in
+    let done = run_more_late s g.start c.loop-i.told.items so_far c.in-Ok.stays i (progress_of w.progress) w.progress.tree c.loop-i.seat.view w.seat.view c.loop-i.invariant.2 c.loop-i.invariant.5 carried in (
       c.carry_out_late-done.ensures.table ∙ c.loop-i.invariant.0,
       omega (arith, c.loop-i.invariant.1),
       ap (still_early true) grown ∙ (still_push true so_far i ∙ ap (λ e. e && not (is_point i)) c.loop-i.invariant.2),
@@ -99,12 +100,13 @@ returns-in-Err-clause-broken g c =
       at = record { rest = script_of (drop (c.loop-i.i + 1) script); is = parts; counted = ap (λ n. n + 1) (sym long) };
       late = c.loop-i.invariant.2;
       told = c.loop-i.told.items;
-      ran = ran_later s g.start.first c.loop-i.seat.view c.close.new.seat.view true c.loop-i.told.items so_far (began_at s g.start)
-          (longer_both c.loop-i.seat.view c.carry_out_late-done.new.seat.view c.close.new.seat.view c.carry_out_late-done.ensures.longer c.close.ensures.longer) c.loop-i.invariant.5;
       then_view = c.in-Err.ensures.carried.then_view;
+      ran = ran_later s g.start.first g.start.first c.loop-i.seat.view c.in-Err.ensures.carried.then_view true c.loop-i.told.items so_far (began_at s g.start) c.in-Err.ensures.carried.since c.loop-i.invariant.5;
       fails = subst (λ (told : List Bool). IsFault g.start.first s c.in-Err.ensures.carried.then_view (run_behind s g.start told so_far) i (cause_of c.in-Err.failure.cause)) c.as_slice.ensures.value c.in-Err.ensures.carried.fails;
       modules = c.in-Err.failure.modules;
       slot = c.in-Err.failure.slot;
+      stops = subst (λ (told : List Bool). StopsAt g.start.first s c.in-Err.ensures.carried.then_view (run_behind s g.start told so_far) i (cause_of c.in-Err.failure.cause) c.in-Err.failure.modules c.in-Err.failure.slot)
+          c.as_slice.ensures.value c.in-Err.ensures.carried.stops;
       left = subst (λ (bs : List Bool). AreLeft g.start.first (on_all finish (courses_within s false i c.in-Err.failure.modules c.in-Err.failure.slot (run_behind s g.start bs so_far))) c.close.new.seat.view)
           c.as_slice-in-Err.ensures.value c.close.ensures.left;
       longer = longer_both c.in-Err.ensures.carried.then_view c.carry_out_late-done.new.seat.view c.close.new.seat.view c.in-Err.ensures.carried.longer c.close.ensures.longer;
@@ -119,7 +121,7 @@ returns-clause-finished g c =
     let done = subst (λ (is : List Instruction). HasDone (past_behind s g.start told is) (progress_of c.loop-i.progress) c.loop-i.progress.tree c.loop-i.seat.view) whole c.loop-i.invariant.6 in
     record {
       told = told;
-      ran = ran_later s g.start.first c.loop-i.seat.view c.end.new.seat.view true told (script_of script) (began_at s g.start) c.end.ensures.longer
+      ran = ran_later s g.start.first g.start.first c.loop-i.seat.view c.end.new.seat.view true told (script_of script) (began_at s g.start) c.end.ensures.longer
           (subst (Ran s g.start c.loop-i.seat.view told) whole c.loop-i.invariant.5);
       loaded_is = done.next;
       apps_are = done.apps;

@@ -1,15 +1,12 @@
-// How much a node may have.
+//! How much a release may have.
 ghost use Rattle.std.specs.Prelude.{◌≡◌};
 ghost use Rattle.rel_files.specs.Release.{release_of};
-ghost use Rattle.rel_records.specs.Limits.{is_small};
+ghost use Rattle.rel_check.specs.Limits.{is_small};
 
 use rel_files::Rel;
 
-/// How many applications a release has at most.
-pub const MOST_APPLICATIONS: usize = 64;
-
-/// How many releases a node has at most.
-pub const MOST_RELEASES: usize = 32;
+// How many applications a release has at most.
+const MOST_APPLICATIONS: usize = 64;
 
 /// Whether the release has no more applications than it may have.
 pub fn is_small(release: &Rel) -> bool
