@@ -19,7 +19,7 @@ use Rattle.rel_records.specs.declared.fault.RecordsError.TheVariants as fault
 use Rattle.rel_records.proofs.ListLemmas.{makes_not_bad}
 use Rattle.rel_records.proofs.RecordLaws.{as_recorded}
 use Rattle.rel_store.specs.Layout.{format_of}
-use Rattle.rel_store.specs.Contents.{HasOnlyRead, IsSyncedAt}
+use Rattle.rel_store.specs.Contents.{HasOnlyRead, HasSynced}
 use Rattle.rel_store.specs.Creation.{IsNoneOrNew, IsBegunAt, IsUnwritten, Creates, CreationRefused}
 use Rattle.rel_store.specs.Moments.{IsTornFrom}
 use Rattle.rel_store.specs.Records.{records_of}
@@ -67,10 +67,11 @@ module _ {D : Type 0} (seen : D → List ℕ) (may_leave : D → List ℕ → Ty
   pub only_reads : (old new : D) → seen new ≡ seen old → LeavesOnly moment left_since old new (may_leave old) → HasOnlyRead seen may_leave moment left_since old new
   only_reads old new same leaves = record { same = same; crash = λ c now. leaves.each c (counts_now new (moment old) c leaves.later now); any_moment = leaves }
 
--- the disk was synced, and then read alone
-pub settles_so : {D : Type 0} (seen : D → List ℕ) (may_leave : D → List ℕ → Type 0) (moment : D → ℕ) (left_since : D → ℕ → List ℕ → Type 0) (old new at : D) → IsSyncedAt seen may_leave moment left_since old new at
-    → SettlesAt seen may_leave moment left_since old new at
-settles_so seen may_leave moment left_since old new at s = record { until = s.until; from = weakened moment left_since at new (λ c. c ≡ seen old) _ (λ c is. inl is) s.from }
+-- the disk was synced, and read alone
+pub settles_so : {D : Type 0} (seen : D → List ℕ) (may_leave : D → List ℕ → Type 0) (moment : D → ℕ) (left_since : D → ℕ → List ℕ → Type 0) (old new : D)
+    → ((c : List ℕ) → left_since new (moment new) c → may_leave new c) → HasSynced seen may_leave old new → LeavesOnly moment left_since old new (may_leave old) → SettlesAt seen may_leave moment left_since old new new
+settles_so seen may_leave moment left_since old new only_now s leaves =
+    record { until = leaves; from = weakened moment left_since new new (may_leave new) _ (λ c now. inl (s.durable c now)) (started moment left_since new (may_leave new) only_now) }
 
 -- the device failed, or memory was refused
 abbrev pub IsLack : BootError → Type 0

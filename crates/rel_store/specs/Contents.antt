@@ -25,11 +25,8 @@ OpenRefused bytes before now Device = HasFailed before now
 OpenRefused bytes before now NoMemory = Unit {0}
 OpenRefused bytes before now _ = ⊥
 
--- The disk was synced at this moment. Up to it a crash leaves nothing that none before would have left; from then on it
--- leaves what a read gives, which is what it gave before.
-pub record IsSyncedAt {D : Type 0} (seen : D → List ℕ) (may_leave : D → List ℕ → Type 0) (moment : D → ℕ) (left_since : D → ℕ → List ℕ → Type 0) (old new at : D) : Type 0 where
-  pub until : LeavesOnly moment left_since old at (may_leave old)
-  pub from : LeavesOnly moment left_since at new (λ c. c ≡ seen old)
+-- The disk was synced, and read alone: a crash leaves what a read gives, which is what it gave before.
+pub record HasSynced {D : Type 0} (seen : D → List ℕ) (may_leave : D → List ℕ → Type 0) (old new : D) : Type 0 where
   pub durable : Only (seen old) (may_leave new)
   pub same : seen new ≡ seen old
 

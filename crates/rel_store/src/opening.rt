@@ -1,7 +1,7 @@
 // A store is opened.
 ghost use Rattle.std.specs.Prelude.{◌≡◌, ◌⊎◌, ◌≤◌, IfOk, IfErr, IsErrOf, Ok};
 ghost use Rattle.rel_disk.specs.Moments.{LeavesOnly};
-ghost use Rattle.rel_store.specs.Contents.{AreContentsOf, IsSyncedAt, OpenRefused, RefusedByDevice};
+ghost use Rattle.rel_store.specs.Contents.{AreContentsOf, HasSynced, OpenRefused, RefusedByDevice};
 ghost use Rattle.rel_store.specs.Layout.{format_of};
 ghost use Rattle.rel_store.specs.Records.{records_of};
 ghost use Rattle.rel_store.specs.State.{disk_of, format_in, records_in, IsSettled, IsSoundStore};
@@ -24,14 +24,12 @@ impl<D: Disk> Store<D> {
         ensures records { IfOk result (λ store. records_of (D.seen disk) ≡ Ok (records_in store)) }
         ensures format { IfOk result (λ store. format_in store ≡ format_of (D.seen disk)) }
 
-        // No crash in the call leaves anything that none before it would have left; from its sync on a crash leaves what a
-        // read gives, whatever the opening answers then. An opening that answers `Device` may have failed in the sync, and
-        // `synced` says nothing then.
+        // No crash in the call leaves anything that none before it would have left; behind it a crash leaves what a read gives,
+        // whatever the opening answers. One that answers `Device` may have failed in the sync, and `synced` says nothing then.
         ensures any_moment { LeavesOnly D.moment D.left_since disk (disk_of result)
             (D.may_leave disk) }
         ensures synced { RefusedByDevice result
-            ⊎ ((at : D)
-            × IsSyncedAt D.seen D.may_leave D.moment D.left_since disk (disk_of result) at) }
+            ⊎ HasSynced D.seen D.may_leave disk (disk_of result) }
 
         ensures counted { D.failures disk ≤ D.failures (disk_of result) }
         ensures refused { IfErr result
@@ -60,7 +58,7 @@ fn read_contents<D: Disk>(alloc: Global, disk: &mut D) -> Result<Contents, Store
     ensures ok { IfOk result (AreContentsOf (D.seen disk.old)) }
     ensures any_moment { LeavesOnly D.moment D.left_since disk.old disk.new (D.may_leave disk.old) }
     ensures synced { IsErrOf result StoreError.Device
-        ⊎ ((at : D) × IsSyncedAt D.seen D.may_leave D.moment D.left_since disk.old disk.new at) }
+        ⊎ HasSynced D.seen D.may_leave disk.old disk.new }
     ensures counted { D.failures disk.old ≤ D.failures disk.new }
     ensures refused { IfErr result
         (OpenRefused (D.seen disk.old) (D.failures disk.old) (D.failures disk.new)) }

@@ -7,7 +7,7 @@ use Rattle.rel_unpack.specs.Source.{Source}
 use Rattle.relup_file.specs.Form.{relup_term}
 use Rattle.relup_file.proofs.RelupLemmas.{is_said}
 use Rattle.relup_command.specs.Laws.{MadeRelupsAreReadBack}
-use Rattle.relup_command.proofs.NameLemmas.{made_relups_are_said}
+use Rattle.relup_command.proofs.NameLemmas.{made_relups_are_named}
 use Rattle.relup_command.proofs.TextLemmas.{term_utf8}
 
 -- Its text is read back with a new line behind it.
@@ -20,6 +20,6 @@ made_relups_are_read_back source new ups downs relup made fits within =
       says = (
         v,
         (_, reads_back 64 v (text_of v) refl (term_utf8 v fits) within fits (10 ∷ []) (lit≤ tt, tt), refl),
-        is_said relup (made_relups_are_said source new ups downs relup made),
+        is_said relup (made_relups_are_named source new ups downs relup made),
       );
     }

@@ -25,7 +25,7 @@ use Rattle.relup_translate.specs.WellFormed.{IsWellFormedApp, IsWellFormedReleas
 use Rattle.relup_translate.proofs.NameLemmas as translation
 use Rattle.relup_translate.proofs.ScriptLemmas.{trivially}
 use Rattle.relup_command.specs.Appups.{AppupAt, WithAppup, with_appup}
-use Rattle.relup_command.specs.Laws.{MadeRelupsAreSaid}
+use Rattle.relup_command.specs.Laws.{MadeRelupsAreNamed}
 use Rattle.relup_command.specs.Releases.{Releases, RelupAppAt, RelupReleaseAt, WithAppups, relup_app, relup_release}
 use Rattle.relup_command.proofs.RelupLines.{entries_all}
 
@@ -153,10 +153,10 @@ gives_with_appups source r of =
 abbrev AreWellFormed : Releases → Type 0
 AreWellFormed all = IsWholeRelease all.new × AllByRecursion IsWellFormedRelease all.ups × AllByRecursion IsWellFormedRelease all.downs
 
-pub made_relups_are_said : (source : Source) → MadeRelupsAreSaid source
-made_relups_are_said source new ups downs relup (all, (release, at_new, (lower, at_ups, (back, at_downs, (whole, at_whole, is)))), made) =
+pub made_relups_are_named : (source : Source) → MadeRelupsAreNamed source
+made_relups_are_named source new ups downs relup (all, (release, at_new, (lower, at_ups, (back, at_downs, (whole, at_whole, is)))), made) =
     let here : Releases = record { new = whole; ups = lower; downs = back } in
     let same : here ≡ all = cc in
     let of_whole = gives_with_appups source release (gives_relup_release source new release at_new) whole at_whole in
     let of : AreWellFormed all = subst AreWellFormed same (of_whole, gives_releases source ups lower at_ups, gives_releases source downs back at_downs) in
-    translation.made_relups_are_said all.new all.ups all.downs relup of.0.0 of.0.1 of.1 of.2 made
+    translation.made_relups_are_named all.new all.ups all.downs relup of.0.0 of.0.1 of.1 of.2 made

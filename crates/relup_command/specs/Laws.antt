@@ -9,9 +9,10 @@ use Rattle.relup_file.specs.Relup.{RelupForm}
 use Rattle.relup_command.specs.Answer.{relup_lines}
 use Rattle.relup_command.specs.Relup.{IsMadeOf}
 
--- Whatever the files of a source say, a relup that is made of them is one that a file can say.
-abbrev pub MadeRelupsAreSaid : Source → Type 0
-MadeRelupsAreSaid source = (new : List ℕ) (ups downs : List (List ℕ)) (relup : RelupForm) → IsMadeOf source new ups downs relup → IsRelup relup
+-- Whatever the files of a source say, the names in a relup that is made of them are names, its versions are versions, and no script
+-- is empty.
+abbrev pub MadeRelupsAreNamed : Source → Type 0
+MadeRelupsAreNamed source = (new : List ℕ) (ups downs : List (List ℕ)) (relup : RelupForm) → IsMadeOf source new ups downs relup → IsRelup relup
 
 -- What is answered is a file that says the relup, and then `ok`.
 pub record AnswersFile (relup : RelupForm) : Type 0 where

@@ -1,12 +1,12 @@
 //! Laws of the relups that are made of files. Each function does nothing: its contract is the law.
-ghost use Rattle.relup_command.specs.Laws.{MadeRelupsAreReadBack, MadeRelupsAreSaid};
+ghost use Rattle.relup_command.specs.Laws.{MadeRelupsAreReadBack, MadeRelupsAreNamed};
 
 use file_source::Files;
 
-/// A relup that is made of files is one that a reader takes: its names are names, its versions are versions, and none of its
-/// scripts is empty.
-pub fn a_made_relup_is_one_that_a_reader_takes<F: Files>()
-    ensures { (files : F) → MadeRelupsAreSaid (F.gives files) }
+/// The names in a relup that is made of files are names, its versions are versions, and none of its scripts is empty, whatever
+/// the files say. The limits of a reader are another matter.
+pub fn a_relup_made_of_files_has_names_and_versions<F: Files>()
+    ensures { (files : F) → MadeRelupsAreNamed (F.gives files) }
 {}
 
 /// What is answered for a made relup is a file that says it, and then `ok`. The relup's term has to be one that a `Term` can

@@ -5,8 +5,8 @@
 //! `relup_translate` gives of these, the first refusal of a file, or the fault of the appups (clauses `made`, `refused`).
 //! [`relup_answer`] tells it in lines, as a session answers.
 //!
-//! The functions of `laws` say that a relup that is made is one that a reader takes, whatever the files say, and that the
-//! answer is a file that says it, where a reader's limits allow its term.
+//! The functions of `laws` say that a relup that is made has names and versions, whatever the files say, and that the answer is a
+//! file that says it, where its term is one that a `Term` can have, and keeps the limits of a reader.
 //!
 //! Only tested: that files are read where memory is there. Trusted: the toolchain and `thiserror`.
 #![tactic(auto)]

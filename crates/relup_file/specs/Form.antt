@@ -40,7 +40,7 @@ entry_term e = triple_term (text_term e.vsn) e.descr (list_of (map instruction_t
 abbrev pub relup_term : RelupForm → Value
 relup_term r = triple_term (text_term r.vsn) (list_of (map entry_term r.ups)) (list_of (map entry_term r.downs))
 
--- what a file can say: its names are names, its versions are versions, and no script is empty
+-- what is so of a relup that a file says: its names are names, its versions are versions, and no script is empty
 abbrev pub IsScript : List Instruction → Type 0
 IsScript [] = ⊥
 IsScript (i ∷ is) = AllByRecursion IsInstruction (i ∷ is)

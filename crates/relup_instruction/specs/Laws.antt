@@ -5,7 +5,7 @@ use Rattle.relup_instruction.specs.Instruction.{Instruction}
 use Rattle.relup_instruction.specs.Form.{instruction_term, IsInstruction, SpellsScript}
 use Rattle.relup_instruction.specs.Parts.{instruction_in, script_in}
 
--- A term is read as an instruction exactly where it is that instruction's term.
+-- A term is read as an instruction exactly where it is that instruction's term, and the instruction is one of a file.
 pub record InstructionsAreRead : Type 0 where
   pub only : (v : Value) (i : Instruction) → instruction_in v ≡ Some i → (v ≡ instruction_term i) × IsInstruction i
   pub each : (i : Instruction) → IsInstruction i → instruction_in (instruction_term i) ≡ Some i

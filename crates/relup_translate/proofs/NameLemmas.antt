@@ -34,7 +34,7 @@ use Rattle.relup_row.specs.Script.PartForm.{a_block, a_single}
 use Rattle.relup_translate.specs.Fault.{FaultForm}
 use Rattle.relup_translate.specs.Translation.{counting, counting_appup, found, searched, by_appup, between_versions, if_other, coming_row, changing_row, going_row, rows, entry}
 use Rattle.relup_translate.specs.WellFormed.{IsWellFormedApp, IsWellFormedRelease, AreWellFormedEntries, IsWellFormedAppup, HasWellFormedAppups}
-use Rattle.relup_translate.specs.Laws.{MadeRelupsAreSaid}
+use Rattle.relup_translate.specs.Laws.{MadeRelupsAreNamed}
 use Rattle.relup_translate.proofs.OutcomeLemmas.{sound_where_made}
 use Rattle.relup_translate.proofs.ScriptLemmas.{of_both, of_parts, of_some, of_reverse, trivially}
 
@@ -472,8 +472,8 @@ is_entry d new of appups other of_other =
     (of_other.0, is_script w way (rows w) (of_rows w way))
 
 -- and so is the relup.
-pub made_relups_are_said : MadeRelupsAreSaid
-made_relups_are_said new ups downs r of appups of_ups of_downs e =
+pub made_relups_are_named : MadeRelupsAreNamed
+made_relups_are_named new ups downs r of appups of_ups of_downs e =
     subst IsRelup (sym (sound_where_made new ups downs r e).1) (record {
       version = of.0;
       ups = of_map IsEntry IsWellFormedRelease (entry Up new) (is_entry Up new of appups) ups of_ups;

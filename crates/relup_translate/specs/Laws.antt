@@ -55,7 +55,7 @@ NeverBoth = (ws : List WayForm) (f : FaultForm) → AreSound ws → IsFirstFault
 abbrev pub AreSoundOrFail : Type 0
 AreSoundOrFail = (ws : List WayForm) → AreSound ws ⊎ ((f : FaultForm) × IsFirstFault ws f)
 
--- A script has one point of no return, and each instruction that is run at all stands on its side of it.
+-- The fault of a script, if it has one, is an instruction that can't be run anywhere.
 abbrev pub HasOnlyUnsupported : List Instruction → Type 0
 HasOnlyUnsupported script = (f : ScriptFault) → IsScriptFault script f → (n : ℕ) × (f ≡ Unsupported n)
 
@@ -77,8 +77,8 @@ abbrev pub StaysItself : Type 0
 StaysItself = (r : RelupReleaseForm) → IsDistinct bytes_eq (app_names r)
     → translation r (r ∷ []) (r ∷ []) ≡ Ok (record { vsn = r.vsn; ups = idle r ∷ []; downs = idle r ∷ [] })
 
--- Of releases that are well formed, and appups of the higher one that are, a relup is made that a file can say.
-abbrev pub MadeRelupsAreSaid : Type 0
-MadeRelupsAreSaid = (new : RelupReleaseForm) (ups downs : List RelupReleaseForm) (r : RelupForm)
+-- The names in a made relup are names, its versions are versions, and no script is empty, where it is so of what it is made of.
+abbrev pub MadeRelupsAreNamed : Type 0
+MadeRelupsAreNamed = (new : RelupReleaseForm) (ups downs : List RelupReleaseForm) (r : RelupForm)
     → IsWellFormedRelease new → HasWellFormedAppups new → AllByRecursion IsWellFormedRelease ups → AllByRecursion IsWellFormedRelease downs
     → translation new ups downs ≡ Ok r → IsRelup r

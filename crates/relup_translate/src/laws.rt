@@ -1,5 +1,5 @@
 //! Laws of the translation, above its definition. Each function does nothing: its contract is the law.
-ghost use Rattle.relup_translate.specs.Laws.{MakesSoundWays, RefusesFirstFault, HaveOneFirstFault, NeverBoth, AreSoundOrFail, StandsRight, StaysItself, MadeRelupsAreSaid};
+ghost use Rattle.relup_translate.specs.Laws.{MakesSoundWays, RefusesFirstFault, HaveOneFirstFault, NeverBoth, AreSoundOrFail, StandsRight, StaysItself, MadeRelupsAreNamed};
 
 /// A relup is made exactly where no way between the releases has a fault.
 pub fn a_relup_is_made_exactly_without_a_fault()
@@ -26,8 +26,8 @@ pub fn ways_are_sound_or_have_a_first_fault()
     ensures { AreSoundOrFail }
 {}
 
-/// In a script that is made `check` of `relup_script` finds no fault but an instruction that can't be run anywhere: it has
-/// one point of no return, and each other instruction stands on its side of it.
+/// In a script that is made `check` of `relup_script` finds no fault but an instruction that can't be run anywhere: it has one
+/// point of no return, and none in front of such an instruction stands on the wrong side of it.
 pub fn made_scripts_have_only_unsupported_instructions()
     ensures { StandsRight }
 {}
@@ -37,8 +37,8 @@ pub fn a_release_stays_itself()
     ensures { StaysItself }
 {}
 
-/// A relup that is made is one that a file can say, and no script in it is empty: where the names of the releases and of the
-/// higher one's appups are names, and the versions are versions.
-pub fn a_made_relup_is_one_that_a_file_can_say()
-    ensures { MadeRelupsAreSaid }
+/// The names in a relup that is made are names, its versions are versions, and no script in it is empty: where it is so of the
+/// names and versions of the releases, and of the higher one's appups. The limits of a reader are another matter.
+pub fn a_made_relup_has_names_and_versions()
+    ensures { MadeRelupsAreNamed }
 {}

@@ -14,15 +14,7 @@ pub returns-clause-synced : goal.returns-clause-synced
 returns-clause-synced g c =
     let same : g.D.Disk.seen c.sync.new.self ≡ g.D.Disk.seen c.args.disk.now = search rules in
     let durable : Only (g.D.Disk.seen c.args.disk.now) (g.D.Disk.may_leave c.sync.new.self) = search rules in
-    inr (
-      c.sync.new.self,
-      record {
-        until = goes_on g.D.Disk.moment g.D.Disk.left_since c.args.disk.now c.args.disk.now c.sync.new.self (g.D.Disk.may_leave c.args.disk.now) (g.D.Disk.may_leave c.sync.new.self) (started g.D.Disk.moment g.D.Disk.left_since c.args.disk.now (g.D.Disk.may_leave c.args.disk.now) (g.met.D.Disk.only_now c.args.disk.now)) c.sync.ensures.time c.sync.ensures.crash;
-        from = weakened g.D.Disk.moment g.D.Disk.left_since c.sync.new.self c.read.new.disk (g.D.Disk.may_leave c.sync.new.self) _ durable c.read.ensures.reads.any_moment;
-        durable = λ d now. durable d (c.read.ensures.reads.crash d now);
-        same = c.read.ensures.reads.same ∙ same;
-      },
-    )
+    inr (record { durable = λ d now. durable d (c.read.ensures.reads.crash d now); same = c.read.ensures.reads.same ∙ same })
 
 pub returns-clause-ok : goal.returns-clause-ok
 returns-clause-ok g c =

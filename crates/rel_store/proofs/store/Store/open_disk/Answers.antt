@@ -11,7 +11,7 @@ use Rattle.rel_store.proofs.store.Store.open_disk.Goals as goal
 pub returns-in-Ok-clause-settled : goal.returns-in-Ok-clause-settled
 returns-in-Ok-clause-settled g c =
     let read = value_of (AreContentsOf (g.D.Disk.seen c.args.disk)) c.in-Ok.is c.read_contents.ensures.ok in
-    let synced = (other_one c.read_contents.ensures.synced (no_error c.in-Ok.is)).1 in
+    let synced = other_one c.read_contents.ensures.synced (no_error c.in-Ok.is) in
     record {
       works = refl;
       records = ap (λ l. records_of l) synced.same ∙ read.records;

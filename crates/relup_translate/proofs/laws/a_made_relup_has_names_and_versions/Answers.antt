@@ -1,0 +1,5 @@
+use Rattle.relup_translate.proofs.NameLemmas.{made_relups_are_named}
+use Rattle.relup_translate.proofs.laws.a_made_relup_has_names_and_versions.Goals as goal
+
+pub returns : goal.returns
+returns c = made_relups_are_named
